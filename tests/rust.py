@@ -1,12 +1,16 @@
 #!/usr/bin/env python3
 """Passes what stands on the static library recovery_ffi: the declarations in Rust and C beside its exports, the Rust crate's
-tests, its documentation, clippy and rustfmt, and the program in C, also with little memory.
+tests, its documentation, clippy and rustfmt, with little memory, without the library and with one of another layout, and the programs in C and
+C++.
 
     tests/rust.py            passes all of it; where the library is not built, it is proved and built first, with all that it stands on
-    tests/rust.py --declared passes what needs no library: the declarations, the toolchain's name, rustfmt
-    tests/rust.py --library  proves the library and builds it, where it is older than its sources
-    tests/rust.py --write    writes the declarations: rust/quic-recovery/src/ffi.rs and rust/c/recovery_ffi.h
+    tests/rust.py --declared passes what needs no library: the declarations, the toolchain's logic, rustfmt, cargo check and cargo doc
+    tests/rust.py --library  proves the library and builds it, where it is older than its sources, and writes into it what it
+                             was proved with
+    tests/rust.py --write    writes the declarations, by the library's sources: rust/c/recovery_ffi.h, ffi.rs and event.rs of
+                             rust/quic-recovery/src, the table of docs/RUST.md and the library's layout.rt
 """
+import hashlib
 import os
 import pathlib
 import re
@@ -20,10 +24,61 @@ ROOT = pathlib.Path(__file__).resolve().parent.parent
 CRATE = ROOT / "crates" / "recovery_ffi"
 LIBRARY = CRATE / "out" / "librecovery_ffi.a"
 RUST = ROOT / "rust" / "quic-recovery"
-DECLARED = {"rust": RUST / "src" / "ffi.rs", "c": ROOT / "rust" / "c" / "recovery_ffi.h"}
-PROGRAM_C = ROOT / "rust" / "c" / "main.c"
+DECLARED = {"library": CRATE / "src" / "layout.rt", "rust": RUST / "src" / "ffi.rs", "events": RUST / "src" / "event.rs",
+            "c": ROOT / "rust" / "c" / "recovery_ffi.h", "document": ROOT / "docs" / "RUST.md"}
+SCRIPTS = ROOT / "docs" / "SCRIPTS.md"
+EVENTS = "recovery_events/src/event.rt"
+EVENT = ROOT / "crates" / EVENTS
+CORRUPTED = "ECN corruption"  # the text of the last fault, by which the library does not ask
+
+# what stands for a type of the library in Rust
+IN_RUST = {
+    "Q": "&'a [u64]",
+    "(Q)": "(Vec<u64>)",
+    "Vec<IssuedCid>": "&'a [IssuedCid]",
+    "Option<(Range<u64>, ResetToken)>": "Option<Range<u64>>",
+    "&'static str": "EcnFault",
+}
+
+# what Rust says of an enum in place of the library, and of a variant beside it
+BESIDE = {
+    "Event": [
+        "What happens. A packet carries the numbers of items that are to be sent again when it is lost: what they stand for the",
+        "layer above knows.",
+    ],
+    "Event::TakePending": [
+        "",
+        "Refused by `NoMemory` too, where this crate finds none for the answer: the items can then still be read by",
+        "[`Recovery::taken`](crate::Recovery::taken).",
+    ],
+    "Answer::Retire": ["", "The token is read by [`Recovery::reset_token`](crate::Recovery::reset_token)."],
+    "Answer::Flag": [
+        "",
+        "`true` says of `IdTimeout` that the peer is to be asked, by a NEW_CONNECTION_ID frame, to retire a number that it did not",
+        "retire yet; of `PeerRetired` that the peer is ready to hold one id more; of `AckFrequencyIn` that the frame is newer than",
+        "the last one, and taken; of `Ecn` that more packets were marked as congested.",
+    ],
+}
+LOGIC = ROOT / "LOGIC"
+MARK = "recovery_ffi was proved with "  # what the library says of itself; rust/quic-recovery/build.rs reads it
 SCARCE = 64 << 20  # bytes of address space for what is run with little memory
 NUMBERS = {"u8": "uint8_t", "u16": "uint16_t", "u32": "uint32_t", "u64": "uint64_t", "usize": "size_t", "bool": "bool"}
+
+# what a word of an answer's line says, and which answer a word is
+TOLD = {"yes": "flag", "no": "flag"}
+ONE = {"AckedProbe": "Acked", "LostProbe": "Lost"}
+
+# what each group of numbers says
+GROUPS = {
+    "ANSWER": "What an event is answered: `kind` of a reply.",
+    "REFUSAL": "Why it is refused: `refusal` of a reply.",
+    "FAULT": "What is wrong with the peer's counts of ECN (RFC 9000, 13.4.2.1): `first` of a reply that is refused by ECN.",
+    "NEW": "What comes of `recovery_ffi_new`.",
+    "CONTROLLER": "Which congestion controller paths have.",
+    "SKIPS": "How packet numbers are skipped (RFC 9000, 21.4).",
+    "SPACE": "The packet number spaces (RFC 9000, 12.3).",
+    "TIMER": "What a timer is for.",
+}
 
 passed = failed = 0
 
@@ -45,8 +100,52 @@ def documented(text):
     return [line.strip()[4:] for line in text.split("\n") if line.strip().startswith("///")]
 
 
+def in_c_words(docs):
+    """Documentation as C has it: the names of numbers begin otherwise there."""
+    return [re.sub(rf"`((?:{'|'.join(GROUPS)})_[A-Z_]+)`", r"`RECOVERY_\1`", it) for it in docs]
+
+
+def snake(name):
+    return re.sub(r"(?<=[a-z0-9])(?=[A-Z])", "_", name).upper()
+
+
+def variants(path, name):
+    """The variants of an enum, each with its documentation."""
+    body = re.search(rf"^pub enum {name}(?:<.*?>)? \{{\n(.*?)^\}}", (ROOT / "crates" / path).read_text(), re.M | re.S).group(1)
+    form = re.compile(r"((?:^    ///[^\n]*\n)*)(?:^    #\[[^\n]*\n)*^    (\w+)(?=[,({ ])", re.M)
+    return {it: documented(docs) for docs, it in form.findall(body)}
+
+
+def coded(source, enum, form):
+    """The numbers of an enum's variants, as the code has them."""
+    docs = variants(source, enum)
+    return [(snake(it), number, docs[it]) for number, it in form]
+
+
+def constants():
+    """The numbers that stand for what crosses, by groups: the name, the number and what it is."""
+    text = (CRATE / "src" / "numbers.rt").read_text()
+    found = re.findall(r"((?:///[^\n]*\n)+)pub const ([A-Z]+)_(\w+): u\d+ = (\d+);", text)
+    groups = {}
+    for docs, group, name, number in found:
+        groups.setdefault(group, []).append((name, number, documented(docs)))
+    codes = (CRATE / "src" / "codes.rt").read_text()
+    numbered = re.findall(r"Refusal::(\w+)(?:\(_\))? => (\d+),", (ROOT / "crates" / EVENTS).read_text())
+    groups["REFUSAL"] = coded(EVENTS, "Refusal", [(number, it) for it, number in numbered]) + groups["REFUSAL"]
+    groups["SPACE"] = coded("recovery_base/src/below.rt", "SpaceId", re.findall(r"(\d+) => Some\(SpaceId::(\w+)\)", codes))
+    groups["TIMER"] = coded("recovery_base/src/timer.rt", "Timer", re.findall(r"(\d+) => Some\(Timer::(\w+)\)", codes))
+    return groups
+
+
 def structs():
-    """The structs that cross, each with its fields, and their documentation."""
+    """The structs that cross, each with its fields, and their documentation; a struct in a struct stands as its fields."""
+    inner = {name: fields for _, name, fields in all_structs()}
+    for docs, name, fields in all_structs():
+        if not any(kind == name for others in inner.values() for _, _, kind in others):
+            yield docs, name, [flat for it in fields for flat in inner.get(it[2], [it])]
+
+
+def all_structs():
     form = re.compile(r"((?:///[^\n]*\n)*)#\[repr\(C\)\]\n(?:#\[derive[^\n]*\n)?pub struct (\w+) \{\n(.*?)\n\}", re.S)
     field = re.compile(r"((?: *///[^\n]*\n)*) *(?:pub )?(\w+): ([^\n,]+),")
     for path in sorted((CRATE / "src").glob("*.rt")):
@@ -62,6 +161,22 @@ def exports():
         for docs, name, given, result, _ in form.findall(path.read_text()):
             parameters = [it.strip().split(": ", 1) for it in given.replace("\n", " ").split(",") if it.strip()]
             yield documented(docs), name, [it for it in parameters if it[1] != "Global"], result
+
+
+def checksum():
+    """The layout of what crosses, by a checksum of it: of the structs, the exports and the numbers."""
+    crossing = [(name, [it[1:] for it in fields]) for _, name, fields in structs()], [it[1:] for it in exports()]
+    numbers = [(group, name, number) for group, found in constants().items() for name, number, _ in found]
+    return hashlib.sha256(repr((crossing, numbers)).encode()).hexdigest()[:8]
+
+
+def declared_in_library():
+    yield "//! Which layout crosses: written by `tests/rust.py --write`."
+    yield ""
+    yield "/// A program that was written for this layout names this function, and links with a library of the same layout alone. It does"
+    yield "/// nothing."
+    yield "#[unsafe(no_mangle)]"
+    yield f'pub extern "C" fn recovery_ffi_layout_{checksum()}() {{}}'
 
 
 def crossing(name, kind, in_c):
@@ -82,12 +197,17 @@ def crossing(name, kind, in_c):
 def declared_in_rust():
     yield "//! What crosses to the proved library and what it exports: written by `tests/rust.py --write` from the sources of the"
     yield "//! library, and compared with them by its tests."
+    for group, found in constants().items():
+        yield ""
+        for name, number, docs in found:
+            yield from (f"/// {it}" for it in docs)
+            yield f"pub const {group}_{name}: {'u64' if group == 'FAULT' else 'u8'} = {number};"
     for docs, name, fields in structs():
         yield ""
         yield from (f"/// {it}" for it in docs)
         yield "#[repr(C)]"
         if name != "Handle":
-            yield "#[derive(Clone, Copy, Debug)]"
+            yield "#[derive(Clone, Copy, Debug, PartialEq, Eq)]"
         yield f"pub struct {name} {{"
         for more, it, kind in fields:
             yield from (f"    /// {line}" for line in more)
@@ -95,6 +215,10 @@ def declared_in_rust():
         yield "}"
     yield ""
     yield 'unsafe extern "C" {'
+    yield "    /// Does nothing; a library of another layout does not have it."
+    yield f'    #[link_name = "recovery_ffi_layout_{checksum()}"]'
+    yield "    pub fn recovery_ffi_layout();"
+    yield ""
     for at, (docs, name, parameters, result) in enumerate(exports()):
         if at:
             yield ""
@@ -106,31 +230,196 @@ def declared_in_rust():
 
 def declared_in_c():
     yield "// What crosses to the proved library and what it exports: written by tests/rust.py --write from the sources of the library,"
-    yield "// and compared with them by its tests. docs/RUST.md says what a caller keeps."
+    yield "// and compared with them by its tests. docs/RUST.md says what a caller keeps. A handle begins as all zeros."
     yield "#ifndef RECOVERY_FFI_H"
     yield "#define RECOVERY_FFI_H"
     yield ""
     yield "#include <stdbool.h>"
     yield "#include <stddef.h>"
     yield "#include <stdint.h>"
+    yield ""
+    yield "#ifdef __cplusplus"
+    yield 'extern "C" {'
+    yield "#endif"
+    for group, found in constants().items():
+        yield ""
+        yield f"// {GROUPS[group]}"
+        yield f"enum recovery_{group.lower()} {{"
+        for name, number, docs in found:
+            yield from (f"    // {line}" for line in in_c_words(docs))
+            yield f"    RECOVERY_{group}_{name} = {number},"
+        yield "};"
     for docs, name, fields in structs():
         yield ""
-        yield from (f"// {it}" for it in docs)
+        yield from (f"// {it}" for it in in_c_words(docs))
         yield f"struct recovery_{name.lower()} {{"
         for more, it, kind in fields:
-            yield from (f"    // {line}" for line in more)
+            yield from (f"    // {line}" for line in in_c_words(more))
             of, _, size = kind.strip("[]").partition("; ")
             of = "void *" if of.startswith("*") else NUMBERS[of] + " "
             yield f"    {of}{it}" + (f"[{size}];" if size else ";")
         yield "};"
     for docs, name, parameters, result in exports():
         yield ""
-        yield from (f"// {it}" for it in docs)
+        yield from (f"// {it}" for it in in_c_words(docs))
         given = ", ".join(word for it, kind in parameters for word in crossing(it, kind, True))
         result = NUMBERS.get(result) or (f"struct recovery_{result.lower()}" if result else "void")
-        yield f"{result} {name}({given});"
+        yield f"{result} {name}({given or 'void'});"
+    yield ""
+    yield "// Does nothing; a library of another layout does not have it, and a program with this header does not link with that one."
+    yield f'void recovery_ffi_layout(void) __asm__("recovery_ffi_layout_{checksum()}");'
+    yield "__attribute__((used)) static void (*const recovery_ffi_has_this_layout)(void) = recovery_ffi_layout;"
+    yield ""
+    yield "#ifdef __cplusplus"
+    yield "}"
+    yield "#endif"
     yield ""
     yield "#endif"
+
+
+# ---- events, answers and refusals in Rust, and a table of them
+
+
+def fields(body):
+    """The fields of a variant as Rust has them, with their documentation: what a queue is asked with, and what is kept beside it, is nothing there."""
+    for docs, name, kind in re.findall(r"((?:^        ///[^\n]*\n)*)^        (\w+): ([^\n]*),$", body, re.M):
+        if not kind.startswith("Q::"):
+            yield documented(docs), name, IN_RUST.get(kind, kind)
+
+
+def enum_in_rust(name, derived, parameters=""):
+    """An enum as the library has it, with Rust's own types, and with what is said of it in Rust beside."""
+    docs, body = re.search(rf"((?:^///[^\n]*\n)+)^#[^\n]*\n^pub enum {name}(?:<.*?>)? \{{\n(.*?)^\}}", EVENT.read_text(), re.M | re.S).groups()
+    yield from (f"/// {it}" for it in BESIDE.get(name, documented(docs)))
+    yield f"#[derive({derived})]"
+    yield "#[non_exhaustive]"
+    yield f"pub enum {name}{parameters} {{"
+    for docs, variant, held, inside in re.findall(r"((?:^    ///[^\n]*\n)*)(?:^    #\[[^\n]*\n)*^    (\w+)(?:\(([^\n]*)\)| \{\n(.*?)^    \})?,$", body, re.M | re.S):
+        yield from (f"    /// {it}".rstrip() for it in documented(docs) + BESIDE.get(f"{name}::{variant}", []))
+        if inside:
+            yield f"    {variant} {{"
+            for more, it, kind in fields(inside):
+                yield from (f"        /// {line}" for line in more)
+                yield f"        {it}: {kind},"
+            yield "    },"
+        else:
+            yield f"    {variant}{IN_RUST.get(f'({held})') or f'({IN_RUST.get(held, held)})'}," if held else f"    {variant},"
+    yield "}"
+
+
+def cases(arms):
+    """What a number is; the last arm takes all that is left, of which there is one."""
+    yield "        match number {"
+    yield from (f"            {left} => {right}," for left, right in arms[:-1])
+    yield f"            _ => {arms[-1][1]},"
+    yield "        }"
+
+
+def shown(name, arms):
+    """What an enum is shown as."""
+    yield ""
+    yield f"impl fmt::Display for {name} {{"
+    yield "    fn fmt(&self, f: &mut fmt::Formatter<'_>) -> fmt::Result {"
+    yield "        f.write_str(match self {"
+    yield from (f"            {left} => {right}," for left, right in arms)
+    yield "        })"
+    yield "    }"
+    yield "}"
+
+
+def faults_in_rust():
+    """What is wrong with counts of ECN, with the texts by which the library knows it."""
+    text = (CRATE / "src" / "stack.rt").read_text()
+    told = {name: said for said, name in re.findall(r'text == "([^"]+)" \{\s+FAULT_(\w+)', text)}
+    found = constants()["FAULT"]
+    told[found[-1][0]] = CORRUPTED
+    camel = {name: "".join(it.capitalize() for it in name.split("_")) for name, _, _ in found}
+    yield "/// What is wrong with the peer's counts of ECN (RFC 9000, 13.4.2.1)."
+    yield "#[derive(Clone, Copy, Debug, PartialEq, Eq, Hash)]"
+    yield "#[non_exhaustive]"
+    yield "pub enum EcnFault {"
+    for name, _, docs in found:
+        yield from (f"    /// {it}" for it in docs)
+        yield f"    {camel[name]},"
+    yield "}"
+    yield ""
+    yield "impl EcnFault {"
+    yield "    fn from_number(number: u64) -> Self {"
+    yield from cases([(f"ffi::FAULT_{name}", f"EcnFault::{camel[name]}") for name, _, _ in found])
+    yield "    }"
+    yield "}"
+    yield from shown("EcnFault", [(f"EcnFault::{camel[name]}", f'"{told[name]}"') for name, _, _ in found])
+
+
+def refusals_in_rust():
+    """The numbers and the texts of refusals."""
+    text = EVENT.read_text()
+    numbered = re.findall(r"Refusal::(\w+)(\(_\))? => \d+,", text)
+    texts = {name: said for said, name in re.findall(r'#\[error\("([^"]+)"\)\]\n    (\w+)', text)}
+    yield ""
+    yield "impl Refusal {"
+    yield "    /// By the number that the library gives it; of one by ECN with the number of the fault."
+    yield "    pub(crate) fn from_number(number: u8, fault: u64) -> Self {"
+    made = lambda name, holds: f"Refusal::{name}(EcnFault::from_number(fault))" if holds else f"Refusal::{name}"
+    yield from cases([(f"ffi::REFUSAL_{snake(name)}", made(name, holds)) for name, holds in numbered])
+    yield "    }"
+    yield ""
+    yield "    /// The number by which scripts and logs know the refusal."
+    yield "    pub fn number(self) -> u8 {"
+    yield "        match self {"
+    yield from (f"            Refusal::{name}{holds} => ffi::REFUSAL_{snake(name)}," for name, holds in numbered)
+    yield "        }"
+    yield "    }"
+    yield "}"
+    arms = [(f"Refusal::{name}{'(fault)' if holds else ''}", "return fault.fmt(f)" if holds else f'"{texts[name]}"') for name, holds in numbered]
+    yield from shown("Refusal", arms)
+    yield ""
+    yield "impl Error for Refusal {}"
+
+
+def events_in_rust():
+    yield "//! What happens to a connection, what is answered, and why an event is refused: written by `tests/rust.py --write` from the"
+    yield "//! sources of the library, and compared with them by its tests."
+    yield "use crate::ffi;"
+    yield "use crate::types::{AckFrequency, ConnectionId, EcnCounts, Instant, IssuedCid, NewConnectionId, PathName, SendableFrames, SpaceId, Timer};"
+    yield "use std::error::Error;"
+    yield "use std::fmt;"
+    yield "use std::net::SocketAddr;"
+    yield "use std::ops::Range;"
+    yield "use std::time::Duration;"
+    yield ""
+    yield from enum_in_rust("Event", "Clone, Copy, Debug, PartialEq, Eq", "<'a>")
+    yield ""
+    yield from enum_in_rust("Answer", "Clone, Debug, PartialEq, Eq")
+    yield ""
+    yield from faults_in_rust()
+    yield ""
+    yield from enum_in_rust("Refusal", "Clone, Copy, Debug, PartialEq, Eq, Hash")
+    yield from refusals_in_rust()
+
+
+def table():
+    """The events in Rust, with the exports that hand them in, and their answers as docs/SCRIPTS.md has those of lines."""
+    answers = dict(re.findall(r"^\| `([a-z-]+)[^|]*` \| ([^;|]*)", SCRIPTS.read_text().replace("\\|", "/"), re.M))
+    told = {}
+    for line, said in answers.items():
+        said = re.sub(r"\(.*?\)|, each.*", "", said)
+        names = ["".join(it.capitalize() for it in re.split("[ -]", TOLD.get(word, word))) for word in re.findall(r"`([a-z][a-z-]*(?: probe\b)?)", said)]
+        told[line] = list(dict.fromkeys(ONE.get(it, it) for it in names))
+    docs = {re.search(r"the event `(\w+)`", " ".join(it[0]), re.I): it[1] for it in exports()}
+    exported = {found.group(1): name for found, name in docs.items() if found}
+    yield "| Event | From C | Answers |"
+    yield "|---|---|---|"
+    for event in variants(EVENTS, "Event"):
+        line = exported[event].replace("recovery_ffi_", "").replace("_", "-")
+        yield f"| `{event}` | `{exported[event]}` | {', '.join(f'`{it}`' for it in told[line])} |"
+
+
+def documented_in_rust():
+    """docs/RUST.md, with its table written."""
+    before, mark, rest = DECLARED["document"].read_text().partition("<!-- this table is written by tests/rust.py --write -->\n")
+    _, end, after = rest.partition("<!-- its end -->\n")
+    return before + mark + "\n".join(table()) + "\n" + end + after
 
 
 def formatted(text):
@@ -139,7 +428,10 @@ def formatted(text):
 
 
 def declarations():
-    return {"rust": formatted("\n".join(declared_in_rust()) + "\n"), "c": "\n".join(declared_in_c()) + "\n"}
+    written = {"library": declared_in_library(), "rust": declared_in_rust(), "events": events_in_rust(), "c": declared_in_c()}
+    texts = {which: "\n".join(lines) + "\n" for which, lines in written.items()}
+    texts["document"] = documented_in_rust()
+    return {which: formatted(text) if which in ("rust", "events") else text for which, text in texts.items()}
 
 
 # ---- the library
@@ -196,41 +488,99 @@ def compiled():
     return build.returncode == 0
 
 
+def toolchain():
+    """The toolchain's line: its name and its logic."""
+    return subprocess.run(["rt", "version"], stdin=subprocess.DEVNULL, stdout=subprocess.PIPE, text=True, check=True).stdout.split("\n")[0]
+
+
+def note():
+    """Writes into the library what it was proved with just now: as an object that holds a comment alone, and no program needs."""
+    said = f'.ident "{MARK}{toolchain()}"\n.section .note.GNU-stack,"",@progbits\n'
+    with tempfile.TemporaryDirectory() as made:
+        member = pathlib.Path(made, "proved_with.o")
+        compiler = next((it for it in ("cc", "clang") if shutil.which(it)), "cc")
+        subprocess.run([compiler, "-c", "-x", "assembler", "-", "-o", member], input=said, text=True, check=True)
+        subprocess.run(["ar", "rc", LIBRARY, member], check=True)
+
+
+def noted():
+    """What the library says that it was proved with; nothing where it was built, or built anew, without this script."""
+    found = re.search(re.escape(MARK).encode() + rb"([^\0]*)\0", LIBRARY.read_bytes()) if LIBRARY.exists() else None
+    return found.group(1).decode() if found else ""
+
+
 def built():
-    """The library is there; it is proved and built where it is not, with all that it stands on where that is not there either."""
+    """The library is there, with what it was proved with; it is proved and built where it is not, with all that it stands on where that is not
+    there either."""
     stands_on = below(CRATE.name)
-    if all(is_newer(LIBRARY, it) for it in (CRATE.name, *stands_on)):
+    if noted() == toolchain() and all(is_newer(LIBRARY, it) for it in (CRATE.name, *stands_on)):
         return True
     if all(is_newer(rlib(it), it) for it in stands_on):
-        return compiled()
-    return subprocess.run([ROOT / "prove", CRATE.name], stdin=subprocess.DEVNULL).returncode == 0
+        is_built = compiled()
+    else:
+        is_built = subprocess.run([ROOT / "prove", CRATE.name], stdin=subprocess.DEVNULL).returncode == 0
+    if is_built:
+        note()
+    return is_built
 
 
 # ---- what stands on it
 
 
-def ran(name, words, scarce=None, **how):
-    """What it printed, where it ended well."""
+def ran(name, words, scarce=None, fails=False, **how):
+    """What it printed, where it ended well; or, where it is to fail, where it did."""
     limit = (lambda: resource.setrlimit(resource.RLIMIT_AS, (scarce, scarce))) if scarce else None
     run = subprocess.run(words, stdin=subprocess.DEVNULL, stdout=subprocess.PIPE, stderr=subprocess.PIPE, text=True, preexec_fn=limit, **how)
-    return run.stdout if expect(name, run.returncode == 0, run.stdout + run.stderr) else None
+    said = run.stdout + run.stderr
+    return (said if fails else run.stdout) if expect(name, (run.returncode != 0) == fails, said) else None
+
+
+def cargo_with(folder, **more):
+    """How cargo is called, over the library of a folder."""
+    return {"cwd": RUST, "env": {**os.environ, "QUIC_RECOVERY_LIB": str(folder), "RUSTDOCFLAGS": "-D warnings", "CARGO_TERM_COLOR": "never", **more}}
 
 
 def cargo(folder):
     """The Rust crate: each test counts."""
-    how = {"cwd": RUST, "env": {**os.environ, "QUIC_RECOVERY_LIB": str(folder), "RUSTDOCFLAGS": "-D warnings", "CARGO_TERM_COLOR": "never"}}
+    how = cargo_with(folder)
     global passed
     tests = ran("cargo test", ["cargo", "test", "--release", "--offline"], **how)
     passed += sum(int(it) for it in re.findall(r"^test result: ok\. (\d+) passed", tests or "", re.M))
-    ran("cargo doc", ["cargo", "doc", "--no-deps", "--offline"], **how)
     ran("cargo clippy", ["cargo", "clippy", "--all-targets", "--offline", "--", "-D", "warnings"], **how)
     ran("the examples", ["cargo", "build", "--release", "--examples", "--offline"], **how)
     examples = RUST / "target" / "release" / "examples"
     said = ran("a sender over UDP", [examples / "sender"])
     expect("it says what it came to", bool(said) and "all 200 were acknowledged" in said, said or "")
+    expect("it says by which logic the library was proved", bool(said) and f", proved with {LOGIC.read_text().strip()}\n" in said, said or "")
+    said = ran("a transfer over UDP", [examples / "transfer", "2000000", "20"])
+    expect("all bytes of it come", bool(said) and "2000000 bytes came, as they were sent" in said, said or "")
     said = ran("little memory in Rust", [examples / "memory"], scarce=SCARCE)
     expect("memory is refused, and all goes on", bool(said) and "out of memory" in said and "goes on" in said, said or "")
     ran("a second of random events", [examples / "fuzz", "1"])
+
+
+def without_library():
+    """Where there is no library the crate is checked and documented, and says what a program needs to link."""
+    with tempfile.TemporaryDirectory() as target, tempfile.TemporaryDirectory() as empty:
+        how = cargo_with(empty, CARGO_TARGET_DIR=target)
+        missing = f"{LIBRARY.name} is missing"
+        check = subprocess.run(["cargo", "check", "--all-targets", "--offline"], stderr=subprocess.PIPE, text=True, **how)
+        expect("cargo check without the library", check.returncode == 0 and missing in check.stderr, check.stderr)
+        ran("cargo doc without the library", ["cargo", "doc", "--no-deps", "--offline"], **how)
+        said = ran("no program links without it", ["cargo", "build", "--example", "memory", "--offline"], fails=True, **how)
+        expect("the remedy is named", said is not None and "tests/rust.py --library" in said, said or "")
+
+
+def older(folder, made):
+    """A library of another layout does not link."""
+    here, other = (f"recovery_ffi_layout_{it}".encode() for it in (checksum(), "00000000"))
+    (made / LIBRARY.name).write_bytes((folder / LIBRARY.name).read_bytes().replace(here, other))
+    shutil.copy(folder / "liblibc_c.a", made)
+    said = ran("a library of another layout under C", in_c(made, "main.c", made / "older"), fails=True)
+    expect("the layout is named in C", said is not None and here.decode() in said, said or "")
+    how = cargo_with(made, CARGO_TARGET_DIR=str(made / "target"))
+    said = ran("a library of another layout under Rust", ["cargo", "build", "--example", "memory", "--offline"], fails=True, **how)
+    expect("the layout is named in Rust", said is not None and here.decode() in said, said or "")
 
 
 def layout():
@@ -238,25 +588,32 @@ def layout():
 
 
 def version():
-    """The crate names the toolchain by which the library is proved; a later kit of the same logic proves the same."""
-    said = (ran("rt version", ["rt", "version"]) or "").split("\n")[0]
-    kit, _, logic = said.partition(" logic ")
-    named = re.search(r"proved with (\S+) logic (\w+)", (RUST / "src" / "lib.rs").read_text())
-    if expect("the toolchain's logic", bool(named) and named.group(2) == logic, said) and named.group(1) != kit:
-        print(f"rust: this is {kit}, and the crate names {named.group(1)}", file=sys.stderr)
+    """The logic of the toolchain is the one that LOGIC names, and the documents name no other."""
+    logic = LOGIC.read_text().strip()
+    expect("the toolchain's logic", toolchain().endswith(f" {logic}"), toolchain())
+    named = re.findall(r"logic ([0-9a-f]{16})", (ROOT / "docs" / "RUST.md").read_text() + (ROOT / "README.md").read_text())
+    expect("the logic in the documents", bool(named) and all(f"logic {it}" == logic for it in named), str(named))
 
 
-def in_c(folder):
-    """The program in C."""
-    with tempfile.TemporaryDirectory() as made:
-        program = pathlib.Path(made, "main")
-        words = [shutil.which("cc") or "clang", "-Wall", "-Wextra", "-Werror", "-O2", str(PROGRAM_C), "-o", str(program), f"-L{folder}", "-lrecovery_ffi", "-llibc_c"]
-        if ran("the program in C is compiled", words) is not None:
-            found = ran("the program in C", [program])
-            wanted = (PROGRAM_C.parent / "main.out").read_text()
-            expect("what it prints", found == wanted, f"{found}\nand not\n{wanted}")
+def in_c(folder, source, program):
+    """How a program in C or C++ is compiled and linked."""
+    compilers, more = (("g++", "clang++"), ["-std=c++11"]) if source.endswith(".cpp") else (("cc", "clang"), [])
+    compiler = next((it for it in compilers if shutil.which(it)), compilers[0])
+    words = [compiler, *more, "-Wall", "-Wextra", "-Werror", "-O2", ROOT / "rust" / "c" / source, "-o", program]
+    return [str(it) for it in [*words, f"-L{folder}", "-lrecovery_ffi", "-llibc_c"]]
+
+
+def programs_in_c(folder, made):
+    """The programs in C and C++: each prints what stands beside it."""
+    for source, wanted in [("main.c", "main.out"), ("misuse.c", "misuse.out"), ("main.cpp", "main_cpp.out")]:
+        program = made / source.replace(".", "_")
+        if ran(f"{source} is compiled", in_c(folder, source, program)) is not None:
+            found = ran(f"{source} ends well", [program])
+            wanted = (ROOT / "rust" / "c" / wanted).read_text()
+            expect(f"what {source} prints", found == wanted, f"{found}\nand not\n{wanted}")
             if shutil.which("valgrind"):
-                ran("no leak, and no access that is not its own", ["valgrind", "--leak-check=full", "--error-exitcode=9", program])
+                words = ["valgrind", "--leak-check=full", "--error-exitcode=9", program]
+                ran(f"no leak in {source}, and no access that is not its own", words)
 
 
 def main():
@@ -271,12 +628,15 @@ def main():
         expect(f"{path.relative_to(ROOT)} is what the library declares", path.read_text() == written[which], "tests/rust.py --write writes it")
     version()
     layout()
+    without_library()
     if sys.argv[1:] != ["--declared"] and expect("the library", built()):
-        with tempfile.TemporaryDirectory() as folder:
+        with tempfile.TemporaryDirectory() as libraries, tempfile.TemporaryDirectory() as programs:
+            folder, made = pathlib.Path(libraries), pathlib.Path(programs)
             shutil.copy(LIBRARY, folder)
             shutil.copy(kit() / "c" / "liblibc_c.a", folder)
             cargo(folder)
-            in_c(folder)
+            programs_in_c(folder, made)
+            older(folder, made)
     print(f"rust: {passed} passed, {failed} failed")
     return 1 if failed else 0
 

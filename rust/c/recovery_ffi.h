@@ -1,11 +1,199 @@
 // What crosses to the proved library and what it exports: written by tests/rust.py --write from the sources of the library,
-// and compared with them by its tests. docs/RUST.md says what a caller keeps.
+// and compared with them by its tests. docs/RUST.md says what a caller keeps. A handle begins as all zeros.
 #ifndef RECOVERY_FFI_H
 #define RECOVERY_FFI_H
 
 #include <stdbool.h>
 #include <stddef.h>
 #include <stdint.h>
+
+#ifdef __cplusplus
+extern "C" {
+#endif
+
+// What an event is answered: `kind` of a reply.
+enum recovery_answer {
+    // The packet is new.
+    RECOVERY_ANSWER_NEW = 0,
+    // The packet may have come before: it is to be dropped.
+    RECOVERY_ANSWER_DUPLICATE = 1,
+    // The packet is sent.
+    RECOVERY_ANSWER_SENT = 2,
+    // The packet is acknowledged, and no longer tracked.
+    RECOVERY_ANSWER_ACKED = 3,
+    // The packet is lost, and no longer tracked.
+    RECOVERY_ANSWER_LOST = 4,
+    // Which numbers of the peer's ids are to be retired.
+    RECOVERY_ANSWER_RETIRE = 5,
+    // Yes or no, as the event asks.
+    RECOVERY_ANSWER_FLAG = 6,
+    // The least moment that a timer is set to, if any.
+    RECOVERY_ANSWER_TIMEOUT = 7,
+    // What is in flight on a path.
+    RECOVERY_ANSWER_IN_FLIGHT = 8,
+    // The datagram is transmitted.
+    RECOVERY_ANSWER_TRANSMITTED = 9,
+    // The datagram is not transmitted, by the amplification limit.
+    RECOVERY_ANSWER_BLOCKED = 10,
+    // The bytes are not to be transmitted yet, by the pacer.
+    RECOVERY_ANSWER_DELAYED = 11,
+    // The bytes may be transmitted now, as far as the pacer goes.
+    RECOVERY_ANSWER_READY = 12,
+    // A probe of the path's MTU goes out.
+    RECOVERY_ANSWER_PROBE = 13,
+    // No probe of the path's MTU is due.
+    RECOVERY_ANSWER_NO_PROBE = 14,
+    // Whether a black hole was reported.
+    RECOVERY_ANSWER_BLACK_HOLE = 15,
+    // What can be sent.
+    RECOVERY_ANSWER_SENDABLE = 16,
+    // What is to be sent again.
+    RECOVERY_ANSWER_QUEUE = 17,
+    // The event has no other answer.
+    RECOVERY_ANSWER_DONE = 18,
+    // The event is refused. It lies far from the answers, so that further ones do not move it.
+    RECOVERY_ANSWER_REFUSED = 255,
+};
+
+// Why it is refused: `refusal` of a reply.
+enum recovery_refusal {
+    // A growth was refused by the allocator.
+    RECOVERY_REFUSAL_NO_MEMORY = 1,
+    // A packet number is 2^62 or more (RFC 9000, 12.3).
+    RECOVERY_REFUSAL_NUMBER_TOO_LARGE = 2,
+    // The space has given out all packet numbers below 2^62 (RFC 9000, 12.3).
+    RECOVERY_REFUSAL_NUMBERS_EXHAUSTED = 3,
+    // The packet is not tracked: it was not sent, or it was acknowledged, lost or forgotten.
+    RECOVERY_REFUSAL_NOT_TRACKED = 4,
+    // The keys of the space were dropped (RFC 9001, 4.9).
+    RECOVERY_REFUSAL_SPACE_DISCARDED = 5,
+    // There is no such path.
+    RECOVERY_REFUSAL_NO_SUCH_PATH = 6,
+    // The MTU of the current path is searched for (RFC 8899, 5).
+    RECOVERY_REFUSAL_SEARCHING = 7,
+    // A size of no bytes is none that a path carries.
+    RECOVERY_REFUSAL_ZERO_MTU = 8,
+    // A counter would pass the end of its type.
+    RECOVERY_REFUSAL_OVERFLOW = 9,
+    // The number of the peer's id lies below the active one (RFC 9000, 19.15).
+    RECOVERY_REFUSAL_RETIRED = 10,
+    // The number of the peer's id lies past the ids that are held (RFC 9000, 5.1.1).
+    RECOVERY_REFUSAL_EXCEEDS_LIMIT = 11,
+    // The frame retires numbers past its own (RFC 9000, 19.15).
+    RECOVERY_REFUSAL_BAD_RETIRE_PRIOR_TO = 12,
+    // This end uses ids of no bytes, of which none can be retired (RFC 9000, 19.16).
+    RECOVERY_REFUSAL_CIDS_NOT_IN_USE = 13,
+    // The number was not issued (RFC 9000, 19.16).
+    RECOVERY_REFUSAL_UNISSUED_CID = 14,
+    // An ACK_FREQUENCY frame asks for a delay below 1 ms (draft-ietf-quic-ack-frequency-04, section 4). The number of the
+    // frame is kept.
+    RECOVERY_REFUSAL_DELAY_TOO_SMALL = 15,
+    // A number was acknowledged that was skipped, and never sent (RFC 9000, 21.4).
+    RECOVERY_REFUSAL_SKIPPED_ACKED = 16,
+    // The peer's counts of ECN cannot be right (RFC 9000, 13.4.2.1), in these words.
+    RECOVERY_REFUSAL_ECN = 17,
+    // The initial id is no longer the active one (RFC 9000, 7.2).
+    RECOVERY_REFUSAL_NOT_INITIAL_ID = 18,
+    // Numbers do not go on where they should, or a range ends before it begins.
+    RECOVERY_REFUSAL_BAD_RANGE = 19,
+    // The number of the peer's id is held with another id, or with a token that is not the frame's (RFC 9000, 19.15).
+    RECOVERY_REFUSAL_CONFLICT = 20,
+    // The handle holds no recovery.
+    RECOVERY_REFUSAL_NO_RECOVERY = 254,
+    // An argument lies out of its range: a space or a timer that there is not, an id of more than 20 bytes, a number of a frame
+    // of 2^62 or more, nanoseconds of a second or more.
+    RECOVERY_REFUSAL_BAD_ARGUMENT = 255,
+};
+
+// What is wrong with the peer's counts of ECN (RFC 9000, 13.4.2.1): `first` of a reply that is refused by ECN.
+enum recovery_fault {
+    // The count of ECT(0) fell.
+    RECOVERY_FAULT_ECT0_FALLS = 0,
+    // The count of ECT(1) fell.
+    RECOVERY_FAULT_ECT1_FALLS = 1,
+    // The count of ECN-CE fell.
+    RECOVERY_FAULT_CE_FALLS = 2,
+    // Packets that are newly acknowledged are in no count.
+    RECOVERY_FAULT_BLEACHED = 3,
+    // Packets were counted that were not sent so.
+    RECOVERY_FAULT_CORRUPTED = 4,
+};
+
+// What comes of `recovery_ffi_new`.
+enum recovery_new {
+    // There was no memory.
+    RECOVERY_NEW_NO_MEMORY = 0,
+    // A recovery was made.
+    RECOVERY_NEW_MADE = 1,
+    // The handle holds a recovery already.
+    RECOVERY_NEW_HELD = 2,
+    // The id of the peer has more than 20 bytes.
+    RECOVERY_NEW_CID_TOO_LONG = 3,
+    // More than 2^62 ids were issued at the start.
+    RECOVERY_NEW_TOO_MANY_ISSUED = 4,
+    // The first skip is 64 or more.
+    RECOVERY_NEW_SKIP_TOO_LARGE = 5,
+    // An MTU is zero.
+    RECOVERY_NEW_ZERO_MTU = 6,
+    // The initial window is zero.
+    RECOVERY_NEW_ZERO_WINDOW = 7,
+    // The denominator of the loss reduction factor is zero.
+    RECOVERY_NEW_ZERO_DENOMINATOR = 8,
+    // There is no such controller.
+    RECOVERY_NEW_UNKNOWN_CONTROLLER = 9,
+    // There is no such way to skip numbers.
+    RECOVERY_NEW_UNKNOWN_SKIPS = 10,
+};
+
+// Which congestion controller paths have.
+enum recovery_controller {
+    // NewReno (RFC 9002, 7).
+    RECOVERY_CONTROLLER_NEW_RENO = 0,
+    // A window that stays the one at first.
+    RECOVERY_CONTROLLER_FIXED = 1,
+};
+
+// How packet numbers are skipped (RFC 9000, 21.4).
+enum recovery_skips {
+    // No number is skipped.
+    RECOVERY_SKIPS_DISABLED = 0,
+    // As drawn with the seed.
+    RECOVERY_SKIPS_DRAWN = 1,
+    // From the first skip on, those behind it as drawn with the seed.
+    RECOVERY_SKIPS_STARTING = 2,
+};
+
+// The packet number spaces (RFC 9000, 12.3).
+enum recovery_space {
+    // Initial packets.
+    RECOVERY_SPACE_INITIAL = 0,
+    // Handshake packets.
+    RECOVERY_SPACE_HANDSHAKE = 1,
+    // 0-RTT and 1-RTT packets.
+    RECOVERY_SPACE_DATA = 2,
+};
+
+// What a timer is for.
+enum recovery_timer {
+    // When to declare packets lost or to send a probe (RFC 9002, 6.2 and A.8).
+    RECOVERY_TIMER_LOSS_DETECTION = 0,
+    // When to close for want of traffic (RFC 9000, 10.1).
+    RECOVERY_TIMER_IDLE = 1,
+    // When a closing or draining connection ends (RFC 9000, 10.2).
+    RECOVERY_TIMER_CLOSE = 2,
+    // When keys that an update replaced are dropped (RFC 9001, 6.5).
+    RECOVERY_TIMER_KEY_DISCARD = 3,
+    // When the validation of a new path has failed (RFC 9000, 8.2.4).
+    RECOVERY_TIMER_PATH_VALIDATION = 4,
+    // When to send a PING against the idle timeout (RFC 9000, 10.1.2).
+    RECOVERY_TIMER_KEEP_ALIVE = 5,
+    // When the pacer lets the next packet go (RFC 9002, 7.7).
+    RECOVERY_TIMER_PACING = 6,
+    // When to issue new connection ids (RFC 9000, 5.1.1).
+    RECOVERY_TIMER_PUSH_NEW_CID = 7,
+    // When to send an ACK that was held back (RFC 9000, 13.2.1).
+    RECOVERY_TIMER_MAX_ACK_DELAY = 8,
+};
 
 // An address and a port.
 struct recovery_address {
@@ -33,9 +221,30 @@ struct recovery_id {
     uint8_t len;
 };
 
-// What a caller holds a recovery by. It holds none where the pointer is null; any other pointer is the library's own.
+// What a caller holds a recovery by. It begins as all zeros, which holds none; from then on it is the library's own.
 struct recovery_handle {
     void *ptr;
+    bool holds;
+};
+
+// What the layer above keeps with a path, but for its PATH_RESPONSE frames.
+struct recovery_marks {
+    // What its PATH_CHALLENGE frame says, where one was sent (RFC 9000, 8.2.1).
+    uint64_t challenge;
+    // The number of the first packet that was sent after a sample of the round-trip time (RFC 9002, 7.6.2), where there is one.
+    uint64_t first_number;
+    // The space of that packet.
+    uint8_t first_space;
+    // Whether a PATH_CHALLENGE frame was sent.
+    bool has_challenge;
+    // Whether a packet was sent after a sample.
+    bool has_first;
+    // Whether a PATH_CHALLENGE frame is to be sent.
+    bool challenge_pending;
+    // Whether packets are marked on the path (RFC 9000, 13.4).
+    bool sending_ecn;
+    // Whether there is such a path; if not, all else is 0. To set marks it is not looked at.
+    bool lives;
 };
 
 // The settings: times are in nanoseconds, and sizes in bytes.
@@ -44,7 +253,7 @@ struct recovery_settings {
     uint64_t max_ack_delay;
     // How long this end's ids last, where they end.
     uint64_t cid_lifetime;
-    // How many ids this end has issued, at most 2^62.
+    // How many ids this end has issued, at most 2^62; memory grows with it, by 16 bytes an id.
     uint64_t issued;
     // The seed of the skips that are drawn.
     uint64_t seed;
@@ -72,9 +281,9 @@ struct recovery_settings {
     uint16_t mtu_minimum_change;
     // The bytes of this end's ids.
     uint8_t cid_len;
-    // Which congestion controller paths have: 0 NewReno, 1 a window that stays the one at first.
+    // Which congestion controller paths have: `RECOVERY_CONTROLLER_NEW_RENO` or `RECOVERY_CONTROLLER_FIXED`.
     uint8_t controller;
-    // How numbers are skipped: 0 not, 1 as drawn with the seed, 2 from `first_skip` on.
+    // How numbers are skipped: `RECOVERY_SKIPS_DISABLED`, `RECOVERY_SKIPS_DRAWN` or `RECOVERY_SKIPS_STARTING`.
     uint8_t skips;
     // Whether ids last no longer than `cid_lifetime`.
     bool ids_end;
@@ -88,14 +297,23 @@ struct recovery_settings {
 
 // What an event was replied, in numbers.
 struct recovery_reply {
-    // Which answer, in the order of `Answer`; 19 for a refusal.
+    // Which answer, or that it was refused.
     uint8_t kind;
     // The number of the refusal, or 0; of one by ECN `first` is the number of the fault.
     uint8_t refusal;
+    // New: whether to start the timer for a late ACK. Sent: whether a silent packet was forgotten for it. Acked, lost: whether
+    // it was the probe of the path's MTU. Retire: whether numbers are to be retired. Flag: yes or no. Timeout: whether a
+    // timer is set. Black hole: whether one was reported. Sendable: whether an ACK is to be sent. Otherwise false.
     bool flag;
+    // Sendable: whether there is something else to be sent. Otherwise false.
     bool other;
+    // Probe: its size in bytes. Otherwise 0.
     uint16_t size;
+    // Sent, probe: the number that it was given. Retire: the first number. Timeout, delayed: the moment, in nanoseconds. In
+    // flight: the bytes. Otherwise 0.
     uint64_t first;
+    // Sent: the number that was forgotten. Retire: one above the last number. In flight: how many packets elicit an ACK.
+    // Otherwise 0.
     uint64_t second;
 };
 
@@ -127,8 +345,12 @@ struct recovery_pathview {
     uint64_t pacer_capacity;
     // The bytes in that bucket, as the last datagram or question left it: what time has brought since is not among them.
     uint64_t pacer_tokens;
+    // The slow start threshold, where there is one (RFC 9002, 7.3).
+    uint64_t ssthresh;
     // The MTU in use (RFC 9000, 14.3).
     uint16_t mtu;
+    // Whether there is a slow start threshold; none before the first loss.
+    bool has_ssthresh;
     // Whether there is such a path; if not, all else is 0.
     bool lives;
     // Whether the peer was seen to receive there (RFC 9000, 8).
@@ -141,6 +363,8 @@ struct recovery_spaceview {
     uint64_t largest_received;
     // How many ranges of numbers are to be acknowledged.
     uint64_t ranges;
+    // The number of the next packet, unless it is skipped.
+    uint64_t next_packet_number;
     // Whether the space is not discarded; if it is, all else is 0.
     bool lives;
     // Whether an ACK is required, and some number is to be acknowledged.
@@ -159,7 +383,7 @@ struct recovery_rangeview {
     bool some;
 };
 
-// A moment, if there is one.
+// A moment, or a span, if there is one.
 struct recovery_momentview {
     // In nanoseconds.
     uint64_t nanos;
@@ -177,15 +401,18 @@ struct recovery_idsview {
     uint64_t retire_prior_to;
     // How late this end's ACKs may be, in nanoseconds, which stop at `u64::MAX`.
     uint64_t max_ack_delay;
+    // How late the peer's ACKs may be, in nanoseconds, which stop at `u64::MAX`.
+    uint64_t peer_max_ack_delay;
 };
 
-// Makes a recovery, whose peer is at this address and has this id of at most 20 bytes; false where there is no memory.
-bool recovery_ffi_new(struct recovery_handle *handle, const struct recovery_settings *settings, const struct recovery_address *remote, const uint8_t *initial_cid, size_t initial_cid_len, uint64_t now);
+// Makes a recovery, whose peer is at this address and has this id of at most 20 bytes. The answer is `RECOVERY_NEW_MADE`, or the number of
+// what is wrong; the handle then holds what it held.
+uint8_t recovery_ffi_new(struct recovery_handle *handle, const struct recovery_settings *settings, const struct recovery_address *remote, const uint8_t *initial_cid, size_t initial_cid_len, uint64_t now);
 
-// Frees a recovery.
+// Frees a recovery. The handle holds none then; one that holds none stays so.
 void recovery_ffi_drop(struct recovery_handle *handle);
 
-// An ACK_FREQUENCY frame came in, its numbers below 2^62: the event `AckFrequencyIn`.
+// An ACK_FREQUENCY frame came in: the event `AckFrequencyIn`; its numbers lie below 2^62.
 struct recovery_reply recovery_ffi_ack_frequency(struct recovery_handle *handle, uint64_t sequence, uint64_t threshold, uint64_t micros, uint64_t reordering);
 
 // An ACK frame was sent (RFC 9000, 13.2.1): the event `AcksSent`.
@@ -212,7 +439,7 @@ struct recovery_reply recovery_ffi_next_id(struct recovery_handle *handle);
 // The server chose another id (RFC 9000, 7.2): the event `InitialId`; an id has at most 20 bytes.
 struct recovery_reply recovery_ffi_initial_id(struct recovery_handle *handle, const uint8_t *id, size_t id_len);
 
-// This end issues these ids (RFC 9000, 5.1.1): the event `IssueIds`.
+// This end issues these ids (RFC 9000, 5.1.1): the event `IssueIds`; an id has at most 20 bytes.
 struct recovery_reply recovery_ffi_issue_ids(struct recovery_handle *handle, uint64_t now, const struct recovery_id *given, size_t given_len);
 
 // The timer for new ids expired: the event `IdTimeout`.
@@ -221,11 +448,17 @@ struct recovery_reply recovery_ffi_id_timeout(struct recovery_handle *handle);
 // A RETIRE_CONNECTION_ID frame came in (RFC 9000, 19.16): the event `PeerRetired`.
 struct recovery_reply recovery_ffi_peer_retired(struct recovery_handle *handle, uint64_t sequence, uint64_t limit);
 
-// Writes the bytes of the token that was answered last, all zeros before there was one.
+// Writes the bytes of the token that was answered last; all zeros before there was one, and where no recovery is held.
 void recovery_ffi_token(struct recovery_handle *handle, uint8_t *out);
 
-// Whether this is the token that was answered last.
+// Whether this is the token that was answered last; of none where no recovery is held.
 bool recovery_ffi_is_token(struct recovery_handle *handle, const uint8_t *token);
+
+// What the layer above keeps with a path.
+struct recovery_marks recovery_ffi_marks(struct recovery_handle *handle, bool previous);
+
+// The layer above keeps this with a path from now on. False, and nothing changes, where there is no such path or no such space.
+bool recovery_ffi_set_marks(struct recovery_handle *handle, bool previous, const struct recovery_marks *marks);
 
 // A packet came in (RFC 9000, 12.3): the event `Received`.
 struct recovery_reply recovery_ffi_received(struct recovery_handle *handle, uint8_t space, uint64_t now, uint64_t number, bool ack_eliciting);
@@ -242,7 +475,7 @@ struct recovery_reply recovery_ffi_lost(struct recovery_handle *handle, uint8_t 
 // The keys of a space are dropped (RFC 9002, 6.4): the event `DiscardSpace`.
 struct recovery_reply recovery_ffi_discard(struct recovery_handle *handle, uint8_t space);
 
-// How many items the queue that was taken last has; they are written where there is room for all.
+// How many items the queue that was taken last has; they are written where there is room for all. None, before one was taken.
 size_t recovery_ffi_taken(struct recovery_handle *handle, uint64_t *out, size_t out_len);
 
 // What is in flight on a path? The event `InFlight`.
@@ -293,17 +526,28 @@ struct recovery_reply recovery_ffi_take_pending(struct recovery_handle *handle, 
 // What is kept for a path.
 struct recovery_pathview recovery_ffi_path(struct recovery_handle *handle, bool previous);
 
-// What a space has to send.
+// What a space has to send; of one that there is not what is said of a discarded one.
 struct recovery_spaceview recovery_ffi_space(struct recovery_handle *handle, uint8_t space);
 
 // One of the ranges of numbers that are to be acknowledged in a space, in ascending order.
 struct recovery_rangeview recovery_ffi_range(struct recovery_handle *handle, uint8_t space, size_t index);
 
+// How long ago the largest packet of a space came, which an ACK frame tells (RFC 9000, 13.2.5): zero before the first, none
+// where there is no such space or it is discarded.
+struct recovery_momentview recovery_ffi_ack_delay(struct recovery_handle *handle, uint8_t space, uint64_t now);
+
 // When a timer expires.
 struct recovery_momentview recovery_ffi_timer(struct recovery_handle *handle, uint8_t timer);
 
-// The ids of both ends, and how late this end's ACKs may be.
+// The ids of both ends, and how late ACKs may be.
 struct recovery_idsview recovery_ffi_ids(struct recovery_handle *handle);
+
+// When the oldest of this end's ids is to be retired (RFC 9000, 5.1.2), where they end: what `RECOVERY_TIMER_PUSH_NEW_CID` is set to.
+struct recovery_momentview recovery_ffi_next_id_timeout(struct recovery_handle *handle);
+
+// The default settings: an address that is not validated, ACKs 25 ms late at most, ids of 8 bytes that last 10 s, one of them
+// issued, no skips, an RTT of 333 ms, MTUs of 1200 bytes and up to 1452, and NewReno with 12,000 bytes and a half.
+struct recovery_settings recovery_ffi_default_settings(void);
 
 // A timer is set to a moment in nanoseconds: the event `SetTimer`.
 struct recovery_reply recovery_ffi_set_timer(struct recovery_handle *handle, uint8_t timer, uint64_t time);
@@ -313,5 +557,13 @@ struct recovery_reply recovery_ffi_stop_timer(struct recovery_handle *handle, ui
 
 // When does the next timer expire? The event `NextTimeout`.
 struct recovery_reply recovery_ffi_next_timeout(struct recovery_handle *handle);
+
+// Does nothing; a library of another layout does not have it, and a program with this header does not link with that one.
+void recovery_ffi_layout(void) __asm__("recovery_ffi_layout_085f3b12");
+__attribute__((used)) static void (*const recovery_ffi_has_this_layout)(void) = recovery_ffi_layout;
+
+#ifdef __cplusplus
+}
+#endif
 
 #endif

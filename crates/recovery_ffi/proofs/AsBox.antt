@@ -1,4 +1,4 @@
--- The seal and its parts own what a box at the same types owns.
+-- The slot and its parts own what a box at the same types owns.
 use mir.Syntax.{impl, tnil, dnil}
 use mathlib.Core.List.{[]}
 use denote.Signature.{Slot, plain}
@@ -9,7 +9,7 @@ use Rattle.std_heap.proofs.Global.TheLaws as heap
 use Rattle.recovery_ffi.specs.contracts.stack.Stack as Stack
 use Rattle.recovery_ffi.proofs.stack.Stack.TheLaws as stack
 use Rattle.recovery_ffi.specs.contracts.parts.Parts as Parts
-use Rattle.recovery_ffi.specs.contracts.handle.Handle as Handle
+use Rattle.recovery_ffi.specs.contracts.slot.Slot as Held
 
 abbrev pub E : Bx
 E = record {
@@ -27,5 +27,5 @@ E = record {
 abbrev pub FromParts : Slot 0
 FromParts = plain (λ _. Parts.the_row Stack.the_row Heap.the_row ghosts)
 
-abbrev pub FromHandle : Slot 0
-FromHandle = plain (λ _. Handle.the_row)
+abbrev pub FromSlot : Slot 0
+FromSlot = plain (λ _. Held.the_row)

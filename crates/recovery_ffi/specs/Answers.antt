@@ -1,5 +1,5 @@
 -- What an event comes to.
-use Rattle.std.specs.Prelude.{◌≡◌, ℕ, Bool, List, map, Option, Some, Vec, ◌⊎◌}
+use Rattle.std.specs.Prelude.{◌≡◌, ℕ, ◌<◌, Bool, List, length, map, Option, None, Some, IsSome, Vec, ◌⊎◌}
 use Rattle.std.specs.Global.{Global}
 use Rattle.std.specs.declared.net.socket_addr.SocketAddr.{SocketAddr}
 use Rattle.recovery_base.specs.declared.below.ids.IssuedCid.{IssuedCid}
@@ -13,7 +13,7 @@ use Rattle.recovery_ffi.specs.declared.codes.Address.{Address}
 use Rattle.recovery_ffi.specs.declared.codes.Id.{Id}
 use Rattle.recovery_ffi.specs.declared.stack.Stack.{Stack}
 use Rattle.recovery_ffi.specs.declared.stack.Reply.{Reply}
-use Rattle.recovery_ffi.specs.Replies.{spelled, no_memory, taken_after, token_after}
+use Rattle.recovery_ffi.specs.Replies.{spelled, bad_argument, no_memory, no_recovery, taken_after, token_after}
 
 abbrev pub ItemEvent : Type 0
 ItemEvent = Event (List ℕ) (Unit {0}) (Unit {0}) (List ℕ)
@@ -29,17 +29,35 @@ pub record Tells (old : Stack) (event : ItemEvent) (spelling : Reply) (new : Sta
   pub taken : new.taken ≡ taken_after reply old.taken
   pub token : new.token ≡ token_after reply old.token
 
--- the same of what a handle holds
-pub record Answers (old : Option Stack) (event : ItemEvent) (spelling : Reply) (new : Option Stack) : Type 0 where
-  pub was : Stack
+-- a recovery is held from then on, to which the event came
+pub record HandsIn (was : Stack) (event : ItemEvent) (spelling : Reply) (new : Option Stack) : Type 0 where
   pub is : Stack
-  pub held : old ≡ Some was
   pub holds : new ≡ Some is
   pub tells : Tells was event spelling is
 
--- the same, or there was no memory to hand the event in, and nothing changed
-abbrev pub AnswersOr : Option Stack → ItemEvent → Reply → Option Stack → Type 0
-AnswersOr old event spelling new = Answers old event spelling new ⊎ ((spelling ≡ no_memory) × (new ≡ old))
+-- the same of what a handle holds; where it holds none, the call is refused
+abbrev pub Answers : Option Stack → ItemEvent → Reply → Option Stack → Type 0
+Answers None event spelling new = (spelling ≡ no_recovery) × (new ≡ None)
+Answers (Some was) event spelling new = HandsIn was event spelling new
+
+-- a call with an argument out of its range is refused, and nothing changes
+abbrev pub IsBad : Option Stack → Reply → Option Stack → Type 0
+IsBad old spelling new = (spelling ≡ bad_argument) × (new ≡ old)
+
+-- the event of what an argument names, where it names something
+abbrev pub AnswersTo : {C : Type 0} → Option C → (C → ItemEvent) → Option Stack → Reply → Option Stack → Type 0
+AnswersTo None event old spelling new = IsBad old spelling new
+AnswersTo (Some named) event old spelling new = Answers old (event named) spelling new
+
+-- there was no memory to hand in so many things, and nothing changed; for none of them no memory is needed
+abbrev pub HadNoMemory : {X : Type 0} → List X → Option Stack → Reply → Option Stack → Type 0
+HadNoMemory given old spelling new = (0 < length given) × (spelling ≡ no_memory) × (new ≡ old)
+
+-- the same of an event with items, for which there may be no memory
+abbrev pub AnswersWith : List ℕ → {C : Type 0} → Option C → (C → ItemEvent) → Option Stack → Reply → Option Stack
+    → Type 0
+AnswersWith items named event old spelling new =
+    AnswersTo named event old spelling new ⊎ (IsSome named × HadNoMemory items old spelling new)
 
 -- ids are issued: those that were given
 pub record Issues (old : Option Stack) (now : ℕ) (given : List Id) (spelling : Reply) (new : Option Stack) : Type 0
@@ -48,9 +66,9 @@ pub record Issues (old : Option Stack) (now : ℕ) (given : List Id) (spelling :
     pub issued : ids.items ≡ map issued_of given
     pub answers : Answers old (IssueIds now ids) spelling new
 
--- the same, or there was no memory to hand them in, and nothing changed
+-- the same, or there was no memory to hand them in
 abbrev pub IssuesOr : Option Stack → ℕ → List Id → Reply → Option Stack → Type 0
-IssuesOr old now given spelling new = Issues old now given spelling new ⊎ ((spelling ≡ no_memory) × (new ≡ old))
+IssuesOr old now given spelling new = Issues old now given spelling new ⊎ HadNoMemory given old spelling new
 
 -- another path is used: to the address that was given
 pub record MovesTo (old : Option Stack) (now : ℕ) (given : Address) (fresh : Bool) (spelling : Reply)
@@ -59,9 +77,7 @@ pub record MovesTo (old : Option Stack) (now : ℕ) (given : Address) (fresh : B
   pub there : IsAt given remote
   pub answers : Answers old (NewPath now remote fresh) spelling new
 
--- a reading of what a handle holds, which stays what it is
-pub record Reads (old new : Option Stack) (Says : Stack → Type 0) : Type 0 where
-  pub stack : Stack
-  pub held : old ≡ Some stack
-  pub same : new ≡ old
-  pub says : Says stack
+-- a reading of what a handle holds, or of nothing where it holds none; it stays what it is
+abbrev pub Reads : Option Stack → Option Stack → (Stack → Type 0) → Type 0 → Type 0
+Reads None new Says Nothing = (new ≡ None) × Nothing
+Reads (Some stack) new Says Nothing = (new ≡ Some stack) × Says stack

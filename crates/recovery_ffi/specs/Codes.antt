@@ -1,5 +1,5 @@
 -- Enums and what else crosses by numbers.
-use Rattle.std.specs.Prelude.{◌≡◌, ℕ, ◌+◌, ◌-◌, ◌*◌, ◌^◌, Bool, IsTrue, IsFalse, List, Option, Some, None, min, take, if◌then◌else◌, ◌==◌}
+use Rattle.std.specs.Prelude.{◌≡◌, ℕ, ◌+◌, ◌-◌, ◌*◌, ◌^◌, ◌&&◌, Bool, IsTrue, IsFalse, List, length, Option, Some, None, option_map, option_and_then, min, take, if◌then◌else◌, ◌==◌, nat_lt, nat_le}
 use Rattle.std.specs.Net.Addr.{ipv4_octets, ipv6_segments, segments_of}
 use Rattle.std.specs.Net.Socket.{v4_ip, v4_port, v6_ip, v6_port, v6_flowinfo, v6_scope_id}
 use Rattle.std.specs.declared.net.socket_addr.SocketAddr.{SocketAddr}
@@ -17,19 +17,28 @@ use Rattle.recovery_paths.specs.declared.live_paths.PathName.TheVariants.{Curren
 use Rattle.recovery_ffi.specs.declared.codes.Address.{Address}
 use Rattle.recovery_ffi.specs.declared.codes.Id.{Id}
 
-abbrev pub space_coded : ℕ → SpaceId
-space_coded code = if code == 0 then Initial else (if code == 1 then Handshake else Data)
+-- ---- what a number names, if anything
 
-abbrev pub timer_coded : ℕ → Timer
+abbrev pub space_coded : ℕ → Option SpaceId
+space_coded code =
+    if code == 0 then Some Initial else (if code == 1 then Some Handshake else (if code == 2 then Some Data else None))
+
+abbrev pub space_number : SpaceId → ℕ
+space_number Initial = 0
+space_number Handshake = 1
+space_number Data = 2
+
+abbrev pub timer_coded : ℕ → Option Timer
 timer_coded code =
-    if code == 0 then LossDetection else
-    (if code == 1 then Idle else
-    (if code == 2 then Close else
-    (if code == 3 then KeyDiscard else
-    (if code == 4 then PathValidation else
-    (if code == 5 then KeepAlive else
-    (if code == 6 then Pacing else
-    (if code == 7 then PushNewCid else MaxAckDelay)))))))
+    if code == 0 then Some LossDetection else
+    (if code == 1 then Some Idle else
+    (if code == 2 then Some Close else
+    (if code == 3 then Some KeyDiscard else
+    (if code == 4 then Some PathValidation else
+    (if code == 5 then Some KeepAlive else
+    (if code == 6 then Some Pacing else
+    (if code == 7 then Some PushNewCid else
+    (if code == 8 then Some MaxAckDelay else None))))))))
 
 abbrev pub path_coded : Bool → PathName
 path_coded previous = if previous then Previous else Current
@@ -53,18 +62,31 @@ IsAt given (V6 address) =
 abbrev pub issued_of : Id → IssuedCid
 issued_of given = record { sequence = given.sequence; id = take given.len given.bytes; reset_token = given.token }
 
--- ---- spans and frames, from the numbers and bytes that cross
+-- ---- spans, ids and frames, from the numbers and bytes that cross, where these are in their ranges
 
-abbrev pub nanos_of : ℕ → ℕ → ℕ
-nanos_of secs nanos = secs * 10 ^ 9 + nanos
+-- seconds and nanoseconds, which are fewer than a second's
+abbrev pub span : ℕ → ℕ → Option ℕ
+span secs nanos = if nat_lt nanos (10 ^ 9) then Some (secs * 10 ^ 9 + nanos) else None
 
-abbrev pub request : ℕ → ℕ → ℕ → ℕ → AckFrequency
-request sequence threshold micros reordering = record {
-  sequence = sequence;
-  ack_eliciting_threshold = threshold;
-  request_max_ack_delay = micros;
-  reordering_threshold = reordering;
-}
+abbrev pub spans : ℕ → ℕ → ℕ → ℕ → Option (ℕ × ℕ)
+spans delay_secs delay_nanos rtt_secs rtt_nanos =
+    option_and_then (λ delay. option_map (λ rtt. (delay, rtt)) (span rtt_secs rtt_nanos)) (span delay_secs delay_nanos)
+
+-- an id has at most 20 bytes
+abbrev pub cid : List ℕ → Option (List ℕ)
+cid bytes = if nat_le (length bytes) 20 then Some bytes else None
+
+-- the numbers of a frame lie below 2^62
+abbrev pub request : ℕ → ℕ → ℕ → ℕ → Option AckFrequency
+request sequence threshold micros reordering =
+    if nat_lt sequence (2 ^ 62) && nat_lt threshold (2 ^ 62) && nat_lt micros (2 ^ 62) && nat_lt reordering (2 ^ 62)
+    then Some (record {
+      sequence = sequence;
+      ack_eliciting_threshold = threshold;
+      request_max_ack_delay = micros;
+      reordering_threshold = reordering;
+    })
+    else None
 
 abbrev pub counts : ℕ → ℕ → ℕ → EcnCounts
 counts ect0 ect1 ce = record { ect0 = ect0; ect1 = ect1; ce = ce }

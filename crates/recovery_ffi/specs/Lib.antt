@@ -6,3 +6,4 @@ pub mod Settings
 pub mod Made
 pub mod Views
 pub mod Controllers
+pub mod Marks

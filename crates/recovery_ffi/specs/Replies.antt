@@ -5,8 +5,9 @@ use Rattle.std.specs.declared.ops.Range.{Range}
 use Rattle.quic_recovery.specs.History as History
 use Rattle.recovery_events.specs.Refusals.{refusal_number}
 use Rattle.recovery_events.specs.declared.event.Refusal.{Refusal}
-use Rattle.recovery_events.specs.declared.event.Refusal.TheVariants.{Ecn}
+use Rattle.recovery_events.specs.declared.event.Refusal.TheVariants.{Ecn, NoMemory}
 use Rattle.recovery_events.specs.declared.event.Answer.TheVariants.{New, Duplicate, Sent, Acked, Lost, Retire, Flag, Timeout, InFlight, Transmitted, Blocked, Delayed, Ready, Probe, NoProbe, BlackHole, Sendable, Queue, Done}
+use Rattle.recovery_ffi.specs.declared.numbers.TheConstants.{ANSWER_NEW, ANSWER_DUPLICATE, ANSWER_SENT, ANSWER_ACKED, ANSWER_LOST, ANSWER_RETIRE, ANSWER_FLAG, ANSWER_TIMEOUT, ANSWER_IN_FLIGHT, ANSWER_TRANSMITTED, ANSWER_BLOCKED, ANSWER_DELAYED, ANSWER_READY, ANSWER_PROBE, ANSWER_NO_PROBE, ANSWER_BLACK_HOLE, ANSWER_SENDABLE, ANSWER_QUEUE, ANSWER_DONE, ANSWER_REFUSED, REFUSAL_NO_RECOVERY, REFUSAL_BAD_ARGUMENT, FAULT_ECT0_FALLS, FAULT_ECT1_FALLS, FAULT_CE_FALLS, FAULT_BLEACHED, FAULT_CORRUPTED}
 use Rattle.recovery_ffi.specs.declared.stack.Reply.{Reply}
 
 -- an answer that holds nothing
@@ -14,56 +15,68 @@ abbrev pub plain : ℕ → Reply
 plain kind = record { kind = kind; refusal = 0; flag = false; other = false; size = 0; first = 0; second = 0 }
 
 abbrev pub sent_spelled : ℕ → Option ℕ → Reply
-sent_spelled number (Some forgotten) = record (plain 2) { flag = true; first = number; second = forgotten }
-sent_spelled number None = record (plain 2) { first = number }
+sent_spelled number (Some forgotten) = record (plain ANSWER_SENT) { flag = true; first = number; second = forgotten }
+sent_spelled number None = record (plain ANSWER_SENT) { first = number }
 
 abbrev pub retire_spelled : Option (Range ℕ × List ℕ) → Reply
-retire_spelled (Some retired) = record (plain 5) { flag = true; first = retired.0.start; second = retired.0.end }
-retire_spelled None = plain 5
+retire_spelled (Some retired) = record (plain ANSWER_RETIRE) { flag = true; first = retired.0.start; second = retired.0.end }
+retire_spelled None = plain ANSWER_RETIRE
 
 abbrev pub timeout_spelled : Option ℕ → Reply
-timeout_spelled (Some time) = record (plain 7) { flag = true; first = time }
-timeout_spelled None = plain 7
+timeout_spelled (Some time) = record (plain ANSWER_TIMEOUT) { flag = true; first = time }
+timeout_spelled None = plain ANSWER_TIMEOUT
 
 -- which fault the peer's counts of ECN have, by its text (RFC 9000, 13.4.2.1)
 abbrev pub fault_number : List ℕ → ℕ
 fault_number text =
-    if bytes_eq text (codes "peer ECT(0) count regression") then 0
-    else if bytes_eq text (codes "peer ECT(1) count regression") then 1
-    else if bytes_eq text (codes "peer CE count regression") then 2
-    else if bytes_eq text (codes "ECN bleaching") then 3
-    else 4
+    if bytes_eq text (codes "peer ECT(0) count regression") then FAULT_ECT0_FALLS
+    else if bytes_eq text (codes "peer ECT(1) count regression") then FAULT_ECT1_FALLS
+    else if bytes_eq text (codes "peer CE count regression") then FAULT_CE_FALLS
+    else if bytes_eq text (codes "ECN bleaching") then FAULT_BLEACHED
+    else FAULT_CORRUPTED
 
 abbrev pub refusal_spelled : Refusal → Reply
-refusal_spelled (Ecn text) = record (plain 19) { refusal = 17; first = fault_number text.now }
-refusal_spelled refusal = record (plain 19) { refusal = refusal_number refusal }
+refusal_spelled (Ecn text) = record (plain ANSWER_REFUSED) { refusal = 17; first = fault_number text.now }
+refusal_spelled refusal = record (plain ANSWER_REFUSED) { refusal = refusal_number refusal }
 
 -- Q is a queue of items
 abbrev pub spelled : {Q : Type 0} → History.Reply Q → Reply
-spelled (Ok (New arm)) = record (plain 0) { flag = arm }
-spelled (Ok Duplicate) = plain 1
+spelled (Ok (New arm)) = record (plain ANSWER_NEW) { flag = arm }
+spelled (Ok Duplicate) = plain ANSWER_DUPLICATE
 spelled (Ok (Sent number forgotten)) = sent_spelled number forgotten
-spelled (Ok (Acked probe)) = record (plain 3) { flag = probe }
-spelled (Ok (Lost probe)) = record (plain 4) { flag = probe }
+spelled (Ok (Acked probe)) = record (plain ANSWER_ACKED) { flag = probe }
+spelled (Ok (Lost probe)) = record (plain ANSWER_LOST) { flag = probe }
 spelled (Ok (Retire retired)) = retire_spelled retired
-spelled (Ok (Flag flag)) = record (plain 6) { flag = flag }
+spelled (Ok (Flag flag)) = record (plain ANSWER_FLAG) { flag = flag }
 spelled (Ok (Timeout time)) = timeout_spelled time
-spelled (Ok (InFlight bytes eliciting)) = record (plain 8) { first = bytes; second = eliciting }
-spelled (Ok Transmitted) = plain 9
-spelled (Ok Blocked) = plain 10
-spelled (Ok (Delayed time)) = record (plain 11) { first = time }
-spelled (Ok Ready) = plain 12
-spelled (Ok (Probe number size)) = record (plain 13) { first = number; size = size }
-spelled (Ok NoProbe) = plain 14
-spelled (Ok (BlackHole found)) = record (plain 15) { flag = found }
-spelled (Ok (Sendable frames)) = record (plain 16) { flag = frames.acks; other = frames.other }
-spelled (Ok (Queue queue)) = plain 17
-spelled (Ok Done) = plain 18
+spelled (Ok (InFlight bytes eliciting)) = record (plain ANSWER_IN_FLIGHT) { first = bytes; second = eliciting }
+spelled (Ok Transmitted) = plain ANSWER_TRANSMITTED
+spelled (Ok Blocked) = plain ANSWER_BLOCKED
+spelled (Ok (Delayed time)) = record (plain ANSWER_DELAYED) { first = time }
+spelled (Ok Ready) = plain ANSWER_READY
+spelled (Ok (Probe number size)) = record (plain ANSWER_PROBE) { first = number; size = size }
+spelled (Ok NoProbe) = plain ANSWER_NO_PROBE
+spelled (Ok (BlackHole found)) = record (plain ANSWER_BLACK_HOLE) { flag = found }
+spelled (Ok (Sendable frames)) = record (plain ANSWER_SENDABLE) { flag = frames.acks; other = frames.other }
+spelled (Ok (Queue queue)) = plain ANSWER_QUEUE
+spelled (Ok Done) = plain ANSWER_DONE
 spelled (Err refusal) = refusal_spelled refusal
 
--- the refusal for want of memory
+-- ---- refusals of a call
+
+-- there is no memory for what is handed in
 abbrev pub no_memory : Reply
-no_memory = record (plain 19) { refusal = 1 }
+no_memory = refusal_spelled NoMemory
+
+-- the handle holds no recovery
+abbrev pub no_recovery : Reply
+no_recovery = record (plain ANSWER_REFUSED) { refusal = REFUSAL_NO_RECOVERY }
+
+-- an argument is out of its range
+abbrev pub bad_argument : Reply
+bad_argument = record (plain ANSWER_REFUSED) { refusal = REFUSAL_BAD_ARGUMENT }
+
+-- ---- what is kept
 
 -- what is kept beside the recovery, to be read: the queue that was handed out last,
 abbrev pub taken_after : {Q : Type 0} → History.Reply Q → Q → Q

@@ -1,5 +1,5 @@
 -- What a recovery is made with.
-use Rattle.std.specs.Prelude.{ℕ, ◌≤◌, ◌<◌, ◌^◌, ◌==◌, min, max, List, Option, None, Some, if◌then◌else◌}
+use Rattle.std.specs.Prelude.{ℕ, ◌*◌, ◌≤◌, ◌<◌, ◌^◌, ◌==◌, ◌||◌, nat_lt, nat_le, min, max, true, false, List, Option, None, Some, if◌then◌else◌}
 use Rattle.std.specs.declared.net.socket_addr.SocketAddr.{SocketAddr}
 use Rattle.rand_core.specs.Pcg32Seed.{pcg32_seed}
 use Rattle.rand_core.specs.Steps.{stream_of, steps_u32}
@@ -18,10 +18,22 @@ use Rattle.recovery_ffi.specs.Controllers.{chosen_made, chosen_words}
 use Rattle.recovery_ffi.specs.declared.controllers.Chosen.{Chosen}
 use Rattle.recovery_ffi.specs.declared.controllers.ChosenConfig.{ChosenConfig}
 use Rattle.recovery_ffi.specs.declared.controllers.ChosenConfig.TheVariants.{Reno, Fixed}
+use Rattle.recovery_ffi.specs.declared.numbers.TheConstants.{CONTROLLER_FIXED, CONTROLLER_NEW_RENO, NEW_MADE, NEW_SKIP_TOO_LARGE, NEW_TOO_MANY_ISSUED, NEW_UNKNOWN_CONTROLLER, NEW_UNKNOWN_SKIPS, NEW_ZERO_DENOMINATOR, NEW_ZERO_MTU, NEW_ZERO_WINDOW, SKIPS_DISABLED, SKIPS_DRAWN, SKIPS_STARTING}
 use Rattle.recovery_ffi.specs.declared.settings.Settings.{Settings}
 use Rattle.recovery_ffi.specs.Codes.{maybe}
 
--- what a caller keeps
+-- the first thing that is wrong with settings; `NEW_MADE` where nothing is
+abbrev pub settings_fault : Settings → ℕ
+settings_fault settings =
+    if nat_lt (2 ^ 62) settings.issued then NEW_TOO_MANY_ISSUED else
+    (if nat_le 64 settings.first_skip then NEW_SKIP_TOO_LARGE else
+    (if settings.initial_mtu == 0 || settings.min_mtu == 0 then NEW_ZERO_MTU else
+    (if settings.initial_window == 0 then NEW_ZERO_WINDOW else
+    (if settings.loss_denominator == 0 then NEW_ZERO_DENOMINATOR else
+    (if nat_lt CONTROLLER_FIXED settings.controller then NEW_UNKNOWN_CONTROLLER else
+    (if nat_lt SKIPS_STARTING settings.skips then NEW_UNKNOWN_SKIPS else NEW_MADE))))))
+
+-- what the parts of a recovery require of settings in which nothing is wrong
 pub record IsSound (settings : Settings) : Type 0 where
   pub issued : settings.issued ≤ 2 ^ 62
   pub first_skip : settings.first_skip < 64
@@ -31,7 +43,8 @@ pub record IsSound (settings : Settings) : Type 0 where
   pub min_mtu : 0 < settings.min_mtu
 
 abbrev pub skips_of : ℕ → ℕ → Skips
-skips_of kind first = if kind == 0 then Disabled else (if kind == 1 then Drawn else Starting first)
+skips_of kind first =
+    if kind == SKIPS_DISABLED then Disabled else (if kind == SKIPS_DRAWN then Drawn else Starting first)
 
 abbrev pub reno_of : Settings → RenoSettings
 reno_of settings = record {
@@ -41,7 +54,8 @@ reno_of settings = record {
 }
 
 abbrev pub controller_of : Settings → ChosenConfig
-controller_of settings = if settings.controller == 0 then Reno (reno_of settings) else Fixed settings.initial_window
+controller_of settings =
+    if settings.controller == CONTROLLER_NEW_RENO then Reno (reno_of settings) else Fixed settings.initial_window
 
 -- how the MTU is searched for: a bound above what UDP carries, and a step of nothing, are stored as the nearest that
 -- serve
@@ -76,6 +90,33 @@ config_of settings cid remote = record {
   cid_lifetime = maybe settings.ids_end settings.cid_lifetime;
   issued = settings.issued;
   skips = skips_of settings.skips settings.first_skip;
+}
+
+-- the settings that are used by default (RFC 9000, 14 and 18.2; RFC 9002, 6.2.2 and 7.2)
+abbrev pub default_settings : Settings
+default_settings = record {
+  max_ack_delay = 25 * 10 ^ 6;
+  cid_lifetime = 10 * 10 ^ 9;
+  issued = 1;
+  seed = 0;
+  first_skip = 0;
+  initial_rtt = 333 * 10 ^ 6;
+  mtu_interval = 600 * 10 ^ 9;
+  black_hole_cooldown = 60 * 10 ^ 9;
+  initial_window = 12000;
+  loss_numerator = 1;
+  loss_denominator = 2;
+  initial_mtu = 1200;
+  min_mtu = 1200;
+  mtu_upper_bound = 1452;
+  mtu_minimum_change = 20;
+  cid_len = 8;
+  controller = CONTROLLER_NEW_RENO;
+  skips = SKIPS_DISABLED;
+  ids_end = true;
+  validated = false;
+  allow_mtud = true;
+  searches = true;
 }
 
 -- the words that are drawn: those of PCG32 with the seed

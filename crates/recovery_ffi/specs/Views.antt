@@ -1,18 +1,22 @@
 -- What of a recovery can be read, in numbers.
-use Rattle.std.specs.Prelude.{◌≡◌, ℕ, ◌≤◌, ◌<◌, List, [], ◌++◌, length, drop, true, false, IsTrue, Option, Some, None, if◌then◌else◌}
+use Rattle.std.specs.Prelude.{◌≡◌, ℕ, ◌≤◌, ◌<◌, List, [], ◌++◌, length, drop, true, false, IsTrue, Option, Some, None, is_some, option_and_then, option_map, if◌then◌else◌}
+use Rattle.std.specs.Option.{option_map_or}
 use Rattle.std.specs.declared.ops.Range.{Range}
+use Rattle.recovery_acks.specs.Acks.{delay_at}
+use Rattle.recovery_base.specs.Timers.{moment}
 use Rattle.recovery_base.specs.declared.below.SpaceId.{SpaceId}
+use Rattle.recovery_base.specs.declared.timer.TimerTable.{TimerTable}
 use Rattle.recovery_congestion.specs.Rtt.{rtt_get, rtt_conservative, pto_base_of}
 use Rattle.recovery_ids.specs.CidQueue.{active_of}
 use Rattle.recovery_ledger.specs.Discarded.{is_discarded}
 use Rattle.recovery_ledger.specs.Paths.{counters_of}
 use Rattle.recovery_ledger.specs.Queued.{IsSendable}
-use Rattle.recovery_ledger.specs.Spaces.{Space, space_of, acks_of, heard_of, queued_of}
+use Rattle.recovery_ledger.specs.Spaces.{Space, space_of, acks_of, heard_of, next_number_of, queued_of}
 use Rattle.recovery_paths.specs.PathStates.{Path}
 use Rattle.recovery_queue.specs.Items.{item_words}
 use Rattle.quic_recovery.specs.Parts.{Parts}
-use Rattle.recovery_ffi.specs.Codes.{nanos_shown}
-use Rattle.recovery_ffi.specs.Controllers.{window_of}
+use Rattle.recovery_ffi.specs.Codes.{nanos_shown, space_coded, timer_coded}
+use Rattle.recovery_ffi.specs.Controllers.{metrics_of, window_of}
 use Rattle.recovery_ffi.specs.declared.controllers.Chosen.{Chosen}
 use Rattle.recovery_ffi.specs.declared.views.PathView.{PathView}
 use Rattle.recovery_ffi.specs.declared.views.SpaceView.{SpaceView}
@@ -35,7 +39,9 @@ path_shown path = record {
   pto_base = nanos_shown (pto_base_of path.state.rtt);
   pacer_capacity = path.state.pacer.capacity;
   pacer_tokens = path.state.pacer.tokens;
+  ssthresh = option_map_or (λ bytes. bytes) (metrics_of path.state.controller).ssthresh 0;
   mtu = path.state.discovery.mtu;
+  has_ssthresh = is_some (metrics_of path.state.controller).ssthresh;
   lives = true;
   validated = path.state.validated;
 }
@@ -55,7 +61,9 @@ no_path = record {
   pto_base = 0;
   pacer_capacity = 0;
   pacer_tokens = 0;
+  ssthresh = 0;
   mtu = 0;
+  has_ssthresh = false;
   lives = false;
   validated = false;
 }
@@ -70,14 +78,26 @@ abbrev pub space_kept : {K P M : Type 0} → SpaceId → Parts K P M → Option 
 space_kept space parts =
     if is_discarded space parts.discarded then None else Some (space_of space parts.spaces)
 
+-- of the space that a number names
+abbrev pub space_named : {K P M : Type 0} → ℕ → Parts K P M → Option (Space P M)
+space_named code parts = option_and_then (λ space. space_kept space parts) (space_coded code)
+
 abbrev pub no_space : SpaceView
-no_space = record { largest_received = 0; ranges = 0; lives = false; acks = false; other = false }
+no_space = record {
+  largest_received = 0;
+  ranges = 0;
+  next_packet_number = 0;
+  lives = false;
+  acks = false;
+  other = false;
+}
 
 -- of a space, where it is kept
 abbrev pub IsSpaceShown : {M : Type 0} → Option (Space (List ℕ) M) → SpaceView → Type 0
 IsSpaceShown None view = view ≡ no_space
 IsSpaceShown (Some space) view =
-    (view.largest_received ≡ space.rx_packet) × (view.ranges ≡ length (acks_of space).ranges) × IsTrue view.lives
+    (view.largest_received ≡ space.rx_packet) × (view.ranges ≡ length (acks_of space).ranges)
+    × (view.next_packet_number ≡ next_number_of space) × IsTrue view.lives
     × IsSendable item_words (tt {0}) (heard_of space) (queued_of space)
     (record { acks = view.acks; other = view.other })
 
@@ -94,13 +114,27 @@ abbrev pub moment_shown : Option ℕ → MomentView
 moment_shown (Some moment) = record { nanos = moment; some = true }
 moment_shown None = record { nanos = 0; some = false }
 
+-- of the timer that a number names
+abbrev pub moment_named : ℕ → TimerTable → MomentView
+moment_named code timers = moment_shown (option_and_then (λ timer. moment timer timers) (timer_coded code))
+
+-- how long ago the largest packet came in the space that a number names
+abbrev pub ack_delay_named : {K P M : Type 0} → ℕ → ℕ → Parts K P M → MomentView
+ack_delay_named code now parts =
+    let delay_in : Space _ _ → ℕ = λ space. nanos_shown (delay_at now (acks_of space).counts.largest) in
+    moment_shown (option_map delay_in (space_named code parts))
+
 abbrev pub ids_shown : {K P M : Type 0} → Parts K P M → IdsView
 ids_shown parts = record {
   active = active_of parts.remote_cids;
   issued = parts.local_ids.issued;
   retire_prior_to = parts.local_ids.retire_prior_to;
   max_ack_delay = nanos_shown parts.frequency.max_ack_delay;
+  peer_max_ack_delay = nanos_shown parts.frequency.peer_max_ack_delay;
 }
+
+abbrev pub no_ids : IdsView
+no_ids = record { active = 0; issued = 0; retire_prior_to = 0; max_ack_delay = 0; peer_max_ack_delay = 0 }
 
 -- items are counted, and written in front where there is room for all; what lies behind them stays
 pub record IsWritten (items old : List ℕ) (count : ℕ) (new : List ℕ) : Type 0 where

@@ -1,18 +1,15 @@
 //! How often and how late this end acknowledges (RFC 9000, 13.2): an export for each event.
-ghost use Rattle.std.specs.Prelude.{◌<◌, ◌^◌};
-ghost use Rattle.recovery_ffi.specs.Answers.{Answers};
+ghost use Rattle.recovery_ffi.specs.Answers.{AnswersTo};
 ghost use Rattle.recovery_ffi.specs.Codes.{request, space_coded};
-ghost use Rattle.recovery_ffi.specs.Held.{IsHeld};
 ghost use Rattle.recovery_events.specs.declared.event.Event.TheVariants.{AckDelayTimeout, AckFrequencyIn, AcksSent};
 
-use crate::codes::{space_coded, var};
+use crate::codes::{request, space_coded};
 use crate::handle::Handle;
 use crate::stack::Reply;
 use quic_recovery::Event;
-use recovery_base::below::AckFrequency;
 use std::alloc::Global;
 
-/// An ACK_FREQUENCY frame came in, its numbers below 2^62: the event `AckFrequencyIn`.
+/// An ACK_FREQUENCY frame came in: the event `AckFrequencyIn`; its numbers lie below 2^62.
 #[unsafe(no_mangle)]
 pub extern "C" fn recovery_ffi_ack_frequency(
     alloc: Global,
@@ -22,37 +19,26 @@ pub extern "C" fn recovery_ffi_ack_frequency(
     micros: u64,
     reordering: u64,
 ) -> Reply
-    requires held { IsHeld handle.old.held }
-    requires sequence { sequence < 2 ^ 62 }
-    requires threshold { threshold < 2 ^ 62 }
-    requires micros { micros < 2 ^ 62 }
-    requires reordering { reordering < 2 ^ 62 }
-    ensures { Answers handle.old.held
-        (AckFrequencyIn (request sequence threshold micros reordering)) result handle.new.held }
+    ensures { AnswersTo (request sequence threshold micros reordering)
+        (λ frame. AckFrequencyIn frame) handle.old.slot.held result handle.new.slot.held }
 {
-    handle.apply(
-        alloc,
-        Event::AckFrequencyIn(AckFrequency {
-            sequence: var(sequence),
-            ack_eliciting_threshold: var(threshold),
-            request_max_ack_delay: var(micros),
-            reordering_threshold: var(reordering),
-        }),
-    )
+    match request(sequence, threshold, micros, reordering) {
+        Some(frame) => handle.apply(alloc, Event::AckFrequencyIn(frame)),
+        None => Reply::bad_argument(),
+    }
 }
 
 /// An ACK frame was sent (RFC 9000, 13.2.1): the event `AcksSent`.
 #[unsafe(no_mangle)]
 pub extern "C" fn recovery_ffi_acks_sent(alloc: Global, handle: &mut Handle, space: u8) -> Reply
-    requires { IsHeld handle.old.held }
-    ensures { Answers handle.old.held (AcksSent (space_coded space)) result handle.new.held }
+    ensures { AnswersTo (space_coded space)
+        (λ space. AcksSent space)
+        handle.old.slot.held result handle.new.slot.held }
 {
-    handle.apply(
-        alloc,
-        Event::AcksSent {
-            space: space_coded(space),
-        },
-    )
+    let Some(space) = space_coded(space) else {
+        return Reply::bad_argument();
+    };
+    handle.apply(alloc, Event::AcksSent { space })
 }
 
 /// The timer for a late ACK expired: the event `AckDelayTimeout`.
@@ -62,13 +48,12 @@ pub extern "C" fn recovery_ffi_ack_delay_timeout(
     handle: &mut Handle,
     space: u8,
 ) -> Reply
-    requires { IsHeld handle.old.held }
-    ensures { Answers handle.old.held (AckDelayTimeout (space_coded space)) result handle.new.held }
+    ensures { AnswersTo (space_coded space)
+        (λ space. AckDelayTimeout space)
+        handle.old.slot.held result handle.new.slot.held }
 {
-    handle.apply(
-        alloc,
-        Event::AckDelayTimeout {
-            space: space_coded(space),
-        },
-    )
+    let Some(space) = space_coded(space) else {
+        return Reply::bad_argument();
+    };
+    handle.apply(alloc, Event::AckDelayTimeout { space })
 }

@@ -1,13 +1,15 @@
 //! Enums by their numbers, and what else crosses.
-ghost use Rattle.std.specs.Prelude.{◌≡◌, ◌≤◌, ◌<◌, ◌^◌, ◌*◌, ◌+◌, IfOk, map};
+ghost use Rattle.std.specs.Prelude.{◌≡◌, ◌≤◌, ◌<◌, Decides, IfOk, OnErr, length, map};
 ghost use Rattle.std.specs.List.{All};
 ghost use Rattle.recovery_ffi.specs.Views.{IsWritten};
-ghost use Rattle.recovery_ffi.specs.Codes.{space_coded, timer_coded, path_coded, maybe, nanos_shown, issued_of, IsAt};
+ghost use Rattle.recovery_ffi.specs.Codes.{space_coded, space_number, timer_coded, path_coded, maybe, nanos_shown, issued_of, cid, request, span, spans, IsAt};
 
 use quic_recovery::event::PathName;
 use quic_recovery::time::Duration;
 use quic_recovery::timer::Timer;
-use recovery_base::below::{ConnectionId, IssuedCid, NoMemory, ResetToken, SpaceId, VarInt};
+use recovery_base::below::{
+    AckFrequency, ConnectionId, IssuedCid, NoMemory, ResetToken, SpaceId, VarInt,
+};
 use recovery_queue::items::ItemQueue;
 use std::alloc::Global;
 use std::net::{Ipv4Addr, Ipv6Addr, SocketAddr, SocketAddrV4, SocketAddrV6};
@@ -42,32 +44,44 @@ pub struct Id {
     pub len: u8,
 }
 
-/// The packet number space of a number: 0 Initial, 1 Handshake, any other that of application data (RFC 9000, 12.3).
-pub fn space_coded(code: u8) -> SpaceId
+/// The packet number space of a number (RFC 9000, 12.3); none has any other.
+pub fn space_coded(code: u8) -> Option<SpaceId>
     ensures { result ≡ space_coded code }
 {
     match code {
-        0 => SpaceId::Initial,
-        1 => SpaceId::Handshake,
-        _ => SpaceId::Data,
+        0 => Some(SpaceId::Initial),
+        1 => Some(SpaceId::Handshake),
+        2 => Some(SpaceId::Data),
+        _ => None,
     }
 }
 
-/// The timer of a number: 0 loss detection, 1 idle, 2 close, 3 key discard, 4 path validation, 5 keep-alive, 6 pacing,
-/// 7 new ids of this end, any other that of a late ACK.
-pub fn timer_coded(code: u8) -> Timer
+/// The number of a packet number space.
+pub fn space_number(space: SpaceId) -> u8
+    ensures { result ≡ space_number space }
+{
+    match space {
+        SpaceId::Initial => 0,
+        SpaceId::Handshake => 1,
+        SpaceId::Data => 2,
+    }
+}
+
+/// The timer of a number; none has any other.
+pub fn timer_coded(code: u8) -> Option<Timer>
     ensures { result ≡ timer_coded code }
 {
     match code {
-        0 => Timer::LossDetection,
-        1 => Timer::Idle,
-        2 => Timer::Close,
-        3 => Timer::KeyDiscard,
-        4 => Timer::PathValidation,
-        5 => Timer::KeepAlive,
-        6 => Timer::Pacing,
-        7 => Timer::PushNewCid,
-        _ => Timer::MaxAckDelay,
+        0 => Some(Timer::LossDetection),
+        1 => Some(Timer::Idle),
+        2 => Some(Timer::Close),
+        3 => Some(Timer::KeyDiscard),
+        4 => Some(Timer::PathValidation),
+        5 => Some(Timer::KeepAlive),
+        6 => Some(Timer::Pacing),
+        7 => Some(Timer::PushNewCid),
+        8 => Some(Timer::MaxAckDelay),
+        _ => None,
     }
 }
 
@@ -89,20 +103,33 @@ pub fn maybe(some: bool, number: u64) -> Option<u64>
     if some { Some(number) } else { None }
 }
 
-/// A number below 2^62.
-pub fn var(number: u64) -> VarInt
-    requires { number < 2 ^ 62 }
-    ensures { result ≡ number }
+/// What an ACK_FREQUENCY frame asks for, where each of its numbers is below 2^62.
+pub fn request(sequence: u64, threshold: u64, micros: u64, reordering: u64) -> Option<AckFrequency>
+    ensures { result ≡ request sequence threshold micros reordering }
 {
-    match VarInt::from_u64(number) {
-        Ok(number) => number,
-        Err(_) => unreachable!(),
+    Some(AckFrequency {
+        sequence: VarInt::from_u64(sequence).ok()?,
+        ack_eliciting_threshold: VarInt::from_u64(threshold).ok()?,
+        request_max_ack_delay: VarInt::from_u64(micros).ok()?,
+        reordering_threshold: VarInt::from_u64(reordering).ok()?,
+    })
+}
+
+/// A connection id, where it has at most 20 bytes.
+pub fn cid(bytes: &[u8]) -> Option<ConnectionId>
+    ensures { result ≡ cid bytes.now }
+{
+    if bytes.len() <= 20 {
+        Some(ConnectionId::new(bytes))
+    } else {
+        None
     }
 }
 
-/// A queue of these items.
+/// A queue of these items; where there are none, it takes no memory.
 pub fn queue_of(alloc: Global, items: &[u64]) -> Result<ItemQueue, NoMemory>
-    ensures { IfOk result (λ queue. queue ≡ items.now) }
+    ensures items { IfOk result (λ queue. queue ≡ items.now) }
+    ensures memory { OnErr result (0 < length items.now) }
 {
     let mut queue = Vec::new(alloc);
     queue.extend_from_slice(items)?;
@@ -133,14 +160,23 @@ fn issued_of(given: &Id) -> IssuedCid
     }
 }
 
-/// Ids as they are issued, in the same order.
+/// Whether each id has at most 20 bytes.
+pub fn are_ids(given: &[Id]) -> bool
+    ensures { Decides result (All (λ id. id.len ≤ 20) given.now) }
+{
+    given.iter().all(|id| id.len <= 20)
+}
+
+/// Ids as they are issued, in the same order; where there are none, it takes no memory.
 pub fn ids_of(alloc: Global, given: &[Id]) -> Result<Vec<IssuedCid>, NoMemory>
     requires { All (λ id. id.len ≤ 20) given.now }
-    ensures { IfOk result (λ ids. ids.items ≡ map issued_of given.now) }
+    ensures ids { IfOk result (λ ids. ids.items ≡ map issued_of given.now) }
+    ensures memory { OnErr result (0 < length given.now) }
 {
-    let mut ids = Vec::with_capacity(alloc, given.len())?;
+    let mut ids = Vec::new(alloc);
+    ids.reserve_exact(given.len())?;
     for id in given {
-        ids.push(issued_of(id))?;
+        ids.push_reserved(issued_of(id));
     }
     Ok(ids)
 }
@@ -163,15 +199,27 @@ pub fn socket_of(given: &Address) -> SocketAddr
     }
 }
 
-/// A span of seconds and below a second nanoseconds.
-pub fn span(secs: u64, nanos: u32) -> Duration
-    requires { nanos < 10 ^ 9 }
-    ensures { result ≡ secs * 10 ^ 9 + nanos }
+/// A span of seconds and nanoseconds, where these are fewer than a second's.
+fn span(secs: u64, nanos: u32) -> Option<Duration>
+    ensures { result ≡ span secs nanos }
 {
-    match Duration::checked_from_nanos(u128::from(secs) * 1_000_000_000 + u128::from(nanos)) {
-        Some(span) => span,
-        None => unreachable!(),
+    if nanos < 1_000_000_000 {
+        Duration::checked_from_nanos(u128::from(secs) * 1_000_000_000 + u128::from(nanos))
+    } else {
+        None
     }
+}
+
+/// Two such spans.
+pub fn spans(
+    delay_secs: u64,
+    delay_nanos: u32,
+    rtt_secs: u64,
+    rtt_nanos: u32,
+) -> Option<(Duration, Duration)>
+    ensures { result ≡ spans delay_secs delay_nanos rtt_secs rtt_nanos }
+{
+    Some((span(delay_secs, delay_nanos)?, span(rtt_secs, rtt_nanos)?))
 }
 
 /// The nanoseconds of a span, which stop at `u64::MAX`.

@@ -170,7 +170,10 @@ impl Controller for Chosen {
         }
     }
 
-    fn try_clone(&self) -> Result<Self, NoMemory> {
+    /// Takes no memory, and never answers `NoMemory`.
+    fn try_clone(&self) -> Result<Self, NoMemory>
+        ensures { result ≡ Ok self.now }
+    {
         match self {
             Chosen::Reno(reno) => Ok(Chosen::Reno(reno.try_clone()?)),
             Chosen::Fixed(window) => Ok(Chosen::Fixed(*window)),

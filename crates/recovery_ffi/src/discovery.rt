@@ -1,6 +1,5 @@
 //! The search for the MTU (RFC 9000, 14.3; RFC 8899): an export for each event.
 ghost use Rattle.recovery_ffi.specs.Answers.{Answers};
-ghost use Rattle.recovery_ffi.specs.Held.{IsHeld};
 ghost use Rattle.recovery_events.specs.declared.event.Event.TheVariants.{LossesDone, PeerLimit, PollMtu};
 
 use crate::handle::Handle;
@@ -12,8 +11,7 @@ use std::alloc::Global;
 /// Is a probe of the MTU due (RFC 9000, 14.3)? The event `PollMtu`.
 #[unsafe(no_mangle)]
 pub extern "C" fn recovery_ffi_poll_mtu(alloc: Global, handle: &mut Handle, now: u64) -> Reply
-    requires { IsHeld handle.old.held }
-    ensures { Answers handle.old.held (PollMtu now) result handle.new.held }
+    ensures { Answers handle.old.slot.held (PollMtu now) result handle.new.slot.held }
 {
     handle.apply(
         alloc,
@@ -26,8 +24,7 @@ pub extern "C" fn recovery_ffi_poll_mtu(alloc: Global, handle: &mut Handle, now:
 /// The peer takes datagrams of at most so many bytes (RFC 9000, 18.2): the event `PeerLimit`.
 #[unsafe(no_mangle)]
 pub extern "C" fn recovery_ffi_peer_limit(alloc: Global, handle: &mut Handle, size: u16) -> Reply
-    requires { IsHeld handle.old.held }
-    ensures { Answers handle.old.held (PeerLimit size) result handle.new.held }
+    ensures { Answers handle.old.slot.held (PeerLimit size) result handle.new.slot.held }
 {
     handle.apply(alloc, Event::PeerLimit { size })
 }
@@ -35,8 +32,7 @@ pub extern "C" fn recovery_ffi_peer_limit(alloc: Global, handle: &mut Handle, si
 /// All packets that were found lost together were told: the event `LossesDone`.
 #[unsafe(no_mangle)]
 pub extern "C" fn recovery_ffi_losses_done(alloc: Global, handle: &mut Handle, now: u64) -> Reply
-    requires { IsHeld handle.old.held }
-    ensures { Answers handle.old.held (LossesDone now) result handle.new.held }
+    ensures { Answers handle.old.slot.held (LossesDone now) result handle.new.slot.held }
 {
     handle.apply(
         alloc,

@@ -1,17 +1,16 @@
 //! Connection ids of the peer and of this end (RFC 9000, 5.1): an export for each event, and what is read of tokens.
-ghost use Rattle.std.specs.Prelude.{◌≡◌, ◌≤◌, length, Decides};
+ghost use Rattle.std.specs.Prelude.{◌≡◌, ◌≤◌, Decides, IsFalse, replicate};
 ghost use Rattle.std.specs.List.{All};
-ghost use Rattle.recovery_ffi.specs.Answers.{Answers, IssuesOr, Reads};
-ghost use Rattle.recovery_ffi.specs.Codes.{frame};
-ghost use Rattle.recovery_ffi.specs.Held.{IsHeld};
+ghost use Rattle.recovery_ffi.specs.Answers.{Answers, AnswersTo, IsBad, IssuesOr, Reads};
+ghost use Rattle.recovery_ffi.specs.Codes.{cid, frame};
 ghost use Rattle.recovery_events.specs.declared.event.Event.TheVariants.{IdTimeout, InitialId, NewId, NextId, PeerRetired};
 
-use crate::codes::{Id, ids_of};
+use crate::codes::{Id, are_ids, cid, ids_of};
 use crate::handle::Handle;
 use crate::stack::Reply;
 use quic_recovery::Event;
 use quic_recovery::time::Instant;
-use recovery_base::below::{ConnectionId, NewConnectionId, ResetToken};
+use recovery_base::below::{NewConnectionId, ResetToken};
 use std::alloc::Global;
 
 /// A NEW_CONNECTION_ID frame came in (RFC 9000, 19.15): the event `NewId`; an id has at most 20 bytes.
@@ -24,17 +23,19 @@ pub extern "C" fn recovery_ffi_new_id(
     id: &[u8],
     token: &[u8; 16],
 ) -> Reply
-    requires held { IsHeld handle.old.held }
-    requires cid { length id.now ≤ 20 }
-    ensures { Answers handle.old.held
-        (NewId (frame sequence retire_prior_to id.now token.now)) result handle.new.held }
+    ensures { AnswersTo (cid id.now)
+        (λ id. NewId (frame sequence retire_prior_to id token.now))
+        handle.old.slot.held result handle.new.slot.held }
 {
+    let Some(id) = cid(id) else {
+        return Reply::bad_argument();
+    };
     handle.apply(
         alloc,
         Event::NewId(NewConnectionId {
             sequence,
             retire_prior_to,
-            id: ConnectionId::new(id),
+            id,
             reset_token: ResetToken::from(*token),
         }),
     )
@@ -43,8 +44,7 @@ pub extern "C" fn recovery_ffi_new_id(
 /// The next id of the peer is to be used: the event `NextId`.
 #[unsafe(no_mangle)]
 pub extern "C" fn recovery_ffi_next_id(alloc: Global, handle: &mut Handle) -> Reply
-    requires { IsHeld handle.old.held }
-    ensures { Answers handle.old.held (NextId) result handle.new.held }
+    ensures { Answers handle.old.slot.held (NextId) result handle.new.slot.held }
 {
     handle.apply(alloc, Event::NextId)
 }
@@ -52,14 +52,16 @@ pub extern "C" fn recovery_ffi_next_id(alloc: Global, handle: &mut Handle) -> Re
 /// The server chose another id (RFC 9000, 7.2): the event `InitialId`; an id has at most 20 bytes.
 #[unsafe(no_mangle)]
 pub extern "C" fn recovery_ffi_initial_id(alloc: Global, handle: &mut Handle, id: &[u8]) -> Reply
-    requires held { IsHeld handle.old.held }
-    requires cid { length id.now ≤ 20 }
-    ensures { Answers handle.old.held (InitialId id.now) result handle.new.held }
+    ensures { AnswersTo (cid id.now)
+        (λ id. InitialId id) handle.old.slot.held result handle.new.slot.held }
 {
-    handle.apply(alloc, Event::InitialId(ConnectionId::new(id)))
+    match cid(id) {
+        Some(id) => handle.apply(alloc, Event::InitialId(id)),
+        None => Reply::bad_argument(),
+    }
 }
 
-/// This end issues these ids (RFC 9000, 5.1.1): the event `IssueIds`.
+/// This end issues these ids (RFC 9000, 5.1.1): the event `IssueIds`; an id has at most 20 bytes.
 #[unsafe(no_mangle)]
 pub extern "C" fn recovery_ffi_issue_ids(
     alloc: Global,
@@ -67,10 +69,14 @@ pub extern "C" fn recovery_ffi_issue_ids(
     now: u64,
     given: &[Id],
 ) -> Reply
-    requires held { IsHeld handle.old.held }
-    requires cids { All (λ id. id.len ≤ 20) given.now }
-    ensures { IssuesOr handle.old.held now given.now result handle.new.held }
+    ensures short { All (λ id. id.len ≤ 20) given.now
+        → IssuesOr handle.old.slot.held now given.now result handle.new.slot.held }
+    ensures long { ¬ All (λ id. id.len ≤ 20) given.now
+        → IsBad handle.old.slot.held result handle.new.slot.held }
 {
+    if !are_ids(given) {
+        return Reply::bad_argument();
+    }
     match ids_of(alloc, given) {
         Ok(ids) => handle.apply(
             alloc,
@@ -86,8 +92,7 @@ pub extern "C" fn recovery_ffi_issue_ids(
 /// The timer for new ids expired: the event `IdTimeout`.
 #[unsafe(no_mangle)]
 pub extern "C" fn recovery_ffi_id_timeout(alloc: Global, handle: &mut Handle) -> Reply
-    requires { IsHeld handle.old.held }
-    ensures { Answers handle.old.held (IdTimeout) result handle.new.held }
+    ensures { Answers handle.old.slot.held (IdTimeout) result handle.new.slot.held }
 {
     handle.apply(alloc, Event::IdTimeout)
 }
@@ -100,36 +105,39 @@ pub extern "C" fn recovery_ffi_peer_retired(
     sequence: u64,
     limit: u64,
 ) -> Reply
-    requires { IsHeld handle.old.held }
-    ensures { Answers handle.old.held (PeerRetired sequence limit) result handle.new.held }
+    ensures { Answers handle.old.slot.held (PeerRetired sequence limit) result handle.new.slot.held }
 {
     handle.apply(alloc, Event::PeerRetired { sequence, limit })
 }
 
-/// Writes the bytes of the token that was answered last, all zeros before there was one.
+/// Writes the bytes of the token that was answered last; all zeros before there was one, and where no recovery is held.
 #[unsafe(no_mangle)]
 pub extern "C" fn recovery_ffi_token(alloc: Global, handle: &mut Handle, out: &mut [u8; 16])
-    requires { IsHeld handle.old.held }
-    ensures { Reads handle.old.held handle.new.held (λ stack. out.new ≡ stack.token) }
+    ensures { Reads handle.old.slot.held handle.new.slot.held
+        (λ stack. out.new ≡ stack.token) (out.new ≡ replicate 16 0) }
 {
-    let stack = handle.take(alloc);
+    let Some(stack) = handle.take(alloc) else {
+        *out = [0; 16];
+        return;
+    };
     let bytes = stack.token_bytes();
     *out = bytes;
     handle.put(stack);
 }
 
-/// Whether this is the token that was answered last.
+/// Whether this is the token that was answered last; of none where no recovery is held.
 #[unsafe(no_mangle)]
 pub extern "C" fn recovery_ffi_is_token(
     alloc: Global,
     handle: &mut Handle,
     token: &[u8; 16],
 ) -> bool
-    requires { IsHeld handle.old.held }
-    ensures { Reads handle.old.held handle.new.held (λ stack.
-        Decides result (stack.token ≡ token.now)) }
+    ensures { Reads handle.old.slot.held handle.new.slot.held
+        (λ stack. Decides result (stack.token ≡ token.now)) (IsFalse result) }
 {
-    let stack = handle.take(alloc);
+    let Some(stack) = handle.take(alloc) else {
+        return false;
+    };
     let is = stack.is_token(token);
     handle.put(stack);
     is

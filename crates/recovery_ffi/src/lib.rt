@@ -1,5 +1,5 @@
 //! A recovery for C and Rust: an exported function for each event, and for what can be read. Each says what the live recovery's
-//! `apply` says of its event, whatever came before; docs/RUST.md says what a caller keeps.
+//! `apply` says of its event, whatever came before, and refuses a call that spells none; docs/RUST.md says what a caller keeps.
 #![tactic(auto)]
 
 mod acks;
@@ -8,32 +8,37 @@ mod controllers;
 mod discovery;
 mod handle;
 mod ids;
+mod layout;
+mod marks;
+mod numbers;
 mod packets;
 mod parts;
 mod paths;
 mod probes;
 mod readers;
 mod settings;
+mod slot;
 mod stack;
 mod timers;
 mod views;
 
-ghost use Rattle.std.specs.Prelude.{◌≡◌, ◌≤◌, None, length};
-ghost use Rattle.recovery_ffi.specs.Held.{IsHeld};
-ghost use Rattle.recovery_ffi.specs.Made.{MadeOr};
+ghost use Rattle.std.specs.Prelude.{◌≡◌, None};
+ghost use Rattle.recovery_ffi.specs.Made.{MadeOr, NewOr};
 ghost use Rattle.recovery_ffi.specs.Settings.{IsSound};
 
-use codes::{Address, socket_of};
+use codes::{Address, cid, socket_of};
 use handle::Handle;
+use numbers::{NEW_CID_TOO_LONG, NEW_HELD, NEW_MADE, NEW_NO_MEMORY};
 use quic_recovery::time::Instant;
 use rand_core::SeedableRng;
 use rand_pcg::Pcg32;
 use recovery_base::below::ConnectionId;
-use settings::{Settings, config};
+use settings::{Settings, config, fault};
 use stack::Stack;
 use std::alloc::Global;
 
-/// Makes a recovery, whose peer is at this address and has this id of at most 20 bytes; false where there is no memory.
+/// Makes a recovery, whose peer is at this address and has this id of at most 20 bytes. The answer is `NEW_MADE`, or the number of
+/// what is wrong; the handle then holds what it held.
 #[unsafe(no_mangle)]
 pub extern "C" fn recovery_ffi_new(
     alloc: Global,
@@ -42,13 +47,40 @@ pub extern "C" fn recovery_ffi_new(
     remote: &Address,
     initial_cid: &[u8],
     now: u64,
-) -> bool
-    requires none { handle.old.held ≡ None }
-    requires sound { IsSound settings.now }
-    requires cid { length initial_cid.now ≤ 20 }
-    ensures { MadeOr result settings.now remote.now initial_cid.now now handle.new.held }
+) -> u8
+    ensures { NewOr result settings.now remote.now initial_cid.now now
+        handle.old.slot.held handle.new.slot.held }
 {
-    let id = ConnectionId::new(initial_cid);
+    if handle.holds() {
+        return NEW_HELD;
+    }
+    let Some(id) = cid(initial_cid) else {
+        return NEW_CID_TOO_LONG;
+    };
+    let fault = fault(settings);
+    if fault != NEW_MADE {
+        return fault;
+    }
+    if make(alloc, handle, settings, remote, id, now) {
+        NEW_MADE
+    } else {
+        NEW_NO_MEMORY
+    }
+}
+
+/// Holds a recovery that is made of sound settings; false where there is no memory.
+fn make(
+    alloc: Global,
+    handle: &mut Handle,
+    settings: &Settings,
+    remote: &Address,
+    id: ConnectionId,
+    now: u64,
+) -> bool
+    requires none { handle.old.slot.held ≡ None }
+    requires sound { IsSound settings.now }
+    ensures { MadeOr result settings.now remote.now id now handle.new.slot.held }
+{
     let peer = socket_of(remote);
     let config = config(settings, id, peer);
     let rng = Pcg32::seed_from_u64(settings.seed);
@@ -58,11 +90,10 @@ pub extern "C" fn recovery_ffi_new(
     }
 }
 
-/// Frees a recovery.
+/// Frees a recovery. The handle holds none then; one that holds none stays so.
 #[unsafe(no_mangle)]
 pub extern "C" fn recovery_ffi_drop(alloc: Global, handle: &mut Handle)
-    requires { IsHeld handle.old.held }
-    ensures { handle.new.held ≡ None }
+    ensures { handle.new.slot.held ≡ None }
 {
     drop(handle.take(alloc));
 }

@@ -1,7 +1,7 @@
 //! Packets that come in and go out (RFC 9000, 12; RFC 9002, A.5 and A.7): an export for each event.
-ghost use Rattle.recovery_ffi.specs.Answers.{Answers, AnswersOr, Reads};
+ghost use Rattle.std.specs.Prelude.{◌≡◌};
+ghost use Rattle.recovery_ffi.specs.Answers.{AnswersTo, AnswersWith, Reads};
 ghost use Rattle.recovery_ffi.specs.Codes.{space_coded, maybe};
-ghost use Rattle.recovery_ffi.specs.Held.{IsHeld};
 ghost use Rattle.recovery_ffi.specs.Views.{IsWritten};
 ghost use Rattle.recovery_events.specs.declared.event.Event.TheVariants.{Acked, DiscardSpace, Lost, Received, Send};
 
@@ -22,14 +22,17 @@ pub extern "C" fn recovery_ffi_received(
     number: u64,
     ack_eliciting: bool,
 ) -> Reply
-    requires { IsHeld handle.old.held }
-    ensures { Answers handle.old.held
-        (Received (space_coded space) now number ack_eliciting) result handle.new.held }
+    ensures { AnswersTo (space_coded space)
+        (λ space. Received space now number ack_eliciting)
+        handle.old.slot.held result handle.new.slot.held }
 {
+    let Some(space) = space_coded(space) else {
+        return Reply::bad_argument();
+    };
     handle.apply(
         alloc,
         Event::Received {
-            space: space_coded(space),
+            space,
             now: Instant::from_nanos(now),
             number,
             ack_eliciting,
@@ -50,16 +53,18 @@ pub extern "C" fn recovery_ffi_send(
     largest: u64,
     items: &[u64],
 ) -> Reply
-    requires { IsHeld handle.old.held }
-    ensures { AnswersOr handle.old.held
-        (Send (space_coded space) now size ack_eliciting (maybe has_largest largest) items.now tt)
-        result handle.new.held }
+    ensures { AnswersWith items.now (space_coded space)
+        (λ space. Send space now size ack_eliciting (maybe has_largest largest) items.now tt)
+        handle.old.slot.held result handle.new.slot.held }
 {
+    let Some(space) = space_coded(space) else {
+        return Reply::bad_argument();
+    };
     match queue_of(alloc, items) {
         Ok(queue) => handle.apply(
             alloc,
             Event::Send {
-                space: space_coded(space),
+                space,
                 now: Instant::from_nanos(now),
                 size,
                 ack_eliciting,
@@ -82,14 +87,17 @@ pub extern "C" fn recovery_ffi_acked(
     number: u64,
     app_limited: bool,
 ) -> Reply
-    requires { IsHeld handle.old.held }
-    ensures { Answers handle.old.held
-        (Acked (space_coded space) now number app_limited) result handle.new.held }
+    ensures { AnswersTo (space_coded space)
+        (λ space. Acked space now number app_limited)
+        handle.old.slot.held result handle.new.slot.held }
 {
+    let Some(space) = space_coded(space) else {
+        return Reply::bad_argument();
+    };
     handle.apply(
         alloc,
         Event::Acked {
-            space: space_coded(space),
+            space,
             now: Instant::from_nanos(now),
             number,
             app_limited,
@@ -105,40 +113,39 @@ pub extern "C" fn recovery_ffi_lost(
     space: u8,
     number: u64,
 ) -> Reply
-    requires { IsHeld handle.old.held }
-    ensures { Answers handle.old.held (Lost (space_coded space) number) result handle.new.held }
+    ensures { AnswersTo (space_coded space)
+        (λ space. Lost space number)
+        handle.old.slot.held result handle.new.slot.held }
 {
-    handle.apply(
-        alloc,
-        Event::Lost {
-            space: space_coded(space),
-            number,
-        },
-    )
+    let Some(space) = space_coded(space) else {
+        return Reply::bad_argument();
+    };
+    handle.apply(alloc, Event::Lost { space, number })
 }
 
 /// The keys of a space are dropped (RFC 9002, 6.4): the event `DiscardSpace`.
 #[unsafe(no_mangle)]
 pub extern "C" fn recovery_ffi_discard(alloc: Global, handle: &mut Handle, space: u8) -> Reply
-    requires { IsHeld handle.old.held }
-    ensures { Answers handle.old.held (DiscardSpace (space_coded space)) result handle.new.held }
+    ensures { AnswersTo (space_coded space)
+        (λ space. DiscardSpace space)
+        handle.old.slot.held result handle.new.slot.held }
 {
-    handle.apply(
-        alloc,
-        Event::DiscardSpace {
-            space: space_coded(space),
-        },
-    )
+    let Some(space) = space_coded(space) else {
+        return Reply::bad_argument();
+    };
+    handle.apply(alloc, Event::DiscardSpace { space })
 }
 
-/// How many items the queue that was taken last has; they are written where there is room for all.
+/// How many items the queue that was taken last has; they are written where there is room for all. None, before one was taken.
 #[unsafe(no_mangle)]
 pub extern "C" fn recovery_ffi_taken(alloc: Global, handle: &mut Handle, out: &mut [u64]) -> usize
-    requires { IsHeld handle.old.held }
-    ensures { Reads handle.old.held handle.new.held (λ stack.
-        IsWritten stack.taken out.old result out.new) }
+    ensures { Reads handle.old.slot.held handle.new.slot.held
+        (λ stack. IsWritten stack.taken out.old result out.new)
+        ((result ≡ 0) × (out.new ≡ out.old)) }
 {
-    let stack = handle.take(alloc);
+    let Some(stack) = handle.take(alloc) else {
+        return 0;
+    };
     let count = copy_items(&stack.taken, out);
     handle.put(stack);
     count

@@ -1,11 +1,9 @@
 //! Paths, congestion and pacing (RFC 9000, 8.1 and 9; RFC 9002, 5 and 7): an export for each event.
-ghost use Rattle.std.specs.Prelude.{◌<◌, ◌^◌};
-ghost use Rattle.recovery_ffi.specs.Answers.{Answers, MovesTo};
-ghost use Rattle.recovery_ffi.specs.Codes.{nanos_of, path_coded, maybe};
-ghost use Rattle.recovery_ffi.specs.Held.{IsHeld};
+ghost use Rattle.recovery_ffi.specs.Answers.{Answers, AnswersTo, MovesTo};
+ghost use Rattle.recovery_ffi.specs.Codes.{path_coded, maybe, spans};
 ghost use Rattle.recovery_events.specs.declared.event.Event.TheVariants.{Congestion, DatagramIn, DropPrevious, EndAcks, InFlight, PacerCheck, ResetPath, Sample, Transmit, Validated};
 
-use crate::codes::{Address, maybe, path_coded, socket_of, span};
+use crate::codes::{Address, maybe, path_coded, socket_of, spans};
 use crate::handle::Handle;
 use crate::stack::Reply;
 use quic_recovery::Event;
@@ -19,8 +17,7 @@ pub extern "C" fn recovery_ffi_in_flight(
     handle: &mut Handle,
     previous: bool,
 ) -> Reply
-    requires { IsHeld handle.old.held }
-    ensures { Answers handle.old.held (InFlight (path_coded previous)) result handle.new.held }
+    ensures { Answers handle.old.slot.held (InFlight (path_coded previous)) result handle.new.slot.held }
 {
     handle.apply(
         alloc,
@@ -40,16 +37,13 @@ pub extern "C" fn recovery_ffi_sample(
     rtt_secs: u64,
     rtt_nanos: u32,
 ) -> Reply
-    requires held { IsHeld handle.old.held }
-    requires delay { delay_nanos < 10 ^ 9 }
-    requires rtt { rtt_nanos < 10 ^ 9 }
-    ensures { Answers handle.old.held
-        (Sample (nanos_of delay_secs delay_nanos) (nanos_of rtt_secs rtt_nanos))
-        result handle.new.held }
+    ensures { AnswersTo (spans delay_secs delay_nanos rtt_secs rtt_nanos)
+        (λ spans. Sample spans.0 spans.1) handle.old.slot.held result handle.new.slot.held }
 {
-    let delay = span(delay_secs, delay_nanos);
-    let rtt = span(rtt_secs, rtt_nanos);
-    handle.apply(alloc, Event::Sample { delay, rtt })
+    match spans(delay_secs, delay_nanos, rtt_secs, rtt_nanos) {
+        Some((delay, rtt)) => handle.apply(alloc, Event::Sample { delay, rtt }),
+        None => Reply::bad_argument(),
+    }
 }
 
 /// A datagram came in on a path (RFC 9000, 8.1): the event `DatagramIn`.
@@ -60,9 +54,8 @@ pub extern "C" fn recovery_ffi_datagram_in(
     previous: bool,
     bytes: u64,
 ) -> Reply
-    requires { IsHeld handle.old.held }
-    ensures { Answers handle.old.held
-        (DatagramIn (path_coded previous) bytes) result handle.new.held }
+    ensures { Answers handle.old.slot.held
+        (DatagramIn (path_coded previous) bytes) result handle.new.slot.held }
 {
     handle.apply(
         alloc,
@@ -80,8 +73,7 @@ pub extern "C" fn recovery_ffi_validated(
     handle: &mut Handle,
     previous: bool,
 ) -> Reply
-    requires { IsHeld handle.old.held }
-    ensures { Answers handle.old.held (Validated (path_coded previous)) result handle.new.held }
+    ensures { Answers handle.old.slot.held (Validated (path_coded previous)) result handle.new.slot.held }
 {
     handle.apply(
         alloc,
@@ -100,8 +92,7 @@ pub extern "C" fn recovery_ffi_transmit(
     bytes: u16,
     checked: bool,
 ) -> Reply
-    requires { IsHeld handle.old.held }
-    ensures { Answers handle.old.held (Transmit now bytes checked) result handle.new.held }
+    ensures { Answers handle.old.slot.held (Transmit now bytes checked) result handle.new.slot.held }
 {
     handle.apply(
         alloc,
@@ -121,8 +112,7 @@ pub extern "C" fn recovery_ffi_pacer_check(
     now: u64,
     bytes: u64,
 ) -> Reply
-    requires { IsHeld handle.old.held }
-    ensures { Answers handle.old.held (PacerCheck now bytes) result handle.new.held }
+    ensures { Answers handle.old.slot.held (PacerCheck now bytes) result handle.new.slot.held }
 {
     handle.apply(
         alloc,
@@ -143,9 +133,8 @@ pub extern "C" fn recovery_ffi_congestion(
     persistent: bool,
     bytes: u64,
 ) -> Reply
-    requires { IsHeld handle.old.held }
-    ensures { Answers handle.old.held
-        (Congestion now sent persistent bytes) result handle.new.held }
+    ensures { Answers handle.old.slot.held
+        (Congestion now sent persistent bytes) result handle.new.slot.held }
 {
     handle.apply(
         alloc,
@@ -168,9 +157,8 @@ pub extern "C" fn recovery_ffi_end_acks(
     has_largest: bool,
     largest: u64,
 ) -> Reply
-    requires { IsHeld handle.old.held }
-    ensures { Answers handle.old.held
-        (EndAcks now app_limited (maybe has_largest largest)) result handle.new.held }
+    ensures { Answers handle.old.slot.held
+        (EndAcks now app_limited (maybe has_largest largest)) result handle.new.slot.held }
 {
     handle.apply(
         alloc,
@@ -191,8 +179,7 @@ pub extern "C" fn recovery_ffi_new_path(
     remote: &Address,
     fresh: bool,
 ) -> Reply
-    requires { IsHeld handle.old.held }
-    ensures { MovesTo handle.old.held now remote.now fresh result handle.new.held }
+    ensures { MovesTo handle.old.slot.held now remote.now fresh result handle.new.slot.held }
 {
     handle.apply(
         alloc,
@@ -207,8 +194,7 @@ pub extern "C" fn recovery_ffi_new_path(
 /// The current path begins anew (RFC 9000, 9.4): the event `ResetPath`.
 #[unsafe(no_mangle)]
 pub extern "C" fn recovery_ffi_reset_path(alloc: Global, handle: &mut Handle, now: u64) -> Reply
-    requires { IsHeld handle.old.held }
-    ensures { Answers handle.old.held (ResetPath now) result handle.new.held }
+    ensures { Answers handle.old.slot.held (ResetPath now) result handle.new.slot.held }
 {
     handle.apply(
         alloc,
@@ -221,8 +207,7 @@ pub extern "C" fn recovery_ffi_reset_path(alloc: Global, handle: &mut Handle, no
 /// The previous path is dropped (RFC 9000, 9.3.3): the event `DropPrevious`.
 #[unsafe(no_mangle)]
 pub extern "C" fn recovery_ffi_drop_previous(alloc: Global, handle: &mut Handle) -> Reply
-    requires { IsHeld handle.old.held }
-    ensures { Answers handle.old.held (DropPrevious) result handle.new.held }
+    ensures { Answers handle.old.slot.held (DropPrevious) result handle.new.slot.held }
 {
     handle.apply(alloc, Event::DropPrevious)
 }

@@ -1,7 +1,6 @@
 //! Counts of ECN, ranges that are acknowledged, probes and what waits to be sent again (RFC 9000, 13.4; RFC 9002, 6.2.4).
-ghost use Rattle.recovery_ffi.specs.Answers.{Answers};
+ghost use Rattle.recovery_ffi.specs.Answers.{AnswersTo};
 ghost use Rattle.recovery_ffi.specs.Codes.{counts, space_coded};
-ghost use Rattle.recovery_ffi.specs.Held.{IsHeld};
 ghost use Rattle.recovery_events.specs.declared.event.Event.TheVariants.{CheckAck, Ecn, QueueProbe, TakePending};
 
 use crate::codes::space_coded;
@@ -22,14 +21,17 @@ pub extern "C" fn recovery_ffi_ecn(
     ect1: u64,
     ce: u64,
 ) -> Reply
-    requires { IsHeld handle.old.held }
-    ensures { Answers handle.old.held
-        (Ecn (space_coded space) newly_acked (counts ect0 ect1 ce)) result handle.new.held }
+    ensures { AnswersTo (space_coded space)
+        (λ space. Ecn space newly_acked (counts ect0 ect1 ce))
+        handle.old.slot.held result handle.new.slot.held }
 {
+    let Some(space) = space_coded(space) else {
+        return Reply::bad_argument();
+    };
     handle.apply(
         alloc,
         Event::Ecn {
-            space: space_coded(space),
+            space,
             newly_acked,
             counts: EcnCounts { ect0, ect1, ce },
         },
@@ -45,18 +47,14 @@ pub extern "C" fn recovery_ffi_check_ack(
     low: u64,
     high: u64,
 ) -> Reply
-    requires { IsHeld handle.old.held }
-    ensures { Answers handle.old.held
-        (CheckAck (space_coded space) low high) result handle.new.held }
+    ensures { AnswersTo (space_coded space)
+        (λ space. CheckAck space low high)
+        handle.old.slot.held result handle.new.slot.held }
 {
-    handle.apply(
-        alloc,
-        Event::CheckAck {
-            space: space_coded(space),
-            low,
-            high,
-        },
-    )
+    let Some(space) = space_coded(space) else {
+        return Reply::bad_argument();
+    };
+    handle.apply(alloc, Event::CheckAck { space, low, high })
 }
 
 /// A probe packet is to be sent (RFC 9002, 6.2.4): the event `QueueProbe`.
@@ -67,14 +65,17 @@ pub extern "C" fn recovery_ffi_queue_probe(
     space: u8,
     immediate_ack: bool,
 ) -> Reply
-    requires { IsHeld handle.old.held }
-    ensures { Answers handle.old.held
-        (QueueProbe (space_coded space) immediate_ack tt) result handle.new.held }
+    ensures { AnswersTo (space_coded space)
+        (λ space. QueueProbe space immediate_ack tt)
+        handle.old.slot.held result handle.new.slot.held }
 {
+    let Some(space) = space_coded(space) else {
+        return Reply::bad_argument();
+    };
     handle.apply(
         alloc,
         Event::QueueProbe {
-            space: space_coded(space),
+            space,
             immediate_ack,
             streams: (),
         },
@@ -84,13 +85,12 @@ pub extern "C" fn recovery_ffi_queue_probe(
 /// What waits to be sent again is handed out, to be read by `recovery_ffi_taken`: the event `TakePending`.
 #[unsafe(no_mangle)]
 pub extern "C" fn recovery_ffi_take_pending(alloc: Global, handle: &mut Handle, space: u8) -> Reply
-    requires { IsHeld handle.old.held }
-    ensures { Answers handle.old.held (TakePending (space_coded space)) result handle.new.held }
+    ensures { AnswersTo (space_coded space)
+        (λ space. TakePending space)
+        handle.old.slot.held result handle.new.slot.held }
 {
-    handle.apply(
-        alloc,
-        Event::TakePending {
-            space: space_coded(space),
-        },
-    )
+    let Some(space) = space_coded(space) else {
+        return Reply::bad_argument();
+    };
+    handle.apply(alloc, Event::TakePending { space })
 }

@@ -2,10 +2,15 @@
 ghost use Rattle.std.specs.Prelude.{◌≡◌, ◌<◌, None, Some};
 ghost use Rattle.recovery_skips.specs.Skips.{IsSkips};
 ghost use Rattle.recovery_ffi.specs.Codes.{maybe};
-ghost use Rattle.recovery_ffi.specs.Settings.{config_of, controller_of, discovery_of, transport_of, skips_of, IsSound};
+ghost use Rattle.recovery_ffi.specs.Settings.{config_of, controller_of, default_settings, discovery_of, settings_fault, transport_of, skips_of, IsSound};
 
 use crate::codes::maybe;
 use crate::controllers::{ChosenConfig, FixedConfig};
+use crate::numbers::{
+    CONTROLLER_FIXED, CONTROLLER_NEW_RENO, NEW_MADE, NEW_SKIP_TOO_LARGE, NEW_TOO_MANY_ISSUED,
+    NEW_UNKNOWN_CONTROLLER, NEW_UNKNOWN_SKIPS, NEW_ZERO_DENOMINATOR, NEW_ZERO_MTU, NEW_ZERO_WINDOW,
+    SKIPS_DISABLED, SKIPS_DRAWN, SKIPS_STARTING,
+};
 use quic_recovery::RecoveryConfig;
 use quic_recovery::config::TransportConfig;
 use quic_recovery::congestion::NewRenoConfig;
@@ -23,7 +28,7 @@ pub struct Settings {
     pub max_ack_delay: u64,
     /// How long this end's ids last, where they end.
     pub cid_lifetime: u64,
-    /// How many ids this end has issued, at most 2^62.
+    /// How many ids this end has issued, at most 2^62; memory grows with it, by 16 bytes an id.
     pub issued: u64,
     /// The seed of the skips that are drawn.
     pub seed: u64,
@@ -51,9 +56,9 @@ pub struct Settings {
     pub mtu_minimum_change: u16,
     /// The bytes of this end's ids.
     pub cid_len: u8,
-    /// Which congestion controller paths have: 0 NewReno, 1 a window that stays the one at first.
+    /// Which congestion controller paths have: `CONTROLLER_NEW_RENO` or `CONTROLLER_FIXED`.
     pub controller: u8,
-    /// How numbers are skipped: 0 not, 1 as drawn with the seed, 2 from `first_skip` on.
+    /// How numbers are skipped: `SKIPS_DISABLED`, `SKIPS_DRAWN` or `SKIPS_STARTING`.
     pub skips: u8,
     /// Whether ids last no longer than `cid_lifetime`.
     pub ids_end: bool,
@@ -63,6 +68,63 @@ pub struct Settings {
     pub allow_mtud: bool,
     /// Whether the settings of paths say how.
     pub searches: bool,
+}
+
+/// The default settings: an address that is not validated, ACKs 25 ms late at most, ids of 8 bytes that last 10 s, one of them
+/// issued, no skips, an RTT of 333 ms, MTUs of 1200 bytes and up to 1452, and NewReno with 12,000 bytes and a half.
+#[unsafe(no_mangle)]
+pub extern "C" fn recovery_ffi_default_settings() -> Settings
+    ensures defaults { result ≡ default_settings }
+    ensures sound { settings_fault result ≡ NEW_MADE }
+{
+    Settings {
+        max_ack_delay: 25_000_000,
+        cid_lifetime: 10_000_000_000,
+        issued: 1,
+        seed: 0,
+        first_skip: 0,
+        initial_rtt: 333_000_000,
+        mtu_interval: 600_000_000_000,
+        black_hole_cooldown: 60_000_000_000,
+        initial_window: 12_000,
+        loss_numerator: 1,
+        loss_denominator: 2,
+        initial_mtu: 1200,
+        min_mtu: 1200,
+        mtu_upper_bound: 1452,
+        mtu_minimum_change: 20,
+        cid_len: 8,
+        controller: CONTROLLER_NEW_RENO,
+        skips: SKIPS_DISABLED,
+        ids_end: true,
+        validated: false,
+        allow_mtud: true,
+        searches: true,
+    }
+}
+
+/// The first thing that is wrong with settings, by its number; `NEW_MADE` where nothing is.
+pub fn fault(settings: &Settings) -> u8
+    ensures fault { result ≡ settings_fault settings.now }
+    ensures sound { result ≡ NEW_MADE → IsSound settings.now }
+{
+    if settings.issued > 1 << 62 {
+        NEW_TOO_MANY_ISSUED
+    } else if settings.first_skip >= 64 {
+        NEW_SKIP_TOO_LARGE
+    } else if settings.initial_mtu == 0 || settings.min_mtu == 0 {
+        NEW_ZERO_MTU
+    } else if settings.initial_window == 0 {
+        NEW_ZERO_WINDOW
+    } else if settings.loss_denominator == 0 {
+        NEW_ZERO_DENOMINATOR
+    } else if settings.controller > CONTROLLER_FIXED {
+        NEW_UNKNOWN_CONTROLLER
+    } else if settings.skips > SKIPS_STARTING {
+        NEW_UNKNOWN_SKIPS
+    } else {
+        NEW_MADE
+    }
 }
 
 /// What a recovery starts with by these settings, whose peer is at this address and has this id. Nothing is refused.
@@ -93,7 +155,7 @@ fn controller(settings: &Settings) -> ChosenConfig
     requires { IsSound settings.now }
     ensures { result ≡ controller_of settings.now }
 {
-    if settings.controller != 0 {
+    if settings.controller != CONTROLLER_NEW_RENO {
         return ChosenConfig::Fixed(FixedConfig::new(settings.initial_window));
     }
     let mut reno = NewRenoConfig::default();
@@ -144,8 +206,8 @@ fn skips(kind: u8, first: u64) -> Skips
     ensures sound { IsSkips result }
 {
     match kind {
-        0 => Skips::Disabled,
-        1 => Skips::Drawn,
+        SKIPS_DISABLED => Skips::Disabled,
+        SKIPS_DRAWN => Skips::Drawn,
         _ => Skips::Starting(first),
     }
 }

@@ -4,10 +4,17 @@ ghost use Rattle.rand_core.specs.Steps.{stream_of, steps_u32};
 ghost use Rattle.rand_pcg.specs.Pcg.{pcg32};
 ghost use Rattle.recovery_ffi.specs.Made.{IsFresh};
 ghost use Rattle.recovery_skips.specs.Skips.{IsSkips};
-ghost use Rattle.recovery_ffi.specs.Replies.{no_memory, plain, sent_spelled, retire_spelled, timeout_spelled, refusal_spelled, fault_number, spelled, taken_after, token_after};
+ghost use Rattle.recovery_ffi.specs.Replies.{bad_argument, no_memory, no_recovery, plain, sent_spelled, retire_spelled, timeout_spelled, refusal_spelled, fault_number, spelled, taken_after, token_after};
 ghost use Rattle.recovery_ffi.specs.Answers.{Tells};
 
 use crate::controllers::{Chosen, ChosenConfig};
+use crate::numbers::{
+    ANSWER_ACKED, ANSWER_BLACK_HOLE, ANSWER_BLOCKED, ANSWER_DELAYED, ANSWER_DONE, ANSWER_DUPLICATE,
+    ANSWER_FLAG, ANSWER_IN_FLIGHT, ANSWER_LOST, ANSWER_NEW, ANSWER_NO_PROBE, ANSWER_PROBE,
+    ANSWER_QUEUE, ANSWER_READY, ANSWER_REFUSED, ANSWER_RETIRE, ANSWER_SENDABLE, ANSWER_SENT,
+    ANSWER_TIMEOUT, ANSWER_TRANSMITTED, FAULT_BLEACHED, FAULT_CE_FALLS, FAULT_CORRUPTED,
+    FAULT_ECT0_FALLS, FAULT_ECT1_FALLS, REFUSAL_BAD_ARGUMENT, REFUSAL_NO_RECOVERY,
+};
 use quic_recovery::below::{NoMemory, ResetToken};
 use quic_recovery::paths::PathData;
 use quic_recovery::spaces::PacketSpace;
@@ -31,9 +38,9 @@ pub type ItemSpace = PacketSpace<ItemQueue>;
 #[derive(Drop)]
 pub struct Stack {
     pub recovery: ItemRecovery,
-    /// The queue that was taken last.
+    /// The queue that was taken last; none before one was.
     pub taken: ItemQueue,
-    /// The token that was answered last.
+    /// The token that was answered last; all zeros before one was.
     pub token: ResetToken,
 }
 
@@ -41,14 +48,23 @@ pub struct Stack {
 #[repr(C)]
 #[derive(Clone, Copy)]
 pub struct Reply {
-    /// Which answer, in the order of `Answer`; 19 for a refusal.
+    /// Which answer, or that it was refused.
     pub kind: u8,
     /// The number of the refusal, or 0; of one by ECN `first` is the number of the fault.
     pub refusal: u8,
+    /// New: whether to start the timer for a late ACK. Sent: whether a silent packet was forgotten for it. Acked, lost: whether
+    /// it was the probe of the path's MTU. Retire: whether numbers are to be retired. Flag: yes or no. Timeout: whether a
+    /// timer is set. Black hole: whether one was reported. Sendable: whether an ACK is to be sent. Otherwise false.
     pub flag: bool,
+    /// Sendable: whether there is something else to be sent. Otherwise false.
     pub other: bool,
+    /// Probe: its size in bytes. Otherwise 0.
     pub size: u16,
+    /// Sent, probe: the number that it was given. Retire: the first number. Timeout, delayed: the moment, in nanoseconds. In
+    /// flight: the bytes. Otherwise 0.
     pub first: u64,
+    /// Sent: the number that was forgotten. Retire: one above the last number. In flight: how many packets elicit an ACK.
+    /// Otherwise 0.
     pub second: u64,
 }
 
@@ -58,6 +74,26 @@ impl Reply {
         ensures { result ≡ no_memory }
     {
         spell_refusal(Refusal::NoMemory)
+    }
+
+    /// The handle holds no recovery.
+    pub fn no_recovery() -> Reply
+        ensures { result ≡ no_recovery }
+    {
+        Reply {
+            refusal: REFUSAL_NO_RECOVERY,
+            ..Reply::plain(ANSWER_REFUSED)
+        }
+    }
+
+    /// An argument lies out of its range.
+    pub fn bad_argument() -> Reply
+        ensures { result ≡ bad_argument }
+    {
+        Reply {
+            refusal: REFUSAL_BAD_ARGUMENT,
+            ..Reply::plain(ANSWER_REFUSED)
+        }
     }
 
     /// An answer that holds nothing.
@@ -127,15 +163,15 @@ fn fault_number(text: &str) -> u64
     ensures { result ≡ fault_number text.now }
 {
     if text == "peer ECT(0) count regression" {
-        0
+        FAULT_ECT0_FALLS
     } else if text == "peer ECT(1) count regression" {
-        1
+        FAULT_ECT1_FALLS
     } else if text == "peer CE count regression" {
-        2
+        FAULT_CE_FALLS
     } else if text == "ECN bleaching" {
-        3
+        FAULT_BLEACHED
     } else {
-        4
+        FAULT_CORRUPTED
     }
 }
 
@@ -147,11 +183,11 @@ fn spell_sent(number: u64, forgotten: Option<u64>) -> Reply
             flag: true,
             first: number,
             second: forgotten,
-            ..Reply::plain(2)
+            ..Reply::plain(ANSWER_SENT)
         },
         None => Reply {
             first: number,
-            ..Reply::plain(2)
+            ..Reply::plain(ANSWER_SENT)
         },
     }
 }
@@ -164,9 +200,9 @@ fn spell_retire(retired: &Option<(Range<u64>, ResetToken)>) -> Reply
             flag: true,
             first: numbers.start,
             second: numbers.end,
-            ..Reply::plain(5)
+            ..Reply::plain(ANSWER_RETIRE)
         },
-        None => Reply::plain(5),
+        None => Reply::plain(ANSWER_RETIRE),
     }
 }
 
@@ -177,9 +213,9 @@ fn spell_timeout(time: Option<Instant>) -> Reply
         Some(time) => Reply {
             flag: true,
             first: time.as_nanos(),
-            ..Reply::plain(7)
+            ..Reply::plain(ANSWER_TIMEOUT)
         },
-        None => Reply::plain(7),
+        None => Reply::plain(ANSWER_TIMEOUT),
     }
 }
 
@@ -193,9 +229,9 @@ fn spell_number(kind: u8, first: u64) -> Reply
 }
 
 fn spell_delayed(until: Instant) -> Reply
-    ensures { result ≡ record (plain 11) { first = until } }
+    ensures { result ≡ record (plain ANSWER_DELAYED) { first = until } }
 {
-    spell_number(11, until.as_nanos())
+    spell_number(ANSWER_DELAYED, until.as_nanos())
 }
 
 fn spell_flag(kind: u8, flag: bool) -> Reply
@@ -217,7 +253,7 @@ fn spell_refusal(refusal: Refusal) -> Reply
     Reply {
         refusal: refusal.number(),
         first,
-        ..Reply::plain(19)
+        ..Reply::plain(ANSWER_REFUSED)
     }
 }
 
@@ -226,13 +262,13 @@ fn spell(reply: &Result<Answer<ItemQueue>, Refusal>) -> Reply
     ensures { result ≡ spelled reply.now }
 {
     match reply {
-        Ok(Answer::New { arm }) => spell_flag(0, *arm),
-        Ok(Answer::Duplicate) => Reply::plain(1),
+        Ok(Answer::New { arm }) => spell_flag(ANSWER_NEW, *arm),
+        Ok(Answer::Duplicate) => Reply::plain(ANSWER_DUPLICATE),
         Ok(Answer::Sent { number, forgotten }) => spell_sent(*number, *forgotten),
-        Ok(Answer::Acked { probe }) => spell_flag(3, *probe),
-        Ok(Answer::Lost { probe }) => spell_flag(4, *probe),
+        Ok(Answer::Acked { probe }) => spell_flag(ANSWER_ACKED, *probe),
+        Ok(Answer::Lost { probe }) => spell_flag(ANSWER_LOST, *probe),
         Ok(Answer::Retire(retired)) => spell_retire(retired),
-        Ok(Answer::Flag(flag)) => spell_flag(6, *flag),
+        Ok(Answer::Flag(flag)) => spell_flag(ANSWER_FLAG, *flag),
         Ok(Answer::Timeout(time)) => spell_timeout(*time),
         Ok(
             Answer::InFlight {
@@ -242,26 +278,26 @@ fn spell(reply: &Result<Answer<ItemQueue>, Refusal>) -> Reply
         ) => Reply {
             first: *bytes,
             second: *ack_eliciting,
-            ..Reply::plain(8)
+            ..Reply::plain(ANSWER_IN_FLIGHT)
         },
-        Ok(Answer::Transmitted) => Reply::plain(9),
-        Ok(Answer::Blocked) => Reply::plain(10),
+        Ok(Answer::Transmitted) => Reply::plain(ANSWER_TRANSMITTED),
+        Ok(Answer::Blocked) => Reply::plain(ANSWER_BLOCKED),
         Ok(Answer::Delayed(until)) => spell_delayed(*until),
-        Ok(Answer::Ready) => Reply::plain(12),
+        Ok(Answer::Ready) => Reply::plain(ANSWER_READY),
         Ok(Answer::Probe { number, size }) => Reply {
             first: *number,
             size: *size,
-            ..Reply::plain(13)
+            ..Reply::plain(ANSWER_PROBE)
         },
-        Ok(Answer::NoProbe) => Reply::plain(14),
-        Ok(Answer::BlackHole(found)) => spell_flag(15, *found),
+        Ok(Answer::NoProbe) => Reply::plain(ANSWER_NO_PROBE),
+        Ok(Answer::BlackHole(found)) => spell_flag(ANSWER_BLACK_HOLE, *found),
         Ok(Answer::Sendable(frames)) => Reply {
             flag: frames.acks,
             other: frames.other,
-            ..Reply::plain(16)
+            ..Reply::plain(ANSWER_SENDABLE)
         },
-        Ok(Answer::Queue(_)) => Reply::plain(17),
-        Ok(Answer::Done) => Reply::plain(18),
+        Ok(Answer::Queue(_)) => Reply::plain(ANSWER_QUEUE),
+        Ok(Answer::Done) => Reply::plain(ANSWER_DONE),
         Err(refusal) => spell_refusal(*refusal),
     }
 }

@@ -1,7 +1,6 @@
 //! Timers (RFC 9002, 6.2): an export for each event.
-ghost use Rattle.recovery_ffi.specs.Answers.{Answers};
+ghost use Rattle.recovery_ffi.specs.Answers.{Answers, AnswersTo};
 ghost use Rattle.recovery_ffi.specs.Codes.{timer_coded};
-ghost use Rattle.recovery_ffi.specs.Held.{IsHeld};
 ghost use Rattle.recovery_events.specs.declared.event.Event.TheVariants.{NextTimeout, SetTimer, StopTimer};
 
 use crate::codes::timer_coded;
@@ -19,13 +18,17 @@ pub extern "C" fn recovery_ffi_set_timer(
     timer: u8,
     time: u64,
 ) -> Reply
-    requires { IsHeld handle.old.held }
-    ensures { Answers handle.old.held (SetTimer (timer_coded timer) time) result handle.new.held }
+    ensures { AnswersTo (timer_coded timer)
+        (λ timer. SetTimer timer time)
+        handle.old.slot.held result handle.new.slot.held }
 {
+    let Some(timer) = timer_coded(timer) else {
+        return Reply::bad_argument();
+    };
     handle.apply(
         alloc,
         Event::SetTimer {
-            timer: timer_coded(timer),
+            timer,
             time: Instant::from_nanos(time),
         },
     )
@@ -34,22 +37,20 @@ pub extern "C" fn recovery_ffi_set_timer(
 /// A timer is stopped: the event `StopTimer`.
 #[unsafe(no_mangle)]
 pub extern "C" fn recovery_ffi_stop_timer(alloc: Global, handle: &mut Handle, timer: u8) -> Reply
-    requires { IsHeld handle.old.held }
-    ensures { Answers handle.old.held (StopTimer (timer_coded timer)) result handle.new.held }
+    ensures { AnswersTo (timer_coded timer)
+        (λ timer. StopTimer timer)
+        handle.old.slot.held result handle.new.slot.held }
 {
-    handle.apply(
-        alloc,
-        Event::StopTimer {
-            timer: timer_coded(timer),
-        },
-    )
+    let Some(timer) = timer_coded(timer) else {
+        return Reply::bad_argument();
+    };
+    handle.apply(alloc, Event::StopTimer { timer })
 }
 
 /// When does the next timer expire? The event `NextTimeout`.
 #[unsafe(no_mangle)]
 pub extern "C" fn recovery_ffi_next_timeout(alloc: Global, handle: &mut Handle) -> Reply
-    requires { IsHeld handle.old.held }
-    ensures { Answers handle.old.held (NextTimeout) result handle.new.held }
+    ensures { Answers handle.old.slot.held (NextTimeout) result handle.new.slot.held }
 {
     handle.apply(alloc, Event::NextTimeout)
 }

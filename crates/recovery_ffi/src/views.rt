@@ -1,15 +1,16 @@
 //! What of a recovery can be read.
 ghost use Rattle.std.specs.Prelude.{◌≡◌, Some, Decides, option_copied, slice_get};
-ghost use Rattle.recovery_base.specs.Timers.{moment};
 ghost use Rattle.quic_recovery.specs.State.{parts_of};
+ghost use Rattle.recovery_ids.specs.LocalIds.{first_moment};
 ghost use Rattle.recovery_paths.specs.PathLog.{path_of};
-ghost use Rattle.recovery_ffi.specs.Codes.{path_coded, space_coded, timer_coded};
-ghost use Rattle.recovery_ffi.specs.Views.{path_shown, no_path, path_view, moment_shown, ids_shown, range_shown, ranges_in, space_kept, IsSpaceShown};
+ghost use Rattle.recovery_ffi.specs.Codes.{path_coded};
+ghost use Rattle.recovery_ffi.specs.Views.{path_shown, no_path, path_view, moment_shown, moment_named, ack_delay_named, ids_shown, no_ids, range_shown, ranges_in, no_space, space_named, IsSpaceShown};
 
 use crate::codes::{nanos_shown, path_coded, space_coded, timer_coded};
 use crate::stack::{ItemPath, ItemSpace, Stack};
 use quic_recovery::congestion::Controller;
 use quic_recovery::event::PathName;
+use quic_recovery::time::Instant;
 use recovery_base::below::ResetToken;
 use std::ops::Range;
 
@@ -43,8 +44,12 @@ pub struct PathView {
     pub pacer_capacity: u64,
     /// The bytes in that bucket, as the last datagram or question left it: what time has brought since is not among them.
     pub pacer_tokens: u64,
+    /// The slow start threshold, where there is one (RFC 9002, 7.3).
+    pub ssthresh: u64,
     /// The MTU in use (RFC 9000, 14.3).
     pub mtu: u16,
+    /// Whether there is a slow start threshold; none before the first loss.
+    pub has_ssthresh: bool,
     /// Whether there is such a path; if not, all else is 0.
     pub lives: bool,
     /// Whether the peer was seen to receive there (RFC 9000, 8).
@@ -59,6 +64,8 @@ pub struct SpaceView {
     pub largest_received: u64,
     /// How many ranges of numbers are to be acknowledged.
     pub ranges: u64,
+    /// The number of the next packet, unless it is skipped.
+    pub next_packet_number: u64,
     /// Whether the space is not discarded; if it is, all else is 0.
     pub lives: bool,
     /// Whether an ACK is required, and some number is to be acknowledged.
@@ -79,7 +86,7 @@ pub struct RangeView {
     pub some: bool,
 }
 
-/// A moment, if there is one.
+/// A moment, or a span, if there is one.
 #[repr(C)]
 #[derive(Clone, Copy)]
 pub struct MomentView {
@@ -101,12 +108,15 @@ pub struct IdsView {
     pub retire_prior_to: u64,
     /// How late this end's ACKs may be, in nanoseconds, which stop at `u64::MAX`.
     pub max_ack_delay: u64,
+    /// How late the peer's ACKs may be, in nanoseconds, which stop at `u64::MAX`.
+    pub peer_max_ack_delay: u64,
 }
 
 fn show_path(path: &ItemPath) -> PathView
     ensures { result ≡ path_shown path.now }
 {
     let in_flight = path.in_flight();
+    let ssthresh = path.congestion.metrics().ssthresh;
     PathView {
         window: path.congestion.window(),
         in_flight: in_flight.bytes,
@@ -121,32 +131,105 @@ fn show_path(path: &ItemPath) -> PathView
         pto_base: nanos_shown(path.rtt.pto_base()),
         pacer_capacity: path.pacing.capacity(),
         pacer_tokens: path.pacing.tokens(),
+        ssthresh: ssthresh.unwrap_or(0),
         mtu: path.current_mtu(),
+        has_ssthresh: ssthresh.is_some(),
         lives: true,
         validated: path.validated,
     }
 }
 
-fn no_path() -> PathView
-    ensures { result ≡ no_path }
-{
-    PathView {
-        window: 0,
-        in_flight: 0,
-        ack_eliciting: 0,
-        total_sent: 0,
-        total_recvd: 0,
-        rtt: 0,
-        rtt_conservative: 0,
-        rtt_min: 0,
-        rtt_latest: 0,
-        rtt_variance: 0,
-        pto_base: 0,
-        pacer_capacity: 0,
-        pacer_tokens: 0,
-        mtu: 0,
-        lives: false,
-        validated: false,
+impl PathView {
+    /// There is no such path.
+    pub fn none() -> PathView
+        ensures { result ≡ no_path }
+    {
+        PathView {
+            window: 0,
+            in_flight: 0,
+            ack_eliciting: 0,
+            total_sent: 0,
+            total_recvd: 0,
+            rtt: 0,
+            rtt_conservative: 0,
+            rtt_min: 0,
+            rtt_latest: 0,
+            rtt_variance: 0,
+            pto_base: 0,
+            pacer_capacity: 0,
+            pacer_tokens: 0,
+            ssthresh: 0,
+            mtu: 0,
+            has_ssthresh: false,
+            lives: false,
+            validated: false,
+        }
+    }
+}
+
+impl SpaceView {
+    /// There is no such space, or it is discarded.
+    pub fn none() -> SpaceView
+        ensures { result ≡ no_space }
+    {
+        SpaceView {
+            largest_received: 0,
+            ranges: 0,
+            next_packet_number: 0,
+            lives: false,
+            acks: false,
+            other: false,
+        }
+    }
+}
+
+impl RangeView {
+    /// The range, if there is one.
+    pub fn of(range: Option<&Range<u64>>) -> RangeView
+        ensures { result ≡ range_shown (option_copied range.entry) }
+    {
+        match range {
+            Some(range) => RangeView {
+                start: range.start,
+                end: range.end,
+                some: true,
+            },
+            None => RangeView {
+                start: 0,
+                end: 0,
+                some: false,
+            },
+        }
+    }
+}
+
+impl MomentView {
+    /// So many nanoseconds, if any.
+    pub fn of(nanos: Option<u64>) -> MomentView
+        ensures { result ≡ moment_shown nanos }
+    {
+        match nanos {
+            Some(nanos) => MomentView { nanos, some: true },
+            None => MomentView {
+                nanos: 0,
+                some: false,
+            },
+        }
+    }
+}
+
+impl IdsView {
+    /// There is no recovery.
+    pub fn none() -> IdsView
+        ensures { result ≡ no_ids }
+    {
+        IdsView {
+            active: 0,
+            issued: 0,
+            retire_prior_to: 0,
+            max_ack_delay: 0,
+            peer_max_ack_delay: 0,
+        }
     }
 }
 
@@ -157,26 +240,10 @@ fn show_space(space: &ItemSpace) -> SpaceView
     SpaceView {
         largest_received: space.rx_packet,
         ranges: space.pending_acks.ranges().len() as u64,
+        next_packet_number: space.next_packet_number(),
         lives: true,
         acks: frames.acks,
         other: frames.other,
-    }
-}
-
-fn show_range(range: Option<&Range<u64>>) -> RangeView
-    ensures { result ≡ range_shown (option_copied range.entry) }
-{
-    match range {
-        Some(range) => RangeView {
-            start: range.start,
-            end: range.end,
-            some: true,
-        },
-        None => RangeView {
-            start: 0,
-            end: 0,
-            some: false,
-        },
     }
 }
 
@@ -190,53 +257,63 @@ impl Stack {
             PathName::Current => show_path(self.recovery.recovery().current()),
             PathName::Previous => match self.recovery.recovery().previous() {
                 Some(path) => show_path(path),
-                None => no_path(),
+                None => PathView::none(),
             },
         }
+    }
+
+    /// The space of a number, where there is one that is not discarded.
+    fn named(&self, space: u8) -> Option<&ItemSpace>
+        ensures { option_copied result
+            ≡ space_named space (parts_of self.now.recovery.recovery) }
+    {
+        self.recovery.recovery().space(space_coded(space)?)
     }
 
     /// What a space has to send.
     pub fn space(&self, space: u8) -> SpaceView
         ensures { let parts = parts_of self.now.recovery.recovery in
-            IsSpaceShown (space_kept (space_coded space) parts) result }
+            IsSpaceShown (space_named space parts) result }
     {
-        match self.recovery.recovery().space(space_coded(space)) {
+        match self.named(space) {
             Some(space) => show_space(space),
-            None => SpaceView {
-                largest_received: 0,
-                ranges: 0,
-                lives: false,
-                acks: false,
-                other: false,
-            },
+            None => SpaceView::none(),
         }
     }
 
     /// One of the ranges of numbers that are to be acknowledged in a space, in ascending order.
     pub fn range(&self, space: u8, index: usize) -> RangeView
-        ensures { let kept = space_kept (space_coded space) (parts_of self.now.recovery.recovery) in
+        ensures { let kept = space_named space (parts_of self.now.recovery.recovery) in
             result ≡ range_shown (slice_get (ranges_in kept) index) }
     {
-        match self.recovery.recovery().space(space_coded(space)) {
-            Some(space) => show_range(space.pending_acks.ranges().iter().as_slice().get(index)),
-            None => show_range(None),
+        match self.named(space) {
+            Some(space) => RangeView::of(space.pending_acks.ranges().iter().as_slice().get(index)),
+            None => RangeView::of(None),
+        }
+    }
+
+    /// How long ago the largest packet came, which an ACK frame tells (RFC 9000, 13.2.5).
+    pub fn ack_delay(&self, space: u8, now: Instant) -> MomentView
+        ensures { result
+            ≡ ack_delay_named space now (parts_of self.now.recovery.recovery) }
+    {
+        match self.named(space) {
+            Some(space) => MomentView::of(Some(nanos_shown(space.pending_acks.ack_delay(now)))),
+            None => MomentView::of(None),
         }
     }
 
     /// When a timer expires.
     pub fn timer(&self, timer: u8) -> MomentView
         ensures { let timers = (parts_of self.now.recovery.recovery).timers in
-            result ≡ moment_shown (moment (timer_coded timer) timers) }
+            result ≡ moment_named timer timers }
     {
-        match self.recovery.recovery().timers().get(timer_coded(timer)) {
-            Some(moment) => MomentView {
-                nanos: moment.as_nanos(),
-                some: true,
-            },
-            None => MomentView {
-                nanos: 0,
-                some: false,
-            },
+        let Some(timer) = timer_coded(timer) else {
+            return MomentView::of(None);
+        };
+        match self.recovery.recovery().timers().get(timer) {
+            Some(moment) => MomentView::of(Some(moment.as_nanos())),
+            None => MomentView::of(None),
         }
     }
 
@@ -250,6 +327,18 @@ impl Stack {
             issued: recovery.local_ids().issued(),
             retire_prior_to: recovery.local_ids().retire_prior_to(),
             max_ack_delay: nanos_shown(recovery.ack_frequency().max_ack_delay),
+            peer_max_ack_delay: nanos_shown(recovery.ack_frequency().peer_max_ack_delay),
+        }
+    }
+
+    /// When the oldest of this end's ids is to be retired, where they end.
+    pub fn next_id_timeout(&self) -> MomentView
+        ensures { let ids = (parts_of self.now.recovery.recovery).local_ids in
+            result ≡ moment_shown (first_moment ids.deadlines) }
+    {
+        match self.recovery.recovery().local_ids().next_timeout() {
+            Some(moment) => MomentView::of(Some(moment.as_nanos())),
+            None => MomentView::of(None),
         }
     }
 

@@ -124,7 +124,8 @@ pub struct RecoveryConfig {
     pub cid_len: u8,
     /// How long this end's ids last before the peer is to retire them; none lasts for ever.
     pub cid_lifetime: Option<Duration>,
-    /// How many ids this end has issued at the start, at most 2^62.
+    /// How many ids this end has issued at the start, at most 2^62. Memory grows with it, by 16 bytes an id: at 2^40
+    /// [`Recovery::new`](crate::Recovery::new) answers `NoMemory` on most machines.
     pub issued: u64,
     /// How numbers are skipped.
     pub skips: Skips,
@@ -220,50 +221,43 @@ pub(crate) fn address(given: SocketAddr) -> ffi::Address {
     }
 }
 
-impl RecoveryConfig {
-    /// What the library requires of settings, tested.
-    fn check(&self) -> Result<(), ConfigError> {
-        let transport = &self.transport;
-        if self.issued > 1 << 62 {
-            return Err(ConfigError::TooManyIssued);
-        }
-        if matches!(self.skips, Skips::Starting(first, _) if first >= 64) {
-            return Err(ConfigError::SkipTooLarge);
-        }
-        if transport.initial_mtu == 0 || transport.min_mtu == 0 {
-            return Err(ConfigError::ZeroMtu);
-        }
-        match transport.congestion {
-            Congestion::Fixed(0) => Err(ConfigError::ZeroWindow),
-            Congestion::NewReno(it) if it.initial_window == 0 => Err(ConfigError::ZeroWindow),
-            Congestion::NewReno(it) if it.loss_reduction_factor.1 == 0 => {
-                Err(ConfigError::ZeroDenominator)
-            }
-            _ => Ok(()),
+impl ConfigError {
+    /// By the number that the library gives it; `None` where a recovery was made.
+    pub(crate) fn from_number(number: u8) -> Option<Self> {
+        match number {
+            ffi::NEW_MADE => None,
+            ffi::NEW_TOO_MANY_ISSUED => Some(ConfigError::TooManyIssued),
+            ffi::NEW_SKIP_TOO_LARGE => Some(ConfigError::SkipTooLarge),
+            ffi::NEW_ZERO_MTU => Some(ConfigError::ZeroMtu),
+            ffi::NEW_ZERO_WINDOW => Some(ConfigError::ZeroWindow),
+            ffi::NEW_ZERO_DENOMINATOR => Some(ConfigError::ZeroDenominator),
+            // the others no settings of this crate come to
+            _ => Some(ConfigError::NoMemory),
         }
     }
+}
 
+impl RecoveryConfig {
     /// As the library takes settings.
-    pub(crate) fn settings(&self) -> Result<ffi::Settings, ConfigError> {
-        self.check()?;
+    pub(crate) fn settings(&self) -> ffi::Settings {
         let transport = &self.transport;
         let search = transport.mtu_discovery_config.unwrap_or_default();
         let (controller, reno) = match transport.congestion {
-            Congestion::NewReno(reno) => (0, reno),
+            Congestion::NewReno(reno) => (ffi::CONTROLLER_NEW_RENO, reno),
             Congestion::Fixed(initial_window) => {
                 let reno = NewRenoConfig {
                     initial_window,
                     ..NewRenoConfig::default()
                 };
-                (1, reno)
+                (ffi::CONTROLLER_FIXED, reno)
             }
         };
         let (skips, first_skip, seed) = match self.skips {
-            Skips::Disabled => (0, 0, 0),
-            Skips::Drawn(seed) => (1, 0, seed),
-            Skips::Starting(first, seed) => (2, first, seed),
+            Skips::Disabled => (ffi::SKIPS_DISABLED, 0, 0),
+            Skips::Drawn(seed) => (ffi::SKIPS_DRAWN, 0, seed),
+            Skips::Starting(first, seed) => (ffi::SKIPS_STARTING, first, seed),
         };
-        Ok(ffi::Settings {
+        ffi::Settings {
             max_ack_delay: nanos(self.max_ack_delay),
             cid_lifetime: self.cid_lifetime.map_or(0, nanos),
             issued: self.issued,
@@ -286,6 +280,36 @@ impl RecoveryConfig {
             validated: self.validated,
             allow_mtud: self.allow_mtud,
             searches: transport.mtu_discovery_config.is_some(),
-        })
+        }
+    }
+}
+
+#[cfg(test)]
+mod tests {
+    use super::*;
+
+    /// C's default settings are Rust's.
+    #[test]
+    fn defaults_are_the_library_s() {
+        // SAFETY: it requires nothing.
+        let library = unsafe { ffi::recovery_ffi_default_settings() };
+        assert_eq!(RecoveryConfig::default().settings(), library);
+    }
+
+    /// Each number that settings of this crate come to has its error.
+    #[test]
+    fn errors_have_numbers() {
+        assert_eq!(ConfigError::from_number(ffi::NEW_MADE), None);
+        let numbers = [
+            (ffi::NEW_NO_MEMORY, ConfigError::NoMemory),
+            (ffi::NEW_TOO_MANY_ISSUED, ConfigError::TooManyIssued),
+            (ffi::NEW_SKIP_TOO_LARGE, ConfigError::SkipTooLarge),
+            (ffi::NEW_ZERO_MTU, ConfigError::ZeroMtu),
+            (ffi::NEW_ZERO_WINDOW, ConfigError::ZeroWindow),
+            (ffi::NEW_ZERO_DENOMINATOR, ConfigError::ZeroDenominator),
+        ];
+        for (number, error) in numbers {
+            assert_eq!(ConfigError::from_number(number), Some(error));
+        }
     }
 }

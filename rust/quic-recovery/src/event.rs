@@ -1,7 +1,9 @@
-//! What happens to a connection, what is answered, and why an event is refused.
+//! What happens to a connection, what is answered, and why an event is refused: written by `tests/rust.py --write` from the
+//! sources of the library, and compared with them by its tests.
+use crate::ffi;
 use crate::types::{
-    AckFrequency, ConnectionId, EcnCounts, Instant, IssuedCid, NewConnectionId, PathName, SpaceId,
-    Timer,
+    AckFrequency, ConnectionId, EcnCounts, Instant, IssuedCid, NewConnectionId, PathName,
+    SendableFrames, SpaceId, Timer,
 };
 use std::error::Error;
 use std::fmt;
@@ -11,7 +13,8 @@ use std::time::Duration;
 
 /// What happens. A packet carries the numbers of items that are to be sent again when it is lost: what they stand for the
 /// layer above knows.
-#[derive(Clone, Copy, Debug)]
+#[derive(Clone, Copy, Debug, PartialEq, Eq)]
+#[non_exhaustive]
 pub enum Event<'a> {
     /// A packet came in (RFC 9000, 12.3). Refused by `SpaceDiscarded`, by `NumberTooLarge` where the number is 2^62 or
     /// more, then by `NoMemory`; a duplicate takes no memory.
@@ -26,8 +29,10 @@ pub enum Event<'a> {
         ack_eliciting: bool,
     },
     /// A packet goes out on the current path, under the next number of its space (RFC 9002, A.5). Refused by
-    /// `SpaceDiscarded`, by `NumberTooLarge` where the largest acknowledged number is 2^62 or more, by `NumbersExhausted`,
-    /// by `Overflow` where the bytes in flight would pass `u64::MAX`, then by `NoMemory`.
+    /// `SpaceDiscarded`, by `NumberTooLarge` where the largest acknowledged number is 2^62 or more, by `NumbersExhausted`
+    /// where the next number is 2^62 or more, by `Overflow` where the bytes in flight, or the count of packets that elicit an
+    /// ACK, would pass `u64::MAX`, then by `NoMemory`. Cost: constant over all calls, but for a packet that is forgotten, which
+    /// costs what `Acked` does.
     Send {
         /// The packet number space.
         space: SpaceId,
@@ -35,14 +40,15 @@ pub enum Event<'a> {
         now: Instant,
         /// Its size in bytes; 0 where congestion control does not count it.
         size: u16,
-        /// Whether it holds a frame that elicits an ACK.
+        /// Whether it holds a frame that elicits an ACK (RFC 9002, 2).
         ack_eliciting: bool,
         /// The largest packet number that its ACK frame acknowledges, where it holds one.
         largest_acked: Option<u64>,
         /// What is sent again when it is lost (RFC 9000, 13.3).
         queue: &'a [u64],
     },
-    /// A packet that was sent is acknowledged (RFC 9002, A.7). Refused by `SpaceDiscarded`, then by `NotTracked`.
+    /// A packet that was sent is acknowledged (RFC 9002, A.7). Refused by `SpaceDiscarded`, then by `NotTracked`. Cost:
+    /// logarithmic in the packets tracked.
     Acked {
         /// The packet number space.
         space: SpaceId,
@@ -53,30 +59,35 @@ pub enum Event<'a> {
         /// Whether the sender had too little to send to fill its window (RFC 9002, 7.8).
         app_limited: bool,
     },
-    /// A packet that was sent is declared lost (RFC 9002, A.10): its items are to be sent again. Refused by
-    /// `SpaceDiscarded`, by `NotTracked`, then by `NoMemory`.
+    /// A packet that was sent is declared lost (RFC 9002, A.10): its queue is to be sent again, behind what is so already.
+    /// Refused by `SpaceDiscarded`, by `NotTracked`, then by `NoMemory`, where the queues could not be joined. Cost:
+    /// logarithmic in the packets tracked, beside that of joining.
     Lost {
         /// The packet number space.
         space: SpaceId,
         /// The packet's number.
         number: u64,
     },
-    /// A NEW_CONNECTION_ID frame came in (RFC 9000, 19.15). Refused by `NumberTooLarge`, by `BadRetirePriorTo`, by
-    /// `Retired`, by `ExceedsLimit`, then by `Conflict`.
+    /// A NEW_CONNECTION_ID frame came in (RFC 9000, 19.15). Refused by `NumberTooLarge` where its number is 2^62 or more, by
+    /// `BadRetirePriorTo` where its retire-prior-to exceeds its number, by `Retired` where its number lies below the active
+    /// one, by `ExceedsLimit` where it lies past the eight numbers that begin at the active one or, where that is greater, at
+    /// its retire-prior-to, then by `Conflict` where its number is held with another id or another token.
     NewId(NewConnectionId),
-    /// The next id of the peer is to be used, where one is held. Never refused.
+    /// The next id of the peer is to be used, where one is held (RFC 9000, 5.1.2). Never refused.
     NextId,
-    /// The server chose another id for the handshake (RFC 9000, 7.2). Refused by `NotInitialId`.
+    /// The server chose another id for the handshake (RFC 9000, 7.2). Refused by `NotInitialId` where the active id is no
+    /// longer the initial one.
     InitialId(ConnectionId),
-    /// This end issues ids (RFC 9000, 5.1.1). Refused by `NumberTooLarge`, by `BadRange` where the numbers do not go on
-    /// from the count issued, then by `NoMemory`.
+    /// This end issues ids (RFC 9000, 5.1.1). Refused by `NumberTooLarge` where more than 2^62 would be issued, by `BadRange`
+    /// where the numbers do not go on from the count issued, then by `NoMemory`. An empty list is never refused.
     IssueIds {
         /// When they are issued: their lifetime begins.
         now: Instant,
         /// The ids, in the order of their numbers.
         ids: &'a [IssuedCid],
     },
-    /// The timer for new ids expired (`Timer::PushNewCid`). Never refused.
+    /// The timer for new ids expired (`Timer::PushNewCid`): the oldest deadline is taken. The answer is whether the peer is
+    /// to be asked by a NEW_CONNECTION_ID frame to retire numbers (RFC 9000, 5.1.2). Never refused.
     IdTimeout,
     /// A RETIRE_CONNECTION_ID frame came in (RFC 9000, 19.16). Refused by `CidsNotInUse`, then by `UnissuedCid`.
     PeerRetired {
@@ -85,8 +96,9 @@ pub enum Event<'a> {
         /// How many ids the peer is ready to hold (RFC 9000, 18.2: active_connection_id_limit).
         limit: u64,
     },
-    /// An ACK_FREQUENCY frame came in. Refused by `SpaceDiscarded` once the space of 1-RTT packets is discarded, then by
-    /// `DelayTooSmall`.
+    /// An ACK_FREQUENCY frame came in (draft-ietf-quic-ack-frequency-04, section 4). Refused by `SpaceDiscarded` once the
+    /// space of 1-RTT packets is discarded, then by `DelayTooSmall` where it is newer than the last one and asks for less
+    /// than 1 ms; then its number is kept.
     AckFrequencyIn(AckFrequency),
     /// An ACK frame was sent that holds all numbers that are to be acknowledged (RFC 9000, 13.2.1). Refused by
     /// `SpaceDiscarded`.
@@ -99,27 +111,28 @@ pub enum Event<'a> {
         /// The packet number space.
         space: SpaceId,
     },
-    /// A timer is set to a moment. Never refused.
+    /// A timer is set to a moment, as the one for losses and probes is (RFC 9002, A.3 and A.8). Never refused.
     SetTimer {
         /// The timer; the others stay.
         timer: Timer,
         /// When it expires.
         time: Instant,
     },
-    /// A timer is stopped. Never refused.
+    /// A timer is stopped, as the one for losses and probes may be (RFC 9002, A.3 and A.8). Never refused.
     StopTimer {
         /// The timer; the others stay.
         timer: Timer,
     },
-    /// When does the next timer expire? Never refused.
+    /// When does the next timer expire (for losses and probes: RFC 9002, A.3)? The answer is the least moment that a timer is
+    /// set to, if any is set. Never refused.
     NextTimeout,
     /// The keys of a space are dropped, and with them all that it tracks (RFC 9002, 6.4). Every later event on the space is
-    /// refused by `SpaceDiscarded`, and so is this one.
+    /// refused by `SpaceDiscarded`, and so is this one. Cost: linear in the packets that the space tracks.
     DiscardSpace {
         /// The packet number space.
         space: SpaceId,
     },
-    /// What is in flight on a path? Refused by `NoSuchPath`.
+    /// What is in flight on a path (RFC 9002, B.2)? Refused by `NoSuchPath`.
     InFlight {
         /// The path.
         path: PathName,
@@ -131,7 +144,8 @@ pub enum Event<'a> {
         /// The time from a packet's sending to the ACK that newly acknowledges it.
         rtt: Duration,
     },
-    /// A datagram came in on a path (RFC 9000, 8.1). Refused by `NoSuchPath`, then by `Overflow`.
+    /// A datagram came in on a path (RFC 9000, 8.1). Refused by `NoSuchPath`, then by `Overflow` where the bytes that came
+    /// in on the path would pass `u64::MAX`.
     DatagramIn {
         /// The path.
         path: PathName,
@@ -143,8 +157,9 @@ pub enum Event<'a> {
         /// The path.
         path: PathName,
     },
-    /// A datagram is to be transmitted on the current path. Refused by `Overflow`. A checked one is `Blocked` by the
-    /// amplification limit (RFC 9000, 8.1), or else `Delayed` by the pacer (RFC 9002, 7.7); neither is counted.
+    /// A datagram is to be transmitted on the current path. Refused by `Overflow` where the bytes transmitted would pass
+    /// `u64::MAX`. A checked one is `Blocked` by the amplification limit (RFC 9000, 8.1), or else `Delayed` by the pacer
+    /// (RFC 9002, 7.7); neither is counted.
     Transmit {
         /// When it is transmitted.
         now: Instant,
@@ -153,7 +168,8 @@ pub enum Event<'a> {
         /// Whether the amplification limit and the pacer are asked.
         checked: bool,
     },
-    /// May so many bytes be transmitted on the current path, as far as the pacer goes (RFC 9002, 7.7)? Never refused.
+    /// May so many bytes be transmitted on the current path, as far as the pacer goes (RFC 9002, 7.7)? Never refused. The
+    /// question brings the pacer the tokens of the time that passed.
     PacerCheck {
         /// When it is asked.
         now: Instant,
@@ -171,7 +187,8 @@ pub enum Event<'a> {
         /// How many bytes were lost.
         bytes: u64,
     },
-    /// All packets that one ACK newly acknowledges were told. Never refused.
+    /// All packets that one ACK newly acknowledges were told: the controller of the current path learns what is still in
+    /// flight. Never refused.
     EndAcks {
         /// When the ACK came in.
         now: Instant,
@@ -180,20 +197,22 @@ pub enum Event<'a> {
         /// The largest number that was acknowledged, if any.
         largest: Option<u64>,
     },
-    /// Is a probe of the current path's MTU due (RFC 8899, 5; RFC 9000, 14.3)? One that is due goes out under the next
-    /// number, and is tracked. Refused by `SpaceDiscarded`, by `NumbersExhausted`, by `Overflow`, then by `NoMemory`.
+    /// Is a probe of the current path's MTU due (RFC 8899, 5; RFC 9000, 14.3)? One that is due goes out as a packet of 1-RTT keys that
+    /// elicits an ACK, under the next number, and is tracked like any other. Refused by `SpaceDiscarded`, by
+    /// `NumbersExhausted` where the next number is 2^62 or more, and where a probe is due by `Overflow`, where the bytes in
+    /// flight, or the count of packets that elicit an ACK, would pass `u64::MAX`, then by `NoMemory`.
     PollMtu {
         /// When it is asked.
         now: Instant,
     },
-    /// The peer takes datagrams of at most so many bytes (RFC 9000, 18.2: max_udp_payload_size). Refused by `ZeroMtu`, then
-    /// by `Searching` while the current path's MTU is searched for.
+    /// The peer takes datagrams of at most so many bytes (RFC 9000, 18.2: max_udp_payload_size). Refused by `ZeroMtu`, then by
+    /// `Searching` while the current path's MTU is searched for.
     PeerLimit {
         /// The largest size in bytes, above zero.
         size: u16,
     },
-    /// All packets that were found lost together were told: was there a black hole for large datagrams (RFC 8899, 4.3)?
-    /// Never refused.
+    /// All packets that were found lost together were told: was there a black hole for large datagrams (RFC 8899, 4.3)? Never
+    /// refused.
     LossesDone {
         /// When they were found lost.
         now: Instant,
@@ -208,8 +227,9 @@ pub enum Event<'a> {
         /// Its counts.
         counts: EcnCounts,
     },
-    /// An ACK frame acknowledges a range of numbers (RFC 9000, 13.1). Refused by `SpaceDiscarded`, by `NumberTooLarge`, by
-    /// `BadRange` where the range ends before it begins, then by `SkippedAcked` (RFC 9000, 21.4).
+    /// An ACK frame acknowledges a range of numbers (RFC 9000, 13.1). Refused by `SpaceDiscarded`, by `NumberTooLarge` where
+    /// the last number is 2^62 or more, by `BadRange` where the range ends before it begins, then by `SkippedAcked` where
+    /// it holds the last number of 1-RTT packets that was skipped (RFC 9000, 21.4).
     CheckAck {
         /// The packet number space.
         space: SpaceId,
@@ -218,16 +238,20 @@ pub enum Event<'a> {
         /// The last number.
         high: u64,
     },
-    /// A probe packet is to be sent (RFC 9002, 6.2.4): where nothing waits to be sent again, the first tracked packet with
-    /// items gives them up, and where none has any a PING is marked. Refused by `SpaceDiscarded`, then by `NoMemory`.
+    /// A probe packet is to be sent (RFC 9002, 6.2.4): where nothing waits to be sent again, the first tracked packet with a
+    /// queue gives it up, and where none has one a PING is marked, unless the peer is to be asked for an ACK at once. Refused by
+    /// `SpaceDiscarded`, then by `NoMemory` where a queue is moved. Cost: linear in the packets that are passed over; one whose
+    /// queue is void is passed over once, and by later probes not again.
     QueueProbe {
         /// The packet number space.
         space: SpaceId,
         /// Whether the peer is to be asked for an ACK at once.
         immediate_ack: bool,
     },
-    /// What waits to be sent again is handed out. Refused by `SpaceDiscarded`, and by `NoMemory` where this crate finds none
-    /// for the answer: the items can then still be read by [`Recovery::taken`](crate::Recovery::taken).
+    /// What waits to be sent again is handed out (RFC 9000, 13.3). Refused by `SpaceDiscarded`.
+    ///
+    /// Refused by `NoMemory` too, where this crate finds none for the answer: the items can then still be read by
+    /// [`Recovery::taken`](crate::Recovery::taken).
     TakePending {
         /// The packet number space.
         space: SpaceId,
@@ -251,17 +275,9 @@ pub enum Event<'a> {
     DropPrevious,
 }
 
-/// What can be sent.
-#[derive(Clone, Copy, Debug, PartialEq, Eq)]
-pub struct SendableFrames {
-    /// An ACK is required, and some number is to be acknowledged (RFC 9000, 13.2).
-    pub acks: bool,
-    /// There is something else: items to be sent again, a PING, or a demand for an ACK at once.
-    pub other: bool,
-}
-
 /// What an event that is not refused is answered.
 #[derive(Clone, Debug, PartialEq, Eq)]
+#[non_exhaustive]
 pub enum Answer {
     /// The packet is new.
     New {
@@ -287,11 +303,16 @@ pub enum Answer {
         /// Whether it was the probe of the path's MTU.
         probe: bool,
     },
-    /// Which numbers of the peer's ids are to be retired (RFC 9000, 5.1.2); the id with the number behind them is active
-    /// from now on, and [`Recovery::is_reset_token`](crate::Recovery::is_reset_token) knows its token. `None` where the
-    /// active id stays.
+    /// Which numbers of the peer's ids are to be retired (RFC 9000, 5.1.2), with the stateless reset token of the id that is
+    /// active from now on; `None` where the active id stays.
+    ///
+    /// The token is read by [`Recovery::reset_token`](crate::Recovery::reset_token).
     Retire(Option<Range<u64>>),
     /// Yes or no, as the event asks.
+    ///
+    /// `true` says of `IdTimeout` that the peer is to be asked, by a NEW_CONNECTION_ID frame, to retire a number that it did not
+    /// retire yet; of `PeerRetired` that the peer is ready to hold one id more; of `AckFrequencyIn` that the frame is newer than
+    /// the last one, and taken; of `Ecn` that more packets were marked as congested.
     Flag(bool),
     /// The least moment that a timer is set to, if any.
     Timeout(Option<Instant>),
@@ -324,7 +345,7 @@ pub enum Answer {
     BlackHole(bool),
     /// What can be sent.
     Sendable(SendableFrames),
-    /// The items that are to be sent again.
+    /// What is to be sent again.
     Queue(Vec<u64>),
     /// The event has no other answer.
     Done,
@@ -332,6 +353,7 @@ pub enum Answer {
 
 /// What is wrong with the peer's counts of ECN (RFC 9000, 13.4.2.1).
 #[derive(Clone, Copy, Debug, PartialEq, Eq, Hash)]
+#[non_exhaustive]
 pub enum EcnFault {
     /// The count of ECT(0) fell.
     Ect0Falls,
@@ -346,12 +368,12 @@ pub enum EcnFault {
 }
 
 impl EcnFault {
-    pub(crate) fn from_number(number: u64) -> Self {
+    fn from_number(number: u64) -> Self {
         match number {
-            0 => EcnFault::Ect0Falls,
-            1 => EcnFault::Ect1Falls,
-            2 => EcnFault::CeFalls,
-            3 => EcnFault::Bleached,
+            ffi::FAULT_ECT0_FALLS => EcnFault::Ect0Falls,
+            ffi::FAULT_ECT1_FALLS => EcnFault::Ect1Falls,
+            ffi::FAULT_CE_FALLS => EcnFault::CeFalls,
+            ffi::FAULT_BLEACHED => EcnFault::Bleached,
             _ => EcnFault::Corrupted,
         }
     }
@@ -371,6 +393,7 @@ impl fmt::Display for EcnFault {
 
 /// Why an event is refused. The state is then as it was before, but for the number that `DelayTooSmall` keeps.
 #[derive(Clone, Copy, Debug, PartialEq, Eq, Hash)]
+#[non_exhaustive]
 pub enum Refusal {
     /// A growth was refused by the allocator.
     NoMemory,
@@ -380,11 +403,11 @@ pub enum Refusal {
     NumbersExhausted,
     /// The packet is not tracked: it was not sent, or it was acknowledged, lost or forgotten.
     NotTracked,
-    /// The keys of the space were dropped.
+    /// The keys of the space were dropped (RFC 9001, 4.9).
     SpaceDiscarded,
     /// There is no such path.
     NoSuchPath,
-    /// The MTU of the current path is searched for.
+    /// The MTU of the current path is searched for (RFC 8899, 5).
     Searching,
     /// A size of no bytes is none that a path carries.
     ZeroMtu,
@@ -400,13 +423,14 @@ pub enum Refusal {
     CidsNotInUse,
     /// The number was not issued (RFC 9000, 19.16).
     UnissuedCid,
-    /// An ACK_FREQUENCY frame asks for a delay below 1 ms. The number of the frame is kept.
+    /// An ACK_FREQUENCY frame asks for a delay below 1 ms (draft-ietf-quic-ack-frequency-04, section 4). The number of the
+    /// frame is kept.
     DelayTooSmall,
     /// A number was acknowledged that was skipped, and never sent (RFC 9000, 21.4).
     SkippedAcked,
-    /// The peer's counts of ECN cannot be right (RFC 9000, 13.4.2.1).
+    /// The peer's counts of ECN cannot be right (RFC 9000, 13.4.2.1), in these words.
     Ecn(EcnFault),
-    /// The initial id is no longer the active one.
+    /// The initial id is no longer the active one (RFC 9000, 7.2).
     NotInitialId,
     /// Numbers do not go on where they should, or a range ends before it begins.
     BadRange,
@@ -418,25 +442,25 @@ impl Refusal {
     /// By the number that the library gives it; of one by ECN with the number of the fault.
     pub(crate) fn from_number(number: u8, fault: u64) -> Self {
         match number {
-            1 => Refusal::NoMemory,
-            2 => Refusal::NumberTooLarge,
-            3 => Refusal::NumbersExhausted,
-            4 => Refusal::NotTracked,
-            5 => Refusal::SpaceDiscarded,
-            6 => Refusal::NoSuchPath,
-            7 => Refusal::Searching,
-            8 => Refusal::ZeroMtu,
-            9 => Refusal::Overflow,
-            10 => Refusal::Retired,
-            11 => Refusal::ExceedsLimit,
-            12 => Refusal::BadRetirePriorTo,
-            13 => Refusal::CidsNotInUse,
-            14 => Refusal::UnissuedCid,
-            15 => Refusal::DelayTooSmall,
-            16 => Refusal::SkippedAcked,
-            17 => Refusal::Ecn(EcnFault::from_number(fault)),
-            18 => Refusal::NotInitialId,
-            19 => Refusal::BadRange,
+            ffi::REFUSAL_NO_MEMORY => Refusal::NoMemory,
+            ffi::REFUSAL_NUMBER_TOO_LARGE => Refusal::NumberTooLarge,
+            ffi::REFUSAL_NUMBERS_EXHAUSTED => Refusal::NumbersExhausted,
+            ffi::REFUSAL_NOT_TRACKED => Refusal::NotTracked,
+            ffi::REFUSAL_SPACE_DISCARDED => Refusal::SpaceDiscarded,
+            ffi::REFUSAL_NO_SUCH_PATH => Refusal::NoSuchPath,
+            ffi::REFUSAL_SEARCHING => Refusal::Searching,
+            ffi::REFUSAL_ZERO_MTU => Refusal::ZeroMtu,
+            ffi::REFUSAL_OVERFLOW => Refusal::Overflow,
+            ffi::REFUSAL_RETIRED => Refusal::Retired,
+            ffi::REFUSAL_EXCEEDS_LIMIT => Refusal::ExceedsLimit,
+            ffi::REFUSAL_BAD_RETIRE_PRIOR_TO => Refusal::BadRetirePriorTo,
+            ffi::REFUSAL_CIDS_NOT_IN_USE => Refusal::CidsNotInUse,
+            ffi::REFUSAL_UNISSUED_CID => Refusal::UnissuedCid,
+            ffi::REFUSAL_DELAY_TOO_SMALL => Refusal::DelayTooSmall,
+            ffi::REFUSAL_SKIPPED_ACKED => Refusal::SkippedAcked,
+            ffi::REFUSAL_ECN => Refusal::Ecn(EcnFault::from_number(fault)),
+            ffi::REFUSAL_NOT_INITIAL_ID => Refusal::NotInitialId,
+            ffi::REFUSAL_BAD_RANGE => Refusal::BadRange,
             _ => Refusal::Conflict,
         }
     }
@@ -444,26 +468,26 @@ impl Refusal {
     /// The number by which scripts and logs know the refusal.
     pub fn number(self) -> u8 {
         match self {
-            Refusal::NoMemory => 1,
-            Refusal::NumberTooLarge => 2,
-            Refusal::NumbersExhausted => 3,
-            Refusal::NotTracked => 4,
-            Refusal::SpaceDiscarded => 5,
-            Refusal::NoSuchPath => 6,
-            Refusal::Searching => 7,
-            Refusal::ZeroMtu => 8,
-            Refusal::Overflow => 9,
-            Refusal::Retired => 10,
-            Refusal::ExceedsLimit => 11,
-            Refusal::BadRetirePriorTo => 12,
-            Refusal::CidsNotInUse => 13,
-            Refusal::UnissuedCid => 14,
-            Refusal::DelayTooSmall => 15,
-            Refusal::SkippedAcked => 16,
-            Refusal::Ecn(_) => 17,
-            Refusal::NotInitialId => 18,
-            Refusal::BadRange => 19,
-            Refusal::Conflict => 20,
+            Refusal::NoMemory => ffi::REFUSAL_NO_MEMORY,
+            Refusal::NumberTooLarge => ffi::REFUSAL_NUMBER_TOO_LARGE,
+            Refusal::NumbersExhausted => ffi::REFUSAL_NUMBERS_EXHAUSTED,
+            Refusal::NotTracked => ffi::REFUSAL_NOT_TRACKED,
+            Refusal::SpaceDiscarded => ffi::REFUSAL_SPACE_DISCARDED,
+            Refusal::NoSuchPath => ffi::REFUSAL_NO_SUCH_PATH,
+            Refusal::Searching => ffi::REFUSAL_SEARCHING,
+            Refusal::ZeroMtu => ffi::REFUSAL_ZERO_MTU,
+            Refusal::Overflow => ffi::REFUSAL_OVERFLOW,
+            Refusal::Retired => ffi::REFUSAL_RETIRED,
+            Refusal::ExceedsLimit => ffi::REFUSAL_EXCEEDS_LIMIT,
+            Refusal::BadRetirePriorTo => ffi::REFUSAL_BAD_RETIRE_PRIOR_TO,
+            Refusal::CidsNotInUse => ffi::REFUSAL_CIDS_NOT_IN_USE,
+            Refusal::UnissuedCid => ffi::REFUSAL_UNISSUED_CID,
+            Refusal::DelayTooSmall => ffi::REFUSAL_DELAY_TOO_SMALL,
+            Refusal::SkippedAcked => ffi::REFUSAL_SKIPPED_ACKED,
+            Refusal::Ecn(_) => ffi::REFUSAL_ECN,
+            Refusal::NotInitialId => ffi::REFUSAL_NOT_INITIAL_ID,
+            Refusal::BadRange => ffi::REFUSAL_BAD_RANGE,
+            Refusal::Conflict => ffi::REFUSAL_CONFLICT,
         }
     }
 }

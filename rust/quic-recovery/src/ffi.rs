@@ -1,9 +1,169 @@
 //! What crosses to the proved library and what it exports: written by `tests/rust.py --write` from the sources of the
 //! library, and compared with them by its tests.
 
+/// The packet is new.
+pub const ANSWER_NEW: u8 = 0;
+/// The packet may have come before: it is to be dropped.
+pub const ANSWER_DUPLICATE: u8 = 1;
+/// The packet is sent.
+pub const ANSWER_SENT: u8 = 2;
+/// The packet is acknowledged, and no longer tracked.
+pub const ANSWER_ACKED: u8 = 3;
+/// The packet is lost, and no longer tracked.
+pub const ANSWER_LOST: u8 = 4;
+/// Which numbers of the peer's ids are to be retired.
+pub const ANSWER_RETIRE: u8 = 5;
+/// Yes or no, as the event asks.
+pub const ANSWER_FLAG: u8 = 6;
+/// The least moment that a timer is set to, if any.
+pub const ANSWER_TIMEOUT: u8 = 7;
+/// What is in flight on a path.
+pub const ANSWER_IN_FLIGHT: u8 = 8;
+/// The datagram is transmitted.
+pub const ANSWER_TRANSMITTED: u8 = 9;
+/// The datagram is not transmitted, by the amplification limit.
+pub const ANSWER_BLOCKED: u8 = 10;
+/// The bytes are not to be transmitted yet, by the pacer.
+pub const ANSWER_DELAYED: u8 = 11;
+/// The bytes may be transmitted now, as far as the pacer goes.
+pub const ANSWER_READY: u8 = 12;
+/// A probe of the path's MTU goes out.
+pub const ANSWER_PROBE: u8 = 13;
+/// No probe of the path's MTU is due.
+pub const ANSWER_NO_PROBE: u8 = 14;
+/// Whether a black hole was reported.
+pub const ANSWER_BLACK_HOLE: u8 = 15;
+/// What can be sent.
+pub const ANSWER_SENDABLE: u8 = 16;
+/// What is to be sent again.
+pub const ANSWER_QUEUE: u8 = 17;
+/// The event has no other answer.
+pub const ANSWER_DONE: u8 = 18;
+/// The event is refused. It lies far from the answers, so that further ones do not move it.
+pub const ANSWER_REFUSED: u8 = 255;
+
+/// A growth was refused by the allocator.
+pub const REFUSAL_NO_MEMORY: u8 = 1;
+/// A packet number is 2^62 or more (RFC 9000, 12.3).
+pub const REFUSAL_NUMBER_TOO_LARGE: u8 = 2;
+/// The space has given out all packet numbers below 2^62 (RFC 9000, 12.3).
+pub const REFUSAL_NUMBERS_EXHAUSTED: u8 = 3;
+/// The packet is not tracked: it was not sent, or it was acknowledged, lost or forgotten.
+pub const REFUSAL_NOT_TRACKED: u8 = 4;
+/// The keys of the space were dropped (RFC 9001, 4.9).
+pub const REFUSAL_SPACE_DISCARDED: u8 = 5;
+/// There is no such path.
+pub const REFUSAL_NO_SUCH_PATH: u8 = 6;
+/// The MTU of the current path is searched for (RFC 8899, 5).
+pub const REFUSAL_SEARCHING: u8 = 7;
+/// A size of no bytes is none that a path carries.
+pub const REFUSAL_ZERO_MTU: u8 = 8;
+/// A counter would pass the end of its type.
+pub const REFUSAL_OVERFLOW: u8 = 9;
+/// The number of the peer's id lies below the active one (RFC 9000, 19.15).
+pub const REFUSAL_RETIRED: u8 = 10;
+/// The number of the peer's id lies past the ids that are held (RFC 9000, 5.1.1).
+pub const REFUSAL_EXCEEDS_LIMIT: u8 = 11;
+/// The frame retires numbers past its own (RFC 9000, 19.15).
+pub const REFUSAL_BAD_RETIRE_PRIOR_TO: u8 = 12;
+/// This end uses ids of no bytes, of which none can be retired (RFC 9000, 19.16).
+pub const REFUSAL_CIDS_NOT_IN_USE: u8 = 13;
+/// The number was not issued (RFC 9000, 19.16).
+pub const REFUSAL_UNISSUED_CID: u8 = 14;
+/// An ACK_FREQUENCY frame asks for a delay below 1 ms (draft-ietf-quic-ack-frequency-04, section 4). The number of the
+/// frame is kept.
+pub const REFUSAL_DELAY_TOO_SMALL: u8 = 15;
+/// A number was acknowledged that was skipped, and never sent (RFC 9000, 21.4).
+pub const REFUSAL_SKIPPED_ACKED: u8 = 16;
+/// The peer's counts of ECN cannot be right (RFC 9000, 13.4.2.1), in these words.
+pub const REFUSAL_ECN: u8 = 17;
+/// The initial id is no longer the active one (RFC 9000, 7.2).
+pub const REFUSAL_NOT_INITIAL_ID: u8 = 18;
+/// Numbers do not go on where they should, or a range ends before it begins.
+pub const REFUSAL_BAD_RANGE: u8 = 19;
+/// The number of the peer's id is held with another id, or with a token that is not the frame's (RFC 9000, 19.15).
+pub const REFUSAL_CONFLICT: u8 = 20;
+/// The handle holds no recovery.
+pub const REFUSAL_NO_RECOVERY: u8 = 254;
+/// An argument lies out of its range: a space or a timer that there is not, an id of more than 20 bytes, a number of a frame
+/// of 2^62 or more, nanoseconds of a second or more.
+pub const REFUSAL_BAD_ARGUMENT: u8 = 255;
+
+/// The count of ECT(0) fell.
+pub const FAULT_ECT0_FALLS: u64 = 0;
+/// The count of ECT(1) fell.
+pub const FAULT_ECT1_FALLS: u64 = 1;
+/// The count of ECN-CE fell.
+pub const FAULT_CE_FALLS: u64 = 2;
+/// Packets that are newly acknowledged are in no count.
+pub const FAULT_BLEACHED: u64 = 3;
+/// Packets were counted that were not sent so.
+pub const FAULT_CORRUPTED: u64 = 4;
+
+/// There was no memory.
+pub const NEW_NO_MEMORY: u8 = 0;
+/// A recovery was made.
+pub const NEW_MADE: u8 = 1;
+/// The handle holds a recovery already.
+pub const NEW_HELD: u8 = 2;
+/// The id of the peer has more than 20 bytes.
+pub const NEW_CID_TOO_LONG: u8 = 3;
+/// More than 2^62 ids were issued at the start.
+pub const NEW_TOO_MANY_ISSUED: u8 = 4;
+/// The first skip is 64 or more.
+pub const NEW_SKIP_TOO_LARGE: u8 = 5;
+/// An MTU is zero.
+pub const NEW_ZERO_MTU: u8 = 6;
+/// The initial window is zero.
+pub const NEW_ZERO_WINDOW: u8 = 7;
+/// The denominator of the loss reduction factor is zero.
+pub const NEW_ZERO_DENOMINATOR: u8 = 8;
+/// There is no such controller.
+pub const NEW_UNKNOWN_CONTROLLER: u8 = 9;
+/// There is no such way to skip numbers.
+pub const NEW_UNKNOWN_SKIPS: u8 = 10;
+
+/// NewReno (RFC 9002, 7).
+pub const CONTROLLER_NEW_RENO: u8 = 0;
+/// A window that stays the one at first.
+pub const CONTROLLER_FIXED: u8 = 1;
+
+/// No number is skipped.
+pub const SKIPS_DISABLED: u8 = 0;
+/// As drawn with the seed.
+pub const SKIPS_DRAWN: u8 = 1;
+/// From the first skip on, those behind it as drawn with the seed.
+pub const SKIPS_STARTING: u8 = 2;
+
+/// Initial packets.
+pub const SPACE_INITIAL: u8 = 0;
+/// Handshake packets.
+pub const SPACE_HANDSHAKE: u8 = 1;
+/// 0-RTT and 1-RTT packets.
+pub const SPACE_DATA: u8 = 2;
+
+/// When to declare packets lost or to send a probe (RFC 9002, 6.2 and A.8).
+pub const TIMER_LOSS_DETECTION: u8 = 0;
+/// When to close for want of traffic (RFC 9000, 10.1).
+pub const TIMER_IDLE: u8 = 1;
+/// When a closing or draining connection ends (RFC 9000, 10.2).
+pub const TIMER_CLOSE: u8 = 2;
+/// When keys that an update replaced are dropped (RFC 9001, 6.5).
+pub const TIMER_KEY_DISCARD: u8 = 3;
+/// When the validation of a new path has failed (RFC 9000, 8.2.4).
+pub const TIMER_PATH_VALIDATION: u8 = 4;
+/// When to send a PING against the idle timeout (RFC 9000, 10.1.2).
+pub const TIMER_KEEP_ALIVE: u8 = 5;
+/// When the pacer lets the next packet go (RFC 9002, 7.7).
+pub const TIMER_PACING: u8 = 6;
+/// When to issue new connection ids (RFC 9000, 5.1.1).
+pub const TIMER_PUSH_NEW_CID: u8 = 7;
+/// When to send an ACK that was held back (RFC 9000, 13.2.1).
+pub const TIMER_MAX_ACK_DELAY: u8 = 8;
+
 /// An address and a port.
 #[repr(C)]
-#[derive(Clone, Copy, Debug)]
+#[derive(Clone, Copy, Debug, PartialEq, Eq)]
 pub struct Address {
     /// The octets of an IPv6 address; of an IPv4 address the first four.
     pub octets: [u8; 16],
@@ -19,7 +179,7 @@ pub struct Address {
 
 /// An id that this end issues (RFC 9000, 19.15).
 #[repr(C)]
-#[derive(Clone, Copy, Debug)]
+#[derive(Clone, Copy, Debug, PartialEq, Eq)]
 pub struct Id {
     /// Its number.
     pub sequence: u64,
@@ -31,21 +191,44 @@ pub struct Id {
     pub len: u8,
 }
 
-/// What a caller holds a recovery by. It holds none where the pointer is null; any other pointer is the library's own.
+/// What a caller holds a recovery by. It begins as all zeros, which holds none; from then on it is the library's own.
 #[repr(C)]
 pub struct Handle {
     pub ptr: *mut u8,
+    pub holds: bool,
+}
+
+/// What the layer above keeps with a path, but for its PATH_RESPONSE frames.
+#[repr(C)]
+#[derive(Clone, Copy, Debug, PartialEq, Eq)]
+pub struct Marks {
+    /// What its PATH_CHALLENGE frame says, where one was sent (RFC 9000, 8.2.1).
+    pub challenge: u64,
+    /// The number of the first packet that was sent after a sample of the round-trip time (RFC 9002, 7.6.2), where there is one.
+    pub first_number: u64,
+    /// The space of that packet.
+    pub first_space: u8,
+    /// Whether a PATH_CHALLENGE frame was sent.
+    pub has_challenge: bool,
+    /// Whether a packet was sent after a sample.
+    pub has_first: bool,
+    /// Whether a PATH_CHALLENGE frame is to be sent.
+    pub challenge_pending: bool,
+    /// Whether packets are marked on the path (RFC 9000, 13.4).
+    pub sending_ecn: bool,
+    /// Whether there is such a path; if not, all else is 0. To set marks it is not looked at.
+    pub lives: bool,
 }
 
 /// The settings: times are in nanoseconds, and sizes in bytes.
 #[repr(C)]
-#[derive(Clone, Copy, Debug)]
+#[derive(Clone, Copy, Debug, PartialEq, Eq)]
 pub struct Settings {
     /// The longest delay of this end's ACKs (RFC 9000, 18.2).
     pub max_ack_delay: u64,
     /// How long this end's ids last, where they end.
     pub cid_lifetime: u64,
-    /// How many ids this end has issued, at most 2^62.
+    /// How many ids this end has issued, at most 2^62; memory grows with it, by 16 bytes an id.
     pub issued: u64,
     /// The seed of the skips that are drawn.
     pub seed: u64,
@@ -73,9 +256,9 @@ pub struct Settings {
     pub mtu_minimum_change: u16,
     /// The bytes of this end's ids.
     pub cid_len: u8,
-    /// Which congestion controller paths have: 0 NewReno, 1 a window that stays the one at first.
+    /// Which congestion controller paths have: `CONTROLLER_NEW_RENO` or `CONTROLLER_FIXED`.
     pub controller: u8,
-    /// How numbers are skipped: 0 not, 1 as drawn with the seed, 2 from `first_skip` on.
+    /// How numbers are skipped: `SKIPS_DISABLED`, `SKIPS_DRAWN` or `SKIPS_STARTING`.
     pub skips: u8,
     /// Whether ids last no longer than `cid_lifetime`.
     pub ids_end: bool,
@@ -89,22 +272,31 @@ pub struct Settings {
 
 /// What an event was replied, in numbers.
 #[repr(C)]
-#[derive(Clone, Copy, Debug)]
+#[derive(Clone, Copy, Debug, PartialEq, Eq)]
 pub struct Reply {
-    /// Which answer, in the order of `Answer`; 19 for a refusal.
+    /// Which answer, or that it was refused.
     pub kind: u8,
     /// The number of the refusal, or 0; of one by ECN `first` is the number of the fault.
     pub refusal: u8,
+    /// New: whether to start the timer for a late ACK. Sent: whether a silent packet was forgotten for it. Acked, lost: whether
+    /// it was the probe of the path's MTU. Retire: whether numbers are to be retired. Flag: yes or no. Timeout: whether a
+    /// timer is set. Black hole: whether one was reported. Sendable: whether an ACK is to be sent. Otherwise false.
     pub flag: bool,
+    /// Sendable: whether there is something else to be sent. Otherwise false.
     pub other: bool,
+    /// Probe: its size in bytes. Otherwise 0.
     pub size: u16,
+    /// Sent, probe: the number that it was given. Retire: the first number. Timeout, delayed: the moment, in nanoseconds. In
+    /// flight: the bytes. Otherwise 0.
     pub first: u64,
+    /// Sent: the number that was forgotten. Retire: one above the last number. In flight: how many packets elicit an ACK.
+    /// Otherwise 0.
     pub second: u64,
 }
 
 /// What is kept for a path: times in nanoseconds, which stop at `u64::MAX`, and sizes in bytes.
 #[repr(C)]
-#[derive(Clone, Copy, Debug)]
+#[derive(Clone, Copy, Debug, PartialEq, Eq)]
 pub struct PathView {
     /// How many bytes may be in flight (RFC 9002, 7).
     pub window: u64,
@@ -132,8 +324,12 @@ pub struct PathView {
     pub pacer_capacity: u64,
     /// The bytes in that bucket, as the last datagram or question left it: what time has brought since is not among them.
     pub pacer_tokens: u64,
+    /// The slow start threshold, where there is one (RFC 9002, 7.3).
+    pub ssthresh: u64,
     /// The MTU in use (RFC 9000, 14.3).
     pub mtu: u16,
+    /// Whether there is a slow start threshold; none before the first loss.
+    pub has_ssthresh: bool,
     /// Whether there is such a path; if not, all else is 0.
     pub lives: bool,
     /// Whether the peer was seen to receive there (RFC 9000, 8).
@@ -142,12 +338,14 @@ pub struct PathView {
 
 /// What a packet number space has to send, and what is to be acknowledged in it.
 #[repr(C)]
-#[derive(Clone, Copy, Debug)]
+#[derive(Clone, Copy, Debug, PartialEq, Eq)]
 pub struct SpaceView {
     /// The largest packet number received; 0 before the first.
     pub largest_received: u64,
     /// How many ranges of numbers are to be acknowledged.
     pub ranges: u64,
+    /// The number of the next packet, unless it is skipped.
+    pub next_packet_number: u64,
     /// Whether the space is not discarded; if it is, all else is 0.
     pub lives: bool,
     /// Whether an ACK is required, and some number is to be acknowledged.
@@ -158,7 +356,7 @@ pub struct SpaceView {
 
 /// A range of numbers, from the first to one above the last.
 #[repr(C)]
-#[derive(Clone, Copy, Debug)]
+#[derive(Clone, Copy, Debug, PartialEq, Eq)]
 pub struct RangeView {
     /// The first number.
     pub start: u64,
@@ -168,9 +366,9 @@ pub struct RangeView {
     pub some: bool,
 }
 
-/// A moment, if there is one.
+/// A moment, or a span, if there is one.
 #[repr(C)]
-#[derive(Clone, Copy, Debug)]
+#[derive(Clone, Copy, Debug, PartialEq, Eq)]
 pub struct MomentView {
     /// In nanoseconds.
     pub nanos: u64,
@@ -180,7 +378,7 @@ pub struct MomentView {
 
 /// The ids of both ends, and how late ACKs may be.
 #[repr(C)]
-#[derive(Clone, Copy, Debug)]
+#[derive(Clone, Copy, Debug, PartialEq, Eq)]
 pub struct IdsView {
     /// The number of the peer's id in use.
     pub active: u64,
@@ -190,10 +388,17 @@ pub struct IdsView {
     pub retire_prior_to: u64,
     /// How late this end's ACKs may be, in nanoseconds, which stop at `u64::MAX`.
     pub max_ack_delay: u64,
+    /// How late the peer's ACKs may be, in nanoseconds, which stop at `u64::MAX`.
+    pub peer_max_ack_delay: u64,
 }
 
 unsafe extern "C" {
-    /// Makes a recovery, whose peer is at this address and has this id of at most 20 bytes; false where there is no memory.
+    /// Does nothing; a library of another layout does not have it.
+    #[link_name = "recovery_ffi_layout_085f3b12"]
+    pub fn recovery_ffi_layout();
+
+    /// Makes a recovery, whose peer is at this address and has this id of at most 20 bytes. The answer is `NEW_MADE`, or the number of
+    /// what is wrong; the handle then holds what it held.
     pub fn recovery_ffi_new(
         handle: *mut Handle,
         settings: *const Settings,
@@ -201,12 +406,12 @@ unsafe extern "C" {
         initial_cid: *const u8,
         initial_cid_len: usize,
         now: u64,
-    ) -> bool;
+    ) -> u8;
 
-    /// Frees a recovery.
+    /// Frees a recovery. The handle holds none then; one that holds none stays so.
     pub fn recovery_ffi_drop(handle: *mut Handle);
 
-    /// An ACK_FREQUENCY frame came in, its numbers below 2^62: the event `AckFrequencyIn`.
+    /// An ACK_FREQUENCY frame came in: the event `AckFrequencyIn`; its numbers lie below 2^62.
     pub fn recovery_ffi_ack_frequency(
         handle: *mut Handle,
         sequence: u64,
@@ -246,7 +451,7 @@ unsafe extern "C" {
     /// The server chose another id (RFC 9000, 7.2): the event `InitialId`; an id has at most 20 bytes.
     pub fn recovery_ffi_initial_id(handle: *mut Handle, id: *const u8, id_len: usize) -> Reply;
 
-    /// This end issues these ids (RFC 9000, 5.1.1): the event `IssueIds`.
+    /// This end issues these ids (RFC 9000, 5.1.1): the event `IssueIds`; an id has at most 20 bytes.
     pub fn recovery_ffi_issue_ids(
         handle: *mut Handle,
         now: u64,
@@ -260,11 +465,18 @@ unsafe extern "C" {
     /// A RETIRE_CONNECTION_ID frame came in (RFC 9000, 19.16): the event `PeerRetired`.
     pub fn recovery_ffi_peer_retired(handle: *mut Handle, sequence: u64, limit: u64) -> Reply;
 
-    /// Writes the bytes of the token that was answered last, all zeros before there was one.
+    /// Writes the bytes of the token that was answered last; all zeros before there was one, and where no recovery is held.
     pub fn recovery_ffi_token(handle: *mut Handle, out: *mut [u8; 16]);
 
-    /// Whether this is the token that was answered last.
+    /// Whether this is the token that was answered last; of none where no recovery is held.
     pub fn recovery_ffi_is_token(handle: *mut Handle, token: *const [u8; 16]) -> bool;
+
+    /// What the layer above keeps with a path.
+    pub fn recovery_ffi_marks(handle: *mut Handle, previous: bool) -> Marks;
+
+    /// The layer above keeps this with a path from now on. False, and nothing changes, where there is no such path or no such space.
+    pub fn recovery_ffi_set_marks(handle: *mut Handle, previous: bool, marks: *const Marks)
+        -> bool;
 
     /// A packet came in (RFC 9000, 12.3): the event `Received`.
     pub fn recovery_ffi_received(
@@ -303,7 +515,7 @@ unsafe extern "C" {
     /// The keys of a space are dropped (RFC 9002, 6.4): the event `DiscardSpace`.
     pub fn recovery_ffi_discard(handle: *mut Handle, space: u8) -> Reply;
 
-    /// How many items the queue that was taken last has; they are written where there is room for all.
+    /// How many items the queue that was taken last has; they are written where there is room for all. None, before one was taken.
     pub fn recovery_ffi_taken(handle: *mut Handle, out: *mut u64, out_len: usize) -> usize;
 
     /// What is in flight on a path? The event `InFlight`.
@@ -385,17 +597,28 @@ unsafe extern "C" {
     /// What is kept for a path.
     pub fn recovery_ffi_path(handle: *mut Handle, previous: bool) -> PathView;
 
-    /// What a space has to send.
+    /// What a space has to send; of one that there is not what is said of a discarded one.
     pub fn recovery_ffi_space(handle: *mut Handle, space: u8) -> SpaceView;
 
     /// One of the ranges of numbers that are to be acknowledged in a space, in ascending order.
     pub fn recovery_ffi_range(handle: *mut Handle, space: u8, index: usize) -> RangeView;
 
+    /// How long ago the largest packet of a space came, which an ACK frame tells (RFC 9000, 13.2.5): zero before the first, none
+    /// where there is no such space or it is discarded.
+    pub fn recovery_ffi_ack_delay(handle: *mut Handle, space: u8, now: u64) -> MomentView;
+
     /// When a timer expires.
     pub fn recovery_ffi_timer(handle: *mut Handle, timer: u8) -> MomentView;
 
-    /// The ids of both ends, and how late this end's ACKs may be.
+    /// The ids of both ends, and how late ACKs may be.
     pub fn recovery_ffi_ids(handle: *mut Handle) -> IdsView;
+
+    /// When the oldest of this end's ids is to be retired (RFC 9000, 5.1.2), where they end: what `TIMER_PUSH_NEW_CID` is set to.
+    pub fn recovery_ffi_next_id_timeout(handle: *mut Handle) -> MomentView;
+
+    /// The default settings: an address that is not validated, ACKs 25 ms late at most, ids of 8 bytes that last 10 s, one of them
+    /// issued, no skips, an RTT of 333 ms, MTUs of 1200 bytes and up to 1452, and NewReno with 12,000 bytes and a half.
+    pub fn recovery_ffi_default_settings() -> Settings;
 
     /// A timer is set to a moment in nanoseconds: the event `SetTimer`.
     pub fn recovery_ffi_set_timer(handle: *mut Handle, timer: u8, time: u64) -> Reply;

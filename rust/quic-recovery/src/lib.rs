@@ -1,4 +1,6 @@
-//! QUIC loss recovery (RFC 9002), proved.
+//! The state of a QUIC connection's recovery layer, proved: what it knows of its packets in three packet number spaces, of
+//! round-trip times, congestion control, pacing, amplification limit and MTU of its paths, of the connection ids of both ends,
+//! of ACKs and timers (RFC 9000 and RFC 9002). It decides no loss: which packets are lost a layer above it says.
 //!
 //! This is a safe interface to a static library that is written in Rattle, Rust with contracts, and built only where every
 //! function of it is proved. For each event the library proves that its answer is what the events before it say; which
@@ -28,7 +30,8 @@
 
 mod config;
 mod event;
-#[allow(missing_docs)]
+// some numbers and calls only programs in C need
+#[allow(dead_code, missing_docs)]
 mod ffi;
 mod recovery;
 mod types;
@@ -37,16 +40,17 @@ pub use config::{
     ConfigError, Congestion, MtuDiscoveryConfig, NewRenoConfig, RecoveryConfig, Skips,
     TransportConfig,
 };
-pub use event::{Answer, EcnFault, Event, Refusal, SendableFrames};
+pub use event::{Answer, EcnFault, Event, Refusal};
 pub use recovery::{IdStats, PacerStats, PathStats, Recovery, RttEstimate, SpaceStats};
 pub use types::{
-    AckFrequency, ConnectionId, EcnCounts, Instant, IssuedCid, NewConnectionId, PathName,
-    ResetToken, SpaceId, Timer, VarInt,
+    AckFrequency, CidTooLong, ConnectionId, EcnCounts, Instant, IssuedCid, NewConnectionId,
+    PathMarks, PathName, ResetToken, SendableFrames, SpaceId, Timer, VarInt,
 };
 
-/// This crate's version, and the toolchain that the library behind it is proved with.
+/// This crate's version, and the logic that the library behind it says it was proved with.
 pub const VERSION: &str = concat!(
     "quic-recovery ",
     env!("CARGO_PKG_VERSION"),
-    ", proved with rattle-kit-13f logic dac8208d650f15bf"
+    ", ",
+    env!("QUIC_RECOVERY_PROVED")
 );

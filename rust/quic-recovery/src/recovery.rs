@@ -1,8 +1,8 @@
-//! The loss recovery of one connection, behind its safe interface.
+//! The recovery of one connection, behind its safe interface.
 use crate::config::{address, ConfigError, RecoveryConfig};
-use crate::event::{Answer, Event, Refusal, SendableFrames};
+use crate::event::{Answer, Event, Refusal};
 use crate::ffi;
-use crate::types::{Instant, PathName, ResetToken, SpaceId, Timer};
+use crate::types::{Instant, PathMarks, PathName, ResetToken, SendableFrames, SpaceId, Timer};
 use std::cell::UnsafeCell;
 use std::fmt;
 use std::ops::Range;
@@ -11,9 +11,12 @@ use std::time::Duration;
 
 /// What is kept for a path. Spans stop at `u64::MAX` nanoseconds.
 #[derive(Clone, Copy, Debug, PartialEq, Eq)]
+#[non_exhaustive]
 pub struct PathStats {
     /// How many bytes may be in flight (RFC 9002, 7).
     pub window: u64,
+    /// The slow start threshold, in bytes (RFC 9002, 7.3); none before the first loss, and for a window that stays.
+    pub ssthresh: Option<u64>,
     /// The bytes in flight (RFC 9002, B.2).
     pub in_flight: u64,
     /// How many packets in flight elicit an ACK.
@@ -60,17 +63,21 @@ pub struct PacerStats {
 
 /// What a packet number space has to send.
 #[derive(Clone, Copy, Debug, PartialEq, Eq)]
+#[non_exhaustive]
 pub struct SpaceStats {
     /// The largest packet number received; 0 before the first.
     pub largest_received: u64,
     /// How many ranges of numbers are to be acknowledged.
     pub ranges: usize,
+    /// The number of the next packet, unless it is skipped.
+    pub next_packet_number: u64,
     /// What can be sent.
     pub can_send: SendableFrames,
 }
 
 /// The ids of both ends, and how late ACKs may be.
 #[derive(Clone, Copy, Debug, PartialEq, Eq)]
+#[non_exhaustive]
 pub struct IdStats {
     /// The number of the peer's id in use.
     pub active: u64,
@@ -80,9 +87,11 @@ pub struct IdStats {
     pub retire_prior_to: u64,
     /// How late this end's ACKs may be.
     pub max_ack_delay: Duration,
+    /// How late the peer's ACKs may be, as far as this end knows.
+    pub peer_max_ack_delay: Duration,
 }
 
-/// The loss recovery of one connection. It reads no clock and sends nothing: events with their moments go in, and answers
+/// The recovery layer's state of one connection. It reads no clock and sends nothing: events with their moments go in, and answers
 /// come out. What each call answers is proved: whatever events came before, the answer is what they say.
 ///
 /// It may move to another thread, and be used by one at a time.
@@ -123,8 +132,8 @@ fn is_previous(path: PathName) -> bool {
 #[inline(always)]
 unsafe fn hand_in(handle: *mut ffi::Handle, event: Event<'_>) -> ffi::Reply {
     use ffi::*;
-    // SAFETY: as this function's; slices are passed by their own pointers and lengths, ids have at most 20 bytes, numbers of
-    // frames lie below 2^62, and nanoseconds below a second are fewer than 10^9, by their types.
+    // SAFETY: as this function's; slices are passed by their own pointers and lengths. That ids have at most 20 bytes, numbers
+    // of frames lie below 2^62 and nanoseconds are fewer than a second's, their types keep, so that no call is refused for it.
     unsafe {
         match event {
             Event::Received {
@@ -265,11 +274,16 @@ impl Recovery {
     /// A recovery to which nothing has happened yet, made at the moment `now`. Settings that the library does not take are
     /// refused.
     pub fn new(config: &RecoveryConfig, now: Instant) -> Result<Self, ConfigError> {
-        let settings = config.settings()?;
+        let settings = config.settings();
         let id: &[u8] = &config.initial_cid;
-        let mut handle = ffi::Handle { ptr: null_mut() };
-        // SAFETY: the handle holds nothing, the settings were checked, and an id has at most 20 bytes.
-        let is_made = unsafe {
+        let mut handle = ffi::Handle {
+            ptr: null_mut(),
+            holds: false,
+        };
+        // SAFETY: it does nothing; a library of another layout does not have it.
+        unsafe { ffi::recovery_ffi_layout() };
+        // SAFETY: the handle is as it begins, and the id is a slice.
+        let code = unsafe {
             ffi::recovery_ffi_new(
                 &mut handle,
                 &settings,
@@ -279,15 +293,16 @@ impl Recovery {
                 now.as_nanos(),
             )
         };
-        if !is_made {
-            return Err(ConfigError::NoMemory);
+        match ConfigError::from_number(code) {
+            Some(error) => Err(error),
+            None => Ok(Recovery {
+                handle: UnsafeCell::new(handle),
+            }),
         }
-        Ok(Recovery {
-            handle: UnsafeCell::new(handle),
-        })
     }
 
-    /// One event, whole or not done: after a refusal the state is as it was before.
+    /// One event, whole or not done: after a refusal the state is as it was before, but for the number of an ACK_FREQUENCY frame
+    /// that is refused by `DelayTooSmall`, which is kept.
     #[inline]
     pub fn apply(&mut self, event: Event<'_>) -> Result<Answer, Refusal> {
         // SAFETY: the handle holds a recovery, and `self` is borrowed alone.
@@ -308,34 +323,34 @@ impl Recovery {
             second,
         } = reply;
         Ok(match kind {
-            0 => Answer::New { arm: flag },
-            1 => Answer::Duplicate,
-            2 => Answer::Sent {
+            ffi::ANSWER_NEW => Answer::New { arm: flag },
+            ffi::ANSWER_DUPLICATE => Answer::Duplicate,
+            ffi::ANSWER_SENT => Answer::Sent {
                 number: first,
                 forgotten: flag.then_some(second),
             },
-            3 => Answer::Acked { probe: flag },
-            4 => Answer::Lost { probe: flag },
-            5 => Answer::Retire(flag.then_some(first..second)),
-            6 => Answer::Flag(flag),
-            7 => Answer::Timeout(flag.then_some(Instant::from_nanos(first))),
-            8 => Answer::InFlight {
+            ffi::ANSWER_ACKED => Answer::Acked { probe: flag },
+            ffi::ANSWER_LOST => Answer::Lost { probe: flag },
+            ffi::ANSWER_RETIRE => Answer::Retire(flag.then_some(first..second)),
+            ffi::ANSWER_FLAG => Answer::Flag(flag),
+            ffi::ANSWER_TIMEOUT => Answer::Timeout(flag.then_some(Instant::from_nanos(first))),
+            ffi::ANSWER_IN_FLIGHT => Answer::InFlight {
                 bytes: first,
                 ack_eliciting: second,
             },
-            9 => Answer::Transmitted,
-            10 => Answer::Blocked,
-            11 => Answer::Delayed(Instant::from_nanos(first)),
-            12 => Answer::Ready,
-            13 => Answer::Probe {
+            ffi::ANSWER_TRANSMITTED => Answer::Transmitted,
+            ffi::ANSWER_BLOCKED => Answer::Blocked,
+            ffi::ANSWER_DELAYED => Answer::Delayed(Instant::from_nanos(first)),
+            ffi::ANSWER_READY => Answer::Ready,
+            ffi::ANSWER_PROBE => Answer::Probe {
                 number: first,
                 size,
             },
-            14 => Answer::NoProbe,
-            15 => Answer::BlackHole(flag),
-            16 => Answer::Sendable(SendableFrames { acks: flag, other }),
-            17 => Answer::Queue(self.taken()?),
-            18 => Answer::Done,
+            ffi::ANSWER_NO_PROBE => Answer::NoProbe,
+            ffi::ANSWER_BLACK_HOLE => Answer::BlackHole(flag),
+            ffi::ANSWER_SENDABLE => Answer::Sendable(SendableFrames { acks: flag, other }),
+            ffi::ANSWER_QUEUE => Answer::Queue(self.taken()?),
+            ffi::ANSWER_DONE => Answer::Done,
             _ => return Err(Refusal::from_number(refusal, first)),
         })
     }
@@ -377,6 +392,7 @@ impl Recovery {
         let view = unsafe { ffi::recovery_ffi_path(self.handle.get(), is_previous(path)) };
         view.lives.then(|| PathStats {
             window: view.window,
+            ssthresh: view.has_ssthresh.then_some(view.ssthresh),
             in_flight: view.in_flight,
             ack_eliciting: view.ack_eliciting,
             total_sent: view.total_sent,
@@ -405,11 +421,26 @@ impl Recovery {
         view.lives.then(|| SpaceStats {
             largest_received: view.largest_received,
             ranges: usize::try_from(view.ranges).unwrap_or(usize::MAX),
+            next_packet_number: view.next_packet_number,
             can_send: SendableFrames {
                 acks: view.acks,
                 other: view.other,
             },
         })
+    }
+
+    /// The number of the next packet of a space, unless it is skipped; `None` once the space is discarded.
+    pub fn next_packet_number(&self, space: SpaceId) -> Option<u64> {
+        self.space(space).map(|it| it.next_packet_number)
+    }
+
+    /// How long ago the largest packet of a space came, which an ACK frame tells (RFC 9000, 13.2.5 and 19.3): zero before the
+    /// first, and `None` once the space is discarded.
+    pub fn ack_delay(&self, space: SpaceId, now: Instant) -> Option<Duration> {
+        // SAFETY: the handle holds a recovery, and no other call runs.
+        let view =
+            unsafe { ffi::recovery_ffi_ack_delay(self.handle.get(), space as u8, now.as_nanos()) };
+        view.some.then_some(Duration::from_nanos(view.nanos))
     }
 
     /// The ranges of numbers that are to be acknowledged in a space, in ascending order.
@@ -428,6 +459,46 @@ impl Recovery {
         view.some.then_some(Instant::from_nanos(view.nanos))
     }
 
+    /// When the oldest of this end's ids is to be retired, where they end (RFC 9000, 5.1.2): what `Timer::PushNewCid` is set to.
+    pub fn next_id_timeout(&self) -> Option<Instant> {
+        // SAFETY: the handle holds a recovery, and no other call runs.
+        let view = unsafe { ffi::recovery_ffi_next_id_timeout(self.handle.get()) };
+        view.some.then_some(Instant::from_nanos(view.nanos))
+    }
+
+    /// What the layer above keeps with a path; `None` where there is no such path.
+    pub fn marks(&self, path: PathName) -> Option<PathMarks> {
+        // SAFETY: the handle holds a recovery, and no other call runs.
+        let view = unsafe { ffi::recovery_ffi_marks(self.handle.get(), is_previous(path)) };
+        let space = SpaceId::VALUES
+            .into_iter()
+            .find(|it| *it as u8 == view.first_space)?;
+        view.lives.then_some(PathMarks {
+            sending_ecn: view.sending_ecn,
+            challenge: view.has_challenge.then_some(view.challenge),
+            challenge_pending: view.challenge_pending,
+            first_packet_after_rtt_sample: view.has_first.then_some((space, view.first_number)),
+        })
+    }
+
+    /// The layer above keeps this with a path from now on; no event is told of it. False, and nothing changes, where there is no
+    /// such path.
+    pub fn set_marks(&mut self, path: PathName, marks: &PathMarks) -> bool {
+        let first = marks.first_packet_after_rtt_sample;
+        let given = ffi::Marks {
+            challenge: marks.challenge.unwrap_or(0),
+            first_number: first.map_or(0, |it| it.1),
+            first_space: first.map_or(0, |it| it.0 as u8),
+            has_challenge: marks.challenge.is_some(),
+            has_first: first.is_some(),
+            challenge_pending: marks.challenge_pending,
+            sending_ecn: marks.sending_ecn,
+            lives: true,
+        };
+        // SAFETY: the handle holds a recovery, and `self` is borrowed alone.
+        unsafe { ffi::recovery_ffi_set_marks(self.handle.get_mut(), is_previous(path), &given) }
+    }
+
     /// The ids of both ends, and how late ACKs may be.
     pub fn ids(&self) -> IdStats {
         // SAFETY: the handle holds a recovery, and no other call runs.
@@ -437,6 +508,7 @@ impl Recovery {
             issued: view.issued,
             retire_prior_to: view.retire_prior_to,
             max_ack_delay: Duration::from_nanos(view.max_ack_delay),
+            peer_max_ack_delay: Duration::from_nanos(view.peer_max_ack_delay),
         }
     }
 }

@@ -1,6 +1,8 @@
 //! Numbers, names and frames.
 use crate::ffi;
-use std::ops::Deref;
+use std::error::Error;
+use std::fmt;
+use std::ops::{Add, AddAssign, Deref, Sub};
 use std::time::Duration;
 
 /// A packet number space (RFC 9000, 12.3).
@@ -8,11 +10,26 @@ use std::time::Duration;
 #[repr(u8)]
 pub enum SpaceId {
     /// Of Initial packets.
-    Initial = 0,
+    Initial = ffi::SPACE_INITIAL,
     /// Of Handshake packets.
-    Handshake = 1,
+    Handshake = ffi::SPACE_HANDSHAKE,
     /// Of 0-RTT and 1-RTT packets.
-    Data = 2,
+    Data = ffi::SPACE_DATA,
+}
+
+impl SpaceId {
+    /// All spaces.
+    pub const VALUES: [SpaceId; 3] = [SpaceId::Initial, SpaceId::Handshake, SpaceId::Data];
+}
+
+impl fmt::Display for SpaceId {
+    fn fmt(&self, f: &mut fmt::Formatter<'_>) -> fmt::Result {
+        f.pad(match self {
+            SpaceId::Initial => "Initial",
+            SpaceId::Handshake => "Handshake",
+            SpaceId::Data => "Data",
+        })
+    }
 }
 
 /// A path that lives, by its name (RFC 9000, 9).
@@ -29,23 +46,23 @@ pub enum PathName {
 #[repr(u8)]
 pub enum Timer {
     /// Packets are declared lost, or a probe is sent (RFC 9002, 6.1.2 and 6.2).
-    LossDetection = 0,
+    LossDetection = ffi::TIMER_LOSS_DETECTION,
     /// The connection was idle for too long (RFC 9000, 10.1).
-    Idle = 1,
+    Idle = ffi::TIMER_IDLE,
     /// The connection is closed for good (RFC 9000, 10.2).
-    Close = 2,
+    Close = ffi::TIMER_CLOSE,
     /// Keys are discarded (RFC 9001, 4.9).
-    KeyDiscard = 3,
+    KeyDiscard = ffi::TIMER_KEY_DISCARD,
     /// The validation of a path failed (RFC 9000, 8.2.4).
-    PathValidation = 4,
+    PathValidation = ffi::TIMER_PATH_VALIDATION,
     /// A PING keeps the connection alive (RFC 9000, 10.1.2).
-    KeepAlive = 5,
+    KeepAlive = ffi::TIMER_KEEP_ALIVE,
     /// The pacer has tokens again (RFC 9002, 7.7).
-    Pacing = 6,
+    Pacing = ffi::TIMER_PACING,
     /// New ids are to be issued (RFC 9000, 5.1.2).
-    PushNewCid = 7,
+    PushNewCid = ffi::TIMER_PUSH_NEW_CID,
     /// An ACK is to be sent (RFC 9000, 13.2.1).
-    MaxAckDelay = 8,
+    MaxAckDelay = ffi::TIMER_MAX_ACK_DELAY,
 }
 
 impl Timer {
@@ -87,6 +104,31 @@ impl Instant {
     /// The span since an earlier moment, or zero where that is a later one.
     pub fn saturating_duration_since(self, earlier: Instant) -> Duration {
         Duration::from_nanos(self.0.saturating_sub(earlier.0))
+    }
+}
+
+/// As [`Instant::saturating_add`]: no sum ends a program.
+impl Add<Duration> for Instant {
+    type Output = Instant;
+
+    fn add(self, span: Duration) -> Instant {
+        self.saturating_add(span)
+    }
+}
+
+/// As [`Instant::saturating_add`].
+impl AddAssign<Duration> for Instant {
+    fn add_assign(&mut self, span: Duration) {
+        *self = *self + span;
+    }
+}
+
+/// As [`Instant::saturating_duration_since`].
+impl Sub for Instant {
+    type Output = Duration;
+
+    fn sub(self, earlier: Instant) -> Duration {
+        self.saturating_duration_since(earlier)
     }
 }
 
@@ -132,6 +174,33 @@ impl ConnectionId {
             len: u8::try_from(bytes.len()).ok()?,
             bytes: padded,
         })
+    }
+}
+
+/// A connection id has at most 20 bytes (RFC 9000, 17.2).
+#[derive(Clone, Copy, Debug, PartialEq, Eq)]
+pub struct CidTooLong;
+
+impl fmt::Display for CidTooLong {
+    fn fmt(&self, f: &mut fmt::Formatter<'_>) -> fmt::Result {
+        f.write_str("a connection id has more than 20 bytes")
+    }
+}
+
+impl Error for CidTooLong {}
+
+impl TryFrom<&[u8]> for ConnectionId {
+    type Error = CidTooLong;
+
+    fn try_from(bytes: &[u8]) -> Result<Self, CidTooLong> {
+        ConnectionId::new(bytes).ok_or(CidTooLong)
+    }
+}
+
+/// In hexadecimal digits, two a byte.
+impl fmt::Display for ConnectionId {
+    fn fmt(&self, f: &mut fmt::Formatter<'_>) -> fmt::Result {
+        self.iter().try_for_each(|byte| write!(f, "{byte:02x}"))
     }
 }
 
@@ -206,7 +275,7 @@ pub struct NewConnectionId {
 }
 
 /// An id that this end issues (RFC 9000, 19.15).
-#[derive(Clone, Copy, Debug)]
+#[derive(Clone, Copy, Debug, PartialEq, Eq)]
 #[repr(transparent)]
 pub struct IssuedCid(pub(crate) ffi::Id);
 
@@ -224,5 +293,39 @@ impl IssuedCid {
     /// Its number.
     pub fn sequence(&self) -> u64 {
         self.0.sequence
+    }
+}
+
+/// What can be sent.
+#[derive(Clone, Copy, Debug, PartialEq, Eq)]
+pub struct SendableFrames {
+    /// An ACK is required, and some number is to be acknowledged (RFC 9000, 13.2).
+    pub acks: bool,
+    /// There is something else: items to be sent again, a PING, or a demand for an ACK at once.
+    pub other: bool,
+}
+
+/// What the layer above keeps with a path: no event changes it.
+#[derive(Clone, Copy, Debug, PartialEq, Eq)]
+pub struct PathMarks {
+    /// Whether packets are marked on the path (RFC 9000, 13.4).
+    pub sending_ecn: bool,
+    /// What its PATH_CHALLENGE frame says, where one was sent (RFC 9000, 8.2.1).
+    pub challenge: Option<u64>,
+    /// Whether a PATH_CHALLENGE frame is to be sent.
+    pub challenge_pending: bool,
+    /// Space and number of the first packet that was sent after a sample of the round-trip time (RFC 9002, 7.6.2).
+    pub first_packet_after_rtt_sample: Option<(SpaceId, u64)>,
+}
+
+impl Default for PathMarks {
+    /// Those of a path that is made: nothing was challenged, and packets are marked.
+    fn default() -> Self {
+        PathMarks {
+            sending_ecn: true,
+            challenge: None,
+            challenge_pending: false,
+            first_packet_after_rtt_sample: None,
+        }
     }
 }

@@ -182,3 +182,97 @@ fn faults_of_ecn() {
         assert_eq!(recovery.apply(event), Err(Refusal::Ecn(fault)));
     }
 }
+
+fn packet(now: Instant) -> Event<'static> {
+    Event::Send {
+        space: SpaceId::Data,
+        now,
+        size: 1200,
+        ack_eliciting: true,
+        largest_acked: None,
+        queue: &[],
+    }
+}
+
+/// A loss halves the window, which is the threshold of slow start from then on (RFC 9002, 7.3.2).
+#[test]
+fn thresholds() {
+    let mut recovery = fresh();
+    let path = |it: &Recovery| it.path(PathName::Current).unwrap();
+    assert_eq!(path(&recovery).ssthresh, None);
+    let congestion = Event::Congestion {
+        now: at(2),
+        sent: at(1),
+        persistent: false,
+        bytes: 1200,
+    };
+    apply(&mut recovery, congestion);
+    assert_eq!(path(&recovery).ssthresh, Some(6000));
+    assert_eq!(path(&recovery).window, 6000);
+}
+
+#[test]
+fn packet_numbers() {
+    let mut recovery = fresh();
+    let space = SpaceId::Data;
+    assert_eq!(recovery.next_packet_number(space), Some(0));
+    apply(&mut recovery, packet(at(1)));
+    assert_eq!(recovery.next_packet_number(space), Some(1));
+    assert_eq!(recovery.next_packet_number(SpaceId::Initial), Some(0));
+    apply(&mut recovery, Event::DiscardSpace { space });
+    assert_eq!(recovery.next_packet_number(space), None);
+}
+
+/// How long the largest packet waits for its ACK (RFC 9000, 13.2.5), and how late ACKs may be.
+#[test]
+fn delays() {
+    let mut recovery = fresh();
+    let (space, start) = (SpaceId::Data, at(1_000_000));
+    assert_eq!(recovery.ack_delay(space, start), Some(Duration::ZERO));
+    let received = Event::Received {
+        space,
+        now: start,
+        number: 4,
+        ack_eliciting: true,
+    };
+    apply(&mut recovery, received);
+    let wait = Duration::from_millis(7);
+    assert_eq!(recovery.ack_delay(space, start + wait), Some(wait));
+    assert_eq!(recovery.ids().peer_max_ack_delay, Duration::from_millis(25));
+    apply(&mut recovery, Event::DiscardSpace { space });
+    assert_eq!(recovery.ack_delay(space, start + wait), None);
+}
+
+/// An id that is issued at the start lasts for ten seconds, unless ids do not end.
+#[test]
+fn id_timeouts() {
+    let lifetime = RecoveryConfig::default().cid_lifetime.unwrap();
+    assert_eq!(fresh().next_id_timeout(), Some(at(0) + lifetime));
+    let config = RecoveryConfig {
+        cid_lifetime: None,
+        ..RecoveryConfig::default()
+    };
+    let recovery = Recovery::new(&config, at(0)).unwrap();
+    assert_eq!(recovery.next_id_timeout(), None);
+}
+
+#[test]
+fn marks() {
+    let mut recovery = fresh();
+    let path = PathName::Current;
+    assert_eq!(recovery.marks(path), Some(PathMarks::default()));
+    assert_eq!(recovery.marks(PathName::Previous), None);
+    let firsts = SpaceId::VALUES.map(|it| Some((it, u64::MAX)));
+    for first in [None].into_iter().chain(firsts) {
+        let marks = PathMarks {
+            sending_ecn: false,
+            challenge: Some(0),
+            challenge_pending: true,
+            first_packet_after_rtt_sample: first,
+        };
+        assert!(recovery.set_marks(path, &marks));
+        assert!(!recovery.set_marks(PathName::Previous, &marks));
+        apply(&mut recovery, packet(at(1)));
+        assert_eq!(recovery.marks(path), Some(marks));
+    }
+}

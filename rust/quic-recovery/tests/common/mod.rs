@@ -304,6 +304,7 @@ fn answer(answer: &Answer) -> String {
             text
         }),
         Answer::Done => "done".into(),
+        other => panic!("no line says {other:?}"),
     }
 }
 

@@ -2,9 +2,6 @@ use Rattle.std.proofs.Common.{Some, ap, sym, ◌∙◌}
 use Rattle.recovery_ffi.proofs.ids.recovery_ffi_is_token.Goals as goal
 
 pub returns : goal.returns
-returns c = record {
-  stack = c.deref.result.now;
-  held = c.take-stack.ensures.value ∙ ap Some (sym c.deref.ensures);
-  same = c.put.ensures ∙ sym c.take-stack.ensures.value;
-  says = c.is_token-is.ensures;
-}
+returns c =
+    let stands = ap Some (sym c.deref.ensures) in
+    rw (c.in-Some.ensures.taken ∙ stands) (c.put.ensures ∙ stands, c.is_token-is.ensures)

@@ -26,10 +26,10 @@ use denote.Triple.Walked.{says, Stays, stay_dropped, walk_of, ends_at, Goes-drop
 use Rattle.std_alloc.proofs.BoxSteps.Form.{D, B, word, box_typed}
 use Rattle.std_alloc.proofs.BoxSteps.Steps.{box_out, box_in}
 use Rattle.recovery_ffi.proofs.AsBox.{E, FromParts as From}
-use Rattle.recovery_ffi.specs.contracts.handle.Handle.of_parts as F
-use Rattle.recovery_ffi.specs.contracts.handle.Handle.of_parts.Key.{name as #self}
-use Rattle.recovery_ffi.proofs.handle.Handle.of_parts.Statement as stated
-use Rattle.recovery_ffi.proofs.handle.Handle.of_parts.Code as code
+use Rattle.recovery_ffi.specs.contracts.slot.Slot.of_parts as F
+use Rattle.recovery_ffi.specs.contracts.slot.Slot.of_parts.Key.{name as #self}
+use Rattle.recovery_ffi.proofs.slot.Slot.of_parts.Statement as stated
+use Rattle.recovery_ffi.proofs.slot.Slot.of_parts.Code as code
 
 abbrev stayed : Stays (F.ended).signature.params (F.ended).kept
 stayed = (stay_dropped From yes, tt)

@@ -27,13 +27,13 @@ use denote.Triple.Walked.{says, Stays, stay_dropped, walk_of, ends_at, Goes-drop
 use Rattle.std_alloc.proofs.BoxSteps.Form.{D, word, box_typed}
 use Rattle.std_alloc.proofs.BoxSteps.Steps.{box_out, box_in}
 use Rattle.recovery_ffi.specs.Held.{IsHeld}
-use Rattle.recovery_ffi.proofs.AsBox.{E, FromHandle as From}
+use Rattle.recovery_ffi.proofs.AsBox.{E, FromSlot as From}
 use Rattle.recovery_ffi.specs.contracts.stack.Stack as Stack
-use Rattle.recovery_ffi.specs.contracts.handle.Handle as Handle
-use Rattle.recovery_ffi.specs.contracts.handle.Handle.into_parts as F
-use Rattle.recovery_ffi.specs.contracts.handle.Handle.into_parts.Key.{name as #self}
-use Rattle.recovery_ffi.proofs.handle.Handle.into_parts.Statement as stated
-use Rattle.recovery_ffi.proofs.handle.Handle.into_parts.Code as code
+use Rattle.recovery_ffi.specs.contracts.slot.Slot as Slot
+use Rattle.recovery_ffi.specs.contracts.slot.Slot.into_parts as F
+use Rattle.recovery_ffi.specs.contracts.slot.Slot.into_parts.Key.{name as #self}
+use Rattle.recovery_ffi.proofs.slot.Slot.into_parts.Statement as stated
+use Rattle.recovery_ffi.proofs.slot.Slot.into_parts.Code as code
 
 abbrev stayed : Stays (F.ended).signature.params (F.ended).kept
 stayed = (stay_dropped From yes, tt)
@@ -47,14 +47,14 @@ module _ {M : Type 1} {𝓤 : Ura M} (𝓛 : Logic 𝓤) (at_mem : Memory → SP
       → ent 𝓤 ((walk_of 𝓛 F.ended stayed (F.clauses 𝓛 at_mem run)).pre z)
       (WpFn 𝓤 H 𝓣.C 𝓣.Λ code.function (z.0.4.0 ++ []) ((walk_of 𝓛 F.ended stayed (F.clauses 𝓛 at_mem run)).post z))
   walk_at z None none =
-      qed 𝓛 ((‵ ftrue ⊛ ‵ (fsep (Handle.the_row.own_val z.0.3.0 z.0.4.0) ftrue)) ∷ raw (fact 𝓤 (IsHeld z.0.3.0.held))
+      qed 𝓛 ((‵ ftrue ⊛ ‵ (fsep (Slot.the_row.own_val z.0.3.0 z.0.4.0) ftrue)) ∷ raw (fact 𝓤 (IsHeld z.0.3.0.held))
       ∷ []) ∵ move ! (1 ∷ []) $ heard ! _ (λ held. absurd (subst IsHeld none held))
   walk_at z (Some x) full =
       let Post = (walk_of 𝓛 F.ended stayed (F.clauses 𝓛 at_mem run)).post z in
       let v : D E = record { ptr = z.0.3.0.ptr; alloc = z.0.3.0.alloc; value = x } in
       let To = type_at (F.signature).result tt in
       let made : To.Denot = record { ptr = v.ptr; alloc = v.alloc; value = v.value } in
-      let Self = λ (held : Option Stack.the_row.Denot). Handle.the_row.own_val (record z.0.3.0 { held = held })
+      let Self = λ (held : Option Stack.the_row.Denot). Slot.the_row.own_val (record z.0.3.0 { held = held })
       z.0.4.0 in
       qed 𝓛 ((‵ ftrue ⊛ ‵ (fsep (Self z.0.3.0.held) ftrue)) ∷ raw (fact 𝓤 (IsHeld z.0.3.0.held)) ∷ [])
       ∵ move ! (1 ∷ []) $ heard ! _ (λ _. split ! $ drop ! $ fsplit ! $

@@ -34,11 +34,11 @@ use denote.Triple.Walked.{says, Stays, stay_dropped, walk_of, ends_at, Goes-drop
 use Rattle.std.proofs.alloc.Calls.{handle_tells}
 use Rattle.std_heap.specs.contracts.Global as Heap
 use Rattle.recovery_ffi.proofs.AsBox.{E}
-use Rattle.recovery_ffi.specs.contracts.handle.Handle as Handle
-use Rattle.recovery_ffi.specs.contracts.handle.Handle.empty as F
-use Rattle.recovery_ffi.specs.contracts.handle.Handle.empty.Key.{name as #self}
-use Rattle.recovery_ffi.proofs.handle.Handle.empty.Statement as stated
-use Rattle.recovery_ffi.proofs.handle.Handle.empty.Code as code
+use Rattle.recovery_ffi.specs.contracts.slot.Slot as Slot
+use Rattle.recovery_ffi.specs.contracts.slot.Slot.empty as F
+use Rattle.recovery_ffi.specs.contracts.slot.Slot.empty.Key.{name as #self}
+use Rattle.recovery_ffi.proofs.slot.Slot.empty.Statement as stated
+use Rattle.recovery_ffi.proofs.slot.Slot.empty.Code as code
 
 abbrev stayed : Stays (F.ended).signature.params (F.ended).kept
 stayed = (stay_dropped (plain (λ _. Heap.the_row)) yes, tt)
@@ -58,12 +58,12 @@ module _ {M : Type 1} {𝓤 : Ura M} (𝓛 : Logic 𝓤) (at_mem : Memory → SP
   walk z =
       let Post = (walk_of 𝓛 F.ended stayed (F.clauses 𝓛 at_mem run)).post z in
       let x = null_ptr in let a = z.0.3.0 in let Z = Heap.the_row in
-      let made : Handle.the_row.Denot = record { ptr = x; alloc = a; held = None } in
+      let made : Slot.the_row.Denot = record { ptr = x; alloc = a; held = None } in
       let p = ((rawptr_Lawful 𝓛).typed x (ptr_val x ∷ []) refl).0 in
       qed 𝓛 ((‵ ftrue ⊛ ‵ (fsep (Z.own_val a z.0.4.0) ftrue)) ∷ raw (emp 𝓤) ∷ []) ∵ split ! $ drop ! $ fsplit ! $
       handle_tells E.al ! a z.0.4.0 (λ h eh fits.
       let w : Val = vstruct (vcons (ptr_val x) (vcons h vnil)) in
-      let good : T (has_ty (layout Handle.the_row) w) × WT w = (
+      let good : T (has_ty (layout Slot.the_row) w) × WT w = (
         both_tt (has_ty ty_ptr (ptr_val x)) (has_ty (layout Z)
             h) p.0 fits.0,
         (p.1, (fits.1, tt)),
@@ -76,9 +76,9 @@ module _ {M : Type 1} {𝓤 : Ura M} (𝓛 : Logic 𝓤) (at_mem : Memory → SP
       returns ! (look_at ! 0 refl) $ free_all ! refl $
       fjoin ! $ feq_i ! (List Val) (ptr_val x ∷ []) (ptr_val x ∷ []) refl $ fjoin ! $
       feq_i ! (List Val) (w ∷ []) (w ∷ []) refl $ fjoin ! $
-      fpack ! (Valss (RawPtr ∷ Z ∷ [])) (within (shape Handle.the_type) (to Handle.the_type made) (w ∷ []))
+      fpack ! (Valss (RawPtr ∷ Z ∷ [])) (within (shape Slot.the_type) (to Slot.the_type made) (w ∷ []))
       (ptr_val x ∷ [], (h ∷ [], tt)) $
-      nothing ! $ move ! (1 ∷ 0 ∷ []) $ fjoin ! $ use1 𝓛 (‵ (Handle.the_row.own_val made (w ∷ []))) (id⊢ 𝓤 _) $
+      nothing ! $ move ! (1 ∷ 0 ∷ []) $ fjoin ! $ use1 𝓛 (‵ (Slot.the_row.own_val made (w ∷ []))) (id⊢ 𝓤 _) $
       move ! (1 ∷ []) $ drop ! $
       suffices ! _ (ends_at 𝓛 F.ended stayed (F.clauses 𝓛 at_mem run) z w made (tt, tt) (tt, tt)) $ says ! refl $
       nothing ! $ nothing ! $ fjoin ! $ join ! $ nothing ! $ join ! $ done !))))

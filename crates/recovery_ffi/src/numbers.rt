@@ -1,0 +1,95 @@
+//! The numbers that stand for what crosses: answers, refusals of a call, faults of counts, what comes of making a recovery,
+//! and settings that choose. `tests/rust.py --write` writes them for Rust and for C.
+
+/// The packet is new.
+pub const ANSWER_NEW: u8 = 0;
+/// The packet may have come before: it is to be dropped.
+pub const ANSWER_DUPLICATE: u8 = 1;
+/// The packet is sent.
+pub const ANSWER_SENT: u8 = 2;
+/// The packet is acknowledged, and no longer tracked.
+pub const ANSWER_ACKED: u8 = 3;
+/// The packet is lost, and no longer tracked.
+pub const ANSWER_LOST: u8 = 4;
+/// Which numbers of the peer's ids are to be retired.
+pub const ANSWER_RETIRE: u8 = 5;
+/// Yes or no, as the event asks.
+pub const ANSWER_FLAG: u8 = 6;
+/// The least moment that a timer is set to, if any.
+pub const ANSWER_TIMEOUT: u8 = 7;
+/// What is in flight on a path.
+pub const ANSWER_IN_FLIGHT: u8 = 8;
+/// The datagram is transmitted.
+pub const ANSWER_TRANSMITTED: u8 = 9;
+/// The datagram is not transmitted, by the amplification limit.
+pub const ANSWER_BLOCKED: u8 = 10;
+/// The bytes are not to be transmitted yet, by the pacer.
+pub const ANSWER_DELAYED: u8 = 11;
+/// The bytes may be transmitted now, as far as the pacer goes.
+pub const ANSWER_READY: u8 = 12;
+/// A probe of the path's MTU goes out.
+pub const ANSWER_PROBE: u8 = 13;
+/// No probe of the path's MTU is due.
+pub const ANSWER_NO_PROBE: u8 = 14;
+/// Whether a black hole was reported.
+pub const ANSWER_BLACK_HOLE: u8 = 15;
+/// What can be sent.
+pub const ANSWER_SENDABLE: u8 = 16;
+/// What is to be sent again.
+pub const ANSWER_QUEUE: u8 = 17;
+/// The event has no other answer.
+pub const ANSWER_DONE: u8 = 18;
+/// The event is refused. It lies far from the answers, so that further ones do not move it.
+pub const ANSWER_REFUSED: u8 = 255;
+
+/// The handle holds no recovery.
+pub const REFUSAL_NO_RECOVERY: u8 = 254;
+/// An argument lies out of its range: a space or a timer that there is not, an id of more than 20 bytes, a number of a frame
+/// of 2^62 or more, nanoseconds of a second or more.
+pub const REFUSAL_BAD_ARGUMENT: u8 = 255;
+
+/// The count of ECT(0) fell.
+pub const FAULT_ECT0_FALLS: u64 = 0;
+/// The count of ECT(1) fell.
+pub const FAULT_ECT1_FALLS: u64 = 1;
+/// The count of ECN-CE fell.
+pub const FAULT_CE_FALLS: u64 = 2;
+/// Packets that are newly acknowledged are in no count.
+pub const FAULT_BLEACHED: u64 = 3;
+/// Packets were counted that were not sent so.
+pub const FAULT_CORRUPTED: u64 = 4;
+
+/// There was no memory.
+pub const NEW_NO_MEMORY: u8 = 0;
+/// A recovery was made.
+pub const NEW_MADE: u8 = 1;
+/// The handle holds a recovery already.
+pub const NEW_HELD: u8 = 2;
+/// The id of the peer has more than 20 bytes.
+pub const NEW_CID_TOO_LONG: u8 = 3;
+/// More than 2^62 ids were issued at the start.
+pub const NEW_TOO_MANY_ISSUED: u8 = 4;
+/// The first skip is 64 or more.
+pub const NEW_SKIP_TOO_LARGE: u8 = 5;
+/// An MTU is zero.
+pub const NEW_ZERO_MTU: u8 = 6;
+/// The initial window is zero.
+pub const NEW_ZERO_WINDOW: u8 = 7;
+/// The denominator of the loss reduction factor is zero.
+pub const NEW_ZERO_DENOMINATOR: u8 = 8;
+/// There is no such controller.
+pub const NEW_UNKNOWN_CONTROLLER: u8 = 9;
+/// There is no such way to skip numbers.
+pub const NEW_UNKNOWN_SKIPS: u8 = 10;
+
+/// NewReno (RFC 9002, 7).
+pub const CONTROLLER_NEW_RENO: u8 = 0;
+/// A window that stays the one at first.
+pub const CONTROLLER_FIXED: u8 = 1;
+
+/// No number is skipped.
+pub const SKIPS_DISABLED: u8 = 0;
+/// As drawn with the seed.
+pub const SKIPS_DRAWN: u8 = 1;
+/// From the first skip on, those behind it as drawn with the seed.
+pub const SKIPS_STARTING: u8 = 2;

@@ -1,0 +1,40 @@
+// The same declarations from C++: a recovery that is freed where its owner ends.
+#include "recovery_ffi.h"
+#include <cstdio>
+#include <stdexcept>
+
+namespace {
+
+class Recovery {
+public:
+    explicit Recovery(const recovery_address &remote) {
+        const recovery_settings settings = recovery_ffi_default_settings();
+        const std::uint8_t id[8] = {1};
+        if (recovery_ffi_new(&handle, &settings, &remote, id, sizeof id, 0) != RECOVERY_NEW_MADE) {
+            throw std::runtime_error("no recovery was made");
+        }
+    }
+    Recovery(const Recovery &) = delete;
+    Recovery &operator=(const Recovery &) = delete;
+    ~Recovery() { recovery_ffi_drop(&handle); }
+
+    recovery_reply received(std::uint64_t now, std::uint64_t number) {
+        return recovery_ffi_received(&handle, RECOVERY_SPACE_DATA, now, number, true);
+    }
+    recovery_spaceview space() { return recovery_ffi_space(&handle, RECOVERY_SPACE_DATA); }
+
+private:
+    recovery_handle handle{};
+};
+
+} // namespace
+
+int main() {
+    recovery_address remote{};
+    remote.port = 4433;
+    Recovery recovery(remote);
+    std::printf("new %d\n", recovery.received(0, 0).kind == RECOVERY_ANSWER_NEW);
+    std::printf("duplicate %d\n", recovery.received(1, 0).kind == RECOVERY_ANSWER_DUPLICATE);
+    std::printf("%d range to acknowledge\n", static_cast<int>(recovery.space().ranges));
+    return 0;
+}

@@ -1,0 +1,105 @@
+// Calls that spell nothing, from C: each is refused with a number, and changes nothing. What went wrong is told, and counts.
+#include "recovery_ffi.h"
+#include <stdio.h>
+#include <string.h>
+
+static int wrong = 0;
+
+static void expect(const char *what, bool holds) {
+    if (!holds) {
+        printf("not so: %s\n", what);
+        wrong++;
+    }
+}
+
+static void refused(const char *what, struct recovery_reply reply, unsigned refusal) {
+    expect(what, reply.kind == RECOVERY_ANSWER_REFUSED && reply.refusal == refusal);
+}
+
+static const struct recovery_address remote = {.octets = {192, 0, 2, 1}, .port = 4433};
+static const uint8_t id[21] = {1};
+
+static unsigned made(struct recovery_handle *handle, struct recovery_settings settings, size_t len) {
+    return recovery_ffi_new(handle, &settings, &remote, id, len, 0);
+}
+
+// Spaces, timers, numbers, spans and ids that there are not.
+static void arguments(struct recovery_handle *recovery) {
+    const unsigned bad = RECOVERY_REFUSAL_BAD_ARGUMENT;
+    refused("a packet goes out in space 7", recovery_ffi_send(recovery, 7, 0, 100, true, false, 0, NULL, 0), bad);
+    refused("a packet comes in space 3", recovery_ffi_received(recovery, 3, 0, 0, true), bad);
+    refused("space 255 is discarded", recovery_ffi_discard(recovery, 255), bad);
+    refused("timer 9 is set", recovery_ffi_set_timer(recovery, 9, 5), bad);
+    refused("timer 200 is stopped", recovery_ffi_stop_timer(recovery, 200), bad);
+    refused("a number of 2^63 in a frame", recovery_ffi_ack_frequency(recovery, 1ull << 63, 1, 5000, 1), bad);
+    refused("a span of 10^9 nanoseconds", recovery_ffi_sample(recovery, 0, 0, 0, 1000000000), bad);
+    refused("an id of 21 bytes", recovery_ffi_initial_id(recovery, id, 21), bad);
+    struct recovery_id issued = {.sequence = 1, .len = 21};
+    refused("an id of 21 bytes is issued", recovery_ffi_issue_ids(recovery, 0, &issued, 1), bad);
+    expect("timer 200 is not set", !recovery_ffi_timer(recovery, 200).some);
+    expect("no timer is set", !recovery_ffi_next_timeout(recovery).flag);
+    expect("there is no space 7", !recovery_ffi_space(recovery, 7).lives && !recovery_ffi_range(recovery, 7, 0).some);
+    expect("nothing came in space 7", !recovery_ffi_ack_delay(recovery, 7, 1).some);
+    struct recovery_marks marks = {.has_first = true, .first_space = 3};
+    expect("no marks with space 3", !recovery_ffi_set_marks(recovery, false, &marks));
+    expect("no marks of no path", !recovery_ffi_set_marks(recovery, true, &(struct recovery_marks){0}));
+}
+
+// Settings of which no recovery is made, each with the number that says why.
+static void settings(void) {
+    const struct recovery_settings sound = recovery_ffi_default_settings();
+    struct recovery_settings zero = {0}, mtu = sound, factor = sound, window = sound, skip = sound, many = sound;
+    struct recovery_settings controller = sound, skips = sound;
+    mtu.min_mtu = 0;
+    factor.loss_denominator = 0;
+    window.initial_window = 0;
+    skip.first_skip = 64;
+    many.issued = (1ull << 62) + 1;
+    controller.controller = 2;
+    skips.skips = 3;
+    struct recovery_handle none = {0};
+    expect("all zeros", made(&none, zero, 8) == RECOVERY_NEW_ZERO_MTU);
+    expect("an MTU of zero", made(&none, mtu, 8) == RECOVERY_NEW_ZERO_MTU);
+    expect("a denominator of zero", made(&none, factor, 8) == RECOVERY_NEW_ZERO_DENOMINATOR);
+    expect("a window of zero", made(&none, window, 8) == RECOVERY_NEW_ZERO_WINDOW);
+    expect("a first skip of 64", made(&none, skip, 8) == RECOVERY_NEW_SKIP_TOO_LARGE);
+    expect("too many ids", made(&none, many, 8) == RECOVERY_NEW_TOO_MANY_ISSUED);
+    expect("controller 2", made(&none, controller, 8) == RECOVERY_NEW_UNKNOWN_CONTROLLER);
+    expect("skips 3", made(&none, skips, 8) == RECOVERY_NEW_UNKNOWN_SKIPS);
+    expect("an id of 21 bytes", made(&none, sound, 21) == RECOVERY_NEW_CID_TOO_LONG);
+    expect("nothing is held then", none.ptr == NULL);
+}
+
+// A handle that holds no recovery: none was made, or it was freed.
+static void nothing(struct recovery_handle *none) {
+    refused("an event", recovery_ffi_congestion(none, 2, 1, false, 1), RECOVERY_REFUSAL_NO_RECOVERY);
+    refused("a question", recovery_ffi_next_timeout(none), RECOVERY_REFUSAL_NO_RECOVERY);
+    uint64_t item = 7, out[1] = {9};
+    refused("items", recovery_ffi_send(none, 2, 0, 1, true, false, 0, &item, 1), RECOVERY_REFUSAL_NO_RECOVERY);
+    expect("no path", !recovery_ffi_path(none, false).lives && !recovery_ffi_marks(none, false).lives);
+    expect("no space", !recovery_ffi_space(none, RECOVERY_SPACE_DATA).lives);
+    expect("no timer", !recovery_ffi_timer(none, 0).some && !recovery_ffi_next_id_timeout(none).some);
+    expect("no ids", recovery_ffi_ids(none).issued == 0);
+    expect("nothing was taken", recovery_ffi_taken(none, out, 1) == 0 && out[0] == 9);
+    uint8_t token[16] = {1}, zeros[16] = {0};
+    expect("no token", !recovery_ffi_is_token(none, zeros));
+    recovery_ffi_token(none, token);
+    expect("zeros for a token", memcmp(token, zeros, 16) == 0);
+    recovery_ffi_drop(none);
+}
+
+int main(void) {
+    struct recovery_handle recovery = {0};
+    nothing(&recovery);
+    settings();
+    expect("one is made", made(&recovery, recovery_ffi_default_settings(), 8) == RECOVERY_NEW_MADE);
+    expect("none is made over it", made(&recovery, recovery_ffi_default_settings(), 8) == RECOVERY_NEW_HELD);
+    arguments(&recovery);
+    struct recovery_reply sent = recovery_ffi_send(&recovery, RECOVERY_SPACE_DATA, 0, 100, true, false, 0, NULL, 0);
+    expect("the first packet goes out after all that", sent.kind == RECOVERY_ANSWER_SENT && sent.first == 0);
+    recovery_ffi_drop(&recovery);
+    expect("nothing is held then", recovery.ptr == NULL);
+    nothing(&recovery);
+    printf("%d wrong\n", wrong);
+    return wrong > 0;
+}
