@@ -69,6 +69,10 @@ pub extern "C" fn recovery_ffi_new(
 }
 
 /// Holds a recovery that is made of sound settings; false where there is no memory.
+///
+/// Never inlined: its frame is large, and where clang puts the probe of a large frame behind the tests of a caller's arguments,
+/// the probe overwrites a register that a test has set.
+#[inline(never)]
 fn make(
     alloc: Global,
     handle: &mut Handle,
