@@ -1,2 +1,5 @@
+pub mod FaultLaws
 pub mod ReadingLaws
 pub mod StateTextLaws
+pub mod TellingLaws
+pub mod TraceLaws
