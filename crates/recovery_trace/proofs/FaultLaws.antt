@@ -32,6 +32,6 @@ pub counted_more : (line : List ℕ) (start end number : ℕ) → EndsWord line 
 counted_more line start end number word le counted =
     let apart : start + (end - start) ≡ end = omega (arith, word.from) in
     let same = through line start (end - start) (omega (arith, word.within, word.from))
-        (λ place from lt. word.whole place from (omega (arith, lt, word.from))) in
+    (λ place from lt. word.whole place from (omega (arith, lt, word.from))) in
     let here = word.ended (omega (arith, le)) in
     grind (arith, nat_tests, one_more line end (omega (arith, le)), rw apart at same, here, counted)

@@ -1,15 +1,15 @@
 -- One byte more of a line, its end, and what is kept of it: `next_line` rests on it, and `run`.
-use Rattle.std.proofs.Common.{◌≡◌, ◌≢◌, ◌↔◌, ℕ, zero, suc, ◌+◌, ◌<◌, ◌≤◌, ◌⊎◌, List, [], ◌∷◌, ◌++◌, length, take, Option, refl, sym, ap, subst, ◌∙◌, arith, append-nil, length-append, length-take, take_all}
+use Rattle.std.proofs.Common.{◌≡◌, ◌≢◌, ◌↔◌, ℕ, zero, suc, ◌≤◌, ◌⊎◌, List, [], ◌∷◌, ◌++◌, length, take, Option, Some, refl, sym, ap, subst, ◌∙◌, arith, length-append, length-take, take_all}
 use Rattle.std.proofs.lemmas.List.Elements.{All-nil, All-append, All-cons}
-use Rattle.std.specs.Io.KnownBytes.{Consumes, IsAtEnd, Keeps}
-use Rattle.std.proofs.KnownBytes.{Consumes-kept, Consumes-trans}
+use Rattle.std.specs.Io.KnownBytes.{Consumes}
+use Rattle.std.proofs.KnownBytes.{Consumes-trans}
 use Rattle.recovery_lines.specs.Lines.{ItemEvent, Spells}
 use Rattle.recovery_replay.proofs.ScriptLaws.{IsNoFeed}
 use Rattle.recovery_trace.specs.declared.faults.Fault.{Fault}
 use Rattle.recovery_trace.specs.declared.faults.Fault.TheVariants.{TooLong, TooShort, Word}
 use Rattle.recovery_trace.specs.declared.outcome.Outcome.{Outcome}
 use Rattle.recovery_trace.specs.declared.outcome.Outcome.TheVariants.{OutOfMemory, ReadFailed}
-use Rattle.recovery_trace.specs.declared.reading.Next.TheVariants.{Line, Last, End}
+use Rattle.recovery_trace.specs.declared.reading.Next.TheVariants.{Line}
 use Rattle.recovery_trace.specs.Faults.{Names}
 use Rattle.recovery_trace.specs.Reading.{BreaksOff, IsLine, Kept}
 use Rattle.recovery_trace.specs.Telling.{Tells, TellsFault}
@@ -43,17 +43,13 @@ short before now kept taken =
     omega (arith, cut, length-take 4097 taken.0)
 
 pub line_over : (before now after : Option (List ℕ)) (kept : List ℕ) → Taken before now kept
-    → Consumes now after (10 ∷ []) → IsLine before after kept Line
+    → Consumes now after (10 ∷ []) → IsLine before after kept (Some Line)
 line_over before now after kept taken one =
     (taken.0, taken.1, Consumes-trans before now after taken.0 (10 ∷ []) taken.2 one)
 
 -- a line of 4097 bytes or fewer with one more, of which 4097 are kept
 pub kept_all : (kept : List ℕ) (byte : ℕ) → length kept ≤ 4096 → kept ++ byte ∷ [] ≡ take 4097 (kept ++ byte ∷ [])
 kept_all kept byte le = sym (take_all 4097 (kept ++ byte ∷ []) (omega (arith, length-append kept (byte ∷ []))))
-
-nothing_taken : (line : List ℕ) → length line ≡ 0 → line ≡ []
-nothing_taken [] e = refl
-nothing_taken (byte ∷ line) e = absurd (omega (arith, e))
 
 front : (n : ℕ) (xs ys : List ℕ) → length xs ≡ n → take n (xs ++ ys) ≡ xs
 front zero [] ys e = refl
@@ -64,30 +60,7 @@ front (suc n) (x ∷ xs) ys e = ap (λ (l : List ℕ). x ∷ l) (front n xs ys (
 pub kept_full : (kept : List ℕ) (byte : ℕ) → length kept ≡ 4097 → kept ≡ take 4097 (kept ++ byte ∷ [])
 kept_full kept byte full = sym (front 4097 kept (byte ∷ []) full)
 
--- what is kept of the last line is not empty, and neither is the line
-pub last_over : (before now after : Option (List ℕ)) (kept : List ℕ) → Taken before now kept → 0 < length kept
-    → Consumes now after [] → IsAtEnd after → IsLine before after kept Last
-last_over before now after kept taken some none over = (
-  taken.0,
-  taken.1,
-  omega (arith, some, ap length taken.1.is, length-take 4097 taken.0),
-  rw append-nil at (Consumes-trans before now after taken.0 [] taken.2 none),
-  over,
-)
-
--- nothing was taken but the end
-pub none_over : (before now after : Option (List ℕ)) (kept : List ℕ) → Taken before now kept → length kept ≡ 0
-    → Consumes now after [] → IsAtEnd after → IsLine before after kept End
-none_over before now after kept taken empty none over =
-    let nothing : taken.0 ≡ [] = nothing_taken taken.0 (omega (arith, empty, ap length taken.1.is, length-take 4097 taken.0)) in
-    (rw nothing at (rw append-nil at (Consumes-trans before now after taken.0 [] taken.2 none)), over)
-
-pub broken_off : (before now after : Option (List ℕ)) (kept : List ℕ) (outcome : Outcome) → Taken before now kept
-    → Keeps now after → (outcome ≡ ReadFailed) ⊎ (outcome ≡ OutOfMemory) → BreaksOff before after outcome
-broken_off before now after kept outcome taken stays is =
-    (taken.0, taken.1.no_feed, Consumes-kept before now after taken.0 taken.2 stays, is)
-
--- the same behind a byte more
+-- memory is refused for one byte more
 pub stopped : (before now after : Option (List ℕ)) (kept : List ℕ) (byte : ℕ) (outcome : Outcome)
     → Taken before now kept → byte ≢ 10 → Consumes now after (byte ∷ [])
     → (outcome ≡ ReadFailed) ⊎ (outcome ≡ OutOfMemory) → BreaksOff before after outcome

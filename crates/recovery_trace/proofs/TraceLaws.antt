@@ -1,5 +1,5 @@
 -- One line more of a trace, and its ends: `run` rests on it.
-use Rattle.std.proofs.Common.{◌≡◌, ℕ, ◌+◌, ◌<◌, ◌≤◌, ◌⊎◌, inl, inr, Bool, true, false, List, [], ◌∷◌, ◌++◌, length, reverse, take, All, Option, refl, sym, ap, subst, true≢false, ◌∙◌, arith, append-nil, append_assoc}
+use Rattle.std.proofs.Common.{◌≡◌, ℕ, suc, ◌+◌, ◌<◌, ◌≤◌, ◌⊎◌, inl, inr, Bool, true, false, List, [], ◌∷◌, ◌++◌, length, reverse, take, All, Option, refl, sym, ap, subst, true≢false, ◌∙◌, arith, append-nil, append_assoc}
 use Rattle.std.specs.List.{Any, flat_map}
 use Rattle.std.proofs.lemmas.List.{reverse-append}
 use Rattle.std.proofs.lemmas.List.Concat.{flat_map-append}
@@ -9,7 +9,6 @@ use Rattle.std.proofs.KnownBytes.{Appends-kept, Appends-trans, Consumes-trans}
 use Rattle.rand_core.specs.Stream.{Stream}
 use Rattle.quic_recovery.specs.declared.driver.Recovery.{Recovery}
 use Rattle.quic_recovery.specs.declared.driver.RecoveryConfig.{RecoveryConfig}
-use Rattle.quic_recovery.specs.History.{begins, queue_meaning}
 use Rattle.quic_recovery.specs.Past.{Came, GoesOnFrom}
 use Rattle.quic_recovery.specs.State.{parts_of}
 use Rattle.recovery_answers.specs.Answers.{Reply}
@@ -25,7 +24,7 @@ use Rattle.recovery_trace.specs.Reading.{BreaksOff, Kept}
 use Rattle.recovery_trace.specs.Telling.{Tells}
 use Rattle.recovery_trace.specs.Turns.{DoesEvent, IsBad, IsFine, IsSilent, ItemParts, Passes, Turns, turn_text}
 use Rattle.recovery_trace.proofs.ReadingLaws.{kept_passes, kept_silent, kept_speaks, kept_spells, kept_tells}
-use Rattle.recovery_trace.specs.Trace.{AllOut, AreAllowed, EndsBad, FrontOut, ItemBeginning, ItemHistory, SpelledBy, Streams, streams_of, Takes, TakesAlso, Traced, Traces}
+use Rattle.recovery_trace.specs.Trace.{AllOut, AreAllowed, EndsBad, FrontOut, ItemBeginning, ItemHistory, SpelledBy, Streams, origin, streams_of, Takes, TakesAlso, Traced, Traces}
 
 -- ---- bytes and lines
 
@@ -44,7 +43,7 @@ turned x xs = reverse-append (x ∷ []) xs
 alone : (line : List ℕ) → NoFeed line → 0 < length line → lines_of line ≡ line ∷ []
 alone line h some = ap lines_of (sym (append-nil line)) ∙ last_line line h some
 
-one_line : (cut : List ℕ) → NoFeed cut → length (lines_of cut) ≤ 1
+pub one_line : (cut : List ℕ) → NoFeed cut → length (lines_of cut) ≤ 1
 one_line [] h = omega arith
 one_line (byte ∷ cut) h = omega (arith, ap length (alone (byte ∷ cut) h (omega arith)))
 
@@ -57,8 +56,11 @@ pub nothing_taken : (unread now : Option (List ℕ)) → Consumes unread now [] 
 nothing_taken unread now none = record { no_feeds = All-nil NoFeed; taken = none }
 
 take_behind : (front bytes : List ℕ) (n : ℕ) → take (length front + n) (front ++ bytes) ≡ front ++ take n bytes
-take_behind [] bytes n = refl
-take_behind (byte ∷ front) bytes n = ap (λ (l : List ℕ). byte ∷ l) (take_behind front bytes n)
+take_behind [] bytes n = ap (λ (k : ℕ). take k bytes) (let e : 0 + n ≡ n = omega arith in e)
+take_behind (byte ∷ front) bytes n =
+    ap (λ (k : ℕ). take k (byte ∷ (front ++ bytes)))
+    (let e : suc (length front) + n ≡ suc (length front + n) = omega arith in e)
+    ∙ ap (λ (l : List ℕ). byte ∷ l) (take_behind front bytes n)
 
 module _ (unread now left : Option (List ℕ)) (lines : List (List ℕ)) (t : Taken unread now lines) where
   pub taken_more : (line : List ℕ) → NoFeed line → Consumes now left (line ++ 10 ∷ []) → Taken unread left (line ∷ lines)
@@ -112,7 +114,7 @@ module _ {F K : Type 0} (beginning : ItemBeginning F K) (choice : Choice) where
       → SoFar outcome (line ∷ lines)
   fine_more Ended line lines fine so_far = All-cons IsFine line lines fine so_far
   fine_more BadLine line lines fine so_far =
-      let bad = so_far.0 in ((bad.0 + 1, bad.1, omega (arith, bad.2.0), bad.2.1, bad.2.2), so_far.1)
+      let bad = so_far.0 in ((suc bad.0, bad.1, omega (arith, bad.2), bad.3, bad.4), so_far.1)
   fine_more outcome line lines fine so_far = absurd so_far
 
   pub bad_one : (line : List ℕ) (lines : List (List ℕ)) → IsBad line → Any IsBad (line ∷ lines)
@@ -131,7 +133,7 @@ module _ {F K : Type 0} (beginning : ItemBeginning F K) (choice : Choice) where
   module _ (before now after unsaid now_said said : Option (List ℕ)) (old new : ItemParts K) (lines : List (List ℕ))
       (line : List ℕ) (m : Made before now unsaid now_said old lines) where
     -- the line's event is done
-    traced_done : (event : ItemEvent) (reply : Reply) (text : List ℕ) → Spells line event
+    abbrev traced_done : (event : ItemEvent) (reply : Reply) (text : List ℕ) → Spells line event
         → GoesOnFrom beginning m.traced.past event reply new
         → text ≡ turn_text beginning.words choice.shows reply new
         → Traced beginning choice.shows (line ∷ lines) (m.text ++ text) m.told
@@ -191,12 +193,12 @@ module _ {F K : Type 0} (beginning : ItemBeginning F K) (choice : Choice) where
     }
 
     -- a write of its answer breaks off
-    pub front_out : (streams : Streams) → streams ≡ streams_of streams.unread streams.left before after unsaid said
-        → (event : ItemEvent) (reply : Reply) (text : List ℕ) → Spells line event
+    pub front_out : (unread left : Option (List ℕ)) (event : ItemEvent) (reply : Reply) (text : List ℕ) → Spells line event
         → GoesOnFrom beginning m.traced.past event reply new
         → text ≡ turn_text beginning.words choice.shows reply new
-        → AppendsFront now after text → Keeps now_said said → FrontOut beginning choice streams (line ∷ lines)
-    front_out streams is_streams event reply text spells goes is front kept = rw is_streams (
+        → AppendsFront now after text → Keeps now_said said
+        → FrontOut beginning choice (streams_of unread left before after unsaid said) (line ∷ lines)
+    front_out unread left event reply text spells goes is front kept = (
       m.text ++ text,
       m.told,
       traced_done event reply text spells goes is,
@@ -212,21 +214,17 @@ module _ {F K : Type 0} (beginning : ItemBeginning F K) (choice : Choice) where
 module _ {F R C K : Type 0} {f : _} {c : _} {q : _} {m : _} {r : _} (config : RecoveryConfig F) (start : ℕ)
     (random : Stream) (choice : Choice)
     (old new : Recovery F (List ℕ) R C K (Unit {0}) (Unit {0}) (List ℕ) f c q m r) where
-  -- how it began
-  abbrev pub origin : ItemBeginning F K
-  origin = begins f.built c.words (queue_meaning q.contents q.words q.blank) config start random
-
-  module _ (unread last left before now after unsaid now_said said : Option (List ℕ)) (lines : List (List ℕ))
-      (line kept : List ℕ) (number : ℕ) (made : Made origin choice before now unsaid now_said (parts_of old) lines)
+  module _ (before now after unsaid now_said said : Option (List ℕ)) (lines : List (List ℕ))
+      (line kept : List ℕ) (number : ℕ) (made : Made (origin old config start random) choice before now unsaid now_said (parts_of old) lines)
       (is_number : number ≡ length lines + 1) (is_kept : Kept line kept) where
     pub turn_done : Turns choice.shows kept number old new now after now_said said Done
-        → Made origin choice before after unsaid said (parts_of new) (line ∷ lines)
+        → Made (origin old config start random) choice before after unsaid said (parts_of new) (line ∷ lines)
     turn_done (inl (text, does, writes), kept_said) =
-        made_done origin choice before now after unsaid now_said said (parts_of old) (parts_of new) lines line made
+        made_done (origin old config start random) choice before now after unsaid now_said said (parts_of old) (parts_of new) lines line made
         does.event does.reply text (kept_spells line kept does.event is_kept does.spelled)
         (does.goes config start random made.traced.past made.came) does.written writes kept_said
     turn_done (inr (passes, silent, same, stays), kept_said) =
-        made_silent origin choice before now after unsaid now_said said (parts_of old) (parts_of new) lines line made
+        made_silent (origin old config start random) choice before now after unsaid now_said said (parts_of old) (parts_of new) lines line made
         (kept_passes line kept is_kept passes) (kept_silent line kept is_kept silent) same stays kept_said
 
     pub done_fine : Turns choice.shows kept number old new now after now_said said Done → IsFine line
@@ -239,41 +237,41 @@ module _ {F R C K : Type 0} {f : _} {c : _} {q : _} {m : _} {r : _} (config : Re
     bad_line turn = (kept_passes line kept is_kept turn.0.0, kept_speaks line kept is_kept turn.0.1)
 
     pub turn_bad : Turns choice.shows kept number old new now after now_said said Bad
-        → Made origin choice before after unsaid said (parts_of new) (line ∷ lines)
+        → Made (origin old config start random) choice before after unsaid said (parts_of new) (line ∷ lines)
     turn_bad turn =
-        made_bad origin choice before now after unsaid now_said said (parts_of old) (parts_of new) lines line made
+        made_bad (origin old config start random) choice before now after unsaid now_said said (parts_of old) (parts_of new) lines line made
         turn.3.0 (bad_line turn) turn.1 turn.2
         (subst (λ n. Tells line n turn.3.0) is_number (kept_tells line kept number turn.3.0 is_kept turn.3.1)) turn.3.2
 
-    module _ (streams : Streams) (is_streams : streams ≡ streams_of unread left before after unsaid said)
-        (so_far : Outcome) (is_so_far : SoFar origin choice so_far lines) where
+    module _ (unread left : Option (List ℕ)) (so_far : Outcome)
+        (is_so_far : SoFar (origin old config start random) choice so_far lines) where
       -- the write of its answer broke off
       broken : ((text : List ℕ) × DoesEvent choice.shows kept old new text × AppendsFront now after text)
           × Keeps now_said said
-          → AreAllowed choice (line ∷ lines) × FrontOut origin choice (streams_of unread left before after unsaid said) (line ∷ lines)
+          → AreAllowed choice (line ∷ lines) × FrontOut (origin old config start random) choice (streams_of unread left before after unsaid said) (line ∷ lines)
       broken ((text, does, front), kept_said) =
           let spells = kept_spells line kept does.event is_kept does.spelled in (
-            allowed origin choice so_far (line ∷ lines)
-                (fine_more origin choice so_far line lines (inl (does.event, spells)) is_so_far),
-            front_out origin choice before now after unsaid now_said said (parts_of old) (parts_of new) lines line made
-                (streams_of unread left before after unsaid said) refl does.event does.reply text spells
+            allowed (origin old config start random) choice so_far (line ∷ lines)
+                (fine_more (origin old config start random) choice so_far line lines (inl (does.event, spells)) is_so_far),
+            front_out (origin old config start random) choice before now after unsaid now_said said (parts_of old) (parts_of new) lines line made
+                unread left does.event does.reply text spells
                 (does.goes config start random made.traced.past made.came) does.written front kept_said,
           )
 
       -- it is over with this line, which was taken
       pub turn_over : (outcome : Outcome) → Turns choice.shows kept number old new now after now_said said (Over outcome)
-          → Takes streams (line ∷ lines)
-          → ((more : List ℕ) × (length (lines_of more) ≤ 1) × TakesAlso streams lines more)
-          → Traces origin choice streams outcome
+          → Takes (streams_of unread left before after unsaid said) (line ∷ lines)
+          → ((more : List ℕ) × (length (lines_of more) ≤ 1) × TakesAlso (streams_of unread left before after unsaid said) lines more)
+          → Traces (origin old config start random) choice (streams_of unread left before after unsaid said) outcome
       turn_over WriteFailed turn takes also =
-          let over = broken turn in (line ∷ lines, takes, over.0, rw is_streams (over.1))
+          let over = broken turn in (line ∷ lines, takes, over.0, over.1)
       turn_over Closed turn takes also =
-          let over = broken turn in (line ∷ lines, takes, over.0, rw is_streams (over.1))
+          let over = broken turn in (line ∷ lines, takes, over.0, over.1)
       turn_over OutOfMemory turn takes also = (
         lines,
         also,
-        allowed origin choice so_far lines is_so_far,
-        rw is_streams (
+        allowed (origin old config start random) choice so_far lines is_so_far,
+        (
           made.text,
           made.told,
           made.traced,

@@ -5,7 +5,7 @@ use Rattle.recovery_replay.specs.Script.{NoFeed}
 use Rattle.recovery_trace.specs.declared.outcome.Outcome.{Outcome}
 use Rattle.recovery_trace.specs.declared.outcome.Outcome.TheVariants.{OutOfMemory, ReadFailed}
 use Rattle.recovery_trace.specs.declared.reading.Next.{Next}
-use Rattle.recovery_trace.specs.declared.reading.Next.TheVariants.{Line, Last, End}
+use Rattle.recovery_trace.specs.declared.reading.Next.TheVariants.{Line, Last}
 
 -- one byte was taken, or the input is over
 abbrev pub IsByte : Option (List ℕ) → Option (List ℕ) → Option ℕ → Type 0
@@ -18,11 +18,11 @@ pub record Kept (line kept : List ℕ) : Type 0 where
   pub is : kept ≡ take 4097 line
 
 -- a line was taken and its line feed, or the last line without one, or nothing was left
-abbrev pub IsLine : Option (List ℕ) → Option (List ℕ) → List ℕ → Next → Type 0
-IsLine before after kept Line = (line : List ℕ) × Kept line kept × Consumes before after (line ++ 10 ∷ [])
-IsLine before after kept Last =
+abbrev pub IsLine : Option (List ℕ) → Option (List ℕ) → List ℕ → Option Next → Type 0
+IsLine before after kept (Some Line) = (line : List ℕ) × Kept line kept × Consumes before after (line ++ 10 ∷ [])
+IsLine before after kept (Some Last) =
     (line : List ℕ) × Kept line kept × (0 < length line) × Consumes before after line × IsAtEnd after
-IsLine before after kept End = Consumes before after [] × IsAtEnd after
+IsLine before after kept None = Consumes before after [] × IsAtEnd after
 
 -- a read failed, or memory was refused, behind bytes of a line that goes on
 abbrev pub BreaksOff : Option (List ℕ) → Option (List ℕ) → Outcome → Type 0

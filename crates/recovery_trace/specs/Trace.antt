@@ -130,13 +130,21 @@ module _ {F K : Type 0} (beginning : ItemBeginning F K) (choice : Choice) (strea
       × AreAllowed choice lines × AllOut lines
   Traces WrongArguments = ⊥
 
--- so it is of a recovery to which nothing has happened, however it began
+-- ---- a trace from its beginning
+
 module _ {F R C K : Type 0} {f : _} {c : _} {q : _} {m : _} {r : _} where
+  -- a beginning of a recovery over its own controllers and queues
+  abbrev pub origin : Recovery F (List ℕ) R C K (Unit {0}) (Unit {0}) (List ℕ) f c q m r → RecoveryConfig F → ℕ → Stream
+      → ItemBeginning F K
+  origin recovery config start random =
+      begins f.built c.words (queue_meaning q.contents q.words q.blank) config start random
+
+  -- from a recovery on to which nothing has happened, however it began
   abbrev pub TracesFrom : Recovery F (List ℕ) R C K (Unit {0}) (Unit {0}) (List ℕ) f c q m r → Choice → Streams
       → Outcome → Type 0
   TracesFrom recovery choice streams outcome = (config : RecoveryConfig F) (start : ℕ) (random : Stream) →
-      let beginning = begins f.built c.words (queue_meaning q.contents q.words q.blank) config start random in
-      Came beginning [] (parts_of recovery) → Traces beginning choice streams outcome
+      Came (origin recovery config start random) [] (parts_of recovery)
+      → Traces (origin recovery config start random) choice streams outcome
 
 -- from the moment 0 on, over these controllers, with a peer at an address of its port
 abbrev pub TracesOver : {F K : Type 0} → (F → ℕ → ℕ → K) → ControllerWords K → F → Choice → Streams → Outcome

@@ -8,15 +8,13 @@ use crate::outcome::Outcome;
 use recovery_lines::lines::LINE_LIMIT;
 use std::io::{ErrorKind, Read};
 
-/// What was read.
+/// How a line that was read ended.
 #[derive(Clone, Copy)]
 pub enum Next {
-    /// A line that a line feed ended.
+    /// By a line feed.
     Line,
-    /// A line of one byte or more that the end of the input ended.
+    /// By the end of the input, behind one byte or more.
     Last,
-    /// Nothing: the input is over.
-    End,
 }
 
 /// The next byte; `None` at the end. A read that is interrupted is tried again.
@@ -55,17 +53,17 @@ fn keep(line: &mut Vec<u8>, byte: u8) -> Result<(), Outcome>
 }
 
 /// Reads one line in place of what `line` held, without its line feed: of a line of more than 4096 bytes the first 4097,
-/// by which it is known to be too long.
-pub fn next_line<R: Read>(input: &mut R, line: &mut Vec<u8>) -> Result<Next, Outcome>
+/// by which it is known to be too long. `None` where the input is over.
+pub fn next_line<R: Read>(input: &mut R, line: &mut Vec<u8>) -> Result<Option<Next>, Outcome>
     ensures { MatchResult result (IsLine (R.remaining input.old) (R.remaining input.new) line.new.items)
         (BreaksOff (R.remaining input.old) (R.remaining input.new)) }
 {
     line.clear();
     for _ in 0..u64::MAX {
         match next_byte(input) {
-            Ok(None) if line.is_empty() => return Ok(Next::End),
-            Ok(None) => return Ok(Next::Last),
-            Ok(Some(b'\n')) => return Ok(Next::Line),
+            Ok(None) if line.is_empty() => return Ok(None),
+            Ok(None) => return Ok(Some(Next::Last)),
+            Ok(Some(b'\n')) => return Ok(Some(Next::Line)),
             Ok(Some(byte)) => match keep(line, byte) {
                 Ok(()) => {}
                 Err(outcome) => return Err(outcome),

@@ -41,8 +41,8 @@ where
     let mut ended = Outcome::Ended;
     for number in 1..u64::MAX {
         let next = match next_line(input, &mut line) {
-            Ok(Next::End) => return ended,
-            Ok(next) => next,
+            Ok(Some(next)) => next,
+            Ok(None) => return ended,
             Err(outcome) => return outcome,
         };
         match take_turn(
