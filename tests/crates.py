@@ -1,21 +1,14 @@
 #!/usr/bin/env python3
 """Reads crates.txt beside the crates: each crate stands there once, and below the crates that it names; there are at most so many; each is named in
 docs/ARCHITECTURE.md; and what docs/PROVING.md says that each has (functions, lines of code, lines of definitions and proofs, edits) is so."""
-import pathlib
 import re
 import sys
 
-ROOT = pathlib.Path(__file__).resolve().parent.parent
+from tree import ROOT, rows
+
 CRATES = ROOT / "crates"
 MOST = 26  # crates: they may only fall
-LINE = re.compile(r"([a-z_]+)(?: staticlib)?:(.*)")
 ROW = re.compile(r"^\| `(\w+)` \| ([\d,]+) \| ([\d,]+) \| ([\d,]+|none) \| ([\d,]+|none) \|$", re.M)
-
-
-def listed():
-    """The crates of crates.txt in order, each with those of the repository that it names."""
-    found = (LINE.fullmatch(line) for line in (ROOT / "crates.txt").read_text().splitlines())
-    return [(it.group(1), [name for name in it.group(2).split() if (CRATES / name).is_dir()]) for it in found if it]
 
 
 def lines(name, rooms, kind):
@@ -42,17 +35,17 @@ def out_of_place(crates):
 
 
 def main():
-    crates = listed()
+    crates = rows()
     names = [name for name, _ in crates]
     folders = sorted(it.name for it in CRATES.iterdir() if (it / "src").is_dir())
     architecture = (ROOT / "docs" / "ARCHITECTURE.md").read_text()
-    rows = {it[0]: it[1:] for it in ROW.findall((ROOT / "docs" / "PROVING.md").read_text())}
+    table = {it[0]: it[1:] for it in ROW.findall((ROOT / "docs" / "PROVING.md").read_text())}
     checks = [
         [f"crates.txt and the folder crates/ do not name the same: {sorted(set(names) ^ set(folders))}"] if sorted(names) != folders else [],
         [f"there are {len(names)} crates, and not at most {MOST}"] if len(names) > MOST else [],
         list(out_of_place(crates)),
         [f"docs/ARCHITECTURE.md does not name {it}" for it in names if f"`{it}`" not in architecture],
-        [f"docs/PROVING.md: {it} has {' '.join(counts(it))}, and not {' '.join(rows.get(it, ['nothing']))}" for it in names if rows.get(it) != counts(it)],
+        [f"docs/PROVING.md: {it} has {' '.join(counts(it))}, and not {' '.join(table.get(it, ['nothing']))}" for it in names if table.get(it) != counts(it)],
     ]
     for fault in [it for check in checks for it in check]:
         print(f"crates: {fault}", file=sys.stderr)
