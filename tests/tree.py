@@ -30,6 +30,12 @@ def crates():
     return dict(rows())
 
 
+def list_of(names):
+    """A list of these crates alone, for a tree that has no others."""
+    lines = (ROOT / "crates.txt").read_text().splitlines(True)
+    return "".join(line for line in lines if line.partition(":")[0].partition(" ")[0] in names)
+
+
 def made_of(target):
     """The crates that one is made of, those that it stands on first, each with what it stands on."""
     needs, found = crates(), {}
