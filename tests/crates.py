@@ -2,20 +2,13 @@
 """Reads crates.txt beside the crates: each crate stands there once, and below the crates that it names; each is named in docs/ARCHITECTURE.md; and
 they are few for their code, since each costs the gate a reading of all that is below it. With --table it prints what each crate has."""
 import argparse
-import pathlib
 import re
 import sys
 
-ROOT = pathlib.Path(__file__).resolve().parent.parent
+from tree import ROOT, rows
+
 CRATES = ROOT / "crates"
 LEAST_LINES = 700  # of code for each crate, on the mean
-LINE = re.compile(r"([a-z_]+)(?: staticlib)?:(.*)")
-
-
-def listed():
-    """The crates of crates.txt in order, each with those of the repository that it names."""
-    found = (LINE.fullmatch(line) for line in (ROOT / "crates.txt").read_text().splitlines())
-    return [(it.group(1), [name for name in it.group(2).split() if (CRATES / name).is_dir()]) for it in found if it]
 
 
 def lines(name, rooms, kind):
@@ -50,16 +43,17 @@ def out_of_place(crates):
 def main():
     parser = argparse.ArgumentParser(description=__doc__)
     parser.add_argument("--table", action="store_true", help="what each crate has, as a table")
-    crates = listed()
+    crates = rows()
     names = [name for name, _ in crates]
     if parser.parse_args().table:
         return show_table(names)
     folders = sorted(it.name for it in CRATES.iterdir() if (it / "src").is_dir())
     architecture = (ROOT / "docs" / "ARCHITECTURE.md").read_text()
     mean = sum(counts(it)[1] for it in names) // len(names)
+    few = f"the {len(names)} crates have {mean} lines of code on the mean, and not {LEAST_LINES}: join a small one with its neighbour"
     checks = [
         [f"crates.txt and the folder crates/ do not name the same: {sorted(set(names) ^ set(folders))}"] if sorted(names) != folders else [],
-        [f"the {len(names)} crates have {mean} lines of code on the mean, and not {LEAST_LINES}: join a small one with its neighbour"] if mean < LEAST_LINES else [],
+        [few] if mean < LEAST_LINES else [],
         list(out_of_place(crates)),
         [f"docs/ARCHITECTURE.md does not name {it}: say there what it is for" for it in names if f"`{it}`" not in architecture],
     ]

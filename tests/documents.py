@@ -16,7 +16,6 @@ DEFINED = re.compile(r"^ *(?:(?:unfoldable|abbrev|pub|record|data) )*([^\s(:{]+)
 
 # names in backquotes that stand in no source: what the crate that this follows, Rust or the toolchain calls so, and parts of patterns
 OTHERS = {
-    "README.md": "rattle-kit-13f logic dac8208d650f15bf",
     "DECISIONS.md": "write_all circular_buffer",
     "DIFFERENCES.md": "first_packet crypto crypto_stream tinyvec Trait non_exhaustive Box dyn clone_box into_any Arc f32 Retransmits ThinRetransmits stats",
     "EMBEDDING.md": "rand_chacha Retransmits max_data handshake_done reset_stream max_stream_data crypto Box",

@@ -1,6 +1,6 @@
 #!/usr/bin/env python3
 """What no test of a crate can reach: the proved program on rows of lines, with arguments and with streams of the system that
-fail, and what recovery-replay does where that program is missing, there, or older than what it is made of."""
+fail, recovery-replay where that program is missing, and what the programs of the launchers say of themselves."""
 import os
 import pathlib
 import re
@@ -10,33 +10,18 @@ import sys
 import tempfile
 import time
 
-ROOT = pathlib.Path(__file__).resolve().parent.parent
+import tree
+from tree import ROOT, ran
+
 ROWS = ROOT / "tests" / "rows"
 PROGRAM = ROOT / "crates" / "recovery_program" / "out" / "recovery_program"
 USAGE = b"usage: recovery-replay [SEED [WINDOW]]\n"
 LINE, ANSWER = b"next-timeout\n", b"timeout none\n"
-UNPROVED = b"recovery-replay: not proved yet, so this runs the same sources compiled without proof; ./prove proves them\n"
-# stands for the toolchain where it is only to be seen whether that is asked
-ASKED = b"the sources ran\n"
-STUB = "#!/bin/sh\necho the sources ran\necho 'checked: ended status=0' >&2\necho 'run=ended status=0 runners=1 proved=no' >&2\n"
+UNPROVED = re.compile(rb"recovery-replay: not proved yet: .*\n")
+LAUNCHERS = {"recovery-replay": "recovery_program", "recovery-trace": "recovery_trace", "recovery-pictures": "recovery_pictures"}
 
-passed = failed = 0
-
-
-def expect(name, found, wanted):
-    global passed, failed
-    if found == wanted:
-        passed += 1
-    else:
-        failed += 1
-        print(f"program: {name}: {found}, and not {wanted}", file=sys.stderr, flush=True)
-
-
-def ran(words, **how):
-    """Status, output and errors."""
-    given = {"input": LINE} if "stdin" not in how else {}
-    run = subprocess.run(words, **{"stdout": subprocess.PIPE, "stderr": subprocess.PIPE, **given, **how})
-    return run.returncode, run.stdout, run.stderr
+tests = tree.Tests("program")
+expect = tests.expect
 
 
 def lines_of(row):
@@ -79,22 +64,22 @@ def rows():
                 name = f"{path.name}, line {place}, with arguments {arguments}"
                 if answers is None:
                     line = lines[0].encode().decode("unicode_escape").encode("latin-1")
-                    found = ran([PROGRAM, *arguments], input=LINE + line + b"\n" + LINE)
+                    found = ran([PROGRAM, *arguments], LINE + line + b"\n" + LINE)
                     expect(name, found, (2, ANSWER, b"line 2: cannot be read\n"))
                 else:
                     script, wanted = "\n".join(lines).encode(), "".join(f"{it}\n" for it in answers).encode()
                     for end in b"\n", b"":
-                        expect(name, ran([PROGRAM, *arguments], input=script + end), (0, wanted, b""))
+                        expect(name, ran([PROGRAM, *arguments], script + end), (0, wanted, b""))
 
 
 def arguments():
     for words in [], ["0"], ["18446744073709551615"], ["-"], ["1", "2"], ["-", "24000"], ["-", "18446744073709551615"]:
-        expect(f"arguments {words}", ran([PROGRAM, *words]), (0, ANSWER, b""))
+        expect(f"arguments {words}", ran([PROGRAM, *words], LINE), (0, ANSWER, b""))
     refused = [["18446744073709551616"], ["01"], ["+1"], [""], ["1 "], ["--"], ["-1"], [b"\xff"]]
     refused += [["1", it] for it in ("0", "")] + [["-", it] for it in ("0", "-", "", "+1", "01", "02", "18446744073709551616")]
     for words in *refused, ["", "1"], ["1", "2", "3"], ["-", "1", "1"]:
         for program in PROGRAM, ROOT / "recovery-replay":
-            expect(f"{program.name} with arguments {words}", ran([program, *words]), (2, b"", USAGE))
+            expect(f"{program.name} with arguments {words}", ran([program, *words], LINE), (2, b"", USAGE))
 
 
 def pages():
@@ -121,44 +106,46 @@ def streams():
     folder = os.open(ROOT, os.O_RDONLY)
     expect("a failed read", ran([PROGRAM], stdin=folder), (1, b"", b"replay: read failed\n"))
     with open("/dev/full", "wb") as full:
-        expect("a failed write", ran([PROGRAM], stdout=full), (1, None, b"replay: write failed\n"))
-        expect("a failed text", ran([PROGRAM], input=LINE + b"bad\n", stderr=full), (2, ANSWER, None))
-    expect("a bad line", ran([PROGRAM], input=LINE + b"\n" + LINE), (2, ANSWER, b"line 2: cannot be read\n"))
-    expect("a long line", ran([PROGRAM], input=LINE + b"a" * 4097 + b"\n" + LINE), (2, ANSWER, b"line 2: cannot be read\n"))
-    expect("no line feed", ran([PROGRAM], input=LINE.strip()), (0, ANSWER, b""))
+        expect("a failed write", ran([PROGRAM], LINE, stdout=full), (1, None, b"replay: write failed\n"))
+        expect("a failed text", ran([PROGRAM], LINE + b"bad\n", stderr=full), (2, ANSWER, None))
+    expect("a bad line", ran([PROGRAM], LINE + b"\n" + LINE), (2, ANSWER, b"line 2: cannot be read\n"))
+    expect("a long line", ran([PROGRAM], LINE + b"a" * 4097 + b"\n" + LINE), (2, ANSWER, b"line 2: cannot be read\n"))
+    expect("no line feed", ran([PROGRAM], LINE.strip()), (0, ANSWER, b""))
     expect("no input", ran([PROGRAM], stdin=subprocess.DEVNULL), (0, b"", b""))
 
 
-def touch(path, seconds):
-    os.utime(path, (time.time() + seconds,) * 2)
-
-
-def launcher():
+def unproved():
     """A copy of the repository in which nothing was built."""
     with tempfile.TemporaryDirectory() as folder:
         fresh = pathlib.Path(folder, "fresh")
         shutil.copytree(ROOT, fresh, ignore=shutil.ignore_patterns("out", ".git"))
-        script, began = fresh / "recovery-replay", time.time()
-        found = ran([script], input=LINE + b"bad\n")
-        expect("unproved sources", found, (2, ANSWER, UNPROVED + b"line 2: cannot be read\n"))
+        began = time.time()
+        status, output, errors = ran([fresh / "recovery-replay"], LINE + b"bad\n")
+        expect("unproved sources", (status, output, UNPROVED.sub(b"", errors)), (2, ANSWER, b"line 2: cannot be read\n"))
         expect("they answer within two minutes", time.time() - began < 120, True)
-        stub, program = pathlib.Path(folder, "rt"), fresh / PROGRAM.relative_to(ROOT)
-        stub.write_text(STUB)
-        stub.chmod(0o755)
-        how = {"env": {**os.environ, "PATH": f"{folder}:{os.environ['PATH']}"}}
-        expect("no program", ran([script], **how), (0, ASKED, UNPROVED))
-        program.parent.mkdir()
-        shutil.copy(PROGRAM, program)
-        touch(program, 10)
-        expect("an up-to-date program", ran([script], **how), (0, ANSWER, b""))
-        for path in "crates/recovery_replay_tests/src/lines.rt", "crates.txt", "README.md", "examples/acks.txt":
-            touch(fresh / path, 20)
-        expect("newer tests", ran([script], **how), (0, ANSWER, b""))
-        expect("newer tests, from another folder", ran([script], cwd=folder, **how), (0, ANSWER, b""))
-        for path in "crates/recovery_base/src/time.rt", "crates/quic_recovery/proofs", "crates/recovery_program/src/main.rt":
-            touch(fresh / path, 20)
-            expect(f"a newer {path}", ran([script], **how), (0, ASKED, UNPROVED))
-            touch(fresh / path, 0)
+
+
+def pages():
+    """What the launchers say without their programs is what those say; a launcher runs the proved program."""
+    for name, crate in LAUNCHERS.items():
+        program = ROOT / "crates" / crate / "out" / crate
+        usage = (ROOT / "crates" / crate / "help.txt").read_bytes()
+        version = f"{name} {(ROOT / 'VERSION').read_text()}".encode()
+        for word, page in ("--help", usage), ("--version", version):
+            for it in [program, ROOT / name] if program.is_file() else []:
+                expect(f"{it.name} {word}", ran([it, word]), (0, page, b""))
+    for given in LINE, b"":
+        expect("recovery-replay", ran([ROOT / "recovery-replay"], given), (0, ANSWER if given else b"", b""))
+
+
+def closed():
+    """A pipe whose reader is gone is no failure."""
+    for name, crate in LAUNCHERS.items():
+        if (ROOT / "crates" / crate / "out" / crate).is_file():
+            reader, writer = os.pipe()
+            os.close(reader)
+            expect(f"{name}, and nobody reads", ran([ROOT / name, "--help"], LINE, stdout=writer), (0, None, b""))
+            os.close(writer)
 
 
 def main():
@@ -169,9 +156,10 @@ def main():
     pages()
     closed_pipe()
     streams()
-    launcher()
-    print(f"program: {passed} passed, {failed} failed")
-    sys.exit(failed > 0)
+    unproved()
+    pages()
+    closed()
+    tests.end()
 
 
 if __name__ == "__main__":

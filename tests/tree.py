@@ -1,0 +1,159 @@
+"""What the scripts have in common: the crates of the repository, the toolchain that proves them, who works in the tree, how a script ends,
+and what a test counts."""
+import contextlib
+import fcntl
+import os
+import pathlib
+import re
+import shutil
+import signal
+import subprocess
+import sys
+
+ROOT = pathlib.Path(__file__).resolve().parent.parent
+LOCK = ROOT / "out" / "lock"
+
+
+class Unfit(Exception):
+    """Why nothing can be proved here, in one line."""
+
+
+def rows():
+    """The crates of crates.txt in order, each with those of the repository that it stands on."""
+    lines = (line.partition("#")[0].partition(":") for line in (ROOT / "crates.txt").read_text().splitlines())
+    found = [(name.split()[0], below.split()) for name, colon, below in lines if colon]
+    names = {name for name, _ in found}
+    return [(name, [it for it in below if it in names]) for name, below in found]
+
+
+def crates():
+    return dict(rows())
+
+
+def list_of(names):
+    """A list of these crates alone, for a tree that has no others."""
+    lines = (ROOT / "crates.txt").read_text().splitlines(True)
+    return "".join(line for line in lines if line.partition(":")[0].partition(" ")[0] in names)
+
+
+def made_of(target):
+    """The crates that one is made of, those that it stands on first, each with what it stands on."""
+    needs, found = crates(), {}
+
+    def want(name):
+        if name not in found:
+            for below in needs[name]:
+                want(below)
+            found[name] = needs[name]
+
+    want(target)
+    return found
+
+
+def version():
+    return f"quic-recovery {(ROOT / 'VERSION').read_text().strip()}, {logic()}"
+
+
+def logic():
+    """The logic that the proofs are written for, as `rt version` names it."""
+    return (ROOT / "LOGIC").read_text().strip()
+
+
+def other_logic():
+    """A warning where the toolchain's logic is another than the one that the proofs are written for, else nothing."""
+    if not shutil.which("rt"):
+        raise Unfit(f"the Rattle toolchain is missing: its command rt ({logic()}) is not on the PATH")
+    said = subprocess.run(["rt", "version"], stdin=subprocess.DEVNULL, stdout=subprocess.PIPE, stderr=subprocess.STDOUT, text=True).stdout
+    found = re.search(r"\blogic \w+", said)
+    if found and found[0] == logic():
+        return None
+    return f"warning: the proofs are written for {logic()}, and the toolchain here has {found[0] if found else 'none that it names'}"
+
+
+@contextlib.contextmanager
+def alone(who, tell):
+    """The tree for this script: where another proves in it, tells so and waits until that has ended."""
+    try:
+        LOCK.parent.mkdir(exist_ok=True)
+        file = open(LOCK, "a+")
+    except OSError as error:
+        raise Unfit(f"nothing can be written here: {error.filename}: {error.strerror}")
+    with file:
+        try:
+            fcntl.flock(file, fcntl.LOCK_EX | fcntl.LOCK_NB)
+        except BlockingIOError:
+            file.seek(0)
+            tell(f"{file.read().strip() or 'another'} works in this tree; this one goes on when that has ended")
+            fcntl.flock(file, fcntl.LOCK_EX)
+        file.truncate(0)
+        file.write(f"{who} (process {os.getpid()})\n")
+        file.flush()
+        yield
+        file.truncate(0)
+
+
+def stop_on_signals():
+    """The signals that ask for an end interrupt, as ctrl-C does, but where whoever started this chose to ignore them."""
+    for it in signal.SIGTERM, signal.SIGHUP:
+        if signal.getsignal(it) is signal.SIG_DFL:
+            signal.signal(it, signal.default_int_handler)
+
+
+def silence():
+    """What is written from here on goes nowhere."""
+    for stream in sys.stdout, sys.stderr:
+        os.dup2(os.open(os.devnull, os.O_WRONLY), stream.fileno())
+
+
+def arguments(parser):
+    """What a script is given. Where it is to tell of itself, and nobody reads that, all is well."""
+    try:
+        return parser.parse_args()
+    except BrokenPipeError:
+        silence()
+        sys.exit(0)
+
+
+def ends_quietly(main):
+    """Runs a script. Where nobody reads any more what it writes, it ends without a word: with its own status where all was done, else with
+    that of a program that the signal ends."""
+    status = 128 + signal.SIGPIPE
+    try:
+        try:
+            main()
+            status = 0
+        except SystemExit as end:
+            status = end.code
+            raise
+        finally:
+            sys.stdout.flush()
+    except BrokenPipeError:
+        silence()
+        sys.exit(status)
+
+
+class Tests:
+    """What the tests of a script passed and failed."""
+
+    def __init__(self, name):
+        self.name, self.passed, self.failed = name, 0, 0
+
+    def expect(self, what, found, wanted):
+        if found == wanted:
+            self.passed += 1
+        else:
+            self.failed += 1
+            print(f"{self.name}: {what}: {found!r}, and not {wanted!r}", file=sys.stderr, flush=True)
+
+    def end(self):
+        print(f"{self.name}: {self.passed} passed, {self.failed} failed")
+        sys.exit(self.failed > 0)
+
+
+def ran(words, given=None, **how):
+    """Status, output and errors of a program."""
+    streams = {"stdout": subprocess.PIPE, "stderr": subprocess.PIPE}
+    if "stdin" not in how:
+        streams["input"] = given if given is not None else b""
+    run = subprocess.run(words, **{**streams, **how})
+    return run.returncode, run.stdout, run.stderr
