@@ -52,7 +52,7 @@ def faults_in(file, text, words):
         for word in NAME.findall("" if pattern else name):
             if not is_known(word, words, others):
                 yield f"{file}: `{word}` (in `{name}`) stands in no source"
-    for link in re.findall(r"\]\(([^)#]+)[^)]*\)", text):
+    for link in re.findall(r"\]\(([^)#]+)[^)]*\)", text) + re.findall(r"^\[\w+\]: (\S+)$", text, re.M):
         if "://" not in link and not (ROOT / file.parent / link).exists():
             yield f"{file}: {link} is not there"
 
