@@ -345,11 +345,11 @@ struct recovery_pathview {
     uint64_t pacer_capacity;
     // The bytes in that bucket, as the last datagram or question left it: what time has brought since is not among them.
     uint64_t pacer_tokens;
-    // The slow start threshold, where there is one (RFC 9002, 7.3).
+    // The slow start threshold, where there is one: `u64::MAX` before the first loss (RFC 9002, 7.3.1).
     uint64_t ssthresh;
     // The MTU in use (RFC 9000, 14.3).
     uint16_t mtu;
-    // Whether there is a slow start threshold; none before the first loss.
+    // Whether there is a slow start threshold: a window that stays has none.
     bool has_ssthresh;
     // Whether there is such a path; if not, all else is 0.
     bool lives;

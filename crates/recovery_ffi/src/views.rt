@@ -44,11 +44,11 @@ pub struct PathView {
     pub pacer_capacity: u64,
     /// The bytes in that bucket, as the last datagram or question left it: what time has brought since is not among them.
     pub pacer_tokens: u64,
-    /// The slow start threshold, where there is one (RFC 9002, 7.3).
+    /// The slow start threshold, where there is one: `u64::MAX` before the first loss (RFC 9002, 7.3.1).
     pub ssthresh: u64,
     /// The MTU in use (RFC 9000, 14.3).
     pub mtu: u16,
-    /// Whether there is a slow start threshold; none before the first loss.
+    /// Whether there is a slow start threshold: a window that stays has none.
     pub has_ssthresh: bool,
     /// Whether there is such a path; if not, all else is 0.
     pub lives: bool,

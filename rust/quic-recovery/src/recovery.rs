@@ -15,7 +15,7 @@ use std::time::Duration;
 pub struct PathStats {
     /// How many bytes may be in flight (RFC 9002, 7).
     pub window: u64,
-    /// The slow start threshold, in bytes (RFC 9002, 7.3); none before the first loss, and for a window that stays.
+    /// The slow start threshold, in bytes: `u64::MAX` before the first loss (RFC 9002, 7.3.1), and none of a window that stays.
     pub ssthresh: Option<u64>,
     /// The bytes in flight (RFC 9002, B.2).
     pub in_flight: u64,

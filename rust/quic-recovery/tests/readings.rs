@@ -199,7 +199,7 @@ fn packet(now: Instant) -> Event<'static> {
 fn thresholds() {
     let mut recovery = fresh();
     let path = |it: &Recovery| it.path(PathName::Current).unwrap();
-    assert_eq!(path(&recovery).ssthresh, None);
+    assert_eq!(path(&recovery).ssthresh, Some(u64::MAX));
     let congestion = Event::Congestion {
         now: at(2),
         sent: at(1),
@@ -209,6 +209,11 @@ fn thresholds() {
     apply(&mut recovery, congestion);
     assert_eq!(path(&recovery).ssthresh, Some(6000));
     assert_eq!(path(&recovery).window, 6000);
+    let mut config = RecoveryConfig::default();
+    config.transport.congestion = Congestion::Fixed(9000);
+    let recovery = Recovery::new(&config, at(0)).unwrap();
+    assert_eq!(path(&recovery).ssthresh, None);
+    assert_eq!(path(&recovery).window, 9000);
 }
 
 #[test]
