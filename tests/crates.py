@@ -13,7 +13,7 @@ COLUMNS = 120
 # crates that still have longer lines: who brings one below takes it out
 WIDE = set("""quic_recovery quic_recovery_rows quic_recovery_tests recovery_acks recovery_base recovery_congestion recovery_detection recovery_embedding
 recovery_events recovery_ffi recovery_ids recovery_ledger recovery_lines recovery_mtud recovery_parts recovery_parts_tests recovery_paths recovery_queue
-recovery_replay recovery_replay_tests recovery_skips recovery_trace""".split())
+recovery_program recovery_replay recovery_replay_tests recovery_skips recovery_trace""".split())
 ROW = re.compile(r"^\| `(\w+)` \| ([\d,]+) \| ([\d,]+) \| ([\d,]+|none) \| ([\d,]+|none) \|$", re.M)
 
 
