@@ -1,6 +1,7 @@
 #!/usr/bin/env python3
-"""Reads crates.txt beside the crates: each crate stands there once, and below the crates that it names; each is named in docs/ARCHITECTURE.md; and
-they are few for their code, since each costs the gate a reading of all that is below it. With --table it prints what each crate has."""
+"""Reads crates.txt beside the crates: each crate stands there once, and below the crates that it names; each is named in docs/ARCHITECTURE.md; they are
+few for their code, since each costs the gate a reading of all that is below it; and no line of their code is longer than 120 columns. With --table it prints
+what each crate has."""
 import argparse
 import re
 import sys
@@ -9,6 +10,11 @@ from tree import ROOT, rows
 
 CRATES = ROOT / "crates"
 LEAST_LINES = 700  # of code for each crate, on the mean
+COLUMNS = 120
+# crates that still have longer lines: who brings one below takes it out
+WIDE = set("""quic_recovery quic_recovery_rows quic_recovery_tests recovery_acks recovery_base recovery_congestion recovery_detection recovery_embedding
+recovery_events recovery_ffi recovery_ids recovery_ledger recovery_lines recovery_mtud recovery_parts recovery_parts_tests recovery_paths recovery_queue
+recovery_program recovery_replay recovery_replay_tests recovery_skips recovery_trace""".split())
 
 
 def lines(name, rooms, kind):
@@ -40,6 +46,13 @@ def out_of_place(crates):
         above.add(name)
 
 
+def too_long(name):
+    for file in sorted((CRATES / name / "src").rglob("*.rt")):
+        for number, line in enumerate(file.read_text().splitlines(), 1):
+            if len(line) > COLUMNS:
+                yield f"{file.relative_to(ROOT)}:{number} has {len(line)} columns, and not at most {COLUMNS}"
+
+
 def main():
     parser = argparse.ArgumentParser(description=__doc__)
     parser.add_argument("--table", action="store_true", help="what each crate has, as a table")
@@ -56,6 +69,7 @@ def main():
         [few] if mean < LEAST_LINES else [],
         list(out_of_place(crates)),
         [f"docs/ARCHITECTURE.md does not name {it}: say there what it is for" for it in names if f"`{it}`" not in architecture],
+        [fault for it in names if it not in WIDE for fault in too_long(it)],
     ]
     for fault in [it for check in checks for it in check]:
         print(f"crates: {fault}", file=sys.stderr)

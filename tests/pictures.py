@@ -1,63 +1,172 @@
 #!/usr/bin/env python3
-"""Compares the pictures of the documents with what the program that was proved prints, reads each as XML, and sees what arguments and inputs that
-it cannot read are told."""
-import pathlib
-import subprocess
-import sys
-import xml.etree.ElementTree as tree
+"""Compares the pictures of the documents with what the program that was proved prints, reads each as XML, and sees that a picture shows the script
+and the link that were asked for, and what arguments and inputs that it cannot read are told.
 
-ROOT = pathlib.Path(__file__).resolve().parent.parent
+An argument is another program to try in place of the proved one."""
+import pathlib
+import re
+import sys
+import xml.etree.ElementTree as xml
+
+import tree
+from tree import ROOT
+
 PROGRAM = ROOT / "crates" / "recovery_pictures" / "out" / "recovery_pictures"
 SCRIPT = (ROOT / "tests" / "pictures" / "connection.txt").read_text()
 MEASURED = (ROOT / "tests" / "pictures" / "tunnel.txt").read_text()
 PICTURES = [  # the picture, the arguments, and the input
     ("connection.svg", ["connection"], SCRIPT),
-    ("connection-fixed.svg", ["connection", "60000"], SCRIPT),
+    ("connection-fixed.svg", ["connection", "-", "60000"], SCRIPT),
     ("tunnel.svg", ["tunnel"], MEASURED),
     ("pace-unchecked.svg", ["burst"], "42000 unchecked 110\n"),
     ("pace-fixed.svg", ["burst"], "42000 paced 110\n"),
     ("pace-newreno.svg", ["burst"], "newreno paced 400\n"),
 ]
-USAGE = "usage: recovery_pictures connection [WINDOW] | tunnel | burst, and a text on standard input\n"
+USAGE = "usage: recovery-pictures connection [from=MOMENT] [to=MOMENT] [SEED [WINDOW]] | tunnel | burst\n"
+LINE = "the input is no line as '42000 paced 400 rate=5000 loss=100': docs/PICTURES.md has its words and limits\n"
 REFUSED = [  # the arguments, the input, and what is told
     ([], "", USAGE),
     (["nothing"], "", USAGE),
-    (["connection", "0"], SCRIPT, USAGE),
-    (["connection", "60000", "60000"], SCRIPT, USAGE),
+    (["connection", "-", "0"], SCRIPT, USAGE),
+    (["connection", "01"], SCRIPT, USAGE),
+    (["connection", "-", "60000", "60000"], SCRIPT, USAGE),
+    (["connection", "from=1", "till=2"], SCRIPT, USAGE),
+    (["connection", "from=x"], SCRIPT, USAGE),
+    (["connection", "from=5", "to=5"], SCRIPT, USAGE),
     (["tunnel", "60000"], MEASURED, USAGE),
     (["connection"], "validated current\nnothing\n", "line 2: cannot be read\n"),
     (["tunnel"], "1400 yes\n1400\n", "line 2: not 'SIZE yes' or 'SIZE no'\n"),
-    (["burst"], "", "the input is one line: 'newreno' or a window in bytes, 'paced' or 'unchecked', and milliseconds\n"),
+    (["burst"], "", LINE),
 ]
+REFUSED += [(["burst"], f"newreno paced 400 {word}\n", LINE) for word in
+            ("rate=0", "rate=1000001", "delay=0", "delay=1001", "queue=0", "queue=1001", "loss=1000001", "loss", "speed=1")]
+REFUSED += [(["burst"], f"{words}\n", LINE) for words in ("newreno paced", "newreno paced 0", "newreno paced 5001", "0 paced 1", "1000001 paced 1", "newreno 1 1")]
+
+# the word of a line that is the moment of its event, and the start of the clock in the second script
+MOMENTS = {"received": 2, "send": 2, "acked": 2, "transmit": 1, "pacer-check": 1, "congestion": 1, "end-acks": 1, "poll-mtu": 1, "losses-done": 1}
+UNIX_TIME = 1_764_176_000_000_000_000
+
+LEFT, WIDTH, BOTTOM, HEIGHT = 130, 1740, 670, 560  # of the upper panel
+
+tests = tree.Tests("pictures")
 
 
 def ran(arguments, given):
-    run = subprocess.run([PROGRAM, *arguments], input=given, capture_output=True, text=True)
-    return run.returncode, run.stdout, run.stderr
+    status, output, errors = tree.ran([PROGRAM, *arguments], given.encode())
+    return status, output.decode(), errors.decode()
 
 
-def fault_of_picture(name, arguments, given):
-    """What is wrong with a picture, if anything is."""
-    picture = (ROOT / "docs" / "pictures" / name).read_text()
-    if ran(arguments, given) != (0, picture, ""):
-        return "the program prints another picture"
-    try:
-        tree.fromstring(picture)
-    except tree.ParseError as error:
-        return f"no XML: {error}"
-    return None
+def drawn(arguments, given):
+    status, picture, errors = ran(arguments, given)
+    tests.expect(f"{arguments} with {given[:20]!r}", (status, errors), (0, ""))
+    return picture
+
+
+def documents():
+    for name, *how in PICTURES:
+        picture = (ROOT / "docs" / "pictures" / name).read_text()
+        tests.expect(f"{name}: as the program draws it", ran(*how) == (0, picture, ""), True)
+        try:
+            tests.expect(f"{name}: XML", xml.fromstring(picture).tag, "{http://www.w3.org/2000/svg}svg")
+        except xml.ParseError as error:
+            tests.expect(f"{name}: XML", str(error), None)
+
+
+def later(line):
+    """A line at a clock that began long before."""
+    words = line.split()
+    place = MOMENTS.get(words[0])
+    for it in [place, 2] if words[0] == "congestion" else [place] if place else []:
+        words[it] = str(int(words[it]) + UNIX_TIME)
+    return " ".join(words)
+
+
+def moments():
+    """Each sample with the moment that the last event before it told."""
+    now = 0
+    for line in SCRIPT.splitlines():
+        words = line.split()
+        if words[0] in MOMENTS:
+            now = max(now, int(words[MOMENTS[words[0]]]))
+        elif words[0] == "sample":
+            yield now
+
+
+def first_moment():
+    return next(int(line.split()[MOMENTS[line.split()[0]]]) for line in SCRIPT.splitlines() if line.split()[0] in MOMENTS)
+
+
+def scripts():
+    """A picture begins with the first moment of its script, wherever the clock begins, and shows what lies between two."""
+    whole = (ROOT / "docs" / "pictures" / "connection.svg").read_text()
+    shifted = drawn(["connection"], "".join(f"{later(line)}\n" for line in SCRIPT.splitlines()))
+    first = first_moment()
+    tests.expect("Unix time", shifted.replace(str(UNIX_TIME + first), str(first)) == whole, True)
+    tests.expect("from the first moment on", drawn(["connection", f"from={first}"], SCRIPT) == whole, True)
+    begins, ends = 400_000_000, 1_450_000_000
+    part = drawn(["connection", f"from={begins}", f"to={ends}"], SCRIPT)
+    dots = len(re.findall("<circle", part)) - 1  # the legend has one
+    tests.expect("samples between two moments", dots, sum(begins <= it <= ends for it in moments()))
+    numbers = [int(it) for it in re.findall(rf'y="{BOTTOM + 30}" text-anchor="middle">(\d+)<', part)]
+    tests.expect("its axis counts from the first moment", [it for it in numbers if not begins < first + it * 1_000_000 <= ends], [])
+    near = drawn(["connection", f"from={begins}", f"to={begins + 2_000_000}"], SCRIPT)
+    tests.expect("two milliseconds", f"time from {first} ns on, µs" in near, True)
+
+
+def flight(arguments, given):
+    """How high the line of the bytes in flight ends above the lower edge of its panel."""
+    line = re.search(r'stroke="#707070" stroke-width="2" d="([^"]*)"', drawn(arguments, given))[1]
+    return BOTTOM - int(re.findall(r"V(\d+)", line)[-1])
+
+
+def seeds():
+    """Pcg32 of the seed 7 skips number 6 (tests/rows/skips.txt), so that eight packets have 0 to 5, 7 and 8."""
+    script = "".join(f"send data {it} 1000 1 -\n" for it in range(1, 9)) + "acked data 20 6 0\n"
+    # the axis ends a tenth above the window: 12,000 bytes, and 1,000 more in slow start once a packet is acknowledged (RFC 9002, 7.3.1)
+    for seed, left, window in ([], 7000, 13_000), (["-"], 7000, 13_000), (["7"], 8000, 12_000):
+        tests.expect(f"in flight, with seed {seed}", flight(["connection", *seed], script), left * HEIGHT // (window * 11 // 10))
+
+
+def told(picture, name):
+    return [int(it) for it in re.findall(rf">{name}: (\d+)", picture)]
+
+
+def links():
+    """35 packets of 1,200 bytes come to the queue at once, or 10; one takes 0.96 ms at 10 Mbit/s, and the sender begins at 10 ms."""
+    for room, dropped in (20, 15), (30, 5), (35, 0), (1000, 0):
+        picture = drawn(["burst"], f"42000 unchecked 30 queue={room}\n")
+        tests.expect(f"a queue of {room}", (told(picture, "queue"), told(picture, "dropped")), ([min(room, 35)], [dropped]))
+    for rate, gone in (10_000, 10), (1_000, 3), (640, 2):
+        picture = drawn(["burst"], f"12000 unchecked 40 rate={rate} loss=1\n")
+        tests.expect(f"lost at {rate} kbit/s", told(picture, "lost on the way"), [gone])
+    for end, sent in (110, 10), (111, 11), (112, 12):
+        picture = drawn(["burst"], f"12000 unchecked {end} delay=100\n")
+        line = re.search(r'stroke="#004080" stroke-width="3" d="([^"]*)"', picture)[1]
+        tests.expect(f"sent by {end} ms, with ACKs 100 ms later", line.count("V"), sent)
+    usual = drawn(["burst"], "newreno paced 400\n")
+    same = drawn(["burst"], "newreno paced 400 loss=0 queue=20 delay=25 rate=10000\n")
+    tests.expect("the usual link, named", same == usual, True)
+    picture = drawn(["burst"], "newreno paced 2000 loss=50\n")
+    lost = told(picture, "lost on the way")
+    tests.expect("one of fifty packets is lost, or so", bool(lost) and 5 <= lost[0] <= 50, True)
+    tests.expect("a dot for each", len(re.findall("<circle", picture)) - 1, lost[0] if lost else None)
+
+
+def refusals():
+    for arguments, given, text in REFUSED:
+        tests.expect(f"{arguments} with {given[:20]!r}", ran(arguments, given), (2, "", text))
+    long = "more than 20,000 ACKs and waits: draw fewer milliseconds, or a slower link\n"
+    tests.expect("a run that is too long", ran(["burst"], "newreno paced 5000 rate=100000 delay=1\n"), (1, "", long))
 
 
 def main():
-    faults = [(name, fault_of_picture(name, *how)) for name, *how in PICTURES]
-    for arguments, given, told in REFUSED:
-        found = ran(arguments, given)
-        faults.append((f"{arguments} with {given[:20]!r}", None if found == (1, "", told) else f"{found}, and not {told!r}"))
-    failed = [it for it in faults if it[1]]
-    for name, fault in failed:
-        print(f"pictures: {name}: {fault}", file=sys.stderr)
-    print(f"pictures: {len(faults) - len(failed)} passed, {len(failed)} failed")
-    return 1 if failed else 0
+    global PROGRAM
+    if len(sys.argv) > 1:
+        PROGRAM = pathlib.Path(sys.argv[1]).resolve()
+    for part in documents, scripts, seeds, links, refusals:
+        part()
+    tests.end()
 
 
-sys.exit(main())
+if __name__ == "__main__":
+    main()

@@ -11,7 +11,7 @@ import tempfile
 import time
 
 import tree
-from tree import ROOT, ran
+from tree import ROOT
 
 ROWS = ROOT / "tests" / "rows"
 PROGRAM = ROOT / "crates" / "recovery_program" / "out" / "recovery_program"
@@ -22,6 +22,11 @@ LAUNCHERS = {"recovery-replay": "recovery_program", "recovery-trace": "recovery_
 
 tests = tree.Tests("program")
 expect = tests.expect
+
+
+def ran(words, given=LINE, **how):
+    """Status, output and errors of a program that reads a line, or what is given."""
+    return tree.ran(words, given, **how)
 
 
 def lines_of(row):
@@ -125,7 +130,7 @@ def unproved():
         expect("they answer within two minutes", time.time() - began < 120, True)
 
 
-def pages():
+def launchers():
     """What the launchers say without their programs is what those say; a launcher runs the proved program."""
     for name, crate in LAUNCHERS.items():
         program = ROOT / "crates" / crate / "out" / crate
@@ -157,7 +162,7 @@ def main():
     closed_pipe()
     streams()
     unproved()
-    pages()
+    launchers()
     closed()
     tests.end()
 

@@ -12,6 +12,7 @@ import sys
 
 ROOT = pathlib.Path(__file__).resolve().parent.parent
 LOCK = ROOT / "out" / "lock"
+SHOWN = 1000  # characters of what a test found and wanted
 
 
 class Unfit(Exception):
@@ -143,7 +144,8 @@ class Tests:
             self.passed += 1
         else:
             self.failed += 1
-            print(f"{self.name}: {what}: {found!r}, and not {wanted!r}", file=sys.stderr, flush=True)
+            shown = ", and not ".join(text if len(text) < SHOWN else f"{text[:SHOWN]} .." for text in map(repr, (found, wanted)))
+            print(f"{self.name}: {what}: {shown}", file=sys.stderr, flush=True)
 
     def end(self):
         print(f"{self.name}: {self.passed} passed, {self.failed} failed")

@@ -37,8 +37,9 @@ where
     F: ControllerFactory + Drop,
     F::Controller: Drop,
 {
-    let sender = Sender::new(alloc, factory, settings.is_checked)?;
-    let mut ends = ClosedLoop::new(sender, Link::new(alloc), Log::new(alloc));
+    let rtt = settings.link.there_and_back();
+    let sender = Sender::new(alloc, factory, settings.is_checked, rtt)?;
+    let mut ends = ClosedLoop::new(sender, Link::new(alloc, settings.link), Log::new(alloc));
     let picture = run_and_draw(alloc, settings, &mut ends);
     drop(ends);
     picture

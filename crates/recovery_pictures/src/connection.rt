@@ -4,8 +4,9 @@ mod curves;
 mod picture;
 
 use crate::failure::Failure;
+use crate::requests::Choice;
 use crate::start::{Window, config};
-use curves::Curves;
+use curves::{Curves, first_moment};
 use picture::draw;
 use quic_recovery::LiveRecovery;
 use quic_recovery::below::NoMemory;
@@ -21,18 +22,18 @@ use recovery_replay::script::{Ending, read_script};
 use std::alloc::Global;
 use std::io::Read;
 
-/// The picture of a script, over controllers of this window.
-pub fn picture_of(alloc: Global, window: Window, input: &mut impl Read) -> Result<String, Failure> {
+/// The picture of a script.
+pub fn picture_of(alloc: Global, choice: Choice, input: &mut impl Read) -> Result<String, Failure> {
     let events = events(alloc, input)?;
-    let (name, curves) = match window {
+    let (name, curves) = match choice.window {
         Window::Fixed(bytes) if bytes > 0 => {
             let factory = FixedWindowConfig::new(bytes);
-            ("a fixed window", gathered(alloc, factory, events)?)
+            ("a fixed window", gathered(alloc, factory, choice, events)?)
         }
-        _ => (
-            "NewReno",
-            gathered(alloc, NewRenoConfig::default(), events)?,
-        ),
+        _ => {
+            let factory = NewRenoConfig::default();
+            ("NewReno", gathered(alloc, factory, choice, events)?)
+        }
     };
     Ok(draw(alloc, name, &curves)?)
 }
@@ -47,15 +48,20 @@ fn events(alloc: Global, input: &mut impl Read) -> Result<Vec<Event<ItemQueue>>,
 }
 
 /// The curves of a run over these controllers.
-fn gathered<F>(alloc: Global, factory: F, events: Vec<Event<ItemQueue>>) -> Result<Curves, NoMemory>
+fn gathered<F>(
+    alloc: Global,
+    factory: F,
+    choice: Choice,
+    events: Vec<Event<ItemQueue>>,
+) -> Result<Curves, NoMemory>
 where
     F: ControllerFactory + Drop,
     F::Controller: Drop,
 {
-    let config = config(TransportConfig::with_factory(factory));
-    let rng = Pcg32::seed_from_u64(0);
+    let config = config(TransportConfig::with_factory(factory), choice.seed);
+    let rng = Pcg32::seed_from_u64(choice.seed.unwrap_or(0));
     let mut recovery = LiveRecovery::new(alloc, config, rng, Instant::from_nanos(0))?;
-    let mut curves = Curves::new(alloc);
+    let mut curves = Curves::new(alloc, first_moment(&events), choice);
     let gathered = curves.gather(&mut recovery, events);
     drop(recovery);
     gathered?;

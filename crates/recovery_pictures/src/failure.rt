@@ -10,14 +10,16 @@ use thiserror::Error;
 /// Why no picture is written.
 #[derive(Debug, Drop, Error)]
 pub enum Failure {
-    #[error("usage: recovery_pictures connection [WINDOW] | tunnel | burst, and a text on standard input")]
+    #[error("usage: recovery-pictures connection [from=MOMENT] [to=MOMENT] [SEED [WINDOW]] | tunnel | burst")]
     Usage,
     #[error("line {0}: cannot be read")]
     BadLine(u64),
     #[error("line {0}: not 'SIZE yes' or 'SIZE no'")]
     BadMeasurement(u64),
-    #[error("the input is one line: 'newreno' or a window in bytes, 'paced' or 'unchecked', and milliseconds")]
+    #[error("the input is no line as '42000 paced 400 rate=5000 loss=100': docs/PICTURES.md has its words and limits")]
     Settings,
+    #[error("more than 20,000 ACKs and waits: draw fewer milliseconds, or a slower link")]
+    TooLong,
     #[error("refused: {0}")]
     Refused(#[from] Refusal),
     #[error("the input cannot be read")]
@@ -26,6 +28,17 @@ pub enum Failure {
     NoMemory,
     #[error("{0}")]
     Io(#[from] io::Error),
+}
+
+impl Failure {
+    /// The exit status: 2 where the arguments or the text cannot be read, else 1.
+    pub fn status(&self) -> u8 {
+        match self {
+            Failure::Usage | Failure::BadLine(_) | Failure::BadMeasurement(_) | Failure::Settings =>
+                2,
+            _ => 1,
+        }
+    }
 }
 
 impl From<NoMemory> for Failure {

@@ -11,6 +11,9 @@ pub const SECOND: u64 = 1_000_000_000;
 /// In nanoseconds.
 pub const MILLISECOND: u64 = 1_000_000;
 
+/// In nanoseconds.
+pub const MICROSECOND: u64 = 1_000;
+
 /// In bytes.
 pub const KILOBYTE: u64 = 1_000;
 
@@ -47,7 +50,23 @@ pub fn up_to(most: u64, unit: u64) -> Axis {
         least: 0,
         most,
         unit,
+        zero: 0,
     }
+}
+
+/// What the numbers of an axis count that shows so many nanoseconds: milliseconds, or microseconds where those would be
+/// few.
+pub fn unit_for(span: u64) -> u64 {
+    if span < 10 * MILLISECOND {
+        MICROSECOND
+    } else {
+        MILLISECOND
+    }
+}
+
+/// How a unit of time is written.
+pub fn name_of(unit: u64) -> &'static str {
+    if unit == MICROSECOND { "µs" } else { "ms" }
 }
 
 /// The height of the highest point, or zero.

@@ -6,7 +6,7 @@ use quic_recovery::RecoveryConfig;
 use quic_recovery::below::ConnectionId;
 use quic_recovery::config::TransportConfig;
 use quic_recovery::time::Duration;
-use recovery_skips::Skips;
+use recovery_replay::replay::skips;
 use std::net::{IpAddr, Ipv4Addr, SocketAddr};
 
 /// Which congestion window limits what is in flight.
@@ -18,8 +18,8 @@ pub enum Window {
     Fixed(u64),
 }
 
-/// The settings that `recovery-replay` has without arguments, but for those of paths.
-pub fn config<F>(transport: TransportConfig<F>) -> RecoveryConfig<F>
+/// The settings that `recovery-replay` has with a seed or with none, but for those of paths.
+pub fn config<F>(transport: TransportConfig<F>, seed: Option<u64>) -> RecoveryConfig<F>
     ensures issued { result.issued ≡ 1 }
     ensures skips { IsSkips result.skips }
 {
@@ -33,6 +33,6 @@ pub fn config<F>(transport: TransportConfig<F>) -> RecoveryConfig<F>
         cid_len: 8,
         cid_lifetime: Some(Duration::from_secs(10)),
         issued: 1,
-        skips: Skips::Disabled,
+        skips: skips(seed),
     }
 }

@@ -1,5 +1,5 @@
-//! Another datagram protocol than QUIC: it searches for what its path carries, and paces what it sends, over a link that was
-//! measured.
+//! Another datagram protocol than QUIC: it searches for what its path carries, and paces what it sends, over a link
+//! that was measured.
 
 mod link;
 mod picture;

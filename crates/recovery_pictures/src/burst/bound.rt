@@ -56,6 +56,11 @@ impl Span {
         }
     }
 
+    /// Whether it grows as another does: then the lower one stays the lower.
+    fn grows_as(&self, other: &Span) -> bool {
+        self.window == other.window && self.rtt == other.rtt
+    }
+
     /// What was sent before, the capacity, and five fourths of a window for each round-trip time since.
     fn most(&self, now: u64) -> u64 {
         let elapsed = u128::from(now.saturating_sub(self.began));
@@ -90,10 +95,36 @@ impl Bound {
             self.spans.push(Span::begun(asked, sent))?;
         }
         let mut least = u64::MAX;
-        for span in self.spans.iter_mut() {
-            *span = span.with(asked);
-            least = least.min(span.most(asked.now));
+        let mut kept: usize = 0;
+        for place in 0..self.spans.len() {
+            if let Some(span) = self.spans.get(place) {
+                let span = span.with(asked);
+                least = least.min(span.most(asked.now));
+                kept = self.keep(kept, span, asked.now);
+            }
         }
+        self.spans.truncate(kept);
         Ok(least)
+    }
+
+    /// Puts a span behind the first ones, so many; or of it and the last of those the lower, where both grow alike. How
+    /// many there are then.
+    fn keep(&mut self, first: usize, span: Span, now: u64) -> usize {
+        match self.spans.get_mut(first.wrapping_sub(1)) {
+            Some(last) if first > 0 && last.grows_as(&span) => {
+                if span.most(now) < last.most(now) {
+                    *last = span;
+                }
+                first
+            }
+            _ => self.put(first, span),
+        }
+    }
+
+    fn put(&mut self, place: usize, span: Span) -> usize {
+        if let Some(slot) = self.spans.get_mut(place) {
+            *slot = span;
+        }
+        place.saturating_add(1)
     }
 }

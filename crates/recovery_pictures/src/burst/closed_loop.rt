@@ -10,7 +10,7 @@ use quic_recovery::congestion::ControllerFactory;
 use std::alloc::Global;
 
 /// How many steps a run has at most.
-const STEPS: u64 = 100_000;
+const STEPS: u64 = 20_000;
 
 /// How many packets go out at one moment at most.
 const AT_ONCE: u64 = 1_000;
@@ -106,7 +106,7 @@ where
         }
     }
 
-    /// All that happens up to a moment.
+    /// All that happens up to a moment, if that is no more than so many steps.
     pub fn run(&mut self, end: u64) -> Result<(), Failure> {
         self.link.begin()?;
         self.log.begin()?;
@@ -114,17 +114,17 @@ where
         for _ in 0..STEPS {
             let now = self.next_moment();
             if now > end {
-                break;
+                self.link.pass(end)?;
+                self.log.settle();
+                return Ok(());
             }
             self.step(now)?;
         }
-        self.link.pass(end)?;
-        self.log.settle();
-        Ok(())
+        Err(Failure::TooLong)
     }
 
-    /// When something happens next: an ACK is back, the sender may go on, or its probe timer expires, which runs only where nothing is on
-    /// its way.
+    /// When something happens next: an ACK is back, the sender may go on, or its probe timer expires, which runs only
+    /// where nothing is on its way.
     fn next_moment(&self) -> u64 {
         match (self.link.next_ack(), self.wake) {
             (Some(ack), Some(wake)) => ack.min(wake),

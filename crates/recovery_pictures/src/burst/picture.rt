@@ -30,9 +30,14 @@ fn title(alloc: Global, settings: &Settings) -> Result<String, AllocError> {
     } else {
         "unchecked"
     };
+    let link = settings.link;
+    let over = format!(in alloc;
+        "{pacing}: {} kbit/s, {} ms, a queue of {}",
+        link.rate, link.delay, link.room
+    )?;
     match settings.window {
-        Window::NewReno => format!(in alloc; "NewReno, {pacing}"),
-        Window::Fixed(bytes) => format!(in alloc; "A window of {bytes} bytes, {pacing}"),
+        Window::NewReno => format!(in alloc; "NewReno, {over}"),
+        Window::Fixed(bytes) => format!(in alloc; "A window of {bytes} bytes, {over}"),
     }
 }
 
@@ -60,7 +65,9 @@ fn draw_queue(
     time: Axis,
     link: &Link,
 ) -> Result<(), AllocError> {
-    let panel = lower(time, up_to(24, 1));
+    let room = link.shape().room;
+    let most = highest(&link.queue).max(highest(&link.drops));
+    let panel = lower(time, up_to(most.max(room).saturating_add(room / 5), 1));
     picture.axes(
         &panel,
         "time, ms",
@@ -68,9 +75,14 @@ fn draw_queue(
     );
     picture.bars(&panel, &link.drops, Style::Dashed);
     picture.steps(&panel, &link.queue, Style::Solid);
+    picture.dots(&panel, &link.lost, Style::Dotted);
     let longest = format!(in alloc; "queue: {} at most", highest(&link.queue))?;
     picture.legend(&panel, 1, longest.as_str(), Mark::Line, Style::Solid);
     let dropped = format!(in alloc; "dropped: {}", total(&link.drops))?;
     picture.legend(&panel, 0, dropped.as_str(), Mark::Bar, Style::Dashed);
+    if link.shape().loss > 0 {
+        let lost = format!(in alloc; "lost on the way: {}", link.lost.len())?;
+        picture.legend(&panel, 2, lost.as_str(), Mark::Dot, Style::Dotted);
+    }
     Ok(())
 }

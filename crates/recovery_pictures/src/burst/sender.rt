@@ -3,7 +3,7 @@ ghost use Rattle.std.specs.Prelude.{◌≡◌};
 ghost use Rattle.recovery_skips.specs.Skips.{IsSkips};
 
 use super::bound::Asked;
-use super::link::{SIZE, THERE_AND_BACK};
+use super::link::SIZE;
 use crate::panels::nanos;
 use crate::start;
 use quic_recovery::below::{NoMemory, SpaceId};
@@ -20,17 +20,18 @@ use std::alloc::Global;
 /// When it begins, in nanoseconds.
 pub const BEGIN: u64 = 10_000_000;
 
-/// Controllers of this factory; a validated path of a known round-trip time, whose MTU is not searched for.
-fn config<F: ControllerFactory>(factory: F) -> RecoveryConfig<F>
+/// Controllers of this factory; a validated path of a known round-trip time, in nanoseconds, whose MTU is not searched
+/// for.
+fn config<F: ControllerFactory>(factory: F, rtt: u64) -> RecoveryConfig<F>
     ensures issued { result.issued ≡ 1 }
     ensures skips { IsSkips result.skips }
 {
     let mut transport = TransportConfig::with_factory(factory);
-    transport.initial_rtt(Duration::from_nanos(THERE_AND_BACK));
+    transport.initial_rtt(Duration::from_nanos(rtt));
     RecoveryConfig {
         validated: true,
         allow_mtud: false,
-        ..start::config(transport)
+        ..start::config(transport, None)
     }
 }
 
@@ -51,11 +52,12 @@ where
     F: ControllerFactory + Drop,
     F::Controller: Drop,
 {
-    /// A sender whose transmissions are checked, or which goes on where the pacer tells it to wait.
-    pub fn new(alloc: Global, factory: F, is_checked: bool) -> Result<Self, NoMemory> {
+    /// A sender whose transmissions are checked, or which goes on where the pacer tells it to wait, over a path of a
+    /// round-trip time of so many nanoseconds.
+    pub fn new(alloc: Global, factory: F, is_checked: bool, rtt: u64) -> Result<Self, NoMemory> {
         let rng = Pcg32::seed_from_u64(0);
         let now = Instant::from_nanos(BEGIN);
-        let recovery = LiveRecovery::new(alloc, config(factory), rng, now)?;
+        let recovery = LiveRecovery::new(alloc, config(factory, rtt), rng, now)?;
         Ok(Sender {
             alloc,
             recovery,

@@ -1,5 +1,6 @@
 //! What a line of settings says.
 
+use super::link::Shape;
 use crate::panels::MILLISECOND;
 use crate::start::Window;
 
@@ -9,6 +10,18 @@ const LONGEST: u64 = 5_000;
 /// The greatest fixed window, in bytes.
 const GREATEST: u64 = 1_000_000;
 
+/// The fastest link, in kbit/s.
+const FASTEST: u64 = 1_000_000;
+
+/// The longest way there and back, in milliseconds.
+const FARTHEST: u64 = 1_000;
+
+/// How many packets the largest queue holds.
+const DEEPEST: u64 = 1_000;
+
+/// How many packets there are to one that is lost, at most.
+const RAREST: u64 = 1_000_000;
+
 /// A run.
 #[derive(Clone, Copy)]
 pub struct Settings {
@@ -17,19 +30,52 @@ pub struct Settings {
     pub is_checked: bool,
     /// How long it is, in nanoseconds.
     pub end: u64,
+    pub link: Shape,
 }
 
 impl Settings {
-    /// What a line says: `newreno` or a window in bytes, `paced` or `unchecked`, and milliseconds.
+    /// What a line says: `newreno` or a window in bytes, `paced` or `unchecked`, milliseconds, and what of the link is
+    /// not usual.
     pub fn read(line: &str) -> Option<Settings> {
-        let (window, rest) = line.split_once(' ')?;
-        let (pacing, millis) = rest.split_once(' ')?;
-        let millis = within(millis.parse().ok()?, LONGEST)?;
+        let mut words = line.split(' ');
+        let window = window_in(words.next()?)?;
+        let is_checked = is_checked_in(words.next()?)?;
+        let millis = within(words.next()?.parse().ok()?, LONGEST)?;
+        let mut link = Shape::usual();
+        for word in words {
+            link = link_with(link, word)?;
+        }
         Some(Settings {
-            window: window_in(window)?,
-            is_checked: is_checked_in(pacing)?,
+            window,
+            is_checked,
             end: millis.saturating_mul(MILLISECOND),
+            link,
         })
+    }
+}
+
+/// A link with what a word says of it.
+fn link_with(link: Shape, word: &str) -> Option<Shape> {
+    let (name, number) = word.split_once('=')?;
+    let number: u64 = number.parse().ok()?;
+    match name {
+        "rate" => Some(Shape {
+            rate: within(number, FASTEST)?,
+            ..link
+        }),
+        "delay" => Some(Shape {
+            delay: within(number, FARTHEST)?,
+            ..link
+        }),
+        "queue" => Some(Shape {
+            room: within(number, DEEPEST)?,
+            ..link
+        }),
+        "loss" if number <= RAREST => Some(Shape {
+            loss: number,
+            ..link
+        }),
+        _ => None,
     }
 }
 

@@ -2,6 +2,7 @@
 
 use crate::panels::nanos;
 use crate::plot::axis::Point;
+use crate::requests::Choice;
 use quic_recovery::LiveRecovery;
 use quic_recovery::below::NoMemory;
 use quic_recovery::congestion::{Controller, ControllerFactory};
@@ -35,20 +36,43 @@ pub struct Curves {
     pub smoothed: Vec<Point>,
     /// The round-trip times that were measured, in nanoseconds.
     pub samples: Vec<Point>,
-    /// The last moment that an event told.
+    /// The first moment that an event told.
+    pub first: u64,
+    /// The last one.
     pub now: u64,
+    /// The moment from which on the curves are gathered.
+    pub from: u64,
+    /// The moment up to which they are, if it is not the last one.
+    to: Option<u64>,
+}
+
+/// What is noted of the path after an event.
+#[derive(Clone, Copy)]
+struct Noted {
+    window: u64,
+    flight: u64,
+    smoothed: u64,
 }
 
 impl Curves {
-    pub fn new(alloc: Global) -> Self {
+    /// No curves yet, of events whose first moment is this.
+    pub fn new(alloc: Global, first: u64, choice: Choice) -> Self {
         Curves {
             window: Vec::new(alloc),
             flight: Vec::new(alloc),
             losses: Vec::new(alloc),
             smoothed: Vec::new(alloc),
             samples: Vec::new(alloc),
-            now: 0,
+            first,
+            now: first,
+            from: choice.from.unwrap_or(first),
+            to: choice.to,
         }
+    }
+
+    /// Where the picture ends: where it was asked to, else at the last moment that an event told.
+    pub fn end(&self) -> u64 {
+        self.to.unwrap_or(self.now)
     }
 
     /// Hands all events in, and gathers after each. Refused events change nothing.
@@ -64,9 +88,10 @@ impl Curves {
         for event in events {
             self.step(recovery, event)?;
         }
-        hold(&mut self.window, self.now)?;
-        hold(&mut self.flight, self.now)?;
-        hold(&mut self.smoothed, self.now)
+        let last = self.now.min(self.end());
+        hold(&mut self.window, last)?;
+        hold(&mut self.flight, last)?;
+        hold(&mut self.smoothed, last)
     }
 
     fn step<F>(
@@ -84,33 +109,54 @@ impl Curves {
         let told = news_of(&event);
         let done = recovery.apply(event).is_ok();
         let path = recovery.recovery().current();
-        let window = path.congestion.window();
-        let flight = path.in_flight().bytes;
-        let smoothed = nanos(path.rtt.get());
-        self.note(done, told, window, flight, smoothed)
+        let noted = Noted {
+            window: path.congestion.window(),
+            flight: path.in_flight().bytes,
+            smoothed: nanos(path.rtt.get()),
+        };
+        if self.now < self.from {
+            self.begin(noted, told)
+        } else if self.now <= self.end() {
+            self.note(done, told, noted)
+        } else {
+            Ok(())
+        }
     }
 
-    fn note(
-        &mut self,
-        done: bool,
-        told: Told,
-        window: u64,
-        flight: u64,
-        smoothed: u64,
-    ) -> Result<(), NoMemory> {
+    /// Notes what stands where the picture begins.
+    fn begin(&mut self, noted: Noted, told: Told) -> Result<(), NoMemory> {
+        put_first(&mut self.window, self.from, noted.window)?;
+        put_first(&mut self.flight, self.from, noted.flight)?;
+        match told {
+            Told::Sample(_) => put_first(&mut self.smoothed, self.from, noted.smoothed),
+            _ => Ok(()),
+        }
+    }
+
+    fn note(&mut self, done: bool, told: Told, noted: Noted) -> Result<(), NoMemory> {
         let x = self.now;
-        push_change(&mut self.window, Point { x, y: window })?;
-        push_change(&mut self.flight, Point { x, y: flight })?;
+        push_change(&mut self.window, Point { x, y: noted.window })?;
+        push_change(&mut self.flight, Point { x, y: noted.flight })?;
         match told {
             Told::Loss if done => self.losses.push(x)?,
             Told::Sample(rtt) => {
                 self.samples.push(Point { x, y: rtt })?;
-                self.smoothed.push(Point { x, y: smoothed })?;
+                let y = noted.smoothed;
+                self.smoothed.push(Point { x, y })?;
             }
             _ => {}
         }
         Ok(())
     }
+}
+
+/// The one point of a curve that begins at a moment.
+fn put_first(points: &mut Vec<Point>, x: u64, y: u64) -> Result<(), NoMemory> {
+    match points.last_mut() {
+        Some(last) => last.y = y,
+        None => points.push(Point { x, y })?,
+    }
+    Ok(())
 }
 
 /// A point behind others, where its height is not that of the last one.
@@ -131,6 +177,16 @@ fn hold(points: &mut Vec<Point>, now: u64) -> Result<(), NoMemory> {
     Ok(())
 }
 
+/// The first moment that an event tells, in nanoseconds, or zero.
+pub fn first_moment(events: &[Event<ItemQueue>]) -> u64 {
+    for event in events {
+        if let Some(now) = moment_of(event) {
+            return now.as_nanos();
+        }
+    }
+    0
+}
+
 /// The moment that an event tells.
 fn moment_of(event: &Event<ItemQueue>) -> Option<Instant> {
     match event {
@@ -141,6 +197,9 @@ fn moment_of(event: &Event<ItemQueue>) -> Option<Instant> {
         | Event::PacerCheck { now, .. }
         | Event::Congestion { now, .. }
         | Event::EndAcks { now, .. }
+        | Event::IssueIds { now, .. }
+        | Event::NewPath { now, .. }
+        | Event::ResetPath { now }
         | Event::PollMtu { now }
         | Event::LossesDone { now } => Some(*now),
         _ => None,

@@ -1,7 +1,7 @@
 //! Two panels: window and flight above, round-trip times below.
 
 use super::curves::Curves;
-use crate::panels::{KILOBYTE, MILLISECOND, highest, lower, sheet, up_to, upper};
+use crate::panels::{KILOBYTE, highest, lower, name_of, sheet, unit_for, up_to, upper};
 use crate::plot::axis::{Axis, Panel, Point};
 use crate::plot::picture::{Mark, Picture, Style};
 use std::alloc::{AllocError, Global};
@@ -9,12 +9,37 @@ use std::alloc::{AllocError, Global};
 /// The picture of the curves of a run over controllers of this name.
 pub fn draw(alloc: Global, controller: &str, curves: &Curves) -> Result<String, AllocError> {
     let mut picture = sheet(alloc, "Window, flight and round-trip time");
-    let time = up_to(curves.now, MILLISECOND);
-    let bytes = over(&curves.window, &curves.flight, KILOBYTE);
-    draw_flight(&mut picture, &upper(time, bytes), controller, curves);
-    let spans = over(&curves.samples, &curves.smoothed, MILLISECOND);
-    draw_rtt(&mut picture, &lower(time, spans), curves);
+    let time = time(curves);
+    let across = name_across(alloc, &time)?;
+    let flight = upper(time, over(&curves.window, &curves.flight, KILOBYTE));
+    picture.axes(&flight, across.as_str(), "kB");
+    draw_flight(&mut picture, &flight, controller, curves);
+    let longest = highest(&curves.samples).max(highest(&curves.smoothed));
+    let unit = unit_for(longest);
+    let spans = lower(time, over(&curves.samples, &curves.smoothed, unit));
+    picture.axes(&spans, across.as_str(), name_of(unit));
+    draw_rtt(&mut picture, &spans, curves);
     picture.finish()
+}
+
+/// Time, whose numbers count from the first moment of the script.
+fn time(curves: &Curves) -> Axis {
+    let end = curves.end();
+    Axis {
+        least: curves.from,
+        most: end,
+        unit: unit_for(end.saturating_sub(curves.from)),
+        zero: curves.first,
+    }
+}
+
+/// What the numbers of time count.
+fn name_across(alloc: Global, time: &Axis) -> Result<String, AllocError> {
+    let unit = name_of(time.unit);
+    match time.zero {
+        0 => format!(in alloc; "time, {unit}"),
+        zero => format!(in alloc; "time from {zero} ns on, {unit}"),
+    }
 }
 
 /// An axis up to a tenth above the highest of these points.
@@ -24,7 +49,6 @@ fn over(points: &[Point], others: &[Point], unit: u64) -> Axis {
 }
 
 fn draw_flight(picture: &mut Picture, panel: &Panel, controller: &str, curves: &Curves) {
-    picture.axes(panel, "time, ms", "kB");
     picture.steps(panel, &curves.flight, Style::Thin);
     picture.steps(panel, &curves.window, Style::Solid);
     picture.ticks(panel, &curves.losses, Style::Dashed);
@@ -34,7 +58,6 @@ fn draw_flight(picture: &mut Picture, panel: &Panel, controller: &str, curves: &
 }
 
 fn draw_rtt(picture: &mut Picture, panel: &Panel, curves: &Curves) {
-    picture.axes(panel, "time, ms", "ms");
     picture.dots(panel, &curves.samples, Style::Thin);
     picture.steps(panel, &curves.smoothed, Style::Solid);
     picture.legend(panel, 1, "smoothed", Mark::Line, Style::Solid);

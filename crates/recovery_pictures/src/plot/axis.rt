@@ -8,9 +8,11 @@ pub struct Axis {
     pub least: u64,
     /// The value at its end.
     pub most: u64,
-    /// How many of the values make one of what its numbers count: 1,000,000 where nanoseconds are shown as milliseconds. 0 is
-    /// taken for 1.
+    /// How many of the values make one of what its numbers count: 1,000,000 where nanoseconds are shown as
+    /// milliseconds. 0 is taken for 1.
     pub unit: u64,
+    /// The value from which its numbers count.
+    pub zero: u64,
 }
 
 /// A value on each of two axes.
@@ -23,8 +25,8 @@ pub struct Point {
 }
 
 impl Axis {
-    /// How far along a length a value stands: at 0 for the least, at its end for the most. A value outside stands at the end
-    /// that it passes.
+    /// How far along a length a value stands: at 0 for the least, at its end for the most. A value outside stands at
+    /// the end that it passes.
     pub fn place(&self, value: u64, length: u64) -> u64
         ensures { result ≤ length }
     {
@@ -47,10 +49,11 @@ impl Axis {
         round_up(span / marks.max(1)).saturating_mul(unit)
     }
 
-    /// The first mark, where two are so far apart: the least multiple of the distance within the axis.
+    /// The first mark, where two are so far apart: the least number of distances from its zero that lies within the
+    /// axis.
     pub fn first_mark(&self, step: u64) -> u64 {
         let step = step.max(1);
-        let over = self.least % step;
+        let over = self.least.saturating_sub(self.zero) % step;
         if over == 0 {
             self.least
         } else {
@@ -58,9 +61,9 @@ impl Axis {
         }
     }
 
-    /// What stands at a mark: the value in its unit.
+    /// What stands at a mark: how far it is from its zero, in its unit.
     pub fn number(&self, value: u64) -> u64 {
-        value / self.unit.max(1)
+        value.saturating_sub(self.zero) / self.unit.max(1)
     }
 }
 
@@ -84,7 +87,8 @@ fn reaches(wanted: u64, ten: u64) -> Option<u64> {
         .find(|step| wanted <= *step)
 }
 
-/// A frame on a picture, with an axis along its lower edge and one along its left. All places are in units of the picture.
+/// A frame on a picture, with an axis along its lower edge and one along its left. All places are in units of the
+/// picture.
 #[derive(Clone, Copy)]
 pub struct Panel {
     /// Where it begins, from the left.

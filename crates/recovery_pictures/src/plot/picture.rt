@@ -57,6 +57,9 @@ pub enum Mark {
 /// How high a tick is, and the bar of a legend.
 const TICK: u64 = 24;
 
+/// How high a bar is at least, so that it is seen.
+const LOWEST: u64 = 8;
+
 /// How the points of a line are joined.
 #[derive(Clone, Copy)]
 enum Joined {
@@ -82,8 +85,8 @@ impl Anchor {
     }
 }
 
-/// An SVG picture. Each call draws above what was drawn before. Where memory is refused, what is drawn is a part: `finish` tells it, and
-/// nobody who draws has to ask.
+/// An SVG picture. Each call draws above what was drawn before. Where memory is refused, what is drawn is a part:
+/// `finish` tells it, and nobody who draws has to ask.
 #[derive(Drop)]
 pub struct Picture {
     text: String,
@@ -107,7 +110,8 @@ impl Picture {
     fn sheet(&mut self, width: u16, height: u16) {
         let drawn = writeln!(
             self.text,
-            "<svg xmlns=\"http://www.w3.org/2000/svg\" viewBox=\"0 0 {width} {height}\" width=\"{}\" height=\"{}\" font-family=\"sans-serif\" font-size=\"24\">",
+            "<svg xmlns=\"http://www.w3.org/2000/svg\" viewBox=\"0 0 {width} {height}\" width=\"{}\" height=\"{}\" \
+             font-family=\"sans-serif\" font-size=\"24\">",
             width / 2,
             height / 2
         );
@@ -180,11 +184,12 @@ impl Picture {
         }
     }
 
-    /// A bar from the lower edge to each point.
+    /// A bar from the lower edge to each point, however low that is.
     pub fn bars(&mut self, panel: &Panel, points: &[Point], style: Style) {
         for point in points {
-            let top = panel.down(point.y);
-            let height = panel.bottom().saturating_sub(top);
+            let bottom = panel.bottom();
+            let top = panel.down(point.y).min(bottom.saturating_sub(LOWEST));
+            let height = bottom.saturating_sub(top);
             self.bar(panel.across(point.x), top, height, style);
         }
     }
@@ -196,7 +201,8 @@ impl Picture {
         }
     }
 
-    /// What a mark in a style stands for: the mark and its name above a panel, in the column of that number, counted from the right.
+    /// What a mark in a style stands for: the mark and its name above a panel, in the column of that number, counted
+    /// from the right.
     pub fn legend(&mut self, panel: &Panel, column: u16, name: &str, mark: Mark, style: Style) {
         let left = panel
             .right()

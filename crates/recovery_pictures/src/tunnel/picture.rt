@@ -19,6 +19,7 @@ fn draw_search(picture: &mut Picture, tunnel: &Tunnel) {
         least: 1180,
         most: u64::from(LARGEST) + 20,
         unit: 1,
+        zero: 0,
     };
     let panel = upper(up_to(tunnel.now(), SECOND), sizes);
     picture.axes(&panel, "time, s", "bytes");

@@ -1,0 +1,162 @@
+//! What the arguments ask for.
+
+use crate::start::Window;
+use recovery_lines::number_in;
+
+/// What `--version` writes.
+pub const VERSION: &str = "recovery-pictures 0.11.19\n";
+
+/// What `--help` writes.
+pub const HELP: &str = "\
+usage: recovery-pictures connection [from=MOMENT] [to=MOMENT] [SEED [WINDOW]] | tunnel | burst
+Draws what a connection, a path or a burst did: reads a text from standard input, and writes an SVG picture.
+
+  connection  a script of recovery-replay: window, flight and round-trip time
+    from, to  draws what lies between two moments of the script, in nanoseconds; none: all of it
+    SEED      skips packet numbers as this seed draws them (0 to 18446744073709551615); -, or none: skips none
+    WINDOW    a congestion window that never changes, in bytes, above 0; none: NewReno
+  tunnel      a line for each measurement of a link, 'SIZE yes' or 'SIZE no': the search for the MTU
+  burst       a line 'newreno paced 400': NewReno, or a window in bytes; paced, or unchecked; milliseconds.
+              Behind it, where the link is another: rate=10000 (kbit/s), delay=25 (ms there and back),
+              queue=20 (packets), loss=0 (one packet in so many, 0 for none)
+  --help      writes this
+  --version   writes which recovery this is
+
+Status: 0, or 1 where reading, writing or memory failed, or 2 where the arguments or the text could not be read.
+";
+
+/// How a connection is drawn.
+#[derive(Clone, Copy)]
+pub struct Choice {
+    /// What skipped numbers are drawn by; without it none is skipped.
+    pub seed: Option<u64>,
+    /// Which window limits what is in flight.
+    pub window: Window,
+    /// The moment at which the picture begins, in nanoseconds; without it the first one of the script.
+    pub from: Option<u64>,
+    /// The moment at which it ends, in nanoseconds; without it the last one of the script.
+    pub to: Option<u64>,
+}
+
+/// What the arguments ask for.
+#[derive(Clone, Copy)]
+pub enum Request {
+    /// What a connection did.
+    Connection(Choice),
+    /// The search for a path's MTU, and a burst that is paced.
+    Tunnel,
+    /// A burst over a slow link, paced or not.
+    Burst,
+    /// How the program is called.
+    Help,
+    /// Which recovery it is.
+    Version,
+    /// Nothing that it knows.
+    Unknown,
+}
+
+/// How many words that are no moments came already.
+#[derive(Clone, Copy)]
+enum Place {
+    Seed,
+    Window,
+    End,
+}
+
+/// What the words behind the program's name ask for.
+pub fn request_of(words: &[String]) -> Request {
+    for word in words {
+        match word.as_str() {
+            "--help" => return Request::Help,
+            "--version" => return Request::Version,
+            _ => {}
+        }
+    }
+    match words {
+        [name] if name.as_str() == "tunnel" => Request::Tunnel,
+        [name] if name.as_str() == "burst" => Request::Burst,
+        [name, rest @ ..] if name.as_str() == "connection" => connection_of(rest),
+        _ => Request::Unknown,
+    }
+}
+
+/// The picture of a connection that these words choose.
+fn connection_of(words: &[String]) -> Request {
+    let mut choice = Choice {
+        seed: None,
+        window: Window::NewReno,
+        from: None,
+        to: None,
+    };
+    let mut place = Place::Seed;
+    for word in words {
+        match with_word(choice, place, word.as_str()) {
+            Some((with, next)) => {
+                choice = with;
+                place = next;
+            }
+            None => return Request::Unknown,
+        }
+    }
+    match (choice.from, choice.to) {
+        (Some(from), Some(to)) if to <= from => Request::Unknown,
+        _ => Request::Connection(choice),
+    }
+}
+
+/// The choice with a word.
+fn with_word(choice: Choice, place: Place, word: &str) -> Option<(Choice, Place)> {
+    match word.split_once('=') {
+        Some((name, moment)) => {
+            let moment = number_in(moment.as_bytes())?;
+            Some((with_moment(choice, name, moment)?, place))
+        }
+        None => with_number(choice, place, word),
+    }
+}
+
+/// The choice with a moment of this name.
+fn with_moment(choice: Choice, name: &str, moment: u64) -> Option<Choice> {
+    match name {
+        "from" => Some(Choice {
+            from: Some(moment),
+            ..choice
+        }),
+        "to" => Some(Choice {
+            to: Some(moment),
+            ..choice
+        }),
+        _ => None,
+    }
+}
+
+/// The choice with a seed, or behind it a window.
+fn with_number(choice: Choice, place: Place, word: &str) -> Option<(Choice, Place)> {
+    match place {
+        Place::Seed => {
+            let seed = seed_in(word)?;
+            Some((Choice { seed, ..choice }, Place::Window))
+        }
+        Place::Window => {
+            let window = fixed(word)?;
+            Some((Choice { window, ..choice }, Place::End))
+        }
+        Place::End => None,
+    }
+}
+
+/// The seed that a word names, a number, or `-` for none.
+fn seed_in(word: &str) -> Option<Option<u64>> {
+    match word {
+        "-" => Some(None),
+        _ => Some(Some(number_in(word.as_bytes())?)),
+    }
+}
+
+/// The window that a word names, in bytes and above zero.
+fn fixed(word: &str) -> Option<Window> {
+    match number_in(word.as_bytes())? {
+        0 => None,
+        bytes => Some(Window::Fixed(bytes)),
+    }
+}
