@@ -27,7 +27,7 @@ use recovery_queue::items::ItemQueue;
 use recovery_skips::Skips;
 use std::alloc::Global;
 use std::io;
-use std::io::{Read, Write};
+use std::io::{ErrorKind, Read, Write};
 use std::net::SocketAddr;
 
 /// The port of the peer's first address, which `peer_at` names.
@@ -40,6 +40,8 @@ pub enum Outcome {
     Ended(Ending),
     /// A write of the answers failed; a beginning of them was written.
     WriteFailed,
+    /// Nobody reads the answers any more (a closed pipe); a beginning of them was written.
+    Closed,
     /// Memory was refused before anything was written.
     OutOfMemory,
     /// The arguments are wrong; nothing was read or written.
@@ -48,24 +50,24 @@ pub enum Outcome {
 
 impl Outcome {
     /// The exit status: 0 where all went well, 2 where the arguments or a line are wrong, 1 where reading, writing or
-    /// memory failed.
+    /// memory failed. That nobody reads on is no failure.
     pub fn status(self) -> u8
         ensures { result ≡ status_of self }
     {
         match self {
-            Outcome::Ended(Ending::Whole) => 0,
+            Outcome::Ended(Ending::Whole) | Outcome::Closed => 0,
             Outcome::Ended(Ending::BadLine(_)) | Outcome::WrongArguments => 2,
             Outcome::Ended(Ending::ReadFailed) | Outcome::WriteFailed | Outcome::OutOfMemory => 1,
         }
     }
 
-    /// What is wrong, with a line feed behind; empty where all went well. It takes no memory.
+    /// What is wrong, with a line feed behind; empty where nothing is. It takes no memory.
     pub fn text(self) -> ArrayString<64>
         ensures { result.bytes ≡ error_text self }
     {
         let mut text = ArrayString::new();
         match self {
-            Outcome::Ended(Ending::Whole) => {}
+            Outcome::Ended(Ending::Whole) | Outcome::Closed => {}
             Outcome::Ended(Ending::BadLine(number)) => {
                 text.push_str("line ");
                 text.push_str(Buffer::new().format(number));
@@ -254,6 +256,7 @@ fn play<R: Read, W: Write>(
     };
     match deliver(output, text.as_bytes()) {
         Ok(()) => Outcome::Ended(ending),
+        Err(error) if error.kind() == ErrorKind::BrokenPipe => Outcome::Closed,
         Err(_) => Outcome::WriteFailed,
     }
 }
