@@ -7,9 +7,12 @@ import json
 import os
 import pathlib
 import re
+import select
 import subprocess
 import sys
 import threading
+
+import program as rows
 
 ROOT = pathlib.Path(__file__).resolve().parent.parent
 PROGRAM = ROOT / "crates" / "recovery_trace" / "out" / "recovery_trace"
@@ -38,11 +41,29 @@ BAD = [
     ("next-timeout now", 'cannot read word 2, "now"'),
     ("lost data \tx", 'cannot read word 3, "\\tx"'),
     ("lost data " + "9" * 80, 'cannot read word 3, "' + "9" * 64 + '"'),
+    ('lost data \\"', 'cannot read word 3, "\\\\\\""'),
+    ("lost data é", 'cannot read word 3, "é"'),
+    ("lost data \x1b[2J", 'cannot read word 3, "\\u{1b}[2J"'),
+    # of a character at the end of what is shown all or nothing
+    ("x" * 63 + "é", f'cannot read word 1, "{"x" * 63}"'),
+    ("x" * 62 + "éé", f'cannot read word 1, "{"x" * 62}é"'),
+    ("x" * 61 + "𝄞", f'cannot read word 1, "{"x" * 61}"'),
     ("received data 0", "words are missing behind the last one"),
     ("lost data", "words are missing behind the last one"),
     ("send data 0 1200 1 -" + " 1" * 2039, "longer than 4096 bytes"),
     ("x" * 5000, "longer than 4096 bytes"),
 ]
+
+# the same of words that are no UTF-8
+BYTES = [
+    (b"\xff\xfe", r'cannot read word 1, "\xff\xfe"'),
+    (b"lost data x\xc3", r'cannot read word 3, "x\xc3"'),
+    (b"lost data \x80" + b"\x81" * 80, r'cannot read word 3, "\x80' + r"\x81" * 59 + '"'),
+]
+
+# lines and answers that tell how a trace begins: 1.25 windows of 12,000 bytes a round-trip time of 1 ns are more than the bucket's
+# 12,000 bytes, 1 ns behind the beginning, which is the moment 0 (RFC 9002, 7.7)
+BEGINNING = [("sample 0 1", "done"), ("transmit 0 12000 0", "transmitted"), ("pacer-check 1 12000", "ready")]
 
 # arguments, with status, output and errors over one good line
 ARGUMENTS = [
@@ -50,7 +71,14 @@ ARGUMENTS = [
     (["7", "24000"], 0, ANSWER + "\n", ""),
     (["--strict", "-", "18446744073709551615"], 0, ANSWER + "\n", ""),
     (["--version"], 0, "recovery-trace 0.11.19\n", ""),
+    (["7", "--strict", "24000"], 0, ANSWER + "\n", ""),
+    (["7", "24000", "--version"], 0, "recovery-trace 0.11.19\n", ""),
+    (["--version", "--help", "x"], 0, "recovery-trace 0.11.19\n", ""),
+    (["x", "--version"], 2, "", USAGE),
+    (["--state", "--strict", "1", "2", "3"], 2, "", USAGE),
     (["--states"], 2, "", USAGE),
+    (["-", "-"], 2, "", USAGE),
+    (["18446744073709551616"], 2, "", USAGE),
     (["01"], 2, "", USAGE),
     (["1", "0"], 2, "", USAGE),
     (["1", "2", "3"], 2, "", USAGE),
@@ -82,6 +110,15 @@ def scripts():
                 expect(f"{script.name} with {words}", ran(words, script.read_text()), wanted)
 
 
+def every_row():
+    """The scripts of tests/rows, with the arguments that they name: those of recovery-replay are those of recovery-trace."""
+    for path in sorted(rows.ROWS.glob("*.txt")):
+        for place, words, lines, answers in rows.scripts(path):
+            if answers is not None:
+                wanted = "".join(f"{answer}\n" for answer in answers)
+                expect(f"{path.name}, line {place}", ran(words, "\n".join(lines)), (0, wanted, ""))
+
+
 def recording():
     """The beginning of a recording of a real connection, as the picture of it has it."""
     script = (ROOT / "tests" / "pictures" / "connection.txt").read_text()
@@ -90,16 +127,17 @@ def recording():
 
 
 def lockstep():
-    """The answer to a line comes before the next one is sent."""
+    """The answer to a line is in the pipe, flushed, before the next one is sent."""
     script = ROOT / "examples" / "paths.txt"
-    answers = []
-    with subprocess.Popen([PROGRAM], stdin=subprocess.PIPE, stdout=subprocess.PIPE, text=True, bufsize=1) as run:
-        for line in script.read_text().splitlines():
-            run.stdin.write(line + "\n")
-            run.stdin.flush()
-            answers.append(run.stdout.readline())
+    answers = b""
+    with subprocess.Popen([PROGRAM], stdin=subprocess.PIPE, stdout=subprocess.PIPE, bufsize=0) as run:
+        for line in script.read_bytes().splitlines(keepends=True):
+            run.stdin.write(line)
+            if not select.select([run.stdout], [], [], 20)[0]:
+                break
+            answers += run.stdout.read(4096)
         run.stdin.close()
-        expect("lockstep", (run.wait(), "".join(answers)), (0, script.with_suffix(".out").read_text()))
+        expect("lockstep", (run.wait(), answers), (0, script.with_suffix(".out").read_bytes()))
 
 
 def lines():
@@ -107,6 +145,12 @@ def lines():
     expect("no input", ran([], ""), (0, "", ""))
     for bad, told in BAD:
         expect(f"{bad[:40]!r}", ran([], f"{GOOD}\n\n{bad}\n{GOOD}\n"), (2, f"{ANSWER}\n{ANSWER}\n", f"line 3: {told}\n"))
+    for bad, told in BYTES:
+        run = subprocess.run([PROGRAM], input=bad + b"\n" + GOOD.encode(), capture_output=True)
+        found = run.returncode, run.stdout, run.stderr
+        expect(f"{bad[:40]!r}", found, (2, f"{ANSWER}\n".encode(), f"line 1: {told}\n".encode()))
+    script, wanted = ("".join(f"{pair[at]}\n" for pair in BEGINNING) for at in (0, 1))
+    expect("the beginning", ran([], script), (0, wanted, ""))
     strict = ran(["--strict"], f"{GOOD}\n{BAD[0][0]}\n{GOOD}\n")
     expect("strict", strict, (2, f"{ANSWER}\n", f"line 2: {BAD[0][1]}\n"))
     expect("the last line", ran([], "lost data 0\nlost data"), (2, "refused 4 NotTracked\n", f"line 2: {BAD[-3][1]}\n"))
@@ -118,11 +162,28 @@ def arguments():
     status, text, errors = ran(["--help"], "")
     expect("help", (status, text.startswith(USAGE), errors), (0, True, ""))
     with open("/dev/full", "wb") as full:
-        run = subprocess.run([PROGRAM], input=GOOD.encode(), stdout=full, stderr=subprocess.PIPE)
-    expect("a failed write", (run.returncode, run.stderr), (1, b"recovery-trace: write failed\n"))
+        for words in [], ["--help"], ["--version"]:
+            run = subprocess.run([PROGRAM, *words], input=GOOD.encode(), stdout=full, stderr=subprocess.PIPE)
+            expect(f"a failed write, {words}", (run.returncode, run.stderr), (1, b"recovery-trace: write failed\n"))
     folder = os.open(ROOT, os.O_RDONLY)
     run = subprocess.run([PROGRAM], stdin=folder, capture_output=True)
     expect("a failed read", (run.returncode, run.stdout, run.stderr), (1, b"", b"recovery-trace: read failed\n"))
+
+
+def closed_pipe():
+    """Whoever reads the answers takes the first one and goes: no failure."""
+    with subprocess.Popen([PROGRAM], stdin=subprocess.PIPE, stdout=subprocess.PIPE, stderr=subprocess.PIPE, bufsize=0) as run:
+        run.stdin.write(f"{GOOD}\n".encode())
+        expect("the first answer", run.stdout.readline(), f"{ANSWER}\n".encode())
+        run.stdout.close()
+        run.stdin.write(f"{GOOD}\n".encode() * 2)
+        expect("a closed pipe", (run.wait(), run.stderr.read()), (0, b""))
+    for words in [], ["--state"], ["--help"], ["--version"]:
+        left, right = os.pipe()
+        os.close(left)
+        run = subprocess.run([PROGRAM, *words], input=GOOD.encode(), stdout=right, stderr=subprocess.PIPE)
+        os.close(right)
+        expect(f"nobody reads, {words}", (run.returncode, run.stderr), (0, b""))
 
 
 def states():
@@ -166,7 +227,7 @@ def main():
     global PROGRAM
     if len(sys.argv) > 1:
         PROGRAM = pathlib.Path(sys.argv[1]).resolve()
-    for part in scripts, recording, lockstep, lines, arguments, states, page, memory:
+    for part in scripts, every_row, recording, lockstep, lines, arguments, closed_pipe, states, page, memory:
         part()
     print(f"trace: {passed} passed, {failed} failed")
     return int(failed > 0)

@@ -1,5 +1,6 @@
 -- What is said of a line that spells no event.
-use Rattle.std.specs.Prelude.{◌≡◌, ℕ, ◌-◌, ◌<◌, ◌⊎◌, List, ◌++◌, length, take}
+use Rattle.std.specs.Prelude.{◌≡◌, ◌≢◌, ℕ, ◌+◌, ◌-◌, ◌<◌, ◌≤◌, ◌==◌, ◌⊎◌, List, ◌++◌, length, take, slice_index}
+use Rattle.std.specs.List.{count_by}
 use Rattle.recovery_lines.specs.Lines.{ItemEvent, Spells}
 use Rattle.recovery_trace.specs.declared.faults.Fault.{Fault}
 use Rattle.recovery_trace.specs.declared.faults.Fault.TheVariants.{TooLong, TooShort, Word}
@@ -8,8 +9,22 @@ use Rattle.recovery_trace.specs.declared.faults.Fault.TheVariants.{TooLong, TooS
 abbrev pub Begins : List ℕ → Type 0
 Begins front = (behind : List ℕ) × (event : ItemEvent) × Spells (front ++ behind) event
 
--- up to the space before the word that is named, some line that begins so spells an event
+-- what stands from one place of a line up to another has no space, and the line ends there or a space follows
+pub record EndsWord (line : List ℕ) (start end : ℕ) : Type 0 where
+  pub from : start ≤ end
+  pub within : end ≤ length line
+  pub whole : (place : ℕ) → start ≤ place → place < end → slice_index line place ≢ 32
+  pub ended : end < length line → slice_index line end ≡ 32
+
+-- A word of a line: its number is the spaces before it and one. It is the first, or what stands before the space in front of
+-- it begins a line that spells an event.
+pub record NamesWord (line : List ℕ) (number start end : ℕ) : Type 0 where
+  pub short : length line ≤ 4096
+  pub word : EndsWord line start end
+  pub counted : number ≡ count_by (λ byte. byte == 32) (take start line) + 1
+  pub begun : (start ≡ 0) ⊎ ((slice_index line (start - 1) ≡ 32) × Begins (take (start - 1) line))
+
 abbrev pub Names : List ℕ → Fault → Type 0
 Names line TooLong = 4096 < length line
 Names line TooShort = Begins line
-Names line (Word number start end) = (start ≡ 0) ⊎ Begins (take (start - 1) line)
+Names line (Word number start end) = NamesWord line number start end

@@ -1,4 +1,7 @@
 pub mod Faults
+pub mod Outcomes
 pub mod Reading
 pub mod States
+pub mod Telling
 pub mod Trace
+pub mod Turns

@@ -1,8 +1,11 @@
 -- What reading one line takes from an input.
-use Rattle.std.specs.Prelude.{◌≡◌, ◌≢◌, ℕ, List, [], ◌∷◌, ◌++◌, take, All, Option, None, Some}
+use Rattle.std.specs.Prelude.{◌≡◌, ℕ, ◌<◌, ◌⊎◌, List, [], ◌∷◌, ◌++◌, length, take, Option, None, Some}
 use Rattle.std.specs.Io.KnownBytes.{Consumes, IsAtEnd}
+use Rattle.recovery_replay.specs.Script.{NoFeed}
+use Rattle.recovery_trace.specs.declared.outcome.Outcome.{Outcome}
+use Rattle.recovery_trace.specs.declared.outcome.Outcome.TheVariants.{OutOfMemory, ReadFailed}
 use Rattle.recovery_trace.specs.declared.reading.Next.{Next}
-use Rattle.recovery_trace.specs.declared.reading.Next.TheVariants.{Line, Last, End}
+use Rattle.recovery_trace.specs.declared.reading.Next.TheVariants.{Line, Last}
 
 -- one byte was taken, or the input is over
 abbrev pub IsByte : Option (List ℕ) → Option (List ℕ) → Option ℕ → Type 0
@@ -11,11 +14,17 @@ IsByte before after (Some byte) = Consumes before after (byte ∷ [])
 
 -- a line of which this is kept: all of it, but of a long one no more than tells that it is long
 pub record Kept (line kept : List ℕ) : Type 0 where
-  pub no_feed : All (λ byte. byte ≢ 10) line
+  pub no_feed : NoFeed line
   pub is : kept ≡ take 4097 line
 
 -- a line was taken and its line feed, or the last line without one, or nothing was left
-abbrev pub IsLine : Option (List ℕ) → Option (List ℕ) → List ℕ → Next → Type 0
-IsLine before after kept Line = (line : List ℕ) × Kept line kept × Consumes before after (line ++ 10 ∷ [])
-IsLine before after kept Last = (line : List ℕ) × Kept line kept × Consumes before after line × IsAtEnd after
-IsLine before after kept End = Consumes before after [] × IsAtEnd after
+abbrev pub IsLine : Option (List ℕ) → Option (List ℕ) → List ℕ → Option Next → Type 0
+IsLine before after kept (Some Line) = (line : List ℕ) × Kept line kept × Consumes before after (line ++ 10 ∷ [])
+IsLine before after kept (Some Last) =
+    (line : List ℕ) × Kept line kept × (0 < length line) × Consumes before after line × IsAtEnd after
+IsLine before after kept None = Consumes before after [] × IsAtEnd after
+
+-- a read failed, or memory was refused, behind bytes of a line that goes on
+abbrev pub BreaksOff : Option (List ℕ) → Option (List ℕ) → Outcome → Type 0
+BreaksOff before after outcome =
+    (cut : List ℕ) × NoFeed cut × Consumes before after cut × ((outcome ≡ ReadFailed) ⊎ (outcome ≡ OutOfMemory))

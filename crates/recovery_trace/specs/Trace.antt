@@ -1,56 +1,160 @@
--- What a line of a trace comes to.
-use Rattle.std.specs.Prelude.{◌≡◌, ℕ, ◌⊎◌, Bool, true, false, List, [], ◌++◌, Option}
-use Rattle.std.specs.Io.KnownBytes.{Appends, Keeps}
+-- What a trace makes of its input.
+use Rattle.std.specs.Prelude.{◌≡◌, ℕ, ◌+◌, ◌≤◌, ◌⊎◌, Bool, true, false, List, [], ◌∷◌, ◌++◌, length, reverse, take, All, Option, MatchOption}
+use Rattle.std.specs.List.{Any, flat_map}
+use Rattle.std.specs.declared.net.socket_addr.SocketAddr.{SocketAddr}
+use Rattle.std.specs.Io.KnownBytes.{Appends, Consumes, IsAtEnd}
+use Rattle.rand_core.specs.Stream.{Stream}
 use Rattle.recovery_congestion.specs.Controllers.{ControllerWords}
+use Rattle.recovery_congestion.specs.NewReno.{reno_made, reno_words}
+use Rattle.recovery_congestion.specs.RenoSettings.{default_reno}
 use Rattle.quic_recovery.specs.declared.driver.Recovery.{Recovery}
-use Rattle.quic_recovery.specs.Parts.{Parts}
-use Rattle.quic_recovery.specs.Past.{Goes}
+use Rattle.quic_recovery.specs.declared.driver.RecoveryConfig.{RecoveryConfig}
+use Rattle.quic_recovery.specs.History.{AtEach, Beginning, History, begins, queue_meaning}
+use Rattle.quic_recovery.specs.Past.{Came, Keeps}
 use Rattle.quic_recovery.specs.State.{parts_of}
-use Rattle.recovery_answers.specs.Answers.{Reply, answer_line}
-use Rattle.recovery_lines.specs.Lines.{ItemEvent, Spells}
-use Rattle.recovery_trace.specs.declared.trace.Outcome.{Outcome}
-use Rattle.recovery_trace.specs.declared.trace.Outcome.TheVariants.{Ended, BadLine, ReadFailed, WriteFailed, OutOfMemory, WrongArguments}
-use Rattle.recovery_trace.specs.declared.trace.Turn.{Turn}
-use Rattle.recovery_trace.specs.declared.trace.Turn.TheVariants.{Over}
-use Rattle.recovery_trace.specs.States.{state_text}
+use Rattle.recovery_lines.specs.Lines.{IsAt, Spells}
+use Rattle.recovery_replay.specs.FixedWindow.{fixed_made, fixed_words}
+use Rattle.recovery_replay.specs.Replay.{begun_over}
+use Rattle.recovery_replay.specs.Script.{NoFeed, ended, lines_of}
+use Rattle.recovery_replay.specs.Writing.{AppendsFront}
+use Rattle.recovery_trace.specs.declared.outcome.Outcome.{Outcome}
+use Rattle.recovery_trace.specs.declared.outcome.Outcome.TheVariants.{Ended, BadLine, ReadFailed, WriteFailed, Closed, OutOfMemory, WrongArguments}
+use Rattle.recovery_trace.specs.declared.requests.Choice.{Choice}
+use Rattle.recovery_trace.specs.Telling.{Tells}
+use Rattle.recovery_trace.specs.Turns.{IsBad, IsFine, ItemParts, Passes, turn_text}
 
--- the exit status
-abbrev pub status_of : Outcome → ℕ
-status_of Ended = 0
-status_of BadLine = 2
-status_of ReadFailed = 1
-status_of WriteFailed = 1
-status_of OutOfMemory = 1
-status_of WrongArguments = 2
+abbrev pub ItemHistory : Type 0
+ItemHistory = History (List ℕ) (Unit {0}) (Unit {0}) (List ℕ)
 
-abbrev pub ItemParts : Type 0 → Type 0
-ItemParts K = Parts K (List ℕ) (Unit {0})
+abbrev pub ItemBeginning : Type 0 → Type 0 → Type 0
+ItemBeginning F K = Beginning F K (List ℕ) (Unit {0}) (Unit {0}) (List ℕ)
 
--- the line of a reply, and behind it that of the state that is left, where it is asked for
-abbrev pub turn_text : {K : Type 0} → ControllerWords K → Bool → Reply → ItemParts K → List ℕ
-turn_text words true reply left = answer_line reply ++ state_text words left.paths.current
-turn_text words false reply left = answer_line reply
+-- ---- the lines of a trace, the newest first
 
--- a comment, an empty line, or one that cannot be read
-abbrev pub Passes : List ℕ → Type 0
-Passes line = (event : ItemEvent) → ¬ Spells line event
+-- they spell the events of a past, in their order; any other line spells none
+abbrev pub SpelledBy : List (List ℕ) → ItemHistory → Type 0
+SpelledBy [] [] = Unit {0}
+SpelledBy [] (happened ∷ past) = ⊥
+SpelledBy (line ∷ lines) [] = Passes line × SpelledBy lines []
+SpelledBy (line ∷ lines) (happened ∷ past) =
+    (Spells line happened.0 × SpelledBy lines past) ⊎ (Passes line × SpelledBy lines (happened ∷ past))
 
--- ---- one line
+-- what is told of them: of each that cannot be read a line, or a beginning of one that could not be written
+abbrev pub ToldOf : List (List ℕ) → List ℕ → Type 0
+ToldOf [] told = told ≡ []
+ToldOf (line ∷ lines) told =
+    (IsFine line × ToldOf lines told)
+    ⊎ (IsBad line × ((front : List ℕ) × (text : List ℕ) × (n : ℕ) × ToldOf lines front
+    × Tells line (length lines + 1) text × (told ≡ front ++ take n text)))
+
+module _ {F K : Type 0} (beginning : ItemBeginning F K) (shows : Bool) where
+  -- what is written of a past: of each event the line of its reply, and behind it, where it is asked for, that of the state
+  -- to which the past came by then
+  abbrev pub WrittenOf : ItemHistory → List ℕ → Type 0
+  WrittenOf [] text = text ≡ []
+  WrittenOf (happened ∷ past) text =
+      (front : List ℕ) × (left : ItemParts K) × WrittenOf past front × Came beginning (happened ∷ past) left
+      × (text ≡ front ++ turn_text beginning.words shows happened.1 left)
+
+  -- What these lines spell happened, and all that is promised of whole runs holds at each event; this is written of it,
+  -- and this is told of the lines.
+  pub record Traced (lines : List (List ℕ)) (text told : List ℕ) : Type 0 where
+    pub past : ItemHistory
+    pub spelled : SpelledBy lines past
+    pub keeps : AtEach (Keeps beginning) past
+    pub written : WrittenOf past text
+    pub is_told : ToldOf lines told
+
+-- ---- how a trace ends
+
+-- what an input had left before and after, and what an output and one for errors held
+pub record Streams : Type 0 where
+  pub unread : Option (List ℕ)
+  pub left : Option (List ℕ)
+  pub before : Option (List ℕ)
+  pub after : Option (List ℕ)
+  pub unsaid : Option (List ℕ)
+  pub said : Option (List ℕ)
+
+abbrev pub streams_of : (unread left before after unsaid said : Option (List ℕ)) → Streams
+streams_of unread left before after unsaid said =
+    record { unread = unread; left = left; before = before; after = after; unsaid = unsaid; said = said }
+
+-- bytes were taken that are these lines, the newest first; the last may lack its line feed
+abbrev pub Takes : Streams → List (List ℕ) → Type 0
+Takes streams lines =
+    (taken : List ℕ) × Consumes streams.unread streams.left taken × (lines_of taken ≡ reverse lines)
+
+-- they were taken, each with its line feed, and behind them what was not looked at
+abbrev pub TakesAlso : Streams → List (List ℕ) → List ℕ → Type 0
+TakesAlso streams lines more =
+    Consumes streams.unread streams.left (flat_map ended (reverse lines) ++ more)
+
+-- a trace that stops at a line that cannot be read has none behind it
+abbrev pub AreAllowed : Choice → List (List ℕ) → Type 0
+AreAllowed choice lines = choice.is_strict ≡ true → All IsFine lines
+
+-- the last line cannot be read, and those before can; or the input is over, and some line cannot be read
+abbrev pub EndsBad : Bool → Streams → List (List ℕ) → Type 0
+EndsBad true streams [] = ⊥
+EndsBad true streams (line ∷ lines) = IsBad line × All IsFine lines
+EndsBad false streams lines = Any IsBad lines × IsAtEnd streams.left
+
+module _ {F K : Type 0} (beginning : ItemBeginning F K) (choice : Choice) (streams : Streams) where
+  -- all of it was written and told
+  abbrev pub AllOut : List (List ℕ) → Type 0
+  AllOut lines =
+      (text : List ℕ) × (told : List ℕ) × Traced beginning choice.shows lines text told
+      × Appends streams.before streams.after text × Appends streams.unsaid streams.said told
+
+  -- a beginning of it was written
+  abbrev pub FrontOut : List (List ℕ) → Type 0
+  FrontOut lines =
+      (text : List ℕ) × (told : List ℕ) × Traced beginning choice.shows lines text told
+      × AppendsFront streams.before streams.after text × Appends streams.unsaid streams.said told
+
+  -- These lines were read, and all that they spell is out where the input is over or a read fails: of a line that this cuts
+  -- off nothing is. A write that breaks off is the last; where memory is refused, at most one line more was taken.
+  abbrev pub Traces : Outcome → Type 0
+  Traces Ended =
+      (lines : List (List ℕ)) × Takes streams lines × IsAtEnd streams.left × All IsFine lines × AllOut lines
+  Traces BadLine =
+      (lines : List (List ℕ)) × Takes streams lines × EndsBad choice.is_strict streams lines × AllOut lines
+  Traces ReadFailed =
+      (lines : List (List ℕ)) × ((cut : List ℕ) × NoFeed cut × TakesAlso streams lines cut)
+      × AreAllowed choice lines × AllOut lines
+  Traces WriteFailed = (lines : List (List ℕ)) × Takes streams lines × AreAllowed choice lines × FrontOut lines
+  Traces Closed = (lines : List (List ℕ)) × Takes streams lines × AreAllowed choice lines × FrontOut lines
+  Traces OutOfMemory =
+      (lines : List (List ℕ)) × ((more : List ℕ) × (length (lines_of more) ≤ 1) × TakesAlso streams lines more)
+      × AreAllowed choice lines × AllOut lines
+  Traces WrongArguments = ⊥
+
+-- ---- a trace from its beginning
 
 module _ {F R C K : Type 0} {f : _} {c : _} {q : _} {m : _} {r : _} where
-  -- the event that it spells is done, and its answer is the text; or it spells none, and nothing is done
-  abbrev pub Answers : Bool → List ℕ → Recovery F (List ℕ) R C K (Unit {0}) (Unit {0}) (List ℕ) f c q m r
-      → Recovery F (List ℕ) R C K (Unit {0}) (Unit {0}) (List ℕ) f c q m r → List ℕ → Bool → Type 0
-  Answers shows line old new text true =
-      (event : ItemEvent) × (reply : Reply) × Spells line event × Goes old event reply new
-      × (text ≡ turn_text c.words shows reply (parts_of new))
-  Answers shows line old new text false = Passes line × (parts_of new ≡ parts_of old) × (text ≡ [])
+  -- a beginning of a recovery over its own controllers and queues
+  abbrev pub origin : Recovery F (List ℕ) R C K (Unit {0}) (Unit {0}) (List ℕ) f c q m r → RecoveryConfig F → ℕ → Stream
+      → ItemBeginning F K
+  origin recovery config start random =
+      begins f.built c.words (queue_meaning q.contents q.words q.blank) config start random
 
-  -- the same, and the text was written; or the trace is over
-  abbrev pub Turns : Bool → List ℕ → Recovery F (List ℕ) R C K (Unit {0}) (Unit {0}) (List ℕ) f c q m r
-      → Recovery F (List ℕ) R C K (Unit {0}) (Unit {0}) (List ℕ) f c q m r → Option (List ℕ) → Option (List ℕ)
-      → Turn → Type 0
-  Turns shows line old new before after (Over outcome) =
-      (outcome ≡ WriteFailed) ⊎ ((outcome ≡ OutOfMemory) × Keeps before after)
-  Turns shows line old new before after other =
-      (spelled : Bool) × (text : List ℕ) × Answers shows line old new text spelled × Appends before after text
+  -- from a recovery on to which nothing has happened, however it began
+  abbrev pub TracesFrom : Recovery F (List ℕ) R C K (Unit {0}) (Unit {0}) (List ℕ) f c q m r → Choice → Streams
+      → Outcome → Type 0
+  TracesFrom recovery choice streams outcome = (config : RecoveryConfig F) (start : ℕ) (random : Stream) →
+      Came (origin recovery config start random) [] (parts_of recovery)
+      → Traces (origin recovery config start random) choice streams outcome
+
+-- from the moment 0 on, over these controllers, with a peer at an address of its port
+abbrev pub TracesOver : {F K : Type 0} → (F → ℕ → ℕ → K) → ControllerWords K → F → Choice → Streams → Outcome
+    → Type 0
+TracesOver built words factory choice streams outcome =
+    (remote : SocketAddr) × IsAt 4433 remote
+    × Traces (begun_over built words factory choice.seed remote) choice streams outcome
+
+-- the same over the controllers that are chosen: those of a fixed window, or NewReno (RFC 9002, 7)
+abbrev pub TracesAs : Choice → Streams → Outcome → Type 0
+TracesAs choice streams outcome = MatchOption choice.fixed
+    (TracesOver reno_made reno_words default_reno choice streams outcome)
+    (λ factory. TracesOver (λ fixed now mtu. fixed_made fixed.window) fixed_words factory choice streams outcome)

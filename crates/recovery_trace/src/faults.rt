@@ -1,6 +1,6 @@
 //! What it is of a line that cannot be read.
 ghost use Rattle.std.specs.Prelude.{◌≤◌, IfOk, IsTrue, length};
-ghost use Rattle.recovery_trace.specs.Faults.{Begins, Names};
+ghost use Rattle.recovery_trace.specs.Faults.{Begins, EndsWord, Names};
 
 use quic_recovery::below::NoMemory;
 use recovery_lines::lines::{LINE_LIMIT, push_event};
@@ -66,8 +66,7 @@ pub enum Fault {
 /// Where the first word of a line ends that begins at a place or behind it.
 fn word_end(line: &[u8], start: usize) -> usize
     requires { start ≤ length line.now }
-    ensures from { start ≤ result }
-    ensures within { result ≤ length line.now }
+    ensures { EndsWord line.now start result }
 {
     let mut end = start;
     while end < line.len() && line[end] != b' ' {

@@ -2,17 +2,21 @@
 #![tactic(auto)]
 
 mod faults;
+mod outcome;
 mod reading;
 mod requests;
 mod states;
+mod telling;
 mod trace;
+mod turn;
 
+use outcome::Outcome;
 use recovery_replay::arguments::{ArgumentsError, arguments};
 use requests::{Choice, HELP, Request, USAGE, VERSION, request_of};
 use std::io;
-use std::io::BufReader;
+use std::io::{BufReader, ErrorKind};
 use std::process::ExitCode;
-use trace::{Outcome, trace};
+use trace::trace;
 
 /// A trace from standard input to standard output.
 fn traced(rt: &HostRuntime, choice: Choice) -> Outcome {
@@ -32,12 +36,13 @@ fn traced(rt: &HostRuntime, choice: Choice) -> Outcome {
 fn written(text: io::Result<()>) -> Outcome {
     match text {
         Ok(()) => Outcome::Ended,
+        Err(error) if error.kind() == ErrorKind::BrokenPipe => Outcome::Closed,
         Err(_) => Outcome::WriteFailed,
     }
 }
 
 /// What the arguments ask for is done.
-fn outcome(rt: &HostRuntime) -> Outcome {
+fn carried_out(rt: &HostRuntime) -> Outcome {
     match arguments(rt) {
         Ok(words) => match request_of(&words) {
             Request::Trace(choice) => traced(rt, choice),
@@ -51,7 +56,7 @@ fn outcome(rt: &HostRuntime) -> Outcome {
 }
 
 fn main(rt: HostRuntime) -> ExitCode {
-    let outcome = outcome(&rt);
+    let outcome = carried_out(&rt);
     let _told = eprint!(rt; "{}", outcome.text());
     ExitCode::from(outcome.status())
 }

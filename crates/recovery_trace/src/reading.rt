@@ -1,33 +1,26 @@
 //! One line of an input after the other, in memory that does not grow with it.
-ghost use Rattle.std.specs.Prelude.{◌≡◌, ◌≤◌, ◌++◌, ◌∷◌, [], IfOk, OnOk, length, take};
-ghost use Rattle.recovery_trace.specs.Reading.{IsByte, IsLine};
+ghost use Rattle.std.specs.Prelude.{◌≡◌, ◌≤◌, ◌++◌, ◌∷◌, [], IfErr, IfOk, OnOk, MatchResult, length, take};
+ghost use Rattle.std.specs.Io.KnownBytes.{Keeps};
+ghost use Rattle.recovery_trace.specs.declared.outcome.Outcome.TheVariants.{OutOfMemory, ReadFailed};
+ghost use Rattle.recovery_trace.specs.Reading.{BreaksOff, IsByte, IsLine};
 
+use crate::outcome::Outcome;
 use recovery_lines::lines::LINE_LIMIT;
 use std::io::{ErrorKind, Read};
 
-/// Why no line could be read.
-#[derive(Clone, Copy)]
-pub enum Broken {
-    /// A read failed.
-    ReadFailed,
-    /// Memory was refused.
-    OutOfMemory,
-}
-
-/// What was read.
+/// How a line that was read ended.
 #[derive(Clone, Copy)]
 pub enum Next {
-    /// A line that a line feed ended.
+    /// By a line feed.
     Line,
-    /// A line of one byte or more that the end of the input ended.
+    /// By the end of the input, behind one byte or more.
     Last,
-    /// Nothing: the input is over.
-    End,
 }
 
 /// The next byte; `None` at the end. A read that is interrupted is tried again.
-fn next_byte<R: Read>(input: &mut R) -> Result<Option<u8>, Broken>
-    ensures { IfOk result (IsByte (R.remaining input.old) (R.remaining input.new)) }
+fn next_byte<R: Read>(input: &mut R) -> Result<Option<u8>, Outcome>
+    ensures { MatchResult result (IsByte (R.remaining input.old) (R.remaining input.new))
+        (λ outcome. (outcome ≡ ReadFailed) × Keeps (R.remaining input.old) (R.remaining input.new)) }
 {
     let mut byte = [0u8; 1];
     for _ in 0..u64::MAX {
@@ -36,45 +29,47 @@ fn next_byte<R: Read>(input: &mut R) -> Result<Option<u8>, Broken>
             Ok(_) => return Ok(Some(byte[0])),
             Err(error) => {
                 if error.kind() != ErrorKind::Interrupted {
-                    return Err(Broken::ReadFailed);
+                    return Err(Outcome::ReadFailed);
                 }
             }
         }
     }
-    Err(Broken::ReadFailed)
+    Err(Outcome::ReadFailed)
 }
 
 /// Keeps a byte of a line, unless 4097 of them are kept.
-fn keep(line: &mut Vec<u8>, byte: u8) -> Result<(), Broken>
+fn keep(line: &mut Vec<u8>, byte: u8) -> Result<(), Outcome>
     requires { length line.old.items ≤ 4097 }
-    ensures { OnOk result (line.new.items ≡ take 4097 (line.old.items ++ byte ∷ [])) }
+    ensures kept { OnOk result (line.new.items ≡ take 4097 (line.old.items ++ byte ∷ [])) }
+    ensures memory { IfErr result (λ outcome. outcome ≡ OutOfMemory) }
 {
     if line.len() > LINE_LIMIT {
         return Ok(());
     }
     match line.push(byte) {
         Ok(()) => Ok(()),
-        Err(_) => Err(Broken::OutOfMemory),
+        Err(_) => Err(Outcome::OutOfMemory),
     }
 }
 
 /// Reads one line in place of what `line` held, without its line feed: of a line of more than 4096 bytes the first 4097,
-/// by which it is known to be too long.
-pub fn next_line<R: Read>(input: &mut R, line: &mut Vec<u8>) -> Result<Next, Broken>
-    ensures { IfOk result (IsLine (R.remaining input.old) (R.remaining input.new) line.new.items) }
+/// by which it is known to be too long. `None` where the input is over.
+pub fn next_line<R: Read>(input: &mut R, line: &mut Vec<u8>) -> Result<Option<Next>, Outcome>
+    ensures { MatchResult result (IsLine (R.remaining input.old) (R.remaining input.new) line.new.items)
+        (BreaksOff (R.remaining input.old) (R.remaining input.new)) }
 {
     line.clear();
     for _ in 0..u64::MAX {
         match next_byte(input) {
-            Ok(None) if line.is_empty() => return Ok(Next::End),
-            Ok(None) => return Ok(Next::Last),
-            Ok(Some(b'\n')) => return Ok(Next::Line),
+            Ok(None) if line.is_empty() => return Ok(None),
+            Ok(None) => return Ok(Some(Next::Last)),
+            Ok(Some(b'\n')) => return Ok(Some(Next::Line)),
             Ok(Some(byte)) => match keep(line, byte) {
                 Ok(()) => {}
-                Err(broken) => return Err(broken),
+                Err(outcome) => return Err(outcome),
             },
-            Err(broken) => return Err(broken),
+            Err(outcome) => return Err(outcome),
         }
     }
-    Err(Broken::ReadFailed)
+    Err(Outcome::ReadFailed)
 }

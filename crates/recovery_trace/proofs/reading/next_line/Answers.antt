@@ -1,5 +1,5 @@
-use Rattle.std.proofs.Common.{rules}
-use Rattle.recovery_trace.proofs.ReadingLaws.{line_over, one_more, short}
+use Rattle.std.proofs.Common.{inr, rules}
+use Rattle.recovery_trace.proofs.ReadingLaws.{line_over, one_more, short, stopped}
 use Rattle.recovery_trace.proofs.reading.next_line.Goals as goal
 
 pub returns-in-Ok-Some-eq10 : goal.returns-in-Ok-Some-eq10
@@ -15,4 +15,10 @@ pub loop-preserved : goal.loop-preserved
 loop-preserved g c =
     one_more (g.R.Read.remaining c.args.input.now) (g.R.Read.remaining c.loop.input)
     (g.R.Read.remaining c.next_byte.new.input) c.loop.line.items c.keep.new.line.items c.in-Ok-Some.byte
-    c.loop.invariant (search rules) (search rules) c.in-Ok.ensures
+    c.loop.invariant (search rules) (search rules) c.in-Ok.ensures.kept
+
+pub returns-in-Err-keep : goal.returns-in-Err-keep
+returns-in-Err-keep g c =
+    stopped (g.R.Read.remaining c.args.input.now) (g.R.Read.remaining c.loop.input)
+    (g.R.Read.remaining c.next_byte.new.input) c.loop.line.items c.in-Ok-Some.byte c.in-Err-keep.outcome
+    c.loop.invariant (search rules) (search rules) (inr c.in-Err-keep.ensures.memory)

@@ -1,0 +1,332 @@
+-- One line more of a trace, and its ends: `run` rests on it.
+use Rattle.std.proofs.Common.{◌≡◌, ℕ, suc, ◌+◌, ◌<◌, ◌≤◌, ◌⊎◌, inl, inr, Bool, true, false, List, [], ◌∷◌, ◌++◌, length, reverse, take, All, Option, refl, sym, ap, subst, true≢false, ◌∙◌, arith, append-nil, append_assoc}
+use Rattle.std.specs.List.{Any, flat_map}
+use Rattle.std.proofs.lemmas.List.{reverse-append}
+use Rattle.std.proofs.lemmas.List.Concat.{flat_map-append}
+use Rattle.std.proofs.lemmas.List.Elements.{All-nil, All-append, All-cons, All-tail}
+use Rattle.std.specs.Io.KnownBytes.{Appends, Consumes, IsAtEnd, Keeps}
+use Rattle.std.proofs.KnownBytes.{Appends-kept, Appends-trans, Consumes-trans}
+use Rattle.rand_core.specs.Stream.{Stream}
+use Rattle.quic_recovery.specs.declared.driver.Recovery.{Recovery}
+use Rattle.quic_recovery.specs.declared.driver.RecoveryConfig.{RecoveryConfig}
+use Rattle.quic_recovery.specs.Past.{Came, GoesOnFrom}
+use Rattle.quic_recovery.specs.State.{parts_of}
+use Rattle.recovery_answers.specs.Answers.{Reply}
+use Rattle.recovery_lines.specs.Lines.{ItemEvent, Spells}
+use Rattle.recovery_replay.specs.Script.{NoFeed, ended, lines_of}
+use Rattle.recovery_replay.specs.Writing.{AppendsFront}
+use Rattle.recovery_replay.proofs.ScriptLaws.{last_line, line_then}
+use Rattle.recovery_trace.specs.declared.outcome.Outcome.{Outcome}
+use Rattle.recovery_trace.specs.declared.outcome.Outcome.TheVariants.{Ended, BadLine, ReadFailed, WriteFailed, Closed, OutOfMemory}
+use Rattle.recovery_trace.specs.declared.requests.Choice.{Choice}
+use Rattle.recovery_trace.specs.declared.turn.Turn.TheVariants.{Done, Bad, Over}
+use Rattle.recovery_trace.specs.Reading.{BreaksOff, Kept}
+use Rattle.recovery_trace.specs.Telling.{Tells}
+use Rattle.recovery_trace.specs.Turns.{DoesEvent, IsBad, IsFine, IsSilent, ItemParts, Passes, Turns, turn_text}
+use Rattle.recovery_trace.proofs.ReadingLaws.{kept_passes, kept_silent, kept_speaks, kept_spells, kept_tells}
+use Rattle.recovery_trace.specs.Trace.{AllOut, AreAllowed, EndsBad, FrontOut, ItemBeginning, ItemHistory, SpelledBy, Streams, origin, streams_of, Takes, TakesAlso, Traced, Traces}
+
+-- ---- bytes and lines
+
+lines_ended : (lines : List (List ℕ)) (rest : List ℕ) → All NoFeed lines
+    → lines_of (flat_map ended lines ++ rest) ≡ lines ++ lines_of rest
+lines_ended [] rest h = refl
+lines_ended (line ∷ lines) rest h = simp append_assoc (rw (
+  line_then line (flat_map ended lines ++ rest) (h 0 line (omega arith)),
+  lines_ended lines rest (All-tail NoFeed line lines h),
+) refl)
+
+turned : {A : Type 0} (x : A) (xs : List A) → reverse (x ∷ xs) ≡ reverse xs ++ x ∷ []
+turned x xs = reverse-append (x ∷ []) xs
+
+-- a line that the end of the input ends
+alone : (line : List ℕ) → NoFeed line → 0 < length line → lines_of line ≡ line ∷ []
+alone line h some = ap lines_of (sym (append-nil line)) ∙ last_line line h some
+
+pub one_line : (cut : List ℕ) → NoFeed cut → length (lines_of cut) ≤ 1
+one_line [] h = omega arith
+one_line (byte ∷ cut) h = omega (arith, ap length (alone (byte ∷ cut) h (omega arith)))
+
+-- what was taken so far are these lines
+pub record Taken (unread now : Option (List ℕ)) (lines : List (List ℕ)) : Type 0 where
+  pub no_feeds : All NoFeed (reverse lines)
+  pub taken : Consumes unread now (flat_map ended (reverse lines))
+
+pub nothing_taken : (unread now : Option (List ℕ)) → Consumes unread now [] → Taken unread now []
+nothing_taken unread now none = record { no_feeds = All-nil NoFeed; taken = none }
+
+take_behind : (front bytes : List ℕ) (n : ℕ) → take (length front + n) (front ++ bytes) ≡ front ++ take n bytes
+take_behind [] bytes n = ap (λ (k : ℕ). take k bytes) (let e : 0 + n ≡ n = omega arith in e)
+take_behind (byte ∷ front) bytes n =
+    ap (λ (k : ℕ). take k (byte ∷ (front ++ bytes)))
+    (let e : suc (length front) + n ≡ suc (length front + n) = omega arith in e)
+    ∙ ap (λ (l : List ℕ). byte ∷ l) (take_behind front bytes n)
+
+module _ (unread now left : Option (List ℕ)) (lines : List (List ℕ)) (t : Taken unread now lines) where
+  pub taken_more : (line : List ℕ) → NoFeed line → Consumes now left (line ++ 10 ∷ []) → Taken unread left (line ∷ lines)
+  taken_more line no_feed one = record {
+    no_feeds = rw (turned line lines) (All-append NoFeed (reverse lines) (line ∷ []) t.no_feeds
+        (All-cons NoFeed line [] no_feed (All-nil NoFeed)));
+    taken = rw (turned line lines, flat_map-append ended (reverse lines) (line ∷ []), append-nil (ended line))
+        (Consumes-trans unread now left _ _ t.taken one);
+  }
+
+  pub also_taken : (more : List ℕ) → Consumes now left more → Consumes unread left (flat_map ended (reverse lines) ++ more)
+  also_taken more one = Consumes-trans unread now left _ _ t.taken one
+
+  pub takes_whole : (taken : List ℕ) × Consumes unread now taken × (lines_of taken ≡ reverse lines)
+  takes_whole = (
+    flat_map ended (reverse lines),
+    t.taken,
+    rw (append-nil (flat_map ended (reverse lines)), append-nil (reverse lines)) at
+        (lines_ended (reverse lines) [] t.no_feeds),
+  )
+
+  pub takes_last : (line : List ℕ) → NoFeed line → 0 < length line → Consumes now left line
+      → (taken : List ℕ) × Consumes unread left taken × (lines_of taken ≡ reverse (line ∷ lines))
+  takes_last line no_feed some one = (
+    flat_map ended (reverse lines) ++ line,
+    also_taken line one,
+    lines_ended (reverse lines) line t.no_feeds ∙ ap (λ l. reverse lines ++ l) (alone line no_feed some)
+        ∙ sym (turned line lines),
+  )
+
+-- ---- what the lines came to
+
+module _ {F K : Type 0} (beginning : ItemBeginning F K) (choice : Choice) where
+  -- how the trace would end if it ended here
+  abbrev pub SoFar : Outcome → List (List ℕ) → Type 0
+  SoFar Ended lines = All IsFine lines
+  SoFar BadLine lines = Any IsBad lines × (choice.is_strict ≡ false)
+  SoFar outcome lines = ⊥
+
+  -- what these lines came to, and the recovery by then
+  pub record Made (before after unsaid said : Option (List ℕ)) (recovery : ItemParts K) (lines : List (List ℕ))
+      : Type 0 where
+    pub text : List ℕ
+    pub told : List ℕ
+    pub traced : Traced beginning choice.shows lines text told
+    pub came : Came beginning traced.past recovery
+    pub out : Appends before after text
+    pub is_said : Appends unsaid said told
+
+  pub fine_more : (outcome : Outcome) (line : List ℕ) (lines : List (List ℕ)) → IsFine line → SoFar outcome lines
+      → SoFar outcome (line ∷ lines)
+  fine_more Ended line lines fine so_far = All-cons IsFine line lines fine so_far
+  fine_more BadLine line lines fine so_far =
+      let bad = so_far.0 in ((suc bad.0, bad.1, omega (arith, bad.2), bad.3, bad.4), so_far.1)
+  fine_more outcome line lines fine so_far = absurd so_far
+
+  pub bad_one : (line : List ℕ) (lines : List (List ℕ)) → IsBad line → Any IsBad (line ∷ lines)
+  bad_one line lines bad = (0, line, omega arith, refl, bad)
+
+  pub allowed : (outcome : Outcome) (lines : List (List ℕ)) → SoFar outcome lines → AreAllowed choice lines
+  allowed Ended lines so_far strict = so_far
+  allowed BadLine lines so_far strict = absurd (true≢false (sym strict ∙ so_far.1))
+  allowed outcome lines so_far strict = absurd so_far
+
+  passes_more : (line : List ℕ) (lines : List (List ℕ)) (past : ItemHistory) → Passes line → SpelledBy lines past
+      → SpelledBy (line ∷ lines) past
+  passes_more line lines [] passes spelled = (passes, spelled)
+  passes_more line lines (happened ∷ past) passes spelled = inr (passes, spelled)
+
+  module _ (before now after unsaid now_said said : Option (List ℕ)) (old new : ItemParts K) (lines : List (List ℕ))
+      (line : List ℕ) (m : Made before now unsaid now_said old lines) where
+    -- the line's event is done
+    abbrev traced_done : (event : ItemEvent) (reply : Reply) (text : List ℕ) → Spells line event
+        → GoesOnFrom beginning m.traced.past event reply new
+        → text ≡ turn_text beginning.words choice.shows reply new
+        → Traced beginning choice.shows (line ∷ lines) (m.text ++ text) m.told
+    traced_done event reply text spells goes is = record {
+      past = (event, reply) ∷ m.traced.past;
+      spelled = inl (spells, m.traced.spelled);
+      keeps = (goes.keeps, m.traced.keeps);
+      written = (m.text, new, m.traced.written, goes.came, ap (λ l. m.text ++ l) is);
+      is_told = inl (inl (event, spells), m.traced.is_told);
+    }
+
+    pub made_done : (event : ItemEvent) (reply : Reply) (text : List ℕ) → Spells line event
+        → GoesOnFrom beginning m.traced.past event reply new
+        → text ≡ turn_text beginning.words choice.shows reply new
+        → Appends now after text → Keeps now_said said → Made before after unsaid said new (line ∷ lines)
+    made_done event reply text spells goes is writes kept = record {
+      text = m.text ++ text;
+      told = m.told;
+      traced = traced_done event reply text spells goes is;
+      came = goes.came;
+      out = Appends-trans before now after m.text text m.out writes;
+      is_said = Appends-kept unsaid now_said said m.told m.is_said kept;
+    }
+
+    pub made_silent : Passes line → IsSilent line → new ≡ old → Keeps now after → Keeps now_said said
+        → Made before after unsaid said new (line ∷ lines)
+    made_silent passes silent same kept kept_said = record {
+      text = m.text;
+      told = m.told;
+      traced = record {
+        past = m.traced.past;
+        spelled = passes_more line lines m.traced.past passes m.traced.spelled;
+        keeps = m.traced.keeps;
+        written = m.traced.written;
+        is_told = inl (inr (passes, silent), m.traced.is_told);
+      };
+      came = subst (Came beginning m.traced.past) (sym same) m.came;
+      out = Appends-kept before now after m.text m.out kept;
+      is_said = Appends-kept unsaid now_said said m.told m.is_said kept_said;
+    }
+
+    pub made_bad : (text : List ℕ) → IsBad line → new ≡ old → Keeps now after → Tells line (length lines + 1) text
+        → AppendsFront now_said said text → Made before after unsaid said new (line ∷ lines)
+    made_bad text bad same kept tells front = record {
+      text = m.text;
+      told = m.told ++ take front.0 text;
+      traced = record {
+        past = m.traced.past;
+        spelled = passes_more line lines m.traced.past bad.0 m.traced.spelled;
+        keeps = m.traced.keeps;
+        written = m.traced.written;
+        is_told = inr (bad, (m.told, text, front.0, m.traced.is_told, tells, refl));
+      };
+      came = subst (Came beginning m.traced.past) (sym same) m.came;
+      out = Appends-kept before now after m.text m.out kept;
+      is_said = Appends-trans unsaid now_said said m.told (take front.0 text) m.is_said front.1;
+    }
+
+    -- a write of its answer breaks off
+    pub front_out : (unread left : Option (List ℕ)) (event : ItemEvent) (reply : Reply) (text : List ℕ) → Spells line event
+        → GoesOnFrom beginning m.traced.past event reply new
+        → text ≡ turn_text beginning.words choice.shows reply new
+        → AppendsFront now after text → Keeps now_said said
+        → FrontOut beginning choice (streams_of unread left before after unsaid said) (line ∷ lines)
+    front_out unread left event reply text spells goes is front kept = (
+      m.text ++ text,
+      m.told,
+      traced_done event reply text spells goes is,
+      (
+        length m.text + front.0,
+        rw (take_behind m.text text front.0) (Appends-trans before now after m.text (take front.0 text) m.out front.1),
+      ),
+      Appends-kept unsaid now_said said m.told m.is_said kept,
+    )
+
+-- ---- a trace of a recovery
+
+module _ {F R C K : Type 0} {f : _} {c : _} {q : _} {m : _} {r : _} (config : RecoveryConfig F) (start : ℕ)
+    (random : Stream) (choice : Choice)
+    (old new : Recovery F (List ℕ) R C K (Unit {0}) (Unit {0}) (List ℕ) f c q m r) where
+  module _ (before now after unsaid now_said said : Option (List ℕ)) (lines : List (List ℕ))
+      (line kept : List ℕ) (number : ℕ) (made : Made (origin old config start random) choice before now unsaid now_said (parts_of old) lines)
+      (is_number : number ≡ length lines + 1) (is_kept : Kept line kept) where
+    pub turn_done : Turns choice.shows kept number old new now after now_said said Done
+        → Made (origin old config start random) choice before after unsaid said (parts_of new) (line ∷ lines)
+    turn_done (inl (text, does, writes), kept_said) =
+        made_done (origin old config start random) choice before now after unsaid now_said said (parts_of old) (parts_of new) lines line made
+        does.event does.reply text (kept_spells line kept does.event is_kept does.spelled)
+        (does.goes config start random made.traced.past made.came) does.written writes kept_said
+    turn_done (inr (passes, silent, same, stays), kept_said) =
+        made_silent (origin old config start random) choice before now after unsaid now_said said (parts_of old) (parts_of new) lines line made
+        (kept_passes line kept is_kept passes) (kept_silent line kept is_kept silent) same stays kept_said
+
+    pub done_fine : Turns choice.shows kept number old new now after now_said said Done → IsFine line
+    done_fine (inl (text, does, writes), kept_said) =
+        inl (does.event, kept_spells line kept does.event is_kept does.spelled)
+    done_fine (inr (passes, silent, same, stays), kept_said) =
+        inr (kept_passes line kept is_kept passes, kept_silent line kept is_kept silent)
+
+    pub bad_line : Turns choice.shows kept number old new now after now_said said Bad → IsBad line
+    bad_line turn = (kept_passes line kept is_kept turn.0.0, kept_speaks line kept is_kept turn.0.1)
+
+    pub turn_bad : Turns choice.shows kept number old new now after now_said said Bad
+        → Made (origin old config start random) choice before after unsaid said (parts_of new) (line ∷ lines)
+    turn_bad turn =
+        made_bad (origin old config start random) choice before now after unsaid now_said said (parts_of old) (parts_of new) lines line made
+        turn.3.0 (bad_line turn) turn.1 turn.2
+        (subst (λ n. Tells line n turn.3.0) is_number (kept_tells line kept number turn.3.0 is_kept turn.3.1)) turn.3.2
+
+    module _ (unread left : Option (List ℕ)) (so_far : Outcome)
+        (is_so_far : SoFar (origin old config start random) choice so_far lines) where
+      -- the write of its answer broke off
+      broken : ((text : List ℕ) × DoesEvent choice.shows kept old new text × AppendsFront now after text)
+          × Keeps now_said said
+          → AreAllowed choice (line ∷ lines) × FrontOut (origin old config start random) choice (streams_of unread left before after unsaid said) (line ∷ lines)
+      broken ((text, does, front), kept_said) =
+          let spells = kept_spells line kept does.event is_kept does.spelled in (
+            allowed (origin old config start random) choice so_far (line ∷ lines)
+                (fine_more (origin old config start random) choice so_far line lines (inl (does.event, spells)) is_so_far),
+            front_out (origin old config start random) choice before now after unsaid now_said said (parts_of old) (parts_of new) lines line made
+                unread left does.event does.reply text spells
+                (does.goes config start random made.traced.past made.came) does.written front kept_said,
+          )
+
+      -- it is over with this line, which was taken
+      pub turn_over : (outcome : Outcome) → Turns choice.shows kept number old new now after now_said said (Over outcome)
+          → Takes (streams_of unread left before after unsaid said) (line ∷ lines)
+          → ((more : List ℕ) × (length (lines_of more) ≤ 1) × TakesAlso (streams_of unread left before after unsaid said) lines more)
+          → Traces (origin old config start random) choice (streams_of unread left before after unsaid said) outcome
+      turn_over WriteFailed turn takes also =
+          let over = broken turn in (line ∷ lines, takes, over.0, over.1)
+      turn_over Closed turn takes also =
+          let over = broken turn in (line ∷ lines, takes, over.0, over.1)
+      turn_over OutOfMemory turn takes also = (
+        lines,
+        also,
+        allowed (origin old config start random) choice so_far lines is_so_far,
+        (
+          made.text,
+          made.told,
+          made.traced,
+          Appends-kept before now after made.text made.out turn.0,
+          Appends-kept unsaid now_said said made.told made.is_said turn.1,
+        ),
+      )
+      turn_over outcome turn takes also = absurd turn
+
+-- ---- its ends
+
+module _ {F K : Type 0} (beginning : ItemBeginning F K) (choice : Choice)
+    (unread left before after unsaid said : Option (List ℕ)) (recovery : ItemParts K) (lines : List (List ℕ))
+    (made : Made beginning choice before after unsaid said recovery lines) where
+  abbrev ends : Streams
+  ends = streams_of unread left before after unsaid said
+
+  all_out : AllOut beginning choice ends lines
+  all_out = (made.text, made.told, made.traced, made.out, made.is_said)
+
+  -- the input is over
+  pub ends_so : (outcome : Outcome) → SoFar beginning choice outcome lines → Takes ends lines → IsAtEnd left
+      → Traces beginning choice ends outcome
+  ends_so Ended so_far takes over = (lines, takes, over, so_far, all_out)
+  ends_so BadLine so_far takes over =
+      (lines, takes, subst (λ s. EndsBad s ends lines) (sym so_far.1) (so_far.0, over), all_out)
+  ends_so outcome so_far takes over = absurd so_far
+
+  -- a read fails, or memory is refused, on the way to the end of a line
+  pub ends_cut : (now : Option (List ℕ)) (so_far outcome : Outcome) → SoFar beginning choice so_far lines
+      → Taken unread now lines → BreaksOff now left outcome → Traces beginning choice ends outcome
+  ends_cut now so_far outcome is_so_far taken (cut, no_feed, consumed, inl is) = rw is (
+    lines,
+    (cut, no_feed, also_taken unread now left lines taken cut consumed),
+    allowed beginning choice so_far lines is_so_far,
+    all_out,
+  )
+  ends_cut now so_far outcome is_so_far taken (cut, no_feed, consumed, inr is) = rw is (
+    lines,
+    (cut, one_line cut no_feed, also_taken unread now left lines taken cut consumed),
+    allowed beginning choice so_far lines is_so_far,
+    all_out,
+  )
+
+module _ {F K : Type 0} (beginning : ItemBeginning F K) (choice : Choice)
+    (unread left before after unsaid said : Option (List ℕ)) (recovery : ItemParts K) (line : List ℕ)
+    (lines : List (List ℕ)) (made : Made beginning choice before after unsaid said recovery (line ∷ lines)) where
+  -- a line that cannot be read ends a strict trace
+  pub ends_bad : (so_far : Outcome) → SoFar beginning choice so_far lines → choice.is_strict ≡ true → IsBad line
+      → Takes (streams_of unread left before after unsaid said) (line ∷ lines)
+      → Traces beginning choice (streams_of unread left before after unsaid said) BadLine
+  ends_bad so_far is_so_far strict bad takes = (
+    line ∷ lines,
+    takes,
+    subst (λ s. EndsBad s (streams_of unread left before after unsaid said) (line ∷ lines)) (sym strict)
+        (bad, allowed beginning choice so_far lines is_so_far strict),
+    (made.text, made.told, made.traced, made.out, made.is_said),
+  )

@@ -1,0 +1,29 @@
+-- How a trace ends: its status, and what is told.
+use Rattle.std.specs.Prelude.{◌≡◌, ℕ, ◌⊎◌, List, []}
+use lib.Chars.{codes}
+use Rattle.recovery_trace.specs.declared.outcome.Outcome.{Outcome}
+use Rattle.recovery_trace.specs.declared.outcome.Outcome.TheVariants.{Ended, BadLine, ReadFailed, WriteFailed, Closed, OutOfMemory, WrongArguments}
+
+-- the exit status
+abbrev pub status_of : Outcome → ℕ
+status_of Ended = 0
+status_of BadLine = 2
+status_of ReadFailed = 1
+status_of WriteFailed = 1
+status_of Closed = 0
+status_of OutOfMemory = 1
+status_of WrongArguments = 2
+
+-- what is written to standard error at the end
+abbrev pub error_text : Outcome → List ℕ
+error_text Ended = []
+error_text BadLine = []
+error_text ReadFailed = codes "recovery-trace: read failed\n"
+error_text WriteFailed = codes "recovery-trace: write failed\n"
+error_text Closed = []
+error_text OutOfMemory = codes "recovery-trace: out of memory\n"
+error_text WrongArguments = codes "usage: recovery-trace [--state] [--strict] [SEED [WINDOW]]\n"
+
+-- a write failed: where the answers go, or since nobody reads them any more
+abbrev pub IsBroken : Outcome → Type 0
+IsBroken outcome = (outcome ≡ WriteFailed) ⊎ (outcome ≡ Closed)

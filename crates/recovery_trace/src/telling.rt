@@ -1,0 +1,84 @@
+//! What is told of a line that cannot be read.
+ghost use Rattle.std.specs.Prelude.{◌≡◌, ◌≤◌, ◌++◌, true, min, IfOk, OnOk, length, string_bytes};
+ghost use Rattle.recovery_trace.specs.Faults.{Names};
+ghost use Rattle.std.specs.Str.{IsAscii};
+ghost use Rattle.recovery_trace.specs.Telling.{Tells, TellsFault, quoted};
+
+use crate::faults::{Fault, fault_in};
+use quic_recovery::below::NoMemory;
+use std::alloc::{AllocError, Global};
+use std::str;
+
+/// How many bytes of a word that cannot be read are shown.
+const SHOWN: usize = 64;
+
+/// Is the byte inside a character of UTF-8, and not its first?
+fn is_inside(byte: u8) -> bool
+    ensures { result ≡ true → 128 ≤ byte }
+{
+    (128..192).contains(&byte)
+}
+
+/// How many bytes of a word are shown: at most 64, and of a character all or none.
+fn shown_len(word: &[u8]) -> usize
+    ensures within { result ≤ min 64 (length word.now) }
+    ensures plain { IsAscii word.now → result ≡ min 64 (length word.now) }
+{
+    if word.len() <= SHOWN {
+        return word.len();
+    }
+    let mut end = SHOWN;
+    while end > SHOWN - 4 && is_inside(word[end]) {
+        end -= 1;
+    }
+    end
+}
+
+/// Appends a word between quotes, as far as it is shown: what is no text, byte by byte.
+fn write_word(text: &mut String, word: &[u8]) -> Result<(), AllocError>
+    ensures { OnOk result (IsAscii word.now
+        → string_bytes text.new ≡ string_bytes text.old ++ quoted word.now) }
+{
+    let shown = &word[..shown_len(word)];
+    match str::from_utf8(shown) {
+        Ok(said) => write!(text, "{said:?}"),
+        Err(_) => write!(text, "\"{}\"", shown.escape_ascii()),
+    }
+}
+
+/// Appends the line that tells a fault of the line of this number.
+fn write_fault(text: &mut String, line: &[u8], number: u64, fault: Fault) -> Result<(), AllocError>
+    requires { Names line.now fault }
+    ensures { OnOk result
+        (TellsFault line.now number fault (string_bytes text.old) (string_bytes text.new)) }
+{
+    write!(text, "line {number}: ")?;
+    match fault {
+        Fault::TooLong => text.push_str("longer than 4096 bytes\n"),
+        Fault::TooShort => text.push_str("words are missing behind the last one\n"),
+        Fault::Word {
+            number: word,
+            start,
+            end,
+        } => {
+            write!(text, "cannot read word {word}, ")?;
+            write_word(text, &line[start..end])?;
+            text.push_str("\n")
+        }
+    }
+}
+
+/// What is told of a line that spells no event and has this number.
+pub fn fault_line(alloc: Global, line: &[u8], number: u64) -> Result<String, NoMemory>
+    ensures { IfOk result (λ text. Tells line.now number (string_bytes text)) }
+{
+    let mut text = String::new(alloc);
+    let fault = match fault_in(alloc, line) {
+        Ok(fault) => fault,
+        Err(refused) => return Err(refused),
+    };
+    match write_fault(&mut text, line, number, fault) {
+        Ok(()) => Ok(text),
+        Err(_) => Err(NoMemory),
+    }
+}

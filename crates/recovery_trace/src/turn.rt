@@ -1,0 +1,141 @@
+//! One line of a trace: what it comes to.
+ghost use Rattle.std.specs.Prelude.{◌≡◌, ◌⊎◌, ◌++◌, IfErr, IfOk, OnOk, string_bytes, MatchBool};
+ghost use Rattle.std.specs.Io.KnownBytes.{Appends};
+ghost use Rattle.quic_recovery.specs.State.{parts_of};
+ghost use Rattle.recovery_replay.specs.Writing.{AppendsFront};
+ghost use Rattle.recovery_trace.specs.Outcomes.{IsBroken};
+ghost use Rattle.recovery_trace.specs.Turns.{Answers, IsSilent, Turns, turn_text};
+
+use crate::outcome::Outcome;
+use crate::states::write_state;
+use crate::telling::fault_line;
+use quic_recovery::below::NoMemory;
+use quic_recovery::congestion::ControllerFactory;
+use quic_recovery::{Answer, LiveRecovery, Recovery, Refusal};
+use rand_pcg::Pcg32;
+use recovery_answers::answers::write_reply;
+use recovery_lines::lines::push_event;
+use recovery_queue::items::ItemQueue;
+use recovery_replay::writing::deliver;
+use std::alloc::{AllocError, Global};
+use std::io::{ErrorKind, Write};
+
+/// What a line came to.
+#[derive(Clone, Copy)]
+pub enum Turn {
+    /// Its event was answered, or it is a comment or empty.
+    Done,
+    /// It cannot be read.
+    Bad,
+    /// The trace is over.
+    Over(Outcome),
+}
+
+/// Is the line one that is passed over in silence: empty, or a comment?
+fn is_silent(line: &[u8]) -> bool
+    ensures { MatchBool result (IsSilent line.now) (¬ IsSilent line.now) }
+{
+    line.is_empty() || line[0] == b'#'
+}
+
+/// Appends the line of a reply, and behind it that of the state where it is asked for.
+fn write_turn<F>(
+    text: &mut String,
+    reply: &Result<Answer<ItemQueue>, Refusal>,
+    recovery: &Recovery<F, ItemQueue, Pcg32>,
+    shows: bool,
+) -> Result<(), AllocError>
+where
+    F: ControllerFactory + Drop,
+    F::Controller: Drop,
+    ensures { OnOk result (string_bytes text.new ≡ string_bytes text.old
+        ++ turn_text F.Controller.words shows reply.now (parts_of recovery.now)) }
+{
+    match write_reply(text, reply) {
+        Ok(()) if shows => write_state(text, recovery.current()),
+        written => written,
+    }
+}
+
+/// Does the event of a line, and puts what is written for it in place of the text; false, and no text, where it spells
+/// none.
+fn answer<F>(
+    alloc: Global,
+    live: &mut LiveRecovery<F, ItemQueue, Pcg32>,
+    line: &[u8],
+    shows: bool,
+    text: &mut String,
+) -> Result<bool, NoMemory>
+where
+    F: ControllerFactory + Drop,
+    F::Controller: Drop,
+    ensures { IfOk result
+        (Answers shows line.now live.old.recovery live.new.recovery (string_bytes text.new)) }
+{
+    text.clear();
+    let mut events = Vec::with_capacity(alloc, 1)?;
+    if !push_event(line, &mut events)? {
+        return Ok(false);
+    }
+    let Some(event) = events.pop() else {
+        return Ok(false);
+    };
+    let reply = live.apply(event);
+    match write_turn(text, &reply, live.recovery(), shows) {
+        Ok(()) => Ok(true),
+        Err(_) => Err(NoMemory),
+    }
+}
+
+/// Writes a text and flushes. After a failure a beginning of it was written.
+fn write_out<W: Write>(output: &mut W, text: &str) -> Result<(), Outcome>
+    ensures whole { OnOk result (Appends (W.contents output.old) (W.contents output.new) text.now) }
+    ensures front { AppendsFront (W.contents output.old) (W.contents output.new) text.now }
+    ensures broken { IfErr result IsBroken }
+{
+    match deliver(output, text.as_bytes()) {
+        Ok(()) => Ok(()),
+        Err(error) if error.kind() == ErrorKind::BrokenPipe => Err(Outcome::Closed),
+        Err(_) => Err(Outcome::WriteFailed),
+    }
+}
+
+/// One line: its event is done, and its answer is written to `output` and flushed before this returns; or what it is of it that
+/// cannot be read is told to `errors`, and nothing is done. `text` is what is written, of which the caller keeps the room.
+///
+/// What cannot be told to `errors` is left out.
+pub fn take_turn<F, W, E>(
+    alloc: Global,
+    live: &mut LiveRecovery<F, ItemQueue, Pcg32>,
+    line: &[u8],
+    number: u64,
+    shows: bool,
+    text: &mut String,
+    output: &mut W,
+    errors: &mut E,
+) -> Turn
+where
+    F: ControllerFactory + Drop,
+    F::Controller: Drop,
+    W: Write,
+    E: Write,
+    ensures { Turns shows line.now number live.old.recovery live.new.recovery
+        (W.contents output.old) (W.contents output.new)
+        (E.contents errors.old) (E.contents errors.new) result }
+{
+    match answer(alloc, live, line, shows, text) {
+        Ok(true) => match write_out(output, text) {
+            Ok(()) => Turn::Done,
+            Err(outcome) => Turn::Over(outcome),
+        },
+        Ok(false) if is_silent(line) => Turn::Done,
+        Ok(false) => match fault_line(alloc, line, number) {
+            Ok(told) => {
+                let _told = deliver(errors, told.as_bytes());
+                Turn::Bad
+            }
+            Err(_) => Turn::Over(Outcome::OutOfMemory),
+        },
+        Err(_) => Turn::Over(Outcome::OutOfMemory),
+    }
+}
