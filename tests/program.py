@@ -107,6 +107,26 @@ def closed_pipe():
         os.close(right)
 
 
+def pages():
+    """What the program says of itself is on standard output."""
+    status, text, errors = ran([PROGRAM, "--help"], stdin=subprocess.DEVNULL)
+    expect("help", (status, text.startswith(USAGE), b"recovery-trace" in text, errors), (0, True, True, b""))
+    expect("version", ran([PROGRAM, "--version"], stdin=subprocess.DEVNULL), (0, b"recovery-replay 0.11.19\n", b""))
+    for words in ["--help", "1"], ["1", "--version"], ["--helpful"]:
+        expect(f"arguments {words}", ran([PROGRAM, *words]), (2, b"", USAGE))
+    with open("/dev/full", "wb") as full:
+        expect("a failed page", ran([PROGRAM, "--help"], stdout=full), (1, None, b"replay: write failed\n"))
+
+
+def closed_pipe():
+    """Nobody reads the answers: no failure."""
+    for words in [], ["--help"], ["--version"]:
+        left, right = os.pipe()
+        os.close(left)
+        expect(f"a closed pipe, {words}", ran([PROGRAM, *words], stdout=right), (0, None, b""))
+        os.close(right)
+
+
 def streams():
     folder = os.open(ROOT, os.O_RDONLY)
     expect("a failed read", ran([PROGRAM], stdin=folder), (1, b"", b"replay: read failed\n"))
