@@ -51,7 +51,7 @@ impl Read for Source<'_> {
     }
 }
 
-/// Takes bytes in small pieces, each after an interrupted write, as long as it has room; then it fails or takes none.
+/// Takes bytes in small pieces, each after an interrupted write, as long as it has room; then it fails, in one way, or takes none.
 #[derive(Drop)]
 struct Sink {
     taken: Vec<u8>,
@@ -59,16 +59,18 @@ struct Sink {
     is_interrupted: bool,
     fails: bool,
     flush_fails: bool,
+    kind: ErrorKind,
 }
 
 impl Sink {
-    fn new(alloc: Global, room: usize, fails: bool, flush_fails: bool) -> Self {
+    fn new(alloc: Global, room: usize, fails: bool, flush_fails: bool, kind: ErrorKind) -> Self {
         Sink {
             taken: Vec::new(alloc),
             room,
             is_interrupted: false,
             fails,
             flush_fails,
+            kind,
         }
     }
 }
@@ -80,7 +82,7 @@ impl Write for Sink {
             return Err(io::Error::from(ErrorKind::Interrupted));
         }
         if self.room == 0 && self.fails {
-            return Err(io::Error::from(ErrorKind::BrokenPipe));
+            return Err(io::Error::from(self.kind));
         }
         let count = self.room.min(buf.len()).min(7);
         self.taken.extend_from_slice(&buf[..count])?;
@@ -90,7 +92,7 @@ impl Write for Sink {
 
     fn flush(&mut self) -> io::Result<()> {
         if self.flush_fails {
-            return Err(io::Error::from(ErrorKind::BrokenPipe));
+            return Err(io::Error::from(self.kind));
         }
         Ok(())
     }
@@ -133,21 +135,34 @@ fn assert_front(rt: &impl Abort, alloc: Global, front: &[u8], fails: bool) {
     }
 }
 
-/// Asserts how a run ends whose output takes some bytes of the answers, and maybe no flush.
+/// Asserts how a run ends whose output takes some bytes of the answers, and then fails, and maybe no flush: where nobody reads them any
+/// more (a closed pipe), quietly.
 fn assert_room(rt: &impl Abort, alloc: Global, front: &[u8], fails: bool, flush_fails: bool) {
+    let is_cut = front.len() < ANSWERS.len();
+    let is_broken = if is_cut { fails } else { flush_fails };
+    let failed: &[u8] = if is_cut || flush_fails {
+        b"replay: write failed\n"
+    } else {
+        b""
+    };
+    let quiet: &[u8] = if is_broken { b"" } else { failed };
+    for (kind, errors) in [
+        (ErrorKind::PermissionDenied, failed),
+        (ErrorKind::BrokenPipe, quiet),
+    ] {
+        let output = Sink::new(alloc, front.len(), fails, flush_fails, kind);
+        assert_written(rt, alloc, front, output, errors);
+    }
+}
+
+fn assert_written(rt: &impl Abort, alloc: Global, front: &[u8], mut output: Sink, wanted: &[u8]) {
     let mut input = SCRIPT.as_bytes();
-    let mut output = Sink::new(alloc, front.len(), fails, flush_fails);
     let mut errors = Vec::new(alloc);
     let (outcome, _) = replay_and_tell(alloc, &[], &mut input, &mut output, &mut errors);
-    let is_whole = front.len() == ANSWERS.len() && !flush_fails;
     let want = Run {
         answers: front,
-        status: if is_whole { 0 } else { 1 },
-        errors: if is_whole {
-            b""
-        } else {
-            b"replay: write failed\n"
-        },
+        status: if wanted.is_empty() { 0 } else { 1 },
+        errors: wanted,
     };
     assert_end(rt, front.len(), outcome, &output.taken, &errors, &want);
 }
@@ -201,7 +216,8 @@ fn failed_texts(rt: HostRuntime) {
     for room in 0..=text.len() {
         let mut input = b"received data".as_slice();
         let mut output = Vec::new(rt.alloc());
-        let mut errors = Sink::new(rt.alloc(), room, true, false);
+        let kind = ErrorKind::PermissionDenied;
+        let mut errors = Sink::new(rt.alloc(), room, true, false, kind);
         let (outcome, told) = replay_and_tell(
             rt.alloc(),
             &[],
