@@ -161,6 +161,8 @@ def interrupted(place):
         second = place.begun("./prove", "recovery_queue")
         told = second.stderr.readline()
         tests.expect("./prove beside it", told, f"prove: ./check (process {call.pid}) works in this tree; this one goes on when that has ended\n")
+        inner = place.ran("./prove", "recovery_base", **{tree.WORKS_IN: str(place.root.resolve())})
+        tests.expect("./prove that ./check starts itself", inner[0], 0)
         waited_for(lambda: "its tests are" in (place.root / "out" / "check.log").read_text())
         ends(call)
         output, said = call.communicate(timeout=SECONDS)
