@@ -10,7 +10,7 @@ from itertools import zip_longest
 ROOT = pathlib.Path(__file__).resolve().parent.parent
 NAME = re.compile(r"[A-Za-z_][A-Za-z0-9_-]*")
 INPUT = re.compile(r"(tracked|local_ids)_\d+_")  # of bench/, which makes these names
-README_LINES = 160
+README_LINES = 130
 SHOWN = re.compile(r"^`(examples/\w+)\.txt`, and what it prints.*\n\n((?:    .*\n)+)", re.M)
 DEFINED = re.compile(r"^ *(?:(?:unfoldable|abbrev|pub|record|data) )*([^\s(:{]+) *[:({]", re.M)
 
@@ -52,7 +52,7 @@ def faults_in(file, text, words):
         for word in NAME.findall("" if pattern else name):
             if not is_known(word, words, others):
                 yield f"{file}: `{word}` (in `{name}`) stands in no source"
-    for link in re.findall(r"\]\(([^)#]+)[^)]*\)", text) + re.findall(r"^\[\w+\]: (\S+)$", text, re.M):
+    for link in re.findall(r"\]\(([^)#]+)[^)]*\)", text):
         if "://" not in link and not (ROOT / file.parent / link).exists():
             yield f"{file}: {link} is not there"
 
