@@ -13,7 +13,7 @@ LEAST_LINES = 700  # of code for each crate, on the mean
 COLUMNS = 120
 # crates that still have longer lines: who brings one below takes it out
 WIDE = set("""quic_recovery quic_recovery_rows quic_recovery_tests recovery_acks recovery_base recovery_congestion recovery_detection recovery_embedding
-recovery_events recovery_ffi recovery_ids recovery_ledger recovery_lines recovery_mtud recovery_parts recovery_parts_tests recovery_paths recovery_queue
+recovery_events recovery_ffi recovery_ids recovery_ledger recovery_lines recovery_mtud recovery_config recovery_parts_tests recovery_paths recovery_queue
 recovery_program recovery_replay recovery_replay_tests recovery_skips recovery_trace""".split())
 
 

@@ -13,7 +13,7 @@ use Rattle.recovery_ledger.specs.SpaceLog.{acknowledged}
 use Rattle.recovery_ledger.specs.Spaces.{Space, space_of, with_space, SpaceAcked}
 use Rattle.recovery_ledger.proofs.ReceivedLaws.{fails}
 use Rattle.recovery_mtud.specs.DiscoveryLog.{MtuCall, acks as acks_packet}
-use Rattle.recovery_paths.specs.LivePaths.{path_left_by, paths_acking}
+use Rattle.recovery_paths.specs.PathPair.{path_left_by, paths_acking}
 use Rattle.recovery_paths.specs.PathLog.{OfPaths, PathKnown, PathsStep, paths_after, path_known_with, known_following, paths_known, path_known, paths_marks, on_current, tells, searches}
 use Rattle.recovery_paths.specs.PathStates.{Path, PathState, after_telling, after_searching, is_path_probe}
 use Rattle.recovery_events.specs.declared.event.Event.TheVariants.{Acked}

@@ -3,10 +3,10 @@ use Rattle.std.proofs.Common.{arith, ℕ, ◌≡◌, Bool, true, false, cond, Op
 use Rattle.std.proofs.lemmas.Bool.{false_from_ne_true}
 use Rattle.recovery_base.specs.declared.below.SpaceId.{SpaceId}
 use Rattle.recovery_congestion.specs.Controllers.{ControllerWords}
-use Rattle.recovery_ledger.specs.Acks.{Heard}
+use Rattle.recovery_ledger.specs.Acks.{AckState}
 use Rattle.recovery_mtud.specs.Discovery.{is_searching_of}
 use Rattle.recovery_mtud.specs.DiscoveryLog.{is_limited}
-use Rattle.recovery_paths.specs.declared.live_paths.PathName.TheVariants.{Current, Previous}
+use Rattle.recovery_paths.specs.declared.path_pair.PathName.TheVariants.{Current, Previous}
 use Rattle.recovery_paths.specs.PathLog.{OfPaths, PathKnown, PathsEntry, paths_after, path_known_with, known_following, on, receives, searches}
 use Rattle.recovery_paths.specs.PathMaking.{PathSettings}
 use Rattle.recovery_paths.proofs.AllowedLaws.{AreAllowed, IsAllowedOn}
@@ -41,7 +41,7 @@ module _ {K : Type 0} (settings : PathSettings K) where
   free_on entry free now = grind (arith, free)
 
 module _ {K Q S M P : Type 0} (q : QueueMeaning Q S M P) (settings : PathSettings K) (heard : SpaceId
-    → Heard) (known : Known K P M) where
+    → AckState) (known : Known K P M) where
   answer_allowed : (event : Event Q S M P) (answer : Answer Q) → ToldBy q settings.words heard known event (Ok answer)
       → AreAllowed settings known.paths (answered q known event answer).paths
   answer_allowed (Transmit now bytes true) Transmitted told =

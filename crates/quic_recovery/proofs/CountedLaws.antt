@@ -14,7 +14,7 @@ use Rattle.recovery_ledger.specs.Tracked.{Sent, sent_by, sent_less, sent_more, s
 use Rattle.recovery_ledger.proofs.CarryLaws.{sum-carrying}
 use Rattle.recovery_ledger.proofs.PacketLaws.{number_at}
 use Rattle.recovery_paths.specs.PathLog.{PathKnown, path_of}
-use Rattle.recovery_paths.specs.declared.live_paths.PathName.TheVariants.{Current}
+use Rattle.recovery_paths.specs.declared.path_pair.PathName.TheVariants.{Current}
 use Rattle.recovery_events.specs.declared.event.Event.{Event}
 use Rattle.recovery_events.specs.declared.event.Event.TheVariants.{Send, Acked, Lost, DiscardSpace, PollMtu, InFlight}
 use Rattle.recovery_events.specs.declared.event.Answer.TheVariants as answers

@@ -27,7 +27,7 @@ use Rattle.quic_recovery.specs.History.{QueueMeaning}
 use Rattle.quic_recovery.specs.Logs.{StepBy}
 use Rattle.quic_recovery.specs.Parts.{Parts}
 use Rattle.quic_recovery.specs.Replies.{reply_to}
-use Rattle.quic_recovery.specs.State.{Changes, Steps, SkippingStep, known_to, heard_to}
+use Rattle.quic_recovery.specs.State.{Changes, Steps, SkippingStep, known_to, acks_to}
 
 -- a space that is put back as it was
 pub with_same_space : {P M : Type 0} (spaces : Spaces P M) (space : SpaceId) (there : Space P M)
@@ -74,7 +74,7 @@ module _ {K P M S : Type 0} (words : QueueWords P S) where
 pub put_back : {K Q S M P : Type 0} (q : QueueMeaning Q S M P) (old : Parts K P M) (event : Event Q S M P)
     (refusal : Refusal) (space : SpaceId) (there : Space P M) → there ≡ space_of space old.spaces
     → PlainStep event (Err refusal) (plain_of old) (plain_of old)
-    → ToldBy q old.settings.words (heard_to old) (known_to old) event (Err refusal)
+    → ToldBy q old.settings.words (acks_to old) (known_to old) event (Err refusal)
     → Changes q old event (Err refusal) (record old { spaces = with_space old.spaces space there })
 put_back {K} {Q} {S} {M} {P} q old event refusal space there same plain told =
     let new : Parts K P M = record old { spaces = with_space old.spaces space there } in

@@ -4,7 +4,7 @@ use Rattle.std.proofs.lemmas.Bool.Decides.{nat_tests}
 use Rattle.std.proofs.Common.{◌≡◌, ◌<◌, ℕ, Bool, true, false, ◌||◌, cond, List, ◌∷◌, Option, None, Some, Ok, Err, ◌⊎◌, refl, arith}
 use Rattle.recovery_base.specs.declared.below.SpaceId.{SpaceId}
 use Rattle.recovery_base.specs.Spaces.{same_space}
-use Rattle.recovery_ledger.specs.Acks.{IsRequired, StartedAt, counts_by, heard_by}
+use Rattle.recovery_ledger.specs.Acks.{IsRequired, StartedAt, counts_by, acks_by}
 use Rattle.recovery_ledger.specs.Spaces.{ArmsBy}
 use Rattle.recovery_ledger.specs.SpaceLog.{SpaceEntry, heard}
 use Rattle.recovery_queue.specs.Queues.{QueueWords}
@@ -40,7 +40,7 @@ AttendsTo words waiting running log =
 module _ {P M S : Type 0} (words : QueueWords P S) (waiting running : Bool) (log : List (SpaceEntry P M))
     (attends : AttendsTo words waiting running log) where
   -- a new ack-eliciting packet with which the timer does not start: it was started, or an ACK is required
-  not_now : (now number : ℕ) → ¬ ArmsBy (heard_by words log) (counts_by log) number true
+  not_now : (now number : ℕ) → ¬ ArmsBy (acks_by words log) (counts_by log) number true
       → AttendsTo words true running (heard now number true ∷ log)
   not_now now number other =
       let why = either (is_required log) (asks log (counts_by log) number) in
@@ -75,7 +75,7 @@ module _ {F K Q S M P : Type 0} (beginning : Beginning F K Q S M P) (before : Hi
 
   -- a new ack-eliciting packet with which the timer does not start
   module _ (there : SpaceId) (now number : ℕ)
-      (other : ¬ ArmsBy (heard_by beginning.queue.words (log there)) (counts_by (log there)) number true) where
+      (other : ¬ ArmsBy (acks_by beginning.queue.words (log there)) (counts_by (log there)) number true) where
     other_told : (b : Bool) → same_space there space ≡ b
         → After (cond b (Some (heard now number true)) None) (b || waiting) running
     other_told true at = not_now beginning.queue.words waiting running (log space) here now number

@@ -10,7 +10,7 @@ use Rattle.recovery_paths.specs.PathLog.{PathsEntry, on, pasts_by, searches}
 use Rattle.recovery_events.specs.declared.event.Event.{Event}
 use Rattle.recovery_events.specs.declared.event.Event.TheVariants.{PollMtu, Acked, Lost, LossesDone, PeerLimit, ResetPath, NewPath}
 use Rattle.recovery_events.specs.declared.event.Answer.{Answer}
-use Rattle.recovery_paths.specs.declared.live_paths.PathName.TheVariants.{Current, Previous}
+use Rattle.recovery_paths.specs.declared.path_pair.PathName.TheVariants.{Current, Previous}
 use Rattle.recovery_paths.specs.PathStates.{PathState}
 use Rattle.quic_recovery.specs.Told.{logs_of, known_by, first_path, settings_of, Told}
 use Rattle.quic_recovery.specs.History.{Beginning, History, Reply}

@@ -10,7 +10,7 @@ use Rattle.recovery_ledger.specs.SpaceLog.{SpaceEntry, heard, heard_again, sends
 use Rattle.recovery_congestion.specs.Calls.{ControllerCall}
 use Rattle.recovery_mtud.specs.Discovery.{reports}
 use Rattle.recovery_mtud.specs.DiscoveryLog.{MtuCall, is_limited, losses_end, acks as acks_packet, loses as loses_packet, loses_probe}
-use Rattle.recovery_paths.specs.declared.live_paths.PathName.TheVariants.{Current, Previous}
+use Rattle.recovery_paths.specs.declared.path_pair.PathName.TheVariants.{Current, Previous}
 use Rattle.recovery_paths.specs.PathLog.{PathsEntry, on, moves, drops_previous, on_current, receives, is_validated, samples, tells, searches, asks, transmits, passes, is_reset}
 use Rattle.recovery_paths.specs.PathStates.{is_path_probe}
 use Rattle.recovery_events.specs.declared.event.Event.{Event}

@@ -6,7 +6,7 @@ use Rattle.recovery_base.specs.declared.below.SpaceId.{SpaceId}
 use Rattle.recovery_base.specs.declared.below.SpaceId.TheVariants.{Data}
 use Rattle.recovery_base.specs.Spaces.{same_space}
 use Rattle.recovery_ledger.specs.Packets.{Packet, packet_at}
-use Rattle.recovery_paths.specs.declared.live_paths.PathName.TheVariants.{Current}
+use Rattle.recovery_paths.specs.declared.path_pair.PathName.TheVariants.{Current}
 use Rattle.recovery_paths.specs.PathLog.{PathsEntry, on, searches}
 use Rattle.recovery_paths.proofs.PathFateLaws.{fates, told_in, told-append, fates_by}
 use Rattle.recovery_events.specs.declared.event.Event.{Event}

@@ -28,7 +28,7 @@ use Rattle.quic_recovery.specs.History.{Beginning, History, Reply}
 use Rattle.quic_recovery.specs.Known.{tracked_known}
 use Rattle.quic_recovery.specs.Logs.{onto}
 use Rattle.quic_recovery.specs.Parts.{Parts}
-use Rattle.quic_recovery.specs.State.{InFlightLeft, Left, heard_to, SkippingStep, ChangesBy, Changes, known_to}
+use Rattle.quic_recovery.specs.State.{InFlightLeft, Left, acks_to, SkippingStep, ChangesBy, Changes, known_to}
 use Rattle.quic_recovery.proofs.AboveLaws.{beside_stays}
 use Rattle.quic_recovery.proofs.LogLaws.{left_by_entry}
 use Rattle.quic_recovery.proofs.PeerIdsLaws.{held_same}
@@ -100,7 +100,7 @@ module _ {F K Q S M P : Type 0} (beginning : Beginning F K Q S M P) where
   left_after history event reply old new left changes balanced =
       let entries = entries_of beginning.queue (known_by beginning history) event reply in
       let steps = changes.steps in
-      let plain = plain_after beginning.queue old.settings.words (heard_to old) (known_by beginning history)
+      let plain = plain_after beginning.queue old.settings.words (acks_to old) (known_by beginning history)
       beginning.config.max_ack_delay
       beginning.config.initial_cid (first_ids beginning) history event reply _ _
       (left.discarded, left.frequency, left.timers, left.peer_limit, left.remote_ids, left.local_ids)

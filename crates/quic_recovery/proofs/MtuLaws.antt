@@ -3,7 +3,7 @@ use Rattle.std.proofs.Common.{ℕ, ◌≡◌, true, false, List, [], ◌∷◌, 
 use Rattle.std.specs.Prelude.{option_map}
 use Rattle.std.specs.Option.{ForSome}
 use Rattle.recovery_base.specs.declared.below.SpaceId.TheVariants as space
-use Rattle.recovery_parts.specs.Settings.{initial_mtu_of}
+use Rattle.recovery_config.specs.Settings.{initial_mtu_of}
 use Rattle.recovery_mtud.specs.declared.config.MtuDiscoveryConfig.{MtuDiscoveryConfig}
 use Rattle.recovery_mtud.specs.Discovery.{Discovery}
 use Rattle.recovery_mtud.specs.DiscoveryLog.{kept_limit}

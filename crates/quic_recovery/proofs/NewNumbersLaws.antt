@@ -16,7 +16,7 @@ use Rattle.quic_recovery.specs.History.{Beginning, History, Reply}
 use Rattle.quic_recovery.specs.Known.{SpaceKnown}
 use Rattle.quic_recovery.specs.Logs.{onto}
 use Rattle.quic_recovery.specs.PartReplies.{ReceivedReply}
-use Rattle.recovery_ledger.specs.Acks.{Heard, heard_by}
+use Rattle.recovery_ledger.specs.Acks.{AckState, acks_by}
 use Rattle.quic_recovery.specs.Promises.NewNumbers.{is_new, came_in, IsVerdict, CallsNew}
 use Rattle.quic_recovery.proofs.EntryKinds.{SpaceKind, hearing, space_kind, space_kept}
 
@@ -106,7 +106,7 @@ module _ {F K Q S M P : Type 0} (beginning : Beginning F K Q S M P) where
 
 -- ---- the verdict
 
-module _ {Q P M : Type 0} (known : SpaceKnown P M) (heard : Heard) (number : ℕ) (eliciting large new : Bool)
+module _ {Q P M : Type 0} (known : SpaceKnown P M) (heard : AckState) (number : ℕ) (eliciting large new : Bool)
     (sizes : (2 ^ 62 ≤ number) ↔ (large ≡ true)) (news : IsNew heard.came number ↔ (new ≡ true)) where
   verdict : (reply : Reply Q) → ReceivedReply known heard number eliciting reply
       → IsVerdict known.discarded large new reply
@@ -124,7 +124,7 @@ module _ {F K Q S M P : Type 0} (beginning : Beginning F K Q S M P) where
       let came = came_in space history in
       let same = all_came beginning history space in
       verdict ((known_by beginning history).spaces space)
-      (heard_by beginning.queue.words (logs.spaces space)) number eliciting (nat_le (2 ^ 62) number)
+      (acks_by beginning.queue.words (logs.spaces space)) number eliciting (nat_le (2 ^ 62) number)
       (is_new came number) (le-leb (2 ^ 62) number, leb-true (2 ^ 62) number)
       (new_from numbers came same number, new_to numbers came same number) reply told
   numbers_told history event reply told = tt

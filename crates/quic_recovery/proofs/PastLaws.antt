@@ -7,7 +7,7 @@ use Rattle.recovery_paths.specs.Balance.{AreBalanced}
 use Rattle.recovery_events.specs.declared.event.Event.{Event}
 use Rattle.quic_recovery.specs.History.{AtEach, Beginning, History, QueueMeaning, Reply, Throughout, history}
 use Rattle.quic_recovery.specs.Parts.{Parts}
-use Rattle.quic_recovery.specs.Past.{Came, CameSomehow, GoesOn, GoesOnFrom, Keeps, StaysOn, WentOn}
+use Rattle.quic_recovery.specs.Past.{Reached, ReachedSomehow, ExtendsOn, ExtendsFrom, Keeps, KeepsPastsOn, ExtendedOn}
 use Rattle.quic_recovery.specs.State.{Changes}
 use Rattle.quic_recovery.specs.Told.{Told}
 use Rattle.quic_recovery.proofs.AcknowledgedLaws.{keeps_to_acknowledge}
@@ -90,11 +90,11 @@ module _ {F K Q S M P : Type 0} (beginning : Beginning F K Q S M P) where
   )
 
   -- from every past by which it came here it goes on: each clause of whole runs, at the event that is put behind it
-  pub goes_on : (past : History Q S M P) (old : Parts K P M) (event : Event Q S M P) (reply : Reply Q)
+  pub extends : (past : History Q S M P) (old : Parts K P M) (event : Event Q S M P) (reply : Reply Q)
       (new : Parts K P M)
-      → Came beginning past old → Changes beginning.queue old event reply new → AreBalanced new.spaces new.paths
-      → GoesOnFrom beginning past event reply new
-  goes_on past old event reply new came changes balanced =
+      → Reached beginning past old → Changes beginning.queue old event reply new → AreBalanced new.spaces new.paths
+      → ExtendsFrom beginning past event reply new
+  extends past old event reply new came changes balanced =
       let by = changes_by_logs beginning past old event reply new came.left changes in
       let here = told_by_logs beginning past old came.left event reply by.told in
       let now = (event, reply) ∷ past in
@@ -110,14 +110,14 @@ module _ {F K Q S M P : Type 0} (beginning : Beginning F K Q S M P) where
 
 module _ {F K Q S M P : Type 0} {built : F → ℕ → ℕ → K} {words : ControllerWords K} {queue : QueueMeaning Q S M P}
     {old : Parts K P M} {event : Event Q S M P} {reply : Reply Q} {new : Parts K P M}
-    (on : GoesOn built words queue old event reply new)
+    (on : ExtendsOn built words queue old event reply new)
   where
     -- from a past by which it came here it went on
-    pub went_on : ∥ CameSomehow built words queue old ∥₁ → ∥ WentOn built words queue old event reply new ∥₁
-    went_on by = ∥∥₁_map by (λ by. record { origin = by; goes = on by.config by.start by.random by.past by.came })
+    pub extended : ∥ ReachedSomehow built words queue old ∥₁ → ∥ ExtendedOn built words queue old event reply new ∥₁
+    extended by = ∥∥₁_map by (λ by. record { origin = by; goes = on by.config by.start by.random by.past by.came })
 
     -- and came on
-    pub still_came : ∥ CameSomehow built words queue old ∥₁ → ∥ CameSomehow built words queue new ∥₁
+    pub still_came : ∥ ReachedSomehow built words queue old ∥₁ → ∥ ReachedSomehow built words queue new ∥₁
     still_came by = ∥∥₁_map by (λ by. record {
       config = by.config;
       start = by.start;
@@ -127,9 +127,9 @@ module _ {F K Q S M P : Type 0} {built : F → ℕ → ℕ → K} {words : Contr
     })
 
 module _ {F K Q S M P : Type 0} {built : F → ℕ → ℕ → K} {words : ControllerWords K} {queue : QueueMeaning Q S M P}
-    {old new : Parts K P M} (stays : StaysOn built words queue old new) where
+    {old new : Parts K P M} (stays : KeepsPastsOn built words queue old new) where
   -- what is all the same for every past leaves that there is one
-  pub stays_come : ∥ CameSomehow built words queue old ∥₁ → ∥ CameSomehow built words queue new ∥₁
+  pub stays_come : ∥ ReachedSomehow built words queue old ∥₁ → ∥ ReachedSomehow built words queue new ∥₁
   stays_come by = ∥∥₁_map by (λ by. record {
     config = by.config;
     start = by.start;

@@ -15,7 +15,7 @@ use Rattle.recovery_ledger.specs.Tracked.{forgotten_by}
 use Rattle.recovery_ledger.proofs.ReceivedLaws.{fails}
 use Rattle.recovery_mtud.specs.Discovery.{Discovery, poll_of}
 use Rattle.recovery_mtud.specs.DiscoveryLog.{polls, discovery_after}
-use Rattle.recovery_paths.specs.LivePaths.{on_ledger, ledger_without, paths_without}
+use Rattle.recovery_paths.specs.PathPair.{on_ledger, ledger_without, paths_without}
 use Rattle.recovery_paths.specs.PathLog.{OfPaths, PathKnown, path_known, paths_known, paths_marks, paths_after, path_known_with, known_following, on_current, tells}
 use Rattle.recovery_paths.specs.PathStates.{Path, on_state, with_discovery}
 use Rattle.recovery_events.specs.declared.event.Event.TheVariants.{DiscardSpace, PollMtu, Send}
@@ -131,7 +131,7 @@ module _ {K Q S M P : Type 0} (q : QueueMeaning Q S M P) (old then : Parts K P M
       → Changes {M = M} q old (Send Data now size true None queue frames) (Ok answer) then
       → Changes {M = M} q old (PollMtu now) (Ok (Probe number size))
       (record then { paths = record then.paths { current = path } })
-  probe_changes number discovery path answer is polled goes_on sent =
+  probe_changes number discovery path answer is polled extends sent =
       let steps = rw (empty, blank) at sent.steps in
       let fits = sent.told.1.1.1 in
       let told : OfPaths (PathKnown K) = paths_after (path_known_with old.settings) (known_following old.settings)
@@ -153,9 +153,9 @@ module _ {K Q S M P : Type 0} (q : QueueMeaning Q S M P) (old then : Parts K P M
           settings = steps.settings;
           spaces = steps.spaces;
           skipping = steps.skipping;
-          paths = rw goes_on (ap (seen discovery) steps.paths ∙ ap (λ found. seen found told) polled);
+          paths = rw extends (ap (seen discovery) steps.paths ∙ ap (λ found. seen found told) polled);
         };
         plain = sent.plain;
-        marks = rw goes_on sent.marks;
+        marks = rw extends sent.marks;
         refused = tt;
       }

@@ -6,7 +6,7 @@ use Rattle.recovery_base.specs.declared.timer.Timer.{Timer}
 use Rattle.recovery_base.specs.Timers.{moment}
 use Rattle.recovery_congestion.specs.Controllers.{ControllerWords}
 use Rattle.recovery_ids.specs.LocalIds.{LocalIds}
-use Rattle.recovery_ledger.specs.Acks.{Heard}
+use Rattle.recovery_ledger.specs.Acks.{AckState}
 use Rattle.recovery_ledger.specs.Discarded.{is_discarded}
 use Rattle.recovery_events.specs.declared.event.Event.{Event}
 use Rattle.recovery_events.specs.declared.event.Event.TheVariants.{AckFrequencyIn, InitialId, NewId, NextId, NextTimeout, SetTimer, StopTimer}
@@ -25,7 +25,7 @@ use Rattle.quic_recovery.specs.Replies.{AlwaysAnswers}
 use Rattle.quic_recovery.specs.Told.{Told}
 use Rattle.quic_recovery.proofs.PeerIdsLaws.{frame_step, next_step, initial_step}
 
-module _ {K Q S M P : Type 0} (q : QueueMeaning Q S M P) (words : ControllerWords K) (heard : SpaceId → Heard)
+module _ {K Q S M P : Type 0} (q : QueueMeaning Q S M P) (words : ControllerWords K) (heard : SpaceId → AckState)
     (known : Known K P M) (first : ℕ) (initial : List ℕ) (own : LocalIds) where
   abbrev pub PlainLeft : History Q S M P → Plain → Type 0
   PlainLeft history plain =

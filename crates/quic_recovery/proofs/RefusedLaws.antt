@@ -4,8 +4,8 @@ use Rattle.std.specs.Prelude.{is_some, option_map}
 use Rattle.std.proofs.lemmas.Bool.Decides.{nat_tests}
 use Rattle.recovery_base.specs.declared.below.SpaceId.{SpaceId}
 use Rattle.recovery_base.specs.declared.below.frames.EcnCounts.{EcnCounts}
-use Rattle.recovery_paths.specs.declared.live_paths.PathName.{PathName}
-use Rattle.recovery_paths.specs.declared.live_paths.PathName.TheVariants.{Previous}
+use Rattle.recovery_paths.specs.declared.path_pair.PathName.{PathName}
+use Rattle.recovery_paths.specs.declared.path_pair.PathName.TheVariants.{Previous}
 use Rattle.recovery_paths.specs.PathLog.{PathKnown, path_of}
 use Rattle.recovery_events.specs.declared.event.Event.{Event}
 use Rattle.recovery_events.specs.declared.event.Event.TheVariants.{InitialId, DropPrevious}

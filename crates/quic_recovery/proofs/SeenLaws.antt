@@ -3,7 +3,7 @@
 use Rattle.std.proofs.Common.{ℕ, ◌≡◌, Bool, true, false, List, ◌∷◌, ◌++◌, Ok, Err, refl, ◌∙◌, arith}
 use Rattle.recovery_paths.specs.PathMaking.{PathSettings}
 use Rattle.recovery_paths.specs.PathLog.{OfPaths, PathEntry, PathPast, PathsEntry, on, is_validated, on_path_of, past_with, pasts_by, receives}
-use Rattle.recovery_paths.specs.declared.live_paths.PathName.TheVariants.{Current, Previous}
+use Rattle.recovery_paths.specs.declared.path_pair.PathName.TheVariants.{Current, Previous}
 use Rattle.recovery_paths.specs.PathStates.{PathState}
 use Rattle.recovery_events.specs.declared.event.Event.{Event}
 use Rattle.recovery_events.specs.declared.event.Event.TheVariants.{NewPath, DropPrevious}
@@ -55,12 +55,12 @@ module _ {F K Q S M P A : Type 0} (beginning : Beginning F K Q S M P) (see : OfP
   log = (logs_of beginning past).paths
 
   -- of events that make a path or drop one nothing is said
-  abbrev Stays : Event Q S M P → Reply Q → Type 0
-  Stays (NewPath now remote is_fresh) (Ok given) = Unit {0}
-  Stays DropPrevious (Ok given) = Unit {0}
-  Stays event reply = see (pasts_of beginning ((event, reply) ∷ past)) ≡ see (pasts_of beginning past)
+  abbrev KeepsPasts : Event Q S M P → Reply Q → Type 0
+  KeepsPasts (NewPath now remote is_fresh) (Ok given) = Unit {0}
+  KeepsPasts DropPrevious (Ok given) = Unit {0}
+  KeepsPasts event reply = see (pasts_of beginning ((event, reply) ∷ past)) ≡ see (pasts_of beginning past)
 
-  pub stays_seen : (event : Event Q S M P) (reply : Reply Q) → Stays event reply
+  pub stays_seen : (event : Event Q S M P) (reply : Reply Q) → KeepsPasts event reply
   stays_seen (NewPath now remote is_fresh) (Ok given) = tt
   stays_seen DropPrevious (Ok given) = tt
   stays_seen event (Ok given) =

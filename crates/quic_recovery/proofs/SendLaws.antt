@@ -14,10 +14,10 @@ use Rattle.recovery_ledger.specs.Tracked.{packet_sent}
 use Rattle.recovery_ledger.specs.declared.paths.InFlight.{InFlight}
 use Rattle.recovery_ledger.proofs.PacketLaws.{entry_number_of}
 use Rattle.recovery_paths.specs.Balance.{AreBalanced}
-use Rattle.recovery_paths.specs.LivePaths.{on_ledger, paths_after_sending}
+use Rattle.recovery_paths.specs.PathPair.{on_ledger, paths_after_sending}
 use Rattle.recovery_paths.specs.PathLog.{OfPaths, PathKnown, on_path_of, path_known, paths_known, paths_marks}
 use Rattle.recovery_paths.specs.PathStates.{PathState, Path, on_state, after_telling}
-use Rattle.recovery_paths.specs.declared.live_paths.PathName.TheVariants.{Current}
+use Rattle.recovery_paths.specs.declared.path_pair.PathName.TheVariants.{Current}
 use Rattle.recovery_paths.proofs.BalanceLaws.{paths_balanced_sent}
 use Rattle.recovery_skips.specs.Filters.{Skipping}
 use Rattle.recovery_events.specs.declared.event.Answer.TheVariants.{Sent}

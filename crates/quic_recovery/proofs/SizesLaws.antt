@@ -2,7 +2,7 @@
 -- of `run`.
 use Rattle.std.proofs.Common.{ℕ, ◌≡◌, ◌<◌, ◌≤◌, max, ◌∷◌, Option, None, Some, Ok, arith, refl, ◌∙◌}
 use Rattle.std.specs.Prelude.{IsSomeAnd}
-use Rattle.recovery_parts.specs.Settings.{initial_mtu_of}
+use Rattle.recovery_config.specs.Settings.{initial_mtu_of}
 use Rattle.recovery_mtud.specs.declared.config.MtuDiscoveryConfig.{MtuDiscoveryConfig}
 use Rattle.recovery_mtud.specs.Discovery.{limit_or_greatest}
 use Rattle.recovery_mtud.specs.MtuEntries.{probed, mtu_in_use as by_entries}

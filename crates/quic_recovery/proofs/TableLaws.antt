@@ -9,7 +9,7 @@ use Rattle.recovery_base.specs.declared.below.ids.NewConnectionId.{NewConnection
 use Rattle.recovery_acks.specs.Acks.{AckCounts, Acks}
 use Rattle.recovery_congestion.specs.Controllers.{ControllerWords}
 use Rattle.recovery_ids.specs.RemoteIds.{Table, RemoteIds, IsLeastHeld, with_frame}
-use Rattle.recovery_ledger.specs.Acks.{Heard, heard_by}
+use Rattle.recovery_ledger.specs.Acks.{AckState, acks_by}
 use Rattle.recovery_ledger.specs.Probes.{ProbeFound}
 use Rattle.recovery_ledger.specs.Paths.{counters_of}
 use Rattle.recovery_ledger.specs.Spaces.{AcksLeft}
@@ -21,8 +21,8 @@ use Rattle.recovery_events.specs.declared.event.Answer.TheVariants.{Queue, Flag,
 use Rattle.recovery_events.specs.declared.event.Refusal.{Refusal}
 use Rattle.recovery_events.specs.declared.event.Refusal.TheVariants as refusal
 use Rattle.recovery_events.specs.declared.event.Refusal.TheVariants.{NoMemory, NoSuchPath, Overflow}
-use Rattle.recovery_paths.specs.declared.live_paths.PathName.{PathName}
-use Rattle.recovery_paths.specs.declared.live_paths.PathName.TheVariants.{Previous}
+use Rattle.recovery_paths.specs.declared.path_pair.PathName.{PathName}
+use Rattle.recovery_paths.specs.declared.path_pair.PathName.TheVariants.{Previous}
 use Rattle.recovery_events.specs.declared.event.Event.{Event}
 use Rattle.recovery_events.specs.declared.event.Event.TheVariants.{DropPrevious}
 use Rattle.quic_recovery.specs.Told.{logs_of, known_by, Told}
@@ -112,7 +112,7 @@ module _ {Q S M P : Type 0} (q : QueueMeaning Q S M P) where
   flag_agree Holds (Flag one) other is_one is_other = grind (arith, is_one, is_other)
   flag_agree Holds one other is_one is_other = absurd is_one
 
-  received_agree : (heard : Heard) (counts : AckCounts) (number : ℕ) (eliciting : Bool)
+  received_agree : (heard : AckState) (counts : AckCounts) (number : ℕ) (eliciting : Bool)
       → Agree (ReceivedAnswer heard counts number eliciting)
   received_agree heard counts number eliciting (New one) other is_one is_other = grind (arith, is_one, is_other)
   received_agree heard counts number eliciting one other is_one is_other = grind (arith, is_one, is_other)
@@ -121,7 +121,7 @@ module _ {Q S M P : Type 0} (q : QueueMeaning Q S M P) where
   pending_agree here (Queue one) other is_one is_other = grind (arith, is_one, is_other)
   pending_agree here one other is_one is_other = absurd is_one
 
-  probe_agree : (here : SpaceKnown P M) (streams : S) (heard : Heard) (immediate : Bool) (found : ProbeFound)
+  probe_agree : (here : SpaceKnown P M) (streams : S) (heard : AckState) (immediate : Bool) (found : ProbeFound)
       → Agree (IsQueueProbeAnswer q here streams heard immediate found)
   probe_agree here streams heard immediate found (Sendable one) other is_one is_other = grind (arith, is_one, is_other)
   probe_agree here streams heard immediate found one other is_one is_other = absurd is_one
@@ -153,7 +153,7 @@ module _ {Q S M P : Type 0} (q : QueueMeaning Q S M P) where
 
   -- ---- the table
 
-  module _ {K : Type 0} (words : ControllerWords K) (heard : SpaceId → Heard) (known : Known K P M) where
+  module _ {K : Type 0} (words : ControllerWords K) (heard : SpaceId → AckState) (known : Known K P M) where
     on_path : (path : PathName) (Replies : PathKnown K → Reply Q → Type 0)
         → ((there : PathKnown K) → Decides (Replies there)) → Decides (OnPath (path_of path known.paths) Replies)
     on_path path Replies decides = go (path_of path known.paths)
@@ -211,7 +211,7 @@ module _ {F K Q S M P : Type 0} (beginning : Beginning F K Q S M P) (history : H
       → one ≢ Err NoMemory → other ≢ Err NoMemory → SameReply beginning.queue.contents one other
   one_reply_to event one other told_one told_other here there =
       decides beginning.queue beginning.words
-      (λ space. heard_by beginning.queue.words ((logs_of beginning history).spaces space))
+      (λ space. acks_by beginning.queue.words ((logs_of beginning history).spaces space))
       (known_by beginning history) event one other here there told_one told_other
 
   -- an option that says each number alike is the same
@@ -220,7 +220,7 @@ module _ {F K Q S M P : Type 0} (beginning : Beginning F K Q S M P) (history : H
   same_base (Some m) other alike = sym ((alike m).0 refl)
   same_base one (Some m) alike = (alike m).1 refl
 
-  acks_alike : (said : Heard) (counts : AckCounts) (one other : Acks) → AcksLeft said counts one
+  acks_alike : (said : AckState) (counts : AckCounts) (one other : Acks) → AcksLeft said counts one
       → AcksLeft said counts other → AcksAlike one other
   acks_alike said counts one other left too =
       let base = same_base one.base other.base (λ m. grind (arith, left.started m, too.started m)) in

@@ -1,6 +1,6 @@
 -- The bound on what goes to an address that is not validated, by events and answers: the clause `threefold` of `run`.
 use Rattle.std.proofs.Common.{Bool, ◌∷◌, Option, None, Some, arith}
-use Rattle.recovery_paths.specs.declared.live_paths.PathName.TheVariants.{Current, Previous}
+use Rattle.recovery_paths.specs.declared.path_pair.PathName.TheVariants.{Current, Previous}
 use Rattle.recovery_paths.specs.PathLog.{OfPaths}
 use Rattle.quic_recovery.specs.History.{Beginning, History}
 use Rattle.quic_recovery.specs.Promises.Datagrams.{datagrams_on, is_validated}

@@ -2,7 +2,7 @@
 use Rattle.std.specs.Prelude.{◌≡◌, ℕ, Option, option_map, None}
 use Rattle.recovery_base.specs.declared.below.frames.EcnCounts.{EcnCounts}
 use Rattle.recovery_ledger.specs.Spaces.{Space}
-use Rattle.recovery_paths.specs.declared.live_paths.PathName.{PathName}
+use Rattle.recovery_paths.specs.declared.path_pair.PathName.{PathName}
 use Rattle.recovery_paths.specs.PathLog.{OfPaths, OnEachPath, on_path_of, path_of}
 use Rattle.recovery_paths.specs.PathMaking.{marks_made}
 use Rattle.recovery_paths.specs.PathStates.{PathMarks, with_marks}

@@ -10,7 +10,7 @@ use Rattle.recovery_ledger.specs.Packets.{Packet}
 use Rattle.recovery_ledger.specs.Probes.{ProbeFound, probe_found}
 use Rattle.recovery_mtud.specs.DiscoveryLog.{MtuCall, discovery_after, acks as acks_packet}
 use Rattle.recovery_paths.specs.PathStates.{loss_call, is_path_probe}
-use Rattle.recovery_paths.specs.PathLog.{PathsEntry, Following, fresh, goes_on, on_current, searches, tells}
+use Rattle.recovery_paths.specs.PathLog.{PathsEntry, Following, fresh, extends, on_current, searches, tells}
 use Rattle.recovery_base.specs.Spaces.{same_space}
 use Rattle.recovery_ledger.specs.SpaceLog.{SpaceEntry, sends}
 
@@ -90,4 +90,4 @@ module _ {K P M : Type 0} (known : Known K P M) where
 
   abbrev pub following : ℕ → SocketAddr → Bool → Following
   following now remote true = fresh remote known.peer_limit now
-  following now remote false = goes_on remote now
+  following now remote false = extends remote now

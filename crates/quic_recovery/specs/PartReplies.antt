@@ -7,7 +7,7 @@ use Rattle.recovery_base.specs.Ecn.{ecn_fault}
 use Rattle.recovery_base.specs.Numbers.{IsNew}
 use Rattle.recovery_congestion.specs.Controllers.{ControllerWords}
 use Rattle.recovery_acks.specs.Acks.{AckCounts}
-use Rattle.recovery_ledger.specs.Acks.{Arms, Heard}
+use Rattle.recovery_ledger.specs.Acks.{Arms, AckState}
 use Rattle.recovery_ledger.specs.InFlight.{Overflows}
 use Rattle.recovery_ledger.specs.Packets.{Packet, packet_at, IsTooLarge}
 use Rattle.recovery_ledger.specs.Probes.{ProbeFound}
@@ -32,7 +32,7 @@ module _ {Q : Type 0} where
   IsDone = AlwaysAnswers (λ given. given ≡ answer.Done)
 
   -- what a received packet is answered: what it is to its space
-  abbrev pub ReceivedAnswer : Heard → AckCounts → ℕ → Bool → Answer Q → Type 0
+  abbrev pub ReceivedAnswer : AckState → AckCounts → ℕ → Bool → Answer Q → Type 0
   ReceivedAnswer heard counts number eliciting (answer.New arm) =
       IsNew heard.came number × (IsTrue arm ↔ Arms heard.came heard.required heard.started counts number eliciting)
   ReceivedAnswer heard counts number eliciting answer.Duplicate = ¬ IsNew heard.came number
@@ -46,7 +46,7 @@ module _ {Q P M : Type 0} (here : SpaceKnown P M) where
   InSpace = Refuses refusal.SpaceDiscarded (IsTrue here.discarded)
 
   -- what a received packet comes to, from the numbers that came before it; only a new number takes memory
-  abbrev pub ReceivedReply : Heard → ℕ → Bool → Reply Q → Type 0
+  abbrev pub ReceivedReply : AckState → ℕ → Bool → Reply Q → Type 0
   ReceivedReply heard number eliciting = InSpace
       (Refuses refusal.NumberTooLarge (2 ^ 62 ≤ number)
       (Answers (IsNew heard.came number) (ReceivedAnswer heard here.counts number eliciting)))
@@ -74,7 +74,7 @@ module _ {Q P M : Type 0} (here : SpaceKnown P M) where
 
 module _ {Q S M P : Type 0} (q : QueueMeaning Q S M P) (here : SpaceKnown P M) where
   -- a probe is asked for, and finds this: what can be sent then
-  abbrev pub IsQueueProbeAnswer : S → Heard → Bool → ProbeFound → Answer Q → Type 0
+  abbrev pub IsQueueProbeAnswer : S → AckState → Bool → ProbeFound → Answer Q → Type 0
   IsQueueProbeAnswer streams heard immediate found (answer.Sendable frames) =
       IsSendable q.words streams heard (probe_queued q.words immediate found here.sent.tracked here.queued) frames
   IsQueueProbeAnswer streams heard immediate found other = ⊥

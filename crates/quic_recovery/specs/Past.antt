@@ -35,7 +35,7 @@ use Rattle.quic_recovery.specs.Told.{Told}
 module _ {F K Q S M P : Type 0} (beginning : Beginning F K Q S M P) where
   -- by these events a recovery came here, from that beginning: each was told what the history before it says, and the
   -- recovery is what the whole history leaves
-  pub record Came (past : History Q S M P) (recovery : Parts K P M) : Type 0 where
+  pub record Reached (past : History Q S M P) (recovery : Parts K P M) : Type 0 where
     pub told : AtEach (Told beginning) past
     pub left : Left beginning past recovery
     -- the bound of a search is a `u16`
@@ -122,52 +122,53 @@ module _ {F K Q S M P : Type 0} (beginning : Beginning F K Q S M P) where
     pub to_acknowledge : KeepsToAcknowledge beginning ((event, reply) ∷ before)
 
   -- from a past to that past with one event more
-  pub record GoesOnFrom (past : History Q S M P) (event : Event Q S M P) (reply : Reply Q) (new : Parts K P M) : Type 0
+  pub record ExtendsFrom (past : History Q S M P) (event : Event Q S M P) (reply : Reply Q) (new : Parts K P M) : Type 0
     where
       pub keeps : Keeps past event reply
-      pub came : Came ((event, reply) ∷ past) new
+      pub came : Reached ((event, reply) ∷ past) new
 
 -- whatever the beginning and the past by which the recovery came here
 module _ {F K Q S M P : Type 0} (built : F → ℕ → ℕ → K) (words : ControllerWords K) (queue : QueueMeaning Q S M P) where
-  abbrev pub GoesOn : Parts K P M → Event Q S M P → Reply Q → Parts K P M → Type 0
-  GoesOn old event reply new = (config : RecoveryConfig F) (start : ℕ) (random : Stream) (past : History Q S M P) →
+  abbrev pub ExtendsOn : Parts K P M → Event Q S M P → Reply Q → Parts K P M → Type 0
+  ExtendsOn old event reply new = (config : RecoveryConfig F) (start : ℕ) (random : Stream) (past : History Q S M P) →
       let beginning = begins built words queue config start random in
-      Came beginning past old → GoesOnFrom beginning past event reply new
+      Reached beginning past old → ExtendsFrom beginning past event reply new
 
   -- from some beginning and by some past it came here
-  pub record CameSomehow (recovery : Parts K P M) : Type 0 where
+  pub record ReachedSomehow (recovery : Parts K P M) : Type 0 where
     pub config : RecoveryConfig F
     pub start : ℕ
     pub random : Stream
     pub past : History Q S M P
-    pub came : Came (begins built words queue config start random) past recovery
+    pub came : Reached (begins built words queue config start random) past recovery
 
   -- from there it went on
-  pub record WentOn (old : Parts K P M) (event : Event Q S M P) (reply : Reply Q) (new : Parts K P M) : Type 0 where
-    pub origin : CameSomehow old
-    pub goes : GoesOnFrom (begins built words queue origin.config origin.start origin.random) origin.past event reply
+  pub record ExtendedOn (old : Parts K P M) (event : Event Q S M P) (reply : Reply Q) (new : Parts K P M) : Type 0 where
+    pub origin : ReachedSomehow old
+    pub goes : ExtendsFrom (begins built words queue origin.config origin.start origin.random) origin.past event reply
         new
 
   -- it is all the same for its past
-  abbrev pub StaysOn : Parts K P M → Parts K P M → Type 0
-  StaysOn old new = (config : RecoveryConfig F) (start : ℕ) (random : Stream) (past : History Q S M P) →
+  abbrev pub KeepsPastsOn : Parts K P M → Parts K P M → Type 0
+  KeepsPastsOn old new = (config : RecoveryConfig F) (start : ℕ) (random : Stream) (past : History Q S M P) →
       let beginning = begins built words queue config start random in
-      Came beginning past old → Came beginning past new
+      Reached beginning past old → Reached beginning past new
 
 -- the same of recoveries
 module _ {F Q R C K S M P : Type 0} {f : _} {c : _} {q : _} {m : _} {r : _} where
-  abbrev pub HasPast : Recovery F Q R C K S M P f c q m r → Type 0
-  HasPast recovery = CameSomehow f.built c.words (queue_meaning q.contents q.words q.blank) (parts_of recovery)
+  abbrev pub IsReachable : Recovery F Q R C K S M P f c q m r → Type 0
+  IsReachable recovery = ReachedSomehow f.built c.words (queue_meaning q.contents q.words q.blank) (parts_of recovery)
 
-  abbrev pub Goes : Recovery F Q R C K S M P f c q m r → Event Q S M P → Reply Q → Recovery F Q R C K S M P f c q m r
+  abbrev pub Extends : Recovery F Q R C K S M P f c q m r → Event Q S M P → Reply Q → Recovery F Q R C K S M P f c q m r
       → Type 0
-  Goes old event reply new =
-      GoesOn f.built c.words (queue_meaning q.contents q.words q.blank) (parts_of old) event reply (parts_of new)
+  Extends old event reply new =
+      ExtendsOn f.built c.words (queue_meaning q.contents q.words q.blank) (parts_of old) event reply (parts_of new)
 
-  abbrev pub Went : Recovery F Q R C K S M P f c q m r → Event Q S M P → Reply Q → Recovery F Q R C K S M P f c q m r
-      → Type 0
-  Went old event reply new =
-      WentOn f.built c.words (queue_meaning q.contents q.words q.blank) (parts_of old) event reply (parts_of new)
+  abbrev pub Extended : Recovery F Q R C K S M P f c q m r → Event Q S M P → Reply Q
+      → Recovery F Q R C K S M P f c q m r → Type 0
+  Extended old event reply new =
+      ExtendedOn f.built c.words (queue_meaning q.contents q.words q.blank) (parts_of old) event reply (parts_of new)
 
-  abbrev pub Stays : Recovery F Q R C K S M P f c q m r → Recovery F Q R C K S M P f c q m r → Type 0
-  Stays old new = StaysOn f.built c.words (queue_meaning q.contents q.words q.blank) (parts_of old) (parts_of new)
+  abbrev pub KeepsPasts : Recovery F Q R C K S M P f c q m r → Recovery F Q R C K S M P f c q m r → Type 0
+  KeepsPasts old new =
+      KeepsPastsOn f.built c.words (queue_meaning q.contents q.words q.blank) (parts_of old) (parts_of new)

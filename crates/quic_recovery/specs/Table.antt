@@ -6,7 +6,7 @@ use Rattle.recovery_base.specs.declared.below.SpaceId.TheVariants.{Data}
 use Rattle.recovery_acks.specs.AckFrequencies.{IsStale, delay_of, with_last, with_request}
 use Rattle.recovery_congestion.specs.Controllers.{ControllerWords}
 use Rattle.recovery_ids.specs.LocalIds.{holds_unretired, timed_out, LocalIds, with_issued, without_number}
-use Rattle.recovery_ledger.specs.Acks.{Heard}
+use Rattle.recovery_ledger.specs.Acks.{AckState}
 use Rattle.recovery_ledger.specs.Packets.{packet_at}
 use Rattle.recovery_mtud.specs.Discovery.{poll_of, is_searching_of, reports}
 use Rattle.recovery_paths.specs.PathLog.{path_of, on, moves, drops_previous, on_current, receives, is_validated, samples, tells, asks, transmits, passes, is_reset, OfPaths, moved_to}
@@ -82,7 +82,7 @@ module _ {Q S M P : Type 0} where
 
 -- ---- what each is told in reply
 
-module _ {K Q S M P : Type 0} (q : QueueMeaning Q S M P) (words : ControllerWords K) (heard : SpaceId → Heard)
+module _ {K Q S M P : Type 0} (q : QueueMeaning Q S M P) (words : ControllerWords K) (heard : SpaceId → AckState)
     (known : Known K P M) where
   abbrev pub ToldBy : Event Q S M P → Reply Q → Type 0
   ToldBy (Received space now number eliciting) = ReceivedReply (known.spaces space) (heard space) number eliciting

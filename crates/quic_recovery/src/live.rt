@@ -3,8 +3,8 @@ ghost use Rattle.std.specs.Prelude.{◌≡◌, ◌<◌, ◌≤◌, ◌^◌, IfOk
 ghost use Rattle.recovery_skips.specs.Skips.{IsSkips};
 ghost use Rattle.recovery_paths.specs.PathLog.{paths_marks};
 ghost use Rattle.quic_recovery.specs.Above.{AreFresh, marks_at, with_marks_at};
-ghost use Rattle.quic_recovery.specs.Past.{Came, Goes, HasPast, Stays, Went};
-ghost use Rattle.quic_recovery.specs.State.{parts_of, begun, known_to, Does, InFlightLeft};
+ghost use Rattle.quic_recovery.specs.Past.{Reached, Extends, IsReachable, KeepsPasts, Extended};
+ghost use Rattle.quic_recovery.specs.State.{parts_of, begun, known_to, Transition, InFlightLeft};
 
 use crate::driver::{Recovery, RecoveryConfig};
 use rand_core::Rng;
@@ -24,7 +24,7 @@ use std::alloc::Global;
 #[derive(Drop)]
 pub struct LiveRecovery<F: ControllerFactory, Q: RetransmitQueue, R: Rng> {
     recovery: Recovery<F, Q, R>,
-    ghost came: { ∥ HasPast recovery ∥₁ },
+    ghost came: { ∥ IsReachable recovery ∥₁ },
 }
 
 impl<F, Q, R> LiveRecovery<F, Q, R>
@@ -46,7 +46,7 @@ where
     ) -> Result<Self, NoMemory>
         requires issued { config.issued ≤ 2 ^ 62 }
         requires skips { IsSkips config.skips }
-        ensures came { IfOk result (λ live. Came (begun live.recovery config now rng)
+        ensures came { IfOk result (λ live. Reached (begun live.recovery config now rng)
             [] (parts_of live.recovery)) }
         ensures marks { IfOk result (λ live.
             AreFresh (paths_marks (parts_of live.recovery).paths)) }
@@ -69,17 +69,17 @@ where
     #[inline(always)]
     pub fn apply(&mut self, event: Event<Q>) -> Result<Answer<Q>, Refusal>
         // What the event is told, by the state before it, and what it changes.
-        ensures changes { Does event self.old.recovery result self.new.recovery }
+        ensures changes { Transition event self.old.recovery result self.new.recovery }
 
         // Then the bytes in flight on each path are sums over the packets tracked (RFC 9002, B.2).
         ensures in_flight { let new = parts_of self.new.recovery in
             InFlightLeft (known_to new) new.paths }
 
         // Whatever the beginning and the past by which the recovery came here, it goes on from them,
-        ensures goes_on { Goes self.old.recovery event result self.new.recovery }
+        ensures extends { Extends self.old.recovery event result self.new.recovery }
 
         // and there are such.
-        ensures went_on { ∥ Went self.old.recovery event result self.new.recovery ∥₁ }
+        ensures extended { ∥ Extended self.old.recovery event result self.new.recovery ∥₁ }
     {
         self.recovery.apply(event)
     }
@@ -89,7 +89,7 @@ where
         ensures before { result ≡ marks_at path (parts_of self.old.recovery) }
         ensures after { parts_of self.new.recovery
             ≡ with_marks_at path marks (parts_of self.old.recovery) }
-        ensures came { Stays self.old.recovery self.new.recovery }
+        ensures came { KeepsPasts self.old.recovery self.new.recovery }
     {
         self.recovery.set_marks(path, marks)
     }

@@ -10,7 +10,7 @@ use quic_recovery::config::TransportConfig;
 use quic_recovery::driver::{Recovery, RecoveryConfig};
 use quic_recovery::time::Instant;
 use quic_recovery_rows::config::{settings_with, words};
-use recovery_congestion::halving::HalvingConfig;
+use recovery_parts_tests::halving::HalvingConfig;
 use recovery_skips::Skips;
 use std::alloc::Global;
 use thiserror::Error;

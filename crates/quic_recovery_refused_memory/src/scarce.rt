@@ -1,13 +1,13 @@
 //! A queue and a controller that ask for memory in each call that may be refused it, where those of the program seldom
 //! do or never.
 ghost use Rattle.std.specs.Prelude.{◌≡◌, refl};
-ghost use Rattle.recovery_congestion.specs.Halving.{halving_made, halving_words, IsHalvingSound, halving_laws};
+ghost use Rattle.recovery_parts_tests.specs.Halving.{halving_made, halving_words, IsHalvingSound, halving_laws};
 
 use quic_recovery::below::NoMemory;
 use quic_recovery::congestion::{Controller, ControllerFactory, ControllerMetrics};
 use quic_recovery::rtt::RttEstimator;
 use quic_recovery::time::Instant;
-use recovery_congestion::halving::{Halving, HalvingConfig};
+use recovery_parts_tests::halving::{Halving, HalvingConfig};
 use recovery_queue::items::ItemQueue;
 use recovery_queue::queue::RetransmitQueue;
 use std::alloc::Global;

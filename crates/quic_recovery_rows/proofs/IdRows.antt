@@ -5,7 +5,7 @@ use Rattle.std.specs.declared.net.socket_addr.SocketAddr.{SocketAddr}
 use Rattle.recovery_base.specs.declared.below.SpaceId.TheVariants.{Initial, Data}
 use Rattle.recovery_base.specs.declared.below.ids.NewConnectionId.{NewConnectionId}
 use Rattle.recovery_base.specs.declared.below.ids.IssuedCid.{IssuedCid}
-use Rattle.recovery_paths.specs.declared.live_paths.PathName.TheVariants.{Current, Previous}
+use Rattle.recovery_paths.specs.declared.path_pair.PathName.TheVariants.{Current, Previous}
 use Rattle.recovery_events.specs.declared.event.Event.{Event}
 use Rattle.recovery_events.specs.declared.event.Event.TheVariants as event
 use Rattle.recovery_events.specs.declared.event.Answer.TheVariants as answer
@@ -124,8 +124,8 @@ module _ (Q S M P : Type 0) (queue : Q) (frames : M) (remote : SocketAddr) where
   abbrev own_id : ℕ → IssuedCid
   own_id n = record { sequence = n; id = n ∷ []; reset_token = n ∷ [] }
 
-  goes_on : IsIssue {Q = Q} 2 (own_id 2 ∷ own_id 3 ∷ []) (Ok answer.Done)
-  goes_on = refl
+  extends : IsIssue {Q = Q} 2 (own_id 2 ∷ own_id 3 ∷ []) (Ok answer.Done)
+  extends = refl
 
   gap : IsIssue {Q = Q} 2 (own_id 3 ∷ []) (Err refusal.BadRange)
   gap = refl

@@ -4,7 +4,7 @@ use Rattle.std.proofs.Common.{ℕ, ◌*◌, ◌^◌, ◌++◌, false, true, List
 use Rattle.std.specs.declared.net.socket_addr.SocketAddr.{SocketAddr}
 use Rattle.rand_core.specs.Stream.{Stream}
 use Rattle.recovery_base.specs.declared.below.frames.AckFrequency.{AckFrequency}
-use Rattle.recovery_parts.specs.Settings.{settings_with}
+use Rattle.recovery_config.specs.Settings.{settings_with}
 use Rattle.recovery_congestion.specs.declared.congestion.new_reno.NewReno.{NewReno}
 use Rattle.recovery_congestion.specs.NewReno.{reno_made, reno_words}
 use Rattle.recovery_congestion.specs.RenoSettings.{RenoSettings, default_reno}

@@ -3,7 +3,7 @@ use Rattle.std.proofs.Common.{◌-◌, ◌^◌, true, false, [], ◌∷◌, drop
 use Rattle.std.specs.declared.net.socket_addr.SocketAddr.{SocketAddr}
 use Rattle.rand_core.specs.Stream.{Stream}
 use Rattle.recovery_base.specs.declared.below.SpaceId.TheVariants.{Data}
-use Rattle.recovery_paths.specs.declared.live_paths.PathName.TheVariants.{Current, Previous}
+use Rattle.recovery_paths.specs.declared.path_pair.PathName.TheVariants.{Current, Previous}
 use Rattle.recovery_skips.specs.declared.filter.Skips.TheVariants.{Disabled}
 use Rattle.recovery_events.specs.declared.event.Event.TheVariants as event
 use Rattle.recovery_events.specs.declared.event.Answer.TheVariants as answer

@@ -15,7 +15,7 @@ use Rattle.recovery_ledger.specs.declared.paths.InFlight.{InFlight}
 use Rattle.recovery_ledger.specs.SpaceLog.{SpaceEntry}
 use Rattle.recovery_ledger.specs.Packets.{Packet, Packets, is_silent_above, silent_above, least_number, forgotten_number, without_some}
 use Rattle.recovery_ledger.specs.Tracked.{Sent, packet_sent, sent_by, sent_more}
-use Rattle.recovery_paths.specs.declared.live_paths.PathName.TheVariants.{Current}
+use Rattle.recovery_paths.specs.declared.path_pair.PathName.TheVariants.{Current}
 use Rattle.recovery_skips.specs.Skips.{is_at, next_skip, skip_at, skips_below, number_from}
 use Rattle.recovery_skips.specs.declared.filter.Skips.TheVariants.{Disabled}
 use Rattle.recovery_events.specs.declared.event.Event.TheVariants as event

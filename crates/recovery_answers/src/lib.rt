@@ -1,4 +1,4 @@
-//! What is written for each reply: one line.
+//! The text of each reply: one line. Begin at `answers.rt`.
 #![tactic(auto)]
 
 pub mod answers;

@@ -45,10 +45,10 @@ from_place bound n _ (suc at) (range ∷ others) apart below above =
 from_place bound n low at ranges apart below above = (λ here. here, λ here. here)
 
 -- what comes and what goes where ranges change, of which `n` may be
-module _ (n bound more : ℕ) (Comes Goes : Type 0) (arrives : Comes → bound ≤ n + 1)
-    (leaves : Goes → bound ≤ n + 1) where
+module _ (n bound more : ℕ) (Comes Extends : Type 0) (arrives : Comes → bound ≤ n + 1)
+    (leaves : Extends → bound ≤ n + 1) where
   abbrev pub Changes : ℕ → Ranges → Ranges → Type 0
-  Changes low old new = (InRanges new n ↔ Comes ⊎ (InRanges old n × ¬ Goes)) × (Comes → ¬ InRanges old n)
+  Changes low old new = (InRanges new n ↔ Comes ⊎ (InRanges old n × ¬ Extends)) × (Comes → ¬ InRanges old n)
       × AreApart low new × (length new ≤ length old + more)
 
   pub changed : (edit : ℕ → Ranges → Ranges) → ((at : ℕ) (range : Range ℕ) (others : Ranges)

@@ -1,7 +1,6 @@
 pub mod Calls
 pub mod Controllers
 pub mod EstimatorView
-pub mod Halving
 pub mod NamedMoment
 pub mod NewReno
 pub mod PacerLog

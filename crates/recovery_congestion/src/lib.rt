@@ -1,8 +1,7 @@
-//! The round-trip time of a path, as RFC 9002, 5 estimates it from samples; congestion control (RFC 9002, 7): what a controller is
-//! told and answers, with its laws, NewReno, and a second one for tests; and pacing, a bucket of tokens (RFC 9002, 7.7).
+//! The RTT estimator (RFC 9002, 5); congestion control as a trait with its laws, and NewReno (RFC 9002, 7); the pacer, a token
+//! bucket (RFC 9002, 7.7). Begin at `congestion.rt`.
 #![tactic(auto)]
 
 pub mod congestion;
-pub mod halving;
 pub mod pacing;
 pub mod rtt;

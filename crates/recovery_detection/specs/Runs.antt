@@ -64,12 +64,12 @@ abbrev pub AreRising : List Sent → Type 0
 AreRising packets = AllPairs (λ packet later. packet.number < later.number) packets
 
 -- calls with their replies by which a detector came to be what it is
-pub record HasPast (detector : Detector) : Type 0 where
+pub record IsReachable (detector : Detector) : Type 0 where
   pub calls : List Call
   pub replies : List Reply
   pub steps : Steps blank calls replies detector
 
 -- behind its past these packets are handed out for the first time, and each once
 pub record LeaveOnce (old : Detector) (packets : List Sent) : Type 0 where
-  pub past : HasPast old
+  pub past : IsReachable old
   pub once : (n : ℕ) → times n (handed_in past.replies) + times n packets ≤ 1

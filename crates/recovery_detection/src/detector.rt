@@ -58,9 +58,9 @@ impl Model for LossDetector {
 
     ghost view = { detector_in };
 
-    ghost use Rattle.recovery_detection.specs.Runs.{HasPast};
+    ghost use Rattle.recovery_detection.specs.Runs.{IsReachable};
 
-    ghost invariant = { λ detector. ∥ HasPast (detector_in detector) ∥₁ };
+    ghost invariant = { λ detector. ∥ IsReachable (detector_in detector) ∥₁ };
 }
 
 impl LossDetector {

@@ -1,4 +1,4 @@
-//! A loss recovery in a QUIC stack: which events the stack hands in, and what it does with the answers.
+//! An example of a QUIC stack over the recovery: which events it hands in, and what it does with the answers.
 //! docs/EMBEDDING.md walks through it.
 #![tactic(auto)]
 

@@ -1,7 +1,7 @@
 -- What is said of a handle follows from what is said of the stack that it holds.
 use Rattle.std.proofs.Common.{◌≡◌, Bool, Option, Some, subst, sym}
 use Rattle.recovery_paths.specs.PathStates.{PathMarks}
-use Rattle.recovery_paths.specs.declared.live_paths.PathName.{PathName}
+use Rattle.recovery_paths.specs.declared.path_pair.PathName.{PathName}
 use Rattle.recovery_ffi.specs.Answers.{Answers, ItemEvent, Tells}
 use Rattle.recovery_ffi.specs.Marks.{MarksStack, SetsMarks}
 use Rattle.recovery_ffi.specs.declared.stack.Reply.{Reply}

@@ -5,8 +5,8 @@ use Rattle.std.specs.declared.net.socket_addr.SocketAddr.{SocketAddr}
 use Rattle.recovery_base.specs.declared.below.ids.IssuedCid.{IssuedCid}
 use Rattle.recovery_events.specs.declared.event.Event.TheVariants.{IssueIds, NewPath}
 use Rattle.quic_recovery.specs.History as History
-use Rattle.quic_recovery.specs.Past.{Goes, Went}
-use Rattle.quic_recovery.specs.State.{parts_of, known_to, Does, InFlightLeft}
+use Rattle.quic_recovery.specs.Past.{Extends, Extended}
+use Rattle.quic_recovery.specs.State.{parts_of, known_to, Transition, InFlightLeft}
 use Rattle.recovery_events.specs.declared.event.Event.{Event}
 use Rattle.recovery_ffi.specs.Codes.{issued_of, IsAt}
 use Rattle.recovery_ffi.specs.declared.codes.Address.{Address}
@@ -21,10 +21,10 @@ ItemEvent = Event (List ℕ) (Unit {0}) (Unit {0}) (List ℕ)
 -- all that the event's `apply` says of the recovery and a reply, whatever came before, and that reply is spelled
 pub record Tells (old : Stack) (event : ItemEvent) (spelling : Reply) (new : Stack) : Type 0 where
   pub reply : History.Reply (List ℕ)
-  pub changes : Does event old.recovery.recovery reply new.recovery.recovery
+  pub changes : Transition event old.recovery.recovery reply new.recovery.recovery
   pub in_flight : let new = parts_of new.recovery.recovery in InFlightLeft (known_to new) new.paths
-  pub goes_on : Goes old.recovery.recovery event reply new.recovery.recovery
-  pub went_on : ∥ Went old.recovery.recovery event reply new.recovery.recovery ∥₁
+  pub extends : Extends old.recovery.recovery event reply new.recovery.recovery
+  pub extended : ∥ Extended old.recovery.recovery event reply new.recovery.recovery ∥₁
   pub spells : spelling ≡ spelled reply
   pub taken : new.taken ≡ taken_after reply old.taken
   pub token : new.token ≡ token_after reply old.token

@@ -4,7 +4,7 @@ use Rattle.std.specs.declared.net.socket_addr.SocketAddr.{SocketAddr}
 use Rattle.recovery_ffi.specs.declared.controllers.ChosenConfig.{ChosenConfig}
 use Rattle.rand_core.specs.Stream.{Stream}
 use Rattle.quic_recovery.specs.State.{parts_of}
-use Rattle.quic_recovery.specs.Past.{Came}
+use Rattle.quic_recovery.specs.Past.{Reached}
 use Rattle.quic_recovery.specs.declared.driver.RecoveryConfig.{RecoveryConfig}
 use Rattle.recovery_ffi.specs.Codes.{IsAt}
 use Rattle.recovery_ffi.specs.declared.codes.Address.{Address}
@@ -15,7 +15,7 @@ use Rattle.recovery_ffi.specs.Settings.{config_of, settings_fault, words_of, beg
 
 -- a recovery to which nothing has happened yet; nothing was taken, and no token was answered
 pub record IsFresh (config : RecoveryConfig ChosenConfig) (now : ℕ) (words : Stream) (stack : Stack) : Type 0 where
-  pub came : Came (beginning config now words) [] (parts_of stack.recovery.recovery)
+  pub came : Reached (beginning config now words) [] (parts_of stack.recovery.recovery)
   pub taken : stack.taken ≡ []
   pub token : stack.token ≡ replicate 16 0
 

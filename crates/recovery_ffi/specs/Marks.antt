@@ -3,9 +3,9 @@ use Rattle.std.specs.Prelude.{◌≡◌, ℕ, Bool, IsFalse, true, false, [], Op
 use Rattle.std.specs.Option.{option_map_or}
 use Rattle.recovery_base.specs.declared.below.SpaceId.{SpaceId}
 use Rattle.recovery_paths.specs.PathStates.{PathMarks}
-use Rattle.recovery_paths.specs.declared.live_paths.PathName.{PathName}
+use Rattle.recovery_paths.specs.declared.path_pair.PathName.{PathName}
 use Rattle.quic_recovery.specs.Above.{marks_at, with_marks_at}
-use Rattle.quic_recovery.specs.Past.{Stays}
+use Rattle.quic_recovery.specs.Past.{KeepsPasts}
 use Rattle.quic_recovery.specs.State.{parts_of}
 use Rattle.recovery_ffi.specs.Codes.{maybe, space_coded, space_number}
 use Rattle.recovery_ffi.specs.declared.marks.Marks.{Marks}
@@ -54,7 +54,7 @@ marks_shown (Some marks) = record {
 pub record MarksStack (name : PathName) (marks : PathMarks) (is_set : Bool) (old new : Stack) : Type 0 where
   pub set : is_set ≡ is_some (marks_at name (parts_of old.recovery.recovery))
   pub after : parts_of new.recovery.recovery ≡ with_marks_at name marks (parts_of old.recovery.recovery)
-  pub stays : Stays old.recovery.recovery new.recovery.recovery
+  pub stays : KeepsPasts old.recovery.recovery new.recovery.recovery
   pub taken : new.taken ≡ old.taken
   pub token : new.token ≡ old.token
 

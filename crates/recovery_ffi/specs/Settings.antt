@@ -6,8 +6,8 @@ use Rattle.rand_core.specs.Steps.{stream_of, steps_u32}
 use Rattle.rand_core.specs.Stream.{Stream}
 use Rattle.rand_pcg.specs.Pcg.{pcg32, pcg32_of_seed}
 use Rattle.recovery_congestion.specs.RenoSettings.{RenoSettings}
-use Rattle.recovery_parts.specs.Settings.{settings_with}
-use Rattle.recovery_parts.specs.declared.config.TransportConfig.{TransportConfig}
+use Rattle.recovery_config.specs.Settings.{settings_with}
+use Rattle.recovery_config.specs.declared.config.TransportConfig.{TransportConfig}
 use Rattle.recovery_mtud.specs.declared.config.MtuDiscoveryConfig.{MtuDiscoveryConfig}
 use Rattle.recovery_queue.specs.Items.{item_words}
 use Rattle.recovery_skips.specs.declared.filter.Skips.{Skips}

@@ -1,4 +1,4 @@
-//! Connection ids: those that the peer issued, and those that this end issued (RFC 9000, 5.1).
+//! Connection ids (RFC 9000, 5.1): those that the peer issued (`queue.rt`), and those that this end issued (`state.rt`).
 #![tactic(auto)]
 
 mod iter;

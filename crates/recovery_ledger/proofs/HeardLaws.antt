@@ -8,7 +8,7 @@ use Rattle.recovery_acks.specs.Acks.{AckCounts, Acks, AsksAtOnce, IsPending, ack
 use Rattle.recovery_acks.proofs.AckLaws.{out_of_order_alike}
 use Rattle.recovery_acks.proofs.HighestRunLaws.{highest_alike}
 use Rattle.recovery_queue.specs.Queues.{QueueWords}
-use Rattle.recovery_ledger.specs.Acks.{ToAcknowledge, Arms, heard_by, counts_by}
+use Rattle.recovery_ledger.specs.Acks.{ToAcknowledge, Arms, acks_by, counts_by}
 use Rattle.recovery_ledger.specs.Packets.{Packet, packet_at, is_above}
 use Rattle.recovery_ledger.specs.Received.{CameIn}
 use Rattle.recovery_ledger.specs.SpaceLog.{SpaceEntry, heard, acknowledged, ack_goes, ack_is_late, asked}
@@ -44,9 +44,9 @@ module _ (Here There : ℕ → Type 0) (greatest : HasGreatest There) (alike : (
       armed_alike (λ s. (s.0, (since s.0).0 s.1), λ s. (s.0, (since s.0).1 s.1)) same (asks_alike counts)
 
 module _ {P M S : Type 0} (words : QueueWords P S) (log : List (SpaceEntry P M)) (old : Acks)
-    (left : AcksLeft (heard_by words log) (counts_by log) old) where
+    (left : AcksLeft (acks_by words log) (counts_by log) old) where
   abbrev Left : SpaceEntry P M → Acks → Type 0
-  Left entry new = AcksLeft (heard_by words (entry ∷ log)) (counts_by (entry ∷ log)) new
+  Left entry new = AcksLeft (acks_by words (entry ∷ log)) (counts_by (entry ∷ log)) new
 
   pub heard_law : (Known : ℕ → Type 0) → ((n : ℕ) → Known n ↔ Recent (CameIn log) n)
       → (now number : ℕ) (ack_eliciting : Bool) (new : Acks) → HearsNew Known old now number ack_eliciting new

@@ -64,12 +64,12 @@ StartedAt (entry ∷ earlier) moment = StartedAt earlier moment
 
 -- of a space: the numbers that came, whether an ACK is required at once, the numbers to be acknowledged, and the moment
 -- when the timer for a late ACK was started since the last ACK
-pub record Heard : Type 1 where
+pub record AckState : Type 1 where
   pub came : ℕ → Type 0
   pub required : Type 0
   pub pending : ℕ → Type 0
   pub started : ℕ → Type 0
 
-abbrev pub heard_by : {P M S : Type 0} → QueueWords P S → List (SpaceEntry P M) → Heard
-heard_by words log =
+abbrev pub acks_by : {P M S : Type 0} → QueueWords P S → List (SpaceEntry P M) → AckState
+acks_by words log =
     record { came = CameIn log; required = IsRequired log; pending = ToAcknowledge words log; started = StartedAt log }

@@ -5,7 +5,7 @@ use Rattle.std.specs.Option.{option_and_then, option_map_or}
 use Rattle.recovery_base.specs.declared.below.frames.EcnCounts.{EcnCounts}
 use Rattle.recovery_queue.specs.Queues.{QueueWords}
 use Rattle.recovery_ledger.specs.declared.spaces.SendableFrames.{SendableFrames}
-use Rattle.recovery_ledger.specs.Acks.{Heard}
+use Rattle.recovery_ledger.specs.Acks.{AckState}
 use Rattle.recovery_ledger.specs.Packets.{Packet, Packets, packet_at}
 use Rattle.recovery_ledger.specs.Probes.{ProbeFound}
 use Rattle.recovery_ledger.specs.SpaceLog.{SpaceEntry, loses, probes, takes_pending, feeds_back, emptied}
@@ -58,6 +58,6 @@ module _ {P S : Type 0} (words : QueueWords P S) where
   has_other streams queued = not (words.is_empty queued.pending streams) || (queued.ping || queued.immediate)
 
   -- an ACK can be sent where one is required and some number waits for it
-  abbrev pub IsSendable : S → Heard → Queued P → SendableFrames → Type 0
+  abbrev pub IsSendable : S → AckState → Queued P → SendableFrames → Type 0
   IsSendable streams known queued frames =
       (IsTrue frames.acks ↔ (known.required × ((n : ℕ) × known.pending n))) × (frames.other ≡ has_other streams queued)

@@ -15,7 +15,7 @@ use Rattle.recovery_ledger.specs.declared.spaces.ReceiveError.TheVariants.{Numbe
 use Rattle.recovery_ledger.specs.declared.spaces.Receipt.{Receipt}
 use Rattle.recovery_ledger.specs.declared.spaces.Receipt.TheVariants.{New, Duplicate}
 use Rattle.recovery_acks.specs.Runs.{IsInHighest}
-use Rattle.recovery_ledger.specs.Acks.{Heard, Arms, counts_by, heard_by}
+use Rattle.recovery_ledger.specs.Acks.{AckState, Arms, counts_by, acks_by}
 use Rattle.recovery_ledger.specs.Kept.{largest_acknowledged, last_eliciting_sent, one_more, probes_by}
 use Rattle.recovery_ledger.specs.Probes.{ProbeFound}
 use Rattle.recovery_ledger.specs.Queued.{Queued, joined_with, no_ecn, queued_by}
@@ -151,7 +151,7 @@ pub record IsMade {P M S : Type 0} (words : QueueWords P S) (start : ℕ) (space
 -- ---- what an event does to its space
 
 -- what is known of the packets that came, where these are the numbers
-abbrev pub heard_with : (ℕ → Type 0) → Acks → Heard
+abbrev pub heard_with : (ℕ → Type 0) → Acks → AckState
 heard_with Numbers acks = record {
   came = Numbers;
   required = IsTrue acks.required;
@@ -159,10 +159,10 @@ heard_with Numbers acks = record {
   started = λ m. acks.base ≡ Some m;
 }
 
-abbrev pub heard_of : {P M : Type 0} → Space P M → Heard
+abbrev pub heard_of : {P M : Type 0} → Space P M → AckState
 heard_of space = heard_with (Has space.dedup) (acks_of space)
 
-abbrev pub ArmsBy : Heard → AckCounts → ℕ → Bool → Type 0
+abbrev pub ArmsBy : AckState → AckCounts → ℕ → Bool → Type 0
 ArmsBy known = Arms known.came known.required known.started
 
 -- a new number came and is to be acknowledged
@@ -277,14 +277,14 @@ arrives now number ack_eliciting (New arm) = heard now number ack_eliciting
 arrives now number ack_eliciting Duplicate = heard_again number
 
 -- what a received packet is, by the numbers that came before it and by what decides of the next ACK
-abbrev pub IsReceipt : Heard → AckCounts → ℕ → Bool → Receipt → Type 0
+abbrev pub IsReceipt : AckState → AckCounts → ℕ → Bool → Receipt → Type 0
 IsReceipt known counts number eliciting (New arm) =
     IsNew known.came number
     × (IsTrue arm ↔ Arms known.came known.required known.started counts number eliciting)
 IsReceipt known counts number eliciting Duplicate = ¬ IsNew known.came number
 
 -- what comes of a received packet: its number may be too large, and only a new one takes memory
-abbrev pub ReceiveReply : Heard → AckCounts → ℕ → Bool → Result Receipt ReceiveError → Type 0
+abbrev pub ReceiveReply : AckState → AckCounts → ℕ → Bool → Result Receipt ReceiveError → Type 0
 ReceiveReply known counts number eliciting (Ok receipt) =
     (number < 2 ^ 62) × IsReceipt known counts number eliciting receipt
 ReceiveReply known counts number eliciting (Err NumberTooLarge) = 2 ^ 62 ≤ number
@@ -293,7 +293,7 @@ ReceiveReply known counts number eliciting (Err NoMemory) = (number < 2 ^ 62) ×
 -- ---- what a log leaves
 
 -- what is to be acknowledged in a space, and what decides when
-pub record AcksLeft (said : Heard) (said_counts : AckCounts) (acks : Acks) : Type 0 where
+pub record AcksLeft (said : AckState) (said_counts : AckCounts) (acks : Acks) : Type 0 where
   pub pending : (n : ℕ) → IsPending acks n ↔ said.pending n
   pub required : IsTrue acks.required ↔ said.required
   pub started : (m : ℕ) → (acks.base ≡ Some m) ↔ said.started m
@@ -321,7 +321,7 @@ module _ {P M S : Type 0} (words : QueueWords P S) where
   pub record SpaceLeft (start : ℕ) (log : List (SpaceEntry P M)) (left : Space P M) : Type 0 where
     -- a space knows the numbers that came in it, at most 128 below the greatest
     pub numbers : (n : ℕ) → Has left.dedup n ↔ Recent (CameIn log) n
-    pub acks : AcksLeft (heard_by words log) (counts_by log) left.pending_acks
+    pub acks : AcksLeft (acks_by words log) (counts_by log) left.pending_acks
     -- the greatest new number, and 0 before the first
     pub greatest : left.rx_packet ≡ option_map_or (λ largest. largest.0) (counts_by log).largest 0
     pub sent : sent_of left ≡ sent_by words log

@@ -1,4 +1,5 @@
-//! What is kept of packets: the three packet number spaces, which of them were discarded, and what is in flight on a path.
+//! The packets that are tracked: three packet number spaces with what each sent (begin at `spaces.rt`), and the bytes in flight
+//! on a path.
 #![tactic(auto)]
 
 pub mod discarded;

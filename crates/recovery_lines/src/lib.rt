@@ -1,4 +1,4 @@
-//! The lines of a script: which event each spells.
+//! The parser of a script: which event each line spells. Begin at `lines.rt`.
 #![tactic(auto)]
 
 mod blanks;

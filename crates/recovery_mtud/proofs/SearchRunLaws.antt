@@ -105,15 +105,15 @@ module _ (made : Discovery) (link : ℕ) (settings : MtuDiscoveryConfig) (entrie
       record { carried = omega arith; near = omega arith }
 
   -- a poll that goes on with one
-  goes_on : (further now next : ℕ) (probing : Option Probing) (p : Probing) → p.in_flight ≡ None
+  extends : (further now next : ℕ) (probing : Option Probing) (p : Probing) → p.in_flight ≡ None
       → Kept made link settings further entries mtu activation (Some p) → mtu ≡ mtu_in_use made entries
       → probe_in_flight entries ≡ None → is_searched settings now entries ≡ true
       → (answer : Option ℕ) → size_to_probe settings.minimum_change p ≡ answer
       → Told made link settings (left further p) (poll_entry now next answer) entries mtu
       (Some (probing_on now next (search_in probing) p answer))
-  goes_on further _ _ _ p empty kept same quiet searched None is =
+  extends further _ _ _ p empty kept same quiet searched None is =
       let ends = ends_near further p empty kept same is in grind arith
-  goes_on _ _ next _ p empty kept _ quiet searched (Some size) is = (
+  extends _ _ next _ p empty kept _ quiet searched (Some size) is = (
     (
       refl,
       (
@@ -145,7 +145,7 @@ module _ (made : Discovery) (link : ℕ) (settings : MtuDiscoveryConfig) (entrie
       → Leaves made link settings entries call (old probing))
   searching further (polls now next) p None holds kept = (
     left further p,
-    goes_on further now next (Some (record p { in_flight = None }))
+    extends further now next (Some (record p { in_flight = None }))
         (record p { in_flight = None }) refl kept holds.mtu (sym holds.probe)
         (ap (λ b. b || nat_le (next_activation settings entries) now) (sym holds.runs)) _ refl,
   )
@@ -161,7 +161,7 @@ module _ (made : Discovery) (link : ℕ) (settings : MtuDiscoveryConfig) (entrie
   told further call (Some p) = searching further call p p.in_flight
   told further (polls now next) None = λ holds kept. (
       let fresh = search_begun mtu (search_in None) in
-      let found = goes_on 16 now next None fresh refl (fresh_kept holds (sym holds.runs)) in
+      let found = extends 16 now next None fresh refl (fresh_kept holds (sym holds.runs)) in
       (left 16 fresh, grind (arith, nat_tests, found))
       )
   told further call None = λ holds kept. (further, grind (arith, nat_tests))

@@ -1,4 +1,5 @@
-//! How large packets on a path may be: the search for its MTU, and the detection of black holes (RFC 8899; RFC 9000, 14.3).
+//! Path MTU discovery (DPLPMTUD, RFC 8899; RFC 9000, 14.3): a binary search by probes, and the detection of black holes. Begin at
+//! `mtud.rt`.
 #![tactic(auto)]
 
 mod bursts;

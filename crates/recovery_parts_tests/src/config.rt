@@ -1,12 +1,12 @@
 //! Settings of a connection: the defaults, each setter once, and idle timeouts.
+use crate::halving::HalvingConfig;
 use crate::rows::{all_hold, holds};
 use recovery_base::below::{VarInt, VarIntBoundsExceeded};
 use recovery_base::config::AckFrequencyConfig;
 use recovery_base::time::{Duration, Instant};
+use recovery_config::config::{IdleTimeout, TransportConfig};
+use recovery_config::laws::idle_timeouts_agree;
 use recovery_congestion::congestion::{Controller, ControllerFactory, NewRenoConfig};
-use recovery_congestion::halving::HalvingConfig;
-use recovery_parts::config::{IdleTimeout, TransportConfig};
-use recovery_parts::laws::idle_timeouts_agree;
 use std::hash::{DefaultHasher, Hash, Hasher};
 use std::process::Abort;
 

@@ -1,13 +1,13 @@
 //! Congestion controllers, whatever they are. Rows are calls, and the window after each.
 ghost use Rattle.std.specs.Prelude.{◌<◌};
 
+use crate::halving::HalvingConfig;
 use crate::rows::holds;
 use recovery_base::below::NoMemory;
 use recovery_base::time::{Duration, Instant};
 use recovery_congestion::congestion::{
     Controller, ControllerFactory, ControllerMetrics, NewRenoConfig,
 };
-use recovery_congestion::halving::HalvingConfig;
 use recovery_congestion::rtt::RttEstimator;
 use std::process::Abort;
 

@@ -4,7 +4,7 @@ use Rattle.std.proofs.Common.{arith, ◌≡◌, List, [], ◌∷◌, ◌++◌, N
 use Rattle.std.proofs.lemmas.Option.{none-some}
 use Rattle.recovery_congestion.specs.Controllers.{ControllerWords}
 use Rattle.recovery_mtud.proofs.SearchRunLaws.{IsInTurn}
-use Rattle.recovery_paths.specs.declared.live_paths.PathName.TheVariants.{Current, Previous}
+use Rattle.recovery_paths.specs.declared.path_pair.PathName.TheVariants.{Current, Previous}
 use Rattle.recovery_paths.specs.PathMaking.{PathSettings}
 use Rattle.recovery_paths.specs.PathStates.{PathState, path_delay}
 use Rattle.recovery_paths.specs.PathLog.{OfPaths, OnEachPath, PathsEntry, PathEntry, PathPast, PathKnown, Following, paths_with, paths_after, pasts_by, each_path, state_of, known_of, path_known_with, known_following, past_with, past_following, on, moves, drops_previous, searches, passes}

@@ -17,9 +17,9 @@ use Rattle.recovery_ledger.specs.InFlight.{IsCountedIn}
 use Rattle.recovery_ledger.proofs.LedgerLaws.{Follows, carrying_follows, lost_follows, forgotten_counted, sent_follows, first_leaves, space_counted, balanced_by, none_balanced}
 use Rattle.recovery_paths.proofs.PathLogLaws.{for_changed}
 use Rattle.recovery_paths.specs.Balance.{AreBalanced}
-use Rattle.recovery_paths.specs.declared.live_paths.PathName.{PathName}
-use Rattle.recovery_paths.specs.declared.live_paths.PathName.TheVariants.{Current, Previous}
-use Rattle.recovery_paths.specs.LivePaths.{on_ledger, ledger_without, IsCountedOnEach, AreCountedOnEach, CanTrackOn, paths_after_sending, path_left_by, paths_without, paths_losing, paths_acking}
+use Rattle.recovery_paths.specs.declared.path_pair.PathName.{PathName}
+use Rattle.recovery_paths.specs.declared.path_pair.PathName.TheVariants.{Current, Previous}
+use Rattle.recovery_paths.specs.PathPair.{on_ledger, ledger_without, IsCountedOnEach, AreCountedOnEach, CanTrackOn, paths_after_sending, path_left_by, paths_without, paths_losing, paths_acking}
 use Rattle.recovery_paths.specs.PathLog.{OfPaths, on_path_of, moved_to}
 use Rattle.recovery_paths.specs.PathStates.{PathState, Path, on_state, path_lost}
 use Rattle.recovery_queue.specs.Queues.{QueueWords}

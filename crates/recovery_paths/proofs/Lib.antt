@@ -1,6 +1,6 @@
 pub mod AllowedLaws
 pub mod BalanceLaws
-pub mod LivePathsLaws
+pub mod PathPairLaws
 pub mod PassedLaws
 pub mod PathFateLaws
 pub mod PathLogLaws

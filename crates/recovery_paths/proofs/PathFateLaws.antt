@@ -10,7 +10,7 @@ use Rattle.recovery_mtud.specs.Discovery.{Discovery}
 use Rattle.recovery_mtud.specs.DiscoveryLog.{MtuCall, acks, loses}
 use Rattle.recovery_mtud.specs.MtuEntries.{entries_by}
 use Rattle.recovery_mtud.proofs.BurstRunLaws.{acked_in_calls, lost_in_calls, fates_apart_by}
-use Rattle.recovery_paths.specs.declared.live_paths.PathName.TheVariants.{Current, Previous}
+use Rattle.recovery_paths.specs.declared.path_pair.PathName.TheVariants.{Current, Previous}
 use Rattle.recovery_paths.specs.PathLog.{PathsEntry, PathEntry, PathPast, pasts_by, on, moves, drops_previous, searches}
 use Rattle.recovery_paths.specs.PathMaking.{PathSettings}
 use Rattle.recovery_paths.specs.PathStates.{PathState}

@@ -2,9 +2,9 @@
 -- and the driver's `LeftLaws` rest on it.
 use Rattle.std.proofs.Common.{◌≡◌, List, [], ◌∷◌, ◌++◌, Option, None, Some, option_map, refl, ap, ◌∙◌}
 use Rattle.std.specs.Option.{ForSome}
-use Rattle.recovery_paths.specs.declared.live_paths.PathName.TheVariants.{Current, Previous}
+use Rattle.recovery_paths.specs.declared.path_pair.PathName.TheVariants.{Current, Previous}
 use Rattle.recovery_paths.specs.PathMaking.{PathSettings}
-use Rattle.recovery_paths.specs.PathLog.{OfPaths, PathsEntry, PathEntry, PathPast, PathKnown, Following, paths_with, paths_after, pasts_by, each_path, past_with, past_following, known_of, path_known_with, known_following, PathsStep, PathsLeft, on, moves, drops_previous, fresh, goes_on, receives}
+use Rattle.recovery_paths.specs.PathLog.{OfPaths, PathsEntry, PathEntry, PathPast, PathKnown, Following, paths_with, paths_after, pasts_by, each_path, past_with, past_following, known_of, path_known_with, known_following, PathsStep, PathsLeft, on, moves, drops_previous, fresh, extends, receives}
 use Rattle.recovery_paths.specs.PathStates.{PathState}
 
 pub some_same : {A : Type 0} {a b : A} → Some a ≡ Some b → a ≡ b
@@ -33,7 +33,7 @@ module _ {K : Type 0} (settings : PathSettings K) where
       → known_following settings following (known_of past)
       ≡ known_of (past_following settings following past)
   known_of-following (fresh remote limit now) past = refl
-  known_of-following (goes_on remote now) past = refl
+  known_of-following (extends remote now) past = refl
 
   each-with : (entry : PathsEntry) (pasts : OfPaths (PathPast K))
       → paths_with (path_known_with settings) (known_following settings) entry (each_path known_of pasts)

@@ -1,5 +1,5 @@
 pub mod Balance
-pub mod LivePaths
+pub mod PathPair
 pub mod PathLog
 pub mod PathMaking
 pub mod PathStates

@@ -5,8 +5,8 @@ use Rattle.std.specs.declared.net.socket_addr.SocketAddr.{SocketAddr}
 use Rattle.recovery_congestion.specs.Calls.{ControllerCall}
 use Rattle.recovery_mtud.specs.DiscoveryLog.{MtuCall, resets, discovery_by}
 use Rattle.recovery_congestion.specs.PacerLog.{PacerEntry, asked, took, bucket_by}
-use Rattle.recovery_paths.specs.declared.live_paths.PathName.{PathName}
-use Rattle.recovery_paths.specs.declared.live_paths.PathName.TheVariants.{Current, Previous}
+use Rattle.recovery_paths.specs.declared.path_pair.PathName.{PathName}
+use Rattle.recovery_paths.specs.declared.path_pair.PathName.TheVariants.{Current, Previous}
 use Rattle.recovery_paths.specs.PathMaking.{PathSettings, begun_anew, state_fresh, state_going_on, state_reset}
 use Rattle.recovery_paths.specs.PathStates.{PathState, PathMarks, Path, pacer_call, after_asking, after_transmitting, after_receiving, after_sample, after_searching, after_telling, after_validation}
 
@@ -63,7 +63,7 @@ pub data PathEntry : Type 0 where
 -- RTT, controller and search
 pub data Following : Type 0 where
   fresh : (remote : SocketAddr) (limit : Option ℕ) (now : ℕ) → Following
-  goes_on : (remote : SocketAddr) (now : ℕ) → Following
+  extends : (remote : SocketAddr) (now : ℕ) → Following
 
 pub data PathsEntry : Type 0 where
   -- something happens on a path that lives
@@ -140,7 +140,7 @@ module _ {K : Type 0} (settings : PathSettings K) where
   abbrev pub past_following : Following → PathPast K → PathPast K
   past_following (fresh remote limit now) past =
       past_made (past.generation + 1) (state_fresh settings remote false limit now)
-  past_following (goes_on remote now) past = record past {
+  past_following (extends remote now) past = record past {
     generation = past.generation + 1;
     kept = record (state_going_on settings.words remote now (state_of past)) { discovery = past.kept.discovery };
     pacing = [];
@@ -161,7 +161,7 @@ module _ {K : Type 0} (settings : PathSettings K) where
 
   abbrev pub state_following : Following → PathState K → PathState K
   state_following (fresh remote limit now) old = state_fresh settings remote false limit now
-  state_following (goes_on remote now) old = state_going_on settings.words remote now old
+  state_following (extends remote now) old = state_going_on settings.words remote now old
 
 -- ---- what is known of the paths
 

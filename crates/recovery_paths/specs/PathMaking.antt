@@ -3,8 +3,8 @@ use Rattle.std.specs.Prelude.{ℕ, Bool, true, false, Option, None, [], if◌the
 use Rattle.std.specs.declared.net.socket_addr.SocketAddr.{SocketAddr}
 use Rattle.recovery_base.specs.declared.below.SpaceId.{SpaceId}
 use Rattle.recovery_congestion.specs.Controllers.{ControllerWords}
-use Rattle.recovery_parts.specs.declared.config.TransportConfig.{TransportConfig}
-use Rattle.recovery_parts.specs.Settings.{initial_mtu_of}
+use Rattle.recovery_config.specs.declared.config.TransportConfig.{TransportConfig}
+use Rattle.recovery_config.specs.Settings.{initial_mtu_of}
 use Rattle.recovery_mtud.specs.Discovery.{Discovery, discovery_made}
 use Rattle.recovery_mtud.specs.DiscoveryLog.{resets, discovery_after}
 use Rattle.recovery_congestion.specs.Pacing.{Bucket, bucket_made}

@@ -1,6 +1,7 @@
-//! What is kept for each network path, with the responses to path challenges that are to be sent; and the paths that live.
+//! The state of a network path: RTT, controller, pacer, MTU, bytes of anti-amplification (`paths.rt`, where to begin), responses to
+//! path challenges, and the current path with the one before it (`path_pair.rt`).
 #![tactic(auto)]
 
-pub mod live_paths;
+pub mod path_pair;
 pub mod paths;
 pub mod responses;

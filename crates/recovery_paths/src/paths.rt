@@ -16,13 +16,13 @@ ghost use Rattle.recovery_paths.specs.PathStates.{after_telling, after_search, p
 pub use crate::responses::PathResponses;
 use recovery_base::below::{NoMemory, SpaceId};
 use recovery_base::time::{Duration, Instant};
+use recovery_config::config::TransportConfig;
 use recovery_congestion::congestion::{Controller, ControllerFactory};
 use recovery_congestion::pacing::Pacer;
 use recovery_congestion::rtt::RttEstimator;
 pub use recovery_ledger::paths::{InFlight, LedgerError};
 use recovery_ledger::spaces::{PacketSpace, SentPacket};
 use recovery_mtud::mtud::MtuDiscovery;
-use recovery_parts::config::TransportConfig;
 use recovery_queue::queue::RetransmitQueue;
 use std::marker::Model;
 use std::mem;

@@ -1,5 +1,5 @@
-//! Queues: what a packet carries that is sent again when it is lost (RFC 9000, 13.3), with its laws; such a queue, of a program that
-//! sends numbered items; and what is filed under rising numbers, found by halving and taken without memory.
+//! What a packet carries that is sent again when it is lost (RFC 9000, 13.3): the trait of a retransmit queue with its laws
+//! (`queue.rt`, where to begin), one of numbered items, and slots filed under rising numbers, which are found by halving.
 #![tactic(auto)]
 
 pub mod items;

@@ -7,7 +7,7 @@ use Rattle.std.proofs.KnownBytes.{Appends-nil, Consumes-nil, Consumes-trans}
 use Rattle.rand_core.specs.Stream.{Stream}
 use Rattle.quic_recovery.specs.declared.driver.Recovery.{Recovery}
 use Rattle.quic_recovery.specs.declared.driver.RecoveryConfig.{RecoveryConfig}
-use Rattle.quic_recovery.specs.Past.{Came}
+use Rattle.quic_recovery.specs.Past.{Reached}
 use Rattle.quic_recovery.specs.State.{parts_of}
 use Rattle.recovery_replay.specs.Script.{NoFeed, ended, lines_of}
 use Rattle.recovery_replay.proofs.ScriptLaws.{line_then}
@@ -70,7 +70,7 @@ module _ {F R C K : Type 0} {f : _} {c : _} {q : _} {m : _} {r : _} (choice : Ch
   -- whatever the beginning by which the first recovery came
   abbrev pub Going : Streams → Recovery F (List ℕ) R C K (Unit {0}) (Unit {0}) (List ℕ) f c q m r → Outcome → ℕ → Type 0
   Going streams recovery outcome number = (config : RecoveryConfig F) (start : ℕ) (random : Stream) →
-      Came (origin first config start random) [] (parts_of first)
+      Reached (origin first config start random) [] (parts_of first)
       → GoingBy (origin first config start random) choice streams (parts_of recovery) outcome number
 
   pub begun : (unread before unsaid : Option (List ℕ))

@@ -9,7 +9,7 @@ use Rattle.std.proofs.KnownBytes.{Appends-kept, Appends-trans, Consumes-trans}
 use Rattle.rand_core.specs.Stream.{Stream}
 use Rattle.quic_recovery.specs.declared.driver.Recovery.{Recovery}
 use Rattle.quic_recovery.specs.declared.driver.RecoveryConfig.{RecoveryConfig}
-use Rattle.quic_recovery.specs.Past.{Came, GoesOnFrom}
+use Rattle.quic_recovery.specs.Past.{Reached, ExtendsFrom}
 use Rattle.quic_recovery.specs.State.{parts_of}
 use Rattle.recovery_answers.specs.Answers.{Reply}
 use Rattle.recovery_lines.specs.Lines.{ItemEvent, Spells}
@@ -106,7 +106,7 @@ module _ {F K : Type 0} (beginning : ItemBeginning F K) (choice : Choice) where
     pub text : List ℕ
     pub told : List ℕ
     pub traced : Traced beginning choice.shows lines text told
-    pub came : Came beginning traced.past recovery
+    pub came : Reached beginning traced.past recovery
     pub out : Appends before after text
     pub is_said : Appends unsaid said told
 
@@ -134,7 +134,7 @@ module _ {F K : Type 0} (beginning : ItemBeginning F K) (choice : Choice) where
       (line : List ℕ) (m : Made before now unsaid now_said old lines) where
     -- the line's event is done
     abbrev traced_done : (event : ItemEvent) (reply : Reply) (text : List ℕ) → Spells line event
-        → GoesOnFrom beginning m.traced.past event reply new
+        → ExtendsFrom beginning m.traced.past event reply new
         → text ≡ turn_text beginning.words choice.shows reply new
         → Traced beginning choice.shows (line ∷ lines) (m.text ++ text) m.told
     traced_done event reply text spells goes is = record {
@@ -146,7 +146,7 @@ module _ {F K : Type 0} (beginning : ItemBeginning F K) (choice : Choice) where
     }
 
     pub made_done : (event : ItemEvent) (reply : Reply) (text : List ℕ) → Spells line event
-        → GoesOnFrom beginning m.traced.past event reply new
+        → ExtendsFrom beginning m.traced.past event reply new
         → text ≡ turn_text beginning.words choice.shows reply new
         → Appends now after text → Keeps now_said said → Made before after unsaid said new (line ∷ lines)
     made_done event reply text spells goes is writes kept = record {
@@ -170,7 +170,7 @@ module _ {F K : Type 0} (beginning : ItemBeginning F K) (choice : Choice) where
         written = m.traced.written;
         is_told = inl (inr (passes, silent), m.traced.is_told);
       };
-      came = subst (Came beginning m.traced.past) (sym same) m.came;
+      came = subst (Reached beginning m.traced.past) (sym same) m.came;
       out = Appends-kept before now after m.text m.out kept;
       is_said = Appends-kept unsaid now_said said m.told m.is_said kept_said;
     }
@@ -187,14 +187,14 @@ module _ {F K : Type 0} (beginning : ItemBeginning F K) (choice : Choice) where
         written = m.traced.written;
         is_told = inr (bad, (m.told, text, front.0, m.traced.is_told, tells, refl));
       };
-      came = subst (Came beginning m.traced.past) (sym same) m.came;
+      came = subst (Reached beginning m.traced.past) (sym same) m.came;
       out = Appends-kept before now after m.text m.out kept;
       is_said = Appends-trans unsaid now_said said m.told (take front.0 text) m.is_said front.1;
     }
 
     -- a write of its answer breaks off
     pub front_out : (unread left : Option (List ℕ)) (event : ItemEvent) (reply : Reply) (text : List ℕ) → Spells line event
-        → GoesOnFrom beginning m.traced.past event reply new
+        → ExtendsFrom beginning m.traced.past event reply new
         → text ≡ turn_text beginning.words choice.shows reply new
         → AppendsFront now after text → Keeps now_said said
         → FrontOut beginning choice (streams_of unread left before after unsaid said) (line ∷ lines)

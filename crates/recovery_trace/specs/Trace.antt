@@ -10,7 +10,7 @@ use Rattle.recovery_congestion.specs.RenoSettings.{default_reno}
 use Rattle.quic_recovery.specs.declared.driver.Recovery.{Recovery}
 use Rattle.quic_recovery.specs.declared.driver.RecoveryConfig.{RecoveryConfig}
 use Rattle.quic_recovery.specs.History.{AtEach, Beginning, History, begins, queue_meaning}
-use Rattle.quic_recovery.specs.Past.{Came, Keeps}
+use Rattle.quic_recovery.specs.Past.{Reached, Keeps}
 use Rattle.quic_recovery.specs.State.{parts_of}
 use Rattle.recovery_lines.specs.Lines.{IsAt, Spells}
 use Rattle.recovery_replay.specs.FixedWindow.{fixed_made, fixed_words}
@@ -53,7 +53,7 @@ module _ {F K : Type 0} (beginning : ItemBeginning F K) (shows : Bool) where
   abbrev pub WrittenOf : ItemHistory → List ℕ → Type 0
   WrittenOf [] text = text ≡ []
   WrittenOf (happened ∷ past) text =
-      (front : List ℕ) × (left : ItemParts K) × WrittenOf past front × Came beginning (happened ∷ past) left
+      (front : List ℕ) × (left : ItemParts K) × WrittenOf past front × Reached beginning (happened ∷ past) left
       × (text ≡ front ++ turn_text beginning.words shows happened.1 left)
 
   -- What these lines spell happened, and all that is promised of whole runs holds at each event; this is written of it,
@@ -143,7 +143,7 @@ module _ {F R C K : Type 0} {f : _} {c : _} {q : _} {m : _} {r : _} where
   abbrev pub TracesFrom : Recovery F (List ℕ) R C K (Unit {0}) (Unit {0}) (List ℕ) f c q m r → Choice → Streams
       → Outcome → Type 0
   TracesFrom recovery choice streams outcome = (config : RecoveryConfig F) (start : ℕ) (random : Stream) →
-      Came (origin recovery config start random) [] (parts_of recovery)
+      Reached (origin recovery config start random) [] (parts_of recovery)
       → Traces (origin recovery config start random) choice streams outcome
 
 -- from the moment 0 on, over these controllers, with a peer at an address of its port

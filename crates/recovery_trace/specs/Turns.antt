@@ -4,7 +4,7 @@ use Rattle.std.specs.Io.KnownBytes.{Appends, Keeps}
 use Rattle.recovery_congestion.specs.Controllers.{ControllerWords}
 use Rattle.quic_recovery.specs.declared.driver.Recovery.{Recovery}
 use Rattle.quic_recovery.specs.Parts.{Parts}
-use Rattle.quic_recovery.specs.Past.{Goes}
+use Rattle.quic_recovery.specs.Past.{Extends}
 use Rattle.quic_recovery.specs.State.{parts_of}
 use Rattle.recovery_answers.specs.Answers.{Reply, answer_line}
 use Rattle.recovery_lines.specs.Lines.{ItemEvent, Spells}
@@ -55,7 +55,7 @@ module _ {F R C K : Type 0} {f : _} {c : _} {q : _} {m : _} {r : _} where
       pub event : ItemEvent
       pub reply : Reply
       pub spelled : Spells line event
-      pub goes : Goes old event reply new
+      pub goes : Extends old event reply new
       pub written : text ≡ turn_text c.words shows reply (parts_of new)
 
   -- so it is, or the line spells no event, and nothing is done

@@ -1,4 +1,4 @@
-//! Answers events one at a time, from standard input: a line in, its answer out, then the next.
+//! The program `recovery-trace`: one event at a time, its reply at once, and the state where it is asked for. Begin at `turn.rt`.
 #![tactic(auto)]
 
 mod faults;

@@ -1,7 +1,7 @@
 -- Datagrams of a path (RFC 9000, 8.1): in and out since it was made; and whether its address is validated.
 use Rattle.std.specs.Prelude.{ℕ, Bool, true, false, [], ◌∷◌, Ok, if◌then◌else◌}
-use Rattle.recovery_paths.specs.declared.live_paths.PathName.{PathName}
-use Rattle.recovery_paths.specs.declared.live_paths.PathName.TheVariants.{Current, Previous}
+use Rattle.recovery_paths.specs.declared.path_pair.PathName.{PathName}
+use Rattle.recovery_paths.specs.declared.path_pair.PathName.TheVariants.{Current, Previous}
 use Rattle.recovery_events.specs.declared.event.Event.{Event}
 use Rattle.recovery_events.specs.declared.event.Event.TheVariants.{DatagramIn, Validated, Transmit, NewPath, DropPrevious}
 use Rattle.recovery_events.specs.declared.event.Answer.TheVariants.{Transmitted}

@@ -1,7 +1,7 @@
 -- The MTU in use (RFC 8899, 5; RFC 9000, 14.3): the size of the last probe acknowledged, unless it was lowered since.
 use Rattle.std.specs.Prelude.{◌≡◌, ℕ, min, Bool, true, None, Some, [], ◌∷◌, Ok, is_some, if◌then◌else◌}
 use Rattle.std.specs.Option.{ForSome}
-use Rattle.recovery_parts.specs.Settings.{initial_mtu_of}
+use Rattle.recovery_config.specs.Settings.{initial_mtu_of}
 use Rattle.recovery_mtud.specs.Discovery.{limit_or_greatest, within}
 use Rattle.recovery_events.specs.declared.event.Event.{Event}
 use Rattle.recovery_events.specs.declared.event.Event.TheVariants.{Acked, LossesDone, PeerLimit, ResetPath, NewPath}

@@ -1,6 +1,6 @@
 -- The end of a search for the MTU (RFC 8899, 5.3): over a link that carries the sizes up to one, it is near the best.
 use Rattle.std.specs.Prelude.{◌≡◌, ℕ, ◌+◌, ◌*◌, ◌<◌, ◌≤◌, min, max, All, true, false, not, ◌&&◌, ◌||◌, nat_le, [], ◌∷◌, Ok, if◌then◌else◌}
-use Rattle.recovery_parts.specs.Settings.{initial_mtu_of}
+use Rattle.recovery_config.specs.Settings.{initial_mtu_of}
 use Rattle.recovery_mtud.specs.declared.config.MtuDiscoveryConfig.{MtuDiscoveryConfig}
 use Rattle.recovery_mtud.specs.Discovery.{limit_or_greatest}
 use Rattle.recovery_mtud.specs.Search.{later}

@@ -3,7 +3,7 @@
 use Rattle.std.specs.Prelude.{◌≡◌, ◌==◌, Bool, is_some, Option, None, Some, Err, if◌then◌else◌}
 use Rattle.recovery_base.specs.declared.below.SpaceId.{SpaceId}
 use Rattle.recovery_base.specs.declared.below.SpaceId.TheVariants.{Data}
-use Rattle.recovery_paths.specs.declared.live_paths.PathName.TheVariants.{Previous}
+use Rattle.recovery_paths.specs.declared.path_pair.PathName.TheVariants.{Previous}
 use Rattle.recovery_events.specs.declared.event.Event.{Event}
 use Rattle.recovery_events.specs.declared.event.Event.TheVariants.{Received, Send, Acked, Lost, AckFrequencyIn, AcksSent, AckDelayTimeout, PollMtu, Ecn, CheckAck, QueueProbe, TakePending, DiscardSpace, DatagramIn, Validated, InFlight, DropPrevious, InitialId}
 use Rattle.recovery_events.specs.declared.event.Refusal.{Refusal}

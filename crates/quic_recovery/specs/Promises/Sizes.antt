@@ -1,7 +1,7 @@
 -- The size of a probe (RFC 8899, 5.1.2 and 5.3; RFC 9000, 14.3 and 18.2): at most what the peer takes, and between the
 -- MTU in use and the upper bound.
 use Rattle.std.specs.Prelude.{◌<◌, ◌≤◌, max, IsSomeAnd, Ok}
-use Rattle.recovery_parts.specs.Settings.{initial_mtu_of}
+use Rattle.recovery_config.specs.Settings.{initial_mtu_of}
 use Rattle.recovery_mtud.specs.Discovery.{limit_or_greatest}
 use Rattle.recovery_events.specs.declared.event.Event.{Event}
 use Rattle.recovery_events.specs.declared.event.Event.TheVariants.{PollMtu}

@@ -2,7 +2,7 @@
 -- checked, at most three times the bytes that came in on it went out.
 use Rattle.std.specs.Prelude.{◌≡◌, ◌∷◌, ◌*◌, ◌≤◌, Bool, true, false, sum_by}
 use Rattle.std.specs.List.{list_all}
-use Rattle.recovery_paths.specs.declared.live_paths.PathName.{PathName}
+use Rattle.recovery_paths.specs.declared.path_pair.PathName.{PathName}
 use Rattle.recovery_events.specs.declared.event.Event.{Event}
 use Rattle.recovery_events.specs.declared.event.Event.TheVariants.{Transmit}
 use Rattle.quic_recovery.specs.History.{History, Reply}

@@ -17,11 +17,11 @@ where
     R: Rng + Drop,
 {
     ghost use Rattle.recovery_events.specs.declared.event.Event.TheVariants.{AckFrequencyIn, AcksSent, AckDelayTimeout};
-    ghost use Rattle.quic_recovery.specs.State.{Does};
+    ghost use Rattle.quic_recovery.specs.State.{Transition};
 
     /// The peer asks for fewer ACKs.
     pub(super) fn ack_frequency_in(&mut self, frame: AckFrequency) -> Result<Answer<Q>, Refusal>
-        ensures { Does (AckFrequencyIn frame) self.old result self.new }
+        ensures { Transition (AckFrequencyIn frame) self.old result self.new }
     {
         if self.discarded.contains(SpaceId::Data) {
             return Err(Refusal::SpaceDiscarded);
@@ -38,7 +38,7 @@ where
 
     /// An ACK is sent (RFC 9000, 13.2).
     pub(super) fn acks_sent(&mut self, space: SpaceId) -> Result<Answer<Q>, Refusal>
-        ensures { Does (AcksSent space) self.old result self.new }
+        ensures { Transition (AcksSent space) self.old result self.new }
     {
         if self.discarded.contains(space) {
             return Err(Refusal::SpaceDiscarded);
@@ -49,7 +49,7 @@ where
 
     /// The timer for a late ACK expired (RFC 9000, 13.2.1).
     pub(super) fn ack_delay_timeout(&mut self, space: SpaceId) -> Result<Answer<Q>, Refusal>
-        ensures { Does (AckDelayTimeout space) self.old result self.new }
+        ensures { Transition (AckDelayTimeout space) self.old result self.new }
     {
         if self.discarded.contains(space) {
             return Err(Refusal::SpaceDiscarded);

@@ -19,11 +19,11 @@ where
     R: Rng + Drop,
 {
     ghost use Rattle.recovery_events.specs.declared.event.Event.TheVariants.{PollMtu, PeerLimit, LossesDone};
-    ghost use Rattle.quic_recovery.specs.State.{Does};
+    ghost use Rattle.quic_recovery.specs.State.{Transition};
 
     /// Is a probe of the MTU due? The discovery is kept once the probe is tracked, so that a refusal leaves it as it was.
     pub(super) fn poll_mtu(&mut self, now: Instant) -> Result<Answer<Q>, Refusal>
-        ensures { Does (PollMtu now) self.old result self.new }
+        ensures { Transition (PollMtu now) self.old result self.new }
     {
         if self.discarded.contains(SpaceId::Data) {
             return Err(Refusal::SpaceDiscarded);
@@ -50,7 +50,7 @@ where
 
     /// The peer takes datagrams of at most so many bytes.
     pub(super) fn limit_by_peer(&mut self, size: u16) -> Result<Answer<Q>, Refusal>
-        ensures { Does (PeerLimit size) self.old result self.new }
+        ensures { Transition (PeerLimit size) self.old result self.new }
     {
         if size == 0 {
             return Err(Refusal::ZeroMtu);
@@ -65,7 +65,7 @@ where
 
     /// All losses were told: was there a black hole?
     pub(super) fn losses_done(&mut self, now: Instant) -> Result<Answer<Q>, Refusal>
-        ensures { Does (LossesDone now) self.old result self.new }
+        ensures { Transition (LossesDone now) self.old result self.new }
     {
         Ok(Answer::BlackHole(self.paths.current.on_losses_done(now)))
     }

@@ -26,7 +26,7 @@ where
 {
     ghost use Rattle.recovery_events.specs.declared.event.Event.TheVariants.{Received, Send, Acked, Lost, DiscardSpace};
     ghost use Rattle.quic_recovery.specs.Known.{number_in};
-    ghost use Rattle.quic_recovery.specs.State.{Does, known_to, parts_of};
+    ghost use Rattle.quic_recovery.specs.State.{Transition, known_to, parts_of};
 
     /// A packet comes in (RFC 9000, 12.3).
     pub(super) fn received(
@@ -36,7 +36,7 @@ where
         number: u64,
         ack_eliciting: bool,
     ) -> Result<Answer<Q>, Refusal>
-        ensures { Does (Received space now number ack_eliciting) self.old result self.new }
+        ensures { Transition (Received space now number ack_eliciting) self.old result self.new }
     {
         if self.discarded.contains(space) {
             return Err(Refusal::SpaceDiscarded);
@@ -55,7 +55,7 @@ where
         queue: Q,
         stream_frames: Q::Meta,
     ) -> Result<Answer<Q>, Refusal>
-        ensures { Does (Send space now size ack_eliciting largest_acked queue stream_frames)
+        ensures { Transition (Send space now size ack_eliciting largest_acked queue stream_frames)
             self.old result self.new }
     {
         if self.discarded.contains(space) {
@@ -100,7 +100,7 @@ where
         number: u64,
         app_limited: bool,
     ) -> Result<Answer<Q>, Refusal>
-        ensures { Does (Acked space now number app_limited) self.old result self.new }
+        ensures { Transition (Acked space now number app_limited) self.old result self.new }
     {
         if self.discarded.contains(space) {
             return Err(Refusal::SpaceDiscarded);
@@ -118,7 +118,7 @@ where
 
     /// A packet is lost (RFC 9002, A.10).
     pub(super) fn lost(&mut self, space: SpaceId, number: u64) -> Result<Answer<Q>, Refusal>
-        ensures { Does (Lost space number) self.old result self.new }
+        ensures { Transition (Lost space number) self.old result self.new }
     {
         if self.discarded.contains(space) {
             return Err(Refusal::SpaceDiscarded);
@@ -135,7 +135,7 @@ where
 
     /// The keys of a space are dropped (RFC 9001, 4.9).
     pub(super) fn discard(&mut self, space: SpaceId) -> Result<Answer<Q>, Refusal>
-        ensures { Does (DiscardSpace space) self.old result self.new }
+        ensures { Transition (DiscardSpace space) self.old result self.new }
     {
         if self.discarded.contains(space) {
             return Err(Refusal::SpaceDiscarded);

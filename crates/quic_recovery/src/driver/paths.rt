@@ -6,7 +6,7 @@ use recovery_base::below::NoMemory;
 use recovery_base::time::{Duration, Instant};
 use recovery_congestion::congestion::ControllerFactory;
 use recovery_events::event::{Answer, PathName, Refusal};
-use recovery_paths::live_paths::DatagramError;
+use recovery_paths::path_pair::DatagramError;
 use recovery_paths::paths::PathData;
 use recovery_queue::queue::RetransmitQueue;
 use std::net::SocketAddr;
@@ -21,7 +21,7 @@ where
     R: Rng + Drop,
 {
     ghost use Rattle.recovery_events.specs.declared.event.Event.TheVariants.{InFlight, Sample, DatagramIn, Validated, Transmit, PacerCheck, Congestion, EndAcks, NewPath, ResetPath, DropPrevious};
-    ghost use Rattle.quic_recovery.specs.State.{Does, OnlyTells};
+    ghost use Rattle.quic_recovery.specs.State.{Transition, OnlyTells};
 
     /// What is in flight on a path? (RFC 9002, B.2)
     pub(super) fn in_flight(&self, path: PathName) -> Result<Answer<Q>, Refusal>
@@ -38,7 +38,7 @@ where
 
     /// A sample of the round-trip time (RFC 9002, 5).
     pub(super) fn sample(&mut self, delay: Duration, rtt: Duration) -> Result<Answer<Q>, Refusal>
-        ensures { Does (Sample delay rtt) self.old result self.new }
+        ensures { Transition (Sample delay rtt) self.old result self.new }
     {
         self.paths.current.sample(delay, rtt);
         Ok(Answer::Done)
@@ -46,7 +46,7 @@ where
 
     /// A datagram came in (RFC 9000, 8.1).
     pub(super) fn datagram_in(&mut self, path: PathName, bytes: u64) -> Result<Answer<Q>, Refusal>
-        ensures { Does (DatagramIn path bytes) self.old result self.new }
+        ensures { Transition (DatagramIn path bytes) self.old result self.new }
     {
         match self.paths.receive_datagram(path, bytes) {
             Ok(()) => Ok(Answer::Done),
@@ -57,7 +57,7 @@ where
 
     /// The peer was seen to receive at an address (RFC 9000, 8).
     pub(super) fn validated(&mut self, path: PathName) -> Result<Answer<Q>, Refusal>
-        ensures { Does (Validated path) self.old result self.new }
+        ensures { Transition (Validated path) self.old result self.new }
     {
         if self.paths.validate(path) {
             Ok(Answer::Done)
@@ -73,7 +73,7 @@ where
         remote: SocketAddr,
         fresh: bool,
     ) -> Result<Answer<Q>, Refusal>
-        ensures { Does (NewPath now remote fresh) self.old result self.new }
+        ensures { Transition (NewPath now remote fresh) self.old result self.new }
     {
         let Some(generation) = self.paths.current.generation().checked_add(1) else {
             return Err(Refusal::Overflow);
@@ -100,7 +100,7 @@ where
 
     /// The path in use begins anew (RFC 9000, 9.4).
     pub(super) fn reset_path(&mut self, now: Instant) -> Result<Answer<Q>, Refusal>
-        ensures { Does (ResetPath now) self.old result self.new }
+        ensures { Transition (ResetPath now) self.old result self.new }
     {
         self.paths.current.reset(now, &self.transport);
         Ok(Answer::Done)
@@ -108,7 +108,7 @@ where
 
     /// The previous path is dropped (RFC 9000, 9.3.3).
     pub(super) fn drop_previous(&mut self) -> Result<Answer<Q>, Refusal>
-        ensures { Does DropPrevious self.old result self.new }
+        ensures { Transition DropPrevious self.old result self.new }
     {
         if self.paths.drop_previous() {
             Ok(Answer::Done)
@@ -124,7 +124,7 @@ where
         bytes: u16,
         checked: bool,
     ) -> Result<Answer<Q>, Refusal>
-        ensures { Does (Transmit now bytes checked) self.old result self.new }
+        ensures { Transition (Transmit now bytes checked) self.old result self.new }
     {
         if !self.paths.current.has_room(bytes) {
             return Err(Refusal::Overflow);
@@ -144,7 +144,7 @@ where
 
     /// May so many bytes be transmitted now, as far as the pacer goes (RFC 9002, 7.7)?
     pub(super) fn pacer_check(&mut self, now: Instant, bytes: u64) -> Result<Answer<Q>, Refusal>
-        ensures { Does (PacerCheck now bytes) self.old result self.new }
+        ensures { Transition (PacerCheck now bytes) self.old result self.new }
     {
         match self.paths.current.delay(now, bytes) {
             None => Ok(Answer::Ready),
@@ -160,7 +160,7 @@ where
         persistent: bool,
         bytes: u64,
     ) -> Result<Answer<Q>, Refusal>
-        ensures { Does (Congestion now sent persistent bytes) self.old result self.new }
+        ensures { Transition (Congestion now sent persistent bytes) self.old result self.new }
     {
         self.paths
             .current
@@ -175,7 +175,7 @@ where
         app_limited: bool,
         largest: Option<u64>,
     ) -> Result<Answer<Q>, Refusal>
-        ensures { Does (EndAcks now app_limited largest) self.old result self.new }
+        ensures { Transition (EndAcks now app_limited largest) self.old result self.new }
     {
         self.paths.current.on_end_acks(now, app_limited, largest);
         Ok(Answer::Done)

@@ -18,7 +18,7 @@ where
     R: Rng + Drop,
 {
     ghost use Rattle.recovery_events.specs.declared.event.Event.TheVariants.{Ecn, CheckAck, QueueProbe, TakePending};
-    ghost use Rattle.quic_recovery.specs.State.{Does, OnlyTells};
+    ghost use Rattle.quic_recovery.specs.State.{Transition, OnlyTells};
 
     /// The counts of ECN of an ACK frame (RFC 9000, 13.4.2).
     pub(super) fn ecn(
@@ -27,7 +27,7 @@ where
         newly_acked: u64,
         counts: EcnCounts,
     ) -> Result<Answer<Q>, Refusal>
-        ensures { Does (Ecn space newly_acked counts) self.old result self.new }
+        ensures { Transition (Ecn space newly_acked counts) self.old result self.new }
     {
         if self.discarded.contains(space) {
             return Err(Refusal::SpaceDiscarded);
@@ -69,7 +69,7 @@ where
         immediate_ack: bool,
         streams: Q::Streams,
     ) -> Result<Answer<Q>, Refusal>
-        ensures { Does (QueueProbe space immediate_ack streams) self.old result self.new }
+        ensures { Transition (QueueProbe space immediate_ack streams) self.old result self.new }
     {
         if self.discarded.contains(space) {
             return Err(Refusal::SpaceDiscarded);
@@ -82,7 +82,7 @@ where
 
     /// What is to be sent again is handed out (RFC 9000, 13.3).
     pub(super) fn take_pending(&mut self, space: SpaceId) -> Result<Answer<Q>, Refusal>
-        ensures { Does (TakePending space) self.old result self.new }
+        ensures { Transition (TakePending space) self.old result self.new }
     {
         if self.discarded.contains(space) {
             return Err(Refusal::SpaceDiscarded);

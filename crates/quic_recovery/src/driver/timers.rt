@@ -18,11 +18,11 @@ where
     R: Rng + Drop,
 {
     ghost use Rattle.recovery_events.specs.declared.event.Event.TheVariants.{SetTimer, StopTimer, NextTimeout};
-    ghost use Rattle.quic_recovery.specs.State.{Does, OnlyTells};
+    ghost use Rattle.quic_recovery.specs.State.{Transition, OnlyTells};
 
     /// A timer is set, or set anew.
     pub(super) fn set_timer(&mut self, timer: Timer, time: Instant) -> Result<Answer<Q>, Refusal>
-        ensures { Does (SetTimer timer time) self.old result self.new }
+        ensures { Transition (SetTimer timer time) self.old result self.new }
     {
         self.timers.set(timer, time);
         Ok(Answer::Done)
@@ -30,7 +30,7 @@ where
 
     /// A timer is stopped.
     pub(super) fn stop_timer(&mut self, timer: Timer) -> Result<Answer<Q>, Refusal>
-        ensures { Does (StopTimer timer) self.old result self.new }
+        ensures { Transition (StopTimer timer) self.old result self.new }
     {
         self.timers.stop(timer);
         Ok(Answer::Done)

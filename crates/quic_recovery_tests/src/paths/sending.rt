@@ -4,7 +4,7 @@ use quic_recovery::config::TransportConfig;
 use quic_recovery_rows::config::settings_with;
 use rand_core::SeedableRng;
 use rand_pcg::Pcg64;
-use recovery_congestion::halving::HalvingConfig;
+use recovery_parts_tests::halving::HalvingConfig;
 use recovery_skips::Skips;
 
 const OVERFLOW: Reply = Err(Refusal::Overflow);

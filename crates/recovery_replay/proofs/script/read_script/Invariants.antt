@@ -1,5 +1,5 @@
-use Rattle.recovery_replay.proofs.ScriptLaws.{Goes}
+use Rattle.recovery_replay.proofs.ScriptLaws.{Extends}
 use Rattle.recovery_replay.proofs.script.read_script.Given as goal
 
 abbrev pub invariant-loop : goal.invariant-loop
-invariant-loop g l = Goes (g.R.Read.remaining l.fn.input) (g.R.Read.remaining l.input) l.script
+invariant-loop g l = Extends (g.R.Read.remaining l.fn.input) (g.R.Read.remaining l.input) l.script

@@ -7,7 +7,7 @@ use Rattle.recovery_ledger.specs.Spaces.{next_number_of}
 use Rattle.recovery_ledger.specs.Tracked.{packet_sent}
 use Rattle.recovery_ledger.proofs.ReceivedLaws.{fails}
 use Rattle.recovery_paths.specs.PathStates.{after_telling}
-use Rattle.recovery_paths.specs.declared.live_paths.PathName.TheVariants.{Current}
+use Rattle.recovery_paths.specs.declared.path_pair.PathName.TheVariants.{Current}
 use Rattle.recovery_paths.proofs.BalanceLaws.{on_state_kept}
 use Rattle.quic_recovery.specs.Numbers.{number_behind, skipping_behind}
 use Rattle.quic_recovery.specs.State.{parts_of}

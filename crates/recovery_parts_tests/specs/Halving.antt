@@ -3,7 +3,7 @@ use Rattle.std.specs.Prelude.{ℕ, ◌*◌, ◌/◌, ◌<◌, max, None}
 use Rattle.std.proofs.Common.{arith}
 use Rattle.recovery_congestion.specs.Calls.{ControllerCall, congests, takes_mtu, IsPositive}
 use Rattle.recovery_congestion.specs.Controllers.{ControllerWords, ControllerLaws}
-use Rattle.recovery_congestion.specs.declared.halving.Halving.{Halving}
+use Rattle.recovery_parts_tests.specs.declared.halving.Halving.{Halving}
 
 abbrev pub halving_made : ℕ → ℕ → Halving
 halving_made initial mtu = record { initial = initial; window = initial; current_mtu = mtu }

@@ -6,9 +6,9 @@ ghost use Rattle.recovery_ledger.specs.InFlight.{Overflows};
 ghost use Rattle.recovery_ledger.specs.Packets.{forgotten_entry, after_sending};
 ghost use Rattle.recovery_ledger.specs.Paths.{generation_of, counters_of, IsCountedOn};
 ghost use Rattle.recovery_ledger.specs.Spaces.{tracking_of, with_tracking, packets_of, space_empties};
-ghost use Rattle.recovery_paths.specs.LivePaths.{IsCountedOnEach, AreCountedOnEach, CanTrackOn, paths_after_sending, paths_without, paths_losing, paths_acking, path_left_by};
+ghost use Rattle.recovery_paths.specs.PathPair.{IsCountedOnEach, AreCountedOnEach, CanTrackOn, paths_after_sending, paths_without, paths_losing, paths_acking, path_left_by};
 ghost use Rattle.recovery_paths.specs.PathLog.{path_of, on_path_of, moved_to, each_path};
-ghost use Rattle.recovery_paths.specs.declared.live_paths.PathName.TheVariants.{Current};
+ghost use Rattle.recovery_paths.specs.declared.path_pair.PathName.TheVariants.{Current};
 ghost use Rattle.recovery_paths.specs.PathStates.{on_state, with_marks, after_receiving, after_telling, after_validation, is_path_probe};
 
 use crate::paths::{InFlight, LedgerError, PathData, PathMarks, TotalOverflow};
@@ -43,13 +43,13 @@ pub enum DatagramError {
 
 /// At most two paths. A packet is counted on the path that it went by, as long as that lives.
 #[derive(Drop)]
-pub struct LivePaths<C: Controller> {
+pub struct PathPair<C: Controller> {
     /// The path in use.
     pub current: PathData<C>,
     previous: Option<PathData<C>>,
 }
 
-impl<C: Controller> Model for LivePaths<C> {
+impl<C: Controller> Model for PathPair<C> {
     ghost use Rattle.recovery_paths.specs.PathLog.{OfPaths};
     ghost use Rattle.recovery_paths.specs.PathStates.{Path};
 
@@ -58,12 +58,12 @@ impl<C: Controller> Model for LivePaths<C> {
     ghost view = { λ paths. record { current = paths.current; previous = paths.previous } };
 }
 
-impl<C: Controller + Drop> LivePaths<C> {
+impl<C: Controller + Drop> PathPair<C> {
     /// The first path alone.
     pub fn new(current: PathData<C>) -> Self
         ensures { result ≡ record { current = current; previous = None } }
     {
-        LivePaths {
+        PathPair {
             current,
             previous: None,
         }

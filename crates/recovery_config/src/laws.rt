@@ -2,7 +2,7 @@
 ghost use Rattle.std.specs.Prelude.{◌≡◌, ◌==◌};
 ghost use Rattle.std.specs.Hash as fed;
 ghost use Rattle.std.specs.Ordering.{nat_cmp};
-ghost use Rattle.recovery_parts.specs.declared.config.idle.IdleTimeout.{IdleTimeout};
+ghost use Rattle.recovery_config.specs.declared.config.idle.IdleTimeout.{IdleTimeout};
 
 use crate::config::IdleTimeout;
 use std::hash::Hash;

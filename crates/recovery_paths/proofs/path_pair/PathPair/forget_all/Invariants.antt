@@ -1,7 +1,7 @@
 use Rattle.std.proofs.Common.{◌≡◌, length}
 use Rattle.recovery_ledger.specs.Spaces.{tracking_of, with_tracking, packets_of}
-use Rattle.recovery_paths.specs.LivePaths.{AreCountedOnEach, paths_without}
-use Rattle.recovery_paths.proofs.live_paths.LivePaths.forget_all.Given as goal
+use Rattle.recovery_paths.specs.PathPair.{AreCountedOnEach, paths_without}
+use Rattle.recovery_paths.proofs.path_pair.PathPair.forget_all.Given as goal
 
 abbrev pub invariant-loop-packet : goal.invariant-loop-packet
 invariant-loop-packet g l = record {

@@ -5,7 +5,7 @@ use Rattle.recovery_ledger.specs.Packets.{Packet, Packets}
 use Rattle.recovery_ledger.specs.Paths.{generation_of, counters_of}
 use Rattle.recovery_ledger.proofs.LedgerLaws.{first_leaves}
 use Rattle.recovery_paths.proofs.PathLogLaws.{for_changed}
-use Rattle.recovery_paths.specs.LivePaths.{on_ledger, IsCountedOnEach, AreCountedOnEach, ledger_without, paths_without, path_left_by}
+use Rattle.recovery_paths.specs.PathPair.{on_ledger, IsCountedOnEach, AreCountedOnEach, ledger_without, paths_without, path_left_by}
 use Rattle.recovery_paths.specs.PathLog.{OfPaths, each_path}
 use Rattle.recovery_paths.specs.PathStates.{Path}
 

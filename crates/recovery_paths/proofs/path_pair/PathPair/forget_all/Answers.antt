@@ -1,11 +1,11 @@
 use Rattle.std.proofs.Common.{sym, ap, ◌∙◌}
 use Rattle.recovery_ledger.specs.Packets.{Packets}
 use Rattle.recovery_ledger.specs.Spaces.{Space, tracking_of, with_tracking, packets_of}
-use Rattle.recovery_paths.specs.LivePaths.{paths_without}
+use Rattle.recovery_paths.specs.PathPair.{paths_without}
 use Rattle.recovery_paths.specs.PathLog.{OfPaths}
 use Rattle.recovery_paths.specs.PathStates.{Path}
-use Rattle.recovery_paths.proofs.LivePathsLaws.{counted_first, without_first}
-use Rattle.recovery_paths.proofs.live_paths.LivePaths.forget_all.Goals as goal
+use Rattle.recovery_paths.proofs.PathPairLaws.{counted_first, without_first}
+use Rattle.recovery_paths.proofs.path_pair.PathPair.forget_all.Goals as goal
 
 pub remove_in_flight-requires : goal.remove_in_flight-requires
 remove_in_flight-requires g c =

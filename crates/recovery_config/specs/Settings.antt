@@ -1,7 +1,7 @@
 -- The default settings of a connection.
 use Rattle.std.specs.Prelude.{ℕ, ◌-◌, ◌*◌, ◌^◌, max, true, false, Some, None}
 use Rattle.recovery_mtud.specs.Settings.{default_settings}
-use Rattle.recovery_parts.specs.declared.config.TransportConfig.{TransportConfig}
+use Rattle.recovery_config.specs.declared.config.TransportConfig.{TransportConfig}
 
 -- a table: times are in nanoseconds but for the idle timeout, which is in milliseconds, and sizes in bytes
 abbrev pub settings_with : {F : Type 0} → F → TransportConfig F

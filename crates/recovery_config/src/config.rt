@@ -2,7 +2,7 @@
 ghost use Rattle.std.specs.Prelude.{◌≡◌, ◌<◌, ◌^◌, max};
 ghost use Rattle.std.specs.Option.{ForSome};
 ghost use Rattle.recovery_congestion.specs.RenoSettings.{default_reno};
-ghost use Rattle.recovery_parts.specs.Settings.{settings_with, initial_mtu_of};
+ghost use Rattle.recovery_config.specs.Settings.{settings_with, initial_mtu_of};
 
 use recovery_base::below::VarInt;
 pub use recovery_base::config::AckFrequencyConfig;

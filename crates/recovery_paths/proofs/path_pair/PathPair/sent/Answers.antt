@@ -1,5 +1,5 @@
 use Rattle.std.proofs.Common.{sym, ◌∙◌}
-use Rattle.recovery_paths.proofs.live_paths.LivePaths.sent.Goals as goal
+use Rattle.recovery_paths.proofs.path_pair.PathPair.sent.Goals as goal
 
 pub remove_from_previous-requires : goal.remove_from_previous-requires
 remove_from_previous-requires g c = λ path is.

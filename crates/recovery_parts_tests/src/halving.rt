@@ -1,12 +1,12 @@
-//! A congestion controller for tests: what is generic in the controller is seen at work on one that is not NewReno.
+//! A congestion controller that is not NewReno: what is generic in the controller is seen at work on it.
 
 ghost use Rattle.std.specs.Prelude.{◌≡◌, ◌<◌, Ok, refl};
-ghost use Rattle.recovery_congestion.specs.Halving.{halving_made, halving_words, IsHalvingSound, halving_laws};
+ghost use Rattle.recovery_parts_tests.specs.Halving.{halving_made, halving_words, IsHalvingSound, halving_laws};
 
-use crate::congestion::{Controller, ControllerFactory, ControllerMetrics};
-use crate::rtt::RttEstimator;
 use recovery_base::below::NoMemory;
 use recovery_base::time::Instant;
+use recovery_congestion::congestion::{Controller, ControllerFactory, ControllerMetrics};
+use recovery_congestion::rtt::RttEstimator;
 
 /// The window of a [`Halving`] at first.
 #[derive(Clone, Copy)]
