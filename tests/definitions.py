@@ -1,6 +1,12 @@
 #!/usr/bin/env python3
 """Counts what a reader of Recovery::run has to read: the lines of the definitions that its promises (the fields of Keeps) and its other clauses rest
-on, name by name, without imports, blanks and comments; and the lines of each promise that is read off events and answers alone, whole files."""
+on, name by name, without imports, blanks and comments; and the lines of each promise that is read off events and answers alone, whole files. The
+table of docs/DEFINITIONS.md names each file that run rests on, with the first sentence of what it says of itself.
+
+    tests/definitions.py            counts, and reads the table
+    tests/definitions.py --write    writes the table
+"""
+import argparse
 import pathlib
 import re
 import sys
@@ -9,6 +15,8 @@ ROOT = pathlib.Path(__file__).resolve().parent.parent
 DRIVER = ROOT / "crates" / "quic_recovery" / "src" / "driver.rt"
 PAST = ROOT / "crates" / "quic_recovery" / "specs" / "Past.antt"
 PROMISES = ROOT / "crates" / "quic_recovery" / "specs" / "Promises"
+PAGE = ROOT / "docs" / "DEFINITIONS.md"
+BEGINS, ENDS = "<!-- this table is written by tests/definitions.py --write -->\n", "<!-- its end -->\n"
 LONGEST = 50
 MOST_EACH = 78  # lines that run rests on, for each promise and clause
 DEFINITION = re.compile(r" *(?:(?:unfoldable )?(?:abbrev )?pub |abbrev |pub )(?:record |data )?([^\s(:{]+)")
@@ -91,7 +99,36 @@ def clauses():
         yield clause.split()[0], [names[word] for word in WORD.findall(clause) if word in names and word != "Keeps"]
 
 
+def head(path):
+    """The first sentence of what a file says of itself."""
+    said = re.match(r"(?:--.*\n)*", path.read_text()).group(0)
+    text = " ".join(line[2:].strip() for line in said.splitlines())
+    return re.split(r"(?<=\.) (?=[A-Z])", text)[0]
+
+
+def table(places):
+    """The files of these modules by their crates; those of specs/Promises are in docs/PROMISES.md."""
+    yield "| Crate | File | What it says |"
+    yield "|---|---|---|"
+    last = None
+    for place in sorted(places):
+        _, crate, _, *inner = place.split(".")
+        if inner[0] != "Promises":
+            yield f"| {f'`{crate}`' if crate != last else ''} | `{inner[-1]}` | {head((ROOT / 'crates' / crate / 'specs').joinpath(*inner).with_suffix('.antt'))} |"
+            last = crate
+
+
+def with_table(page, places):
+    """The page, with its table written."""
+    before, mark, rest = page.partition(BEGINS)
+    _, end, after = rest.partition(ENDS)
+    return before + mark + "\n".join(table(places)) + "\n" + end + after
+
+
 def main():
+    parser = argparse.ArgumentParser(description=__doc__, formatter_class=argparse.RawDescriptionHelpFormatter)
+    parser.add_argument("--write", action="store_true", help="writes the table of docs/DEFINITIONS.md")
+    writes = parser.parse_args().write
     every = modules()
     size = lambda words: sum(len(every[place][0][name]) for place, name in words)
     told, failed = {}, 0
@@ -104,14 +141,22 @@ def main():
             failed += 1
             print(f"definitions: Promises/{name}: {lines} lines, and not at most {LONGEST}: a promise is read as a whole, so say it shorter, or as two",
                   file=sys.stderr)
-    whole = size(set().union(*told.values()))
+    rests = set().union(*told.values())
+    whole = size(rests)
+    page = PAGE.read_text()
+    written = with_table(page, {place for place, _ in rests})
+    if writes:
+        PAGE.write_text(written)
+    elif page != written:
+        failed += 1
+        print("definitions: docs/DEFINITIONS.md names other files than run rests on: tests/definitions.py --write names them", file=sys.stderr)
     print(f"definitions: run rests on {whole} lines; {len(direct)} files of promises have {sum(direct.values())}")
     most = MOST_EACH * len(told)
     if whole > most:
         failed += 1
         print(f"definitions: run rests on {whole} lines, and not on at most {most} ({MOST_EACH} a promise): say a definition over words that are "
               "there, or drop one that a clause can do without", file=sys.stderr)
-    print(f"definitions: {len(direct) + 1 - failed} passed, {failed} failed")
+    print(f"definitions: {len(direct) + 2 - failed} passed, {failed} failed")
     return 1 if failed else 0
 
 

@@ -1,7 +1,9 @@
 #!/usr/bin/env python3
-"""Reads the README and the documents: each link leads to a file, each name in backquotes stands in a source, and each clause of run is named in
-the README and in docs/PROMISES.md; examples stand beside what they print, as in examples/; and docs/DEFINITIONS.md says in which file a name is
-defined. Names of others (the crate that this follows, the toolchain's own, patterns) are listed here."""
+"""Reads the README and the documents as one who looks things up: each link leads to a file, and to the heading that it names; each name in
+backquotes stands in a source of what is described, and `A::b` where A is declared; each clause of run is named in the README and in
+docs/PROMISES.md, and a definition stands in the file that is named beside it; examples stand beside what they print, as in examples/; lines
+are no longer than others here, and all documents together are short. Names of others (the crate that this follows, the toolchain's own,
+patterns) are listed here, as long as a document has them."""
 import pathlib
 import re
 import sys
@@ -11,50 +13,100 @@ ROOT = pathlib.Path(__file__).resolve().parent.parent
 NAME = re.compile(r"[A-Za-z_][A-Za-z0-9_-]*")
 INPUT = re.compile(r"(tracked|local_ids)_\d+_")  # of bench/, which makes these names
 README_LINES = 130
+COLUMNS = 120  # of a line that is no row of a table
+MOST_BYTES = 190_000  # of all documents together
 SHOWN = re.compile(r"^`(examples/\w+)\.txt`, and what it prints.*\n\n((?:    .*\n)+)", re.M)
 DEFINED = re.compile(r"^ *(?:(?:unfoldable|abbrev|pub|record|data) )*([^\s(:{]+) *[:({]", re.M)
+DECLARED = re.compile(r"\b(?:struct|enum|trait|type|mod) (\w+)|\bimpl(?:<.*?>)? (?:\w+(?:<.*?>)? for )?(\w+)")
+QUALIFIED = re.compile(r"([A-Z]\w+)(?:<[^>]*>)?::(?:\{([^}]*)\}|(\w+))")
 
 # names in backquotes that stand in no source: what the crate that this follows, Rust or the toolchain calls so, and parts of patterns
 OTHERS = {
-    "DECISIONS.md": "write_all circular_buffer",
-    "DIFFERENCES.md": "first_packet crypto crypto_stream tinyvec Trait non_exhaustive Box dyn clone_box into_any Arc f32 Retransmits ThinRetransmits stats",
-    "EMBEDDING.md": "rand_chacha Retransmits max_data handshake_done reset_stream max_stream_data crypto Box",
-    "PROVED.md": "Display",
-    "PROVING.md": "incremental stage-times _alike same-self- answer_x refusal_x reply_x plant After-from-2 After-self-3-1 fmt helper",
+    "DECISIONS.md": "circular_buffer",
+    "DIFFERENCES.md": "first_packet crypto crypto_stream tinyvec Trait clone_box into_any Arc f32 Retransmits ThinRetransmits",
+    "EMBEDDING.md": "rand_chacha Retransmits max_data handshake_done reset_stream max_stream_data crypto",
+    "PROVING.md": "same-self- plant",
 }
+TYPES = {"Box", "Pcg32"}  # declared elsewhere, and named with what they have
 
 
 def files_here():
     """All files but those that are built."""
     found = (it.relative_to(ROOT) for it in ROOT.rglob("*") if it.is_file())
-    return sorted(it for it in found if not {"out", ".git", "__pycache__"} & set(it.parts))
+    return sorted(it for it in found if not {"out", "target", ".git", "__pycache__"} & set(it.parts))
 
 
-def words_of_sources(files):
-    """All words of the sources, and of the names of files."""
-    words = {word for file in files for word in NAME.findall(str(file))}
-    for file in files:
-        if file.parts[0] not in ("docs", "README.md", "CONTRIBUTING.md") and (ROOT / file).is_file():
-            words.update(NAME.findall((ROOT / file).read_text(errors="ignore")))
-    return words
+def is_document(file):
+    return file.suffix == ".md" and file.parts[0] in ("docs", "README.md", "CONTRIBUTING.md", "rust")
 
 
-def is_known(word, words, others):
-    """A word of a source, or its plural; short ones, and those in capitals, which stand for what is to be filled in, are not looked up."""
-    return len(word) < 3 or word.isupper() or INPUT.match(word) or word in words or word in others or (word.endswith("s") and word[:-1] in words)
+def is_source(file):
+    """What documents describe: no document, no picture, no licence, and not this list."""
+    return file.suffix not in (".md", ".svg") and not re.match("LICENSE|NOTICE", file.name) and file != pathlib.Path("tests/documents.py")
 
 
-def faults_in(file, text, words):
+class Sources:
+    """The words of the sources and of the names of files, and where each type is declared."""
+
+    def __init__(self, files):
+        self.words = {word for file in files for word in NAME.findall(str(file))}
+        self.texts, self.homes = {}, {}
+        for file in filter(is_source, files):
+            text = (ROOT / file).read_text(errors="ignore")
+            self.words.update(NAME.findall(text))
+            if file.suffix in (".rt", ".rs"):
+                self.texts[file] = set(NAME.findall(text))
+                for found in DECLARED.findall(text):
+                    self.homes.setdefault(found[0] or found[1], set()).add(file)
+
+    def has(self, word):
+        """A word of a source, or its plural; short ones, and those in capitals, which stand for what is to be filled in, are not looked up."""
+        return len(word) < 3 or word.isupper() or bool(INPUT.match(word)) or word in self.words or (word.endswith("s") and word[:-1] in self.words)
+
+    def misses(self, name):
+        """What of `A::b`, or of `A::{b, c}`, stands in no file that declares A."""
+        for owner, group, one in QUALIFIED.findall(name):
+            homes = self.homes.get(owner, set())
+            if owner in TYPES:
+                continue
+            if not homes:
+                yield owner
+            for word in NAME.findall(group or one):
+                if homes and not any(word in self.texts[home] for home in homes):
+                    yield f"{owner}::{word}"
+
+
+def quoted(text):
+    """The names in backquotes, but those with a place to be filled in; lines of code are none."""
     prose = re.sub(r"^    .*$", "", text, flags=re.M)
+    return [it for it in re.findall(r"`([^`\n]+)`", prose) if "*" not in it and "_W_" not in it]
+
+
+def slugs(file):
+    """The anchors of a document's headings."""
+    heads = re.findall(r"^#+ (.*)$", file.read_text(), re.M) if file.suffix == ".md" else []
+    return {re.sub(r"[^\w -]", "", it.lower()).replace(" ", "-") for it in heads}
+
+
+def faults_in(file, text, sources):
     others = set(OTHERS.get(file.name, "").split())
-    for name in re.findall(r"`([^`\n]+)`", prose):
-        pattern = "*" in name or "_W_" in name
-        for word in NAME.findall("" if pattern else name):
-            if not is_known(word, words, others):
+    names = quoted(text)
+    words = {word for name in names for word in NAME.findall(name)}
+    for name in names:
+        for word in NAME.findall(name):
+            if word not in others and not sources.has(word):
                 yield f"{file}: `{word}` (in `{name}`) stands in no source"
-    for link in re.findall(r"\]\(([^)#]+)[^)]*\)", text):
-        if "://" not in link and not (ROOT / file.parent / link).exists():
-            yield f"{file}: {link} is not there"
+        yield from (f"{file}: `{it}` (in `{name}`) is declared nowhere" for it in sources.misses(name) if it not in others)
+    for word in sorted(others):
+        if word not in words or word in sources.words:
+            yield f"tests/documents.py: {word} of {file.name} stands in a source, or the document does not have it: take it out"
+    for link, anchor in re.findall(r"\]\(([^)#]*)#?([^)]*)\)", text):
+        there = (ROOT / file.parent / link) if link else ROOT / file
+        if "://" not in link and not (there.exists() and (not anchor or anchor in slugs(there))):
+            yield f"{file}: {link}#{anchor} is not there"
+    for number, line in enumerate(text.split("\n"), 1):
+        if len(line) > COLUMNS and not line.startswith(("|", "{")):
+            yield f"{file}:{number} has {len(line)} columns, and not at most {COLUMNS}"
 
 
 def clauses_of_run():
@@ -69,7 +121,9 @@ def clauses_of_run():
 def examples_in(file, text):
     """What is wrong with each example that is shown: its lines stand beside what they print, as in its two files."""
     shown = dict(SHOWN.findall(text))
-    every = {"README.md": ["examples/received"], "SCRIPTS.md": [f"examples/{it.stem}" for it in (ROOT / "examples").glob("*.txt")]}
+    every = {"README.md": ["examples/received"], "PROGRAMS.md": [f"examples/{it.stem}" for it in (ROOT / "examples").glob("*.txt")]}
+    if file.parts[0] == "rust":
+        return
     for name in sorted({*shown, *every.get(file.name, [])}):
         script, printed = ((ROOT / f"{name}.{end}").read_text().splitlines() for end in ("txt", "out"))
         lines = [re.split("  +", line.strip()) for line in shown.get(name, "").splitlines()]
@@ -78,38 +132,38 @@ def examples_in(file, text):
 
 
 def misplaced():
-    """Names of docs/DEFINITIONS.md that are not defined in the file in brackets behind them, or else the last one above in their table."""
+    """Definitions that do not stand in the file that is named beside them: the first word of each row of the first table of docs/DEFINITIONS.md, and
+    that of each promise of docs/PROMISES.md."""
     files = [*ROOT.glob("crates/*/specs/**/*.antt")]
-    stems = {it.stem for it in files}
     defined = {(name, it.stem) for it in files for name in DEFINED.findall(it.read_text())}
-    for section in re.split("^## .*crates/", (ROOT / "docs" / "DEFINITIONS.md").read_text(), flags=re.M)[1:]:
-        last = set()
-        for row in re.findall(r"^\| (`.*?) \| ", section.partition("\n## ")[0], re.M):
-            names = []
-            for name, brackets in [*re.findall(r"`([^`]+)`|\(([^)]*)\)", row), ("", "")]:
-                named = {it.strip(" `").rpartition("/")[2] for it in brackets.split(",")} & stems
-                last = named or last
-                if name:
-                    names.append(name.split()[0])
-                elif named or not brackets:
-                    wrong = [it for it in names if not {(it, at) for at in last} & defined]
-                    yield from (f"docs/DEFINITIONS.md: `{it}` is not in {' or '.join(sorted(last))}" for it in wrong)
-                    names = []
-                elif "src/" in brackets:
-                    names = []
+    table = (ROOT / "docs" / "DEFINITIONS.md").read_text().split("\n## ")[1]
+    rows = re.findall(r"^\|[^|]*\|[^|`]*`(\w+)`[^|]*\| ([\w, ;]+) \|$", table, re.M)
+    rows += re.findall(r"^- `\w+` \(`(\w+)`, `?([\w/]+)`?[;)]", (ROOT / "docs" / "PROMISES.md").read_text(), re.M)
+    for name, places in rows:
+        stems = [it.rpartition("/")[2] for it in re.findall(r"[\w/]+", places)]
+        if not any((name, stem) in defined for stem in stems):
+            yield f"docs: `{name}` is not in {' or '.join(stems)}"
+    if len(rows) < 30:
+        yield f"docs: only {len(rows)} definitions are named with their file"
+
+
+def too_long(texts):
+    size = sum(len(it.encode()) for it in texts)
+    if size > MOST_BYTES:
+        yield (f"docs: all documents have {size:,} bytes, and not at most {MOST_BYTES:,}: a fact stands in one of them and the others link there, what "
+               "the code or its comments say is not said again, and what was is in git")
 
 
 def main():
     files = files_here()
-    words = words_of_sources(files)
-    documents = [it for it in files if it.suffix == ".md" and it.parts[0] in ("docs", "README.md", "CONTRIBUTING.md")]
-    clauses, checks = clauses_of_run(), [list(misplaced())]
-    for file in documents:
-        text = (ROOT / file).read_text()
-        found = list(faults_in(file, text, words))
-        if file.name in ("README.md", "PROMISES.md"):
+    sources = Sources(files)
+    documents = {it: (ROOT / it).read_text() for it in files if is_document(it)}
+    clauses, checks = clauses_of_run(), [list(misplaced()), list(too_long(documents.values()))]
+    for file, text in documents.items():
+        found = list(faults_in(file, text, sources))
+        if str(file) in ("README.md", "docs/PROMISES.md"):
             found += [f"{file}: the clause `{it}` of run is not named" for it in clauses if f"`{it}`" not in text]
-        if file.name == "README.md" and text.count("\n") > README_LINES:
+        if str(file) == "README.md" and text.count("\n") > README_LINES:
             found.append(f"{file}: {text.count(chr(10))} lines, and not at most {README_LINES}")
         checks += [found, *examples_in(file, text)]
     for fault in [it for check in checks for it in check]:
