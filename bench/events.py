@@ -1,6 +1,6 @@
 #!/usr/bin/env python3
 """Counts the instructions (valgrind's callgrind) of an event through the Rust crate, beside the same call on the layer in plain Rust
-(bench/careful/layer.rs): what twice as many calls take more than once as many, divided by the calls. `acked` and `lost` come behind a
+(tests/careful/layer.rs): what twice as many calls take more than once as many, divided by the calls. `acked` and `lost` come behind a
 send, which is taken off.
 
     bench/events.py              each kind
@@ -26,7 +26,7 @@ def build(folder):
     subprocess.run(["cargo", "build", "--release", "--offline", "--example", "calls"], cwd=CRATE, check=True, env={**os.environ, "CARGO_TERM_QUIET": "true"})
     plain = pathlib.Path(folder, "plain")
     flags = ["--edition", "2024", "-C", "opt-level=3", "-C", "codegen-units=1", "-C", "panic=abort"]
-    subprocess.run(["rustc", *flags, ROOT / "bench" / "careful" / "calls.rs", "-o", plain], check=True)
+    subprocess.run(["rustc", *flags, ROOT / "tests" / "careful" / "calls.rs", "-o", plain], check=True)
     return CRATE / "target" / "release" / "examples" / "calls", plain
 
 

@@ -9,7 +9,7 @@ A '*' marks instructions that differ by more than 5% between the numbers of line
     bench/run.py --quick                  a few inputs at 10^4 and 10^5 lines (a minute)
     bench/run.py in_order --lines 1000    these inputs, so many lines
     bench/run.py --jobs 4                 four runs side by side: the figures are the same
-    bench/run.py --careful                beside three programs of plain Rust over the same inputs (bench/careful), at 10^5 lines:
+    bench/run.py --careful                beside three programs of plain Rust over the same inputs (tests/careful), at 10^5 lines:
                                           instructions, and processor time, which is the least of some runs in turn on one
                                           processor (a quarter of an hour). All must print the same. `careful` is written for speed,
                                           and answers each line as it is read; `listed` is written so too, but keeps a list of all
@@ -32,7 +32,7 @@ from typing import Callable, Iterator
 ROOT = pathlib.Path(__file__).resolve().parent.parent
 SCRIPT = ROOT / "recovery-replay"
 PROGRAM = ROOT / "crates" / "recovery_program" / "out" / "recovery_program"
-CAREFUL = ROOT / "bench" / "careful"
+CAREFUL = ROOT / "tests" / "careful"
 FORMS = ["careful", "listed", "plain"]  # the programs there
 SPACES = ["initial", "handshake", "data"]
 TIMERS = ["loss-detection", "idle", "close", "key-discard", "path-validation", "keep-alive", "pacing", "push-new-cid",
@@ -451,7 +451,7 @@ WIDTH = max(len(each.name) for each in INPUTS)
 # ---- beside plain Rust
 
 def built(folder):
-    """Our program, and those of bench/careful."""
+    """Our program, and those of tests/careful."""
     programs = [PROGRAM]
     for form in FORMS:
         options = ["--edition", "2024", "-C", "opt-level=3", "-C", "lto", "-C", "codegen-units=1", "-C", "panic=abort"]

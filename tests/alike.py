@@ -1,5 +1,5 @@
 #!/usr/bin/env python3
-"""Plays random scripts on the proved program and on the same job in plain Rust (bench/careful), which share no code: all that they
+"""Plays random scripts on the proved program and on the same job in plain Rust (tests/careful), which share no code: all that they
 write and the status have to be the same. A script is all that its seed says: `--show SEED` prints it.
 
     tests/alike.py                     300 scripts
@@ -14,7 +14,7 @@ import tempfile
 
 ROOT = pathlib.Path(__file__).resolve().parent.parent
 PROGRAM = ROOT / "crates" / "recovery_program" / "out" / "recovery_program"
-CAREFUL = ROOT / "bench" / "careful" / "careful.rs"
+CAREFUL = ROOT / "tests" / "careful" / "careful.rs"
 LAST = 2**64 - 1
 ENDS = [0, 1, 2**62 - 1, 2**62, 2**62 + 1, 2**63, LAST - 1, LAST]
 SIZES = [0, 1, 1199, 1200, 1201, 1252, 1400, 1452, 1500, 9000, 65535]

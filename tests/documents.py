@@ -22,8 +22,9 @@ QUALIFIED = re.compile(r"([A-Z]\w+)(?:<[^>]*>)?::(?:\{([^}]*)\}|(\w+))")
 
 # names in backquotes that stand in no source: what the crate that this follows, Rust or the toolchain calls so, and parts of patterns
 OTHERS = {
+    "CONTRIBUTING.md": "plant",
     "DECISIONS.md": "circular_buffer",
-    "DIFFERENCES.md": "first_packet crypto crypto_stream tinyvec Trait clone_box into_any Arc f32 Retransmits ThinRetransmits",
+    "DIFFERENCES.md": "first_packet crypto crypto_stream tinyvec Trait clone_box into_any Arc f32 Retransmits ThinRetransmits ArrayRangeSet::default",
     "EMBEDDING.md": "rand_chacha Retransmits max_data handshake_done reset_stream max_stream_data crypto",
     "PROVING.md": "same-self- plant",
 }
@@ -91,7 +92,7 @@ def slugs(file):
 def faults_in(file, text, sources):
     others = set(OTHERS.get(file.name, "").split())
     names = quoted(text)
-    words = {word for name in names for word in NAME.findall(name)}
+    words = {word for name in names for word in NAME.findall(name)} | set(names)
     for name in names:
         for word in NAME.findall(name):
             if word not in others and not sources.has(word):

@@ -30,7 +30,7 @@ LISTS = {
     "rust/quic-recovery/src/recovery.rs": r"\bEvent::{name}\b",
     "rust/quic-recovery/tests/common/mod.rs": r'"{line}" =>',
     "rust/c/recovery_ffi.h": r"\brecovery_ffi_{export}\(",
-    "bench/careful/lines.rs": r'"{line}"',
+    "tests/careful/lines.rs": r'"{line}"',
     "tests/alike.py": r"""['"]{line}[ "']""",
     "docs/SCRIPTS.md": r"^\| `{line}[ `]",
     "docs/EMBEDDING.md": r"`{name}`",
