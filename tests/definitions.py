@@ -135,6 +135,7 @@ def main():
     for clause, words in clauses():
         told[clause] = rests_on(words, every)
         print(f"definitions: {clause}: {size(told[clause])} lines")
+    live = rests_on([("Rattle.quic_recovery.specs.Past", "Extended")], every)
     direct = {path.stem: len(path.read_text().split("\n")) - 1 for path in sorted(PROMISES.glob("*.antt"))}
     for name, lines in direct.items():
         if lines > LONGEST:
@@ -150,7 +151,7 @@ def main():
     elif page != written:
         failed += 1
         print("definitions: docs/DEFINITIONS.md names other files than run rests on: tests/definitions.py --write names them", file=sys.stderr)
-    print(f"definitions: run rests on {whole} lines; {len(direct)} files of promises have {sum(direct.values())}")
+    print(f"definitions: run rests on {whole} lines, a live call on {size(live)}; {len(direct)} files of promises have {sum(direct.values())}")
     most = MOST_EACH * len(told)
     if whole > most:
         failed += 1

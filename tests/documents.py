@@ -122,7 +122,7 @@ def clauses_of_run():
 def examples_in(file, text):
     """What is wrong with each example that is shown: its lines stand beside what they print, as in its two files."""
     shown = dict(SHOWN.findall(text))
-    every = {"README.md": ["examples/received"], "PROGRAMS.md": [f"examples/{it.stem}" for it in (ROOT / "examples").glob("*.txt")]}
+    every = {"README.md": ["examples/received"]}
     if file.parts[0] == "rust":
         return
     for name in sorted({*shown, *every.get(file.name, [])}):

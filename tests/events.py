@@ -32,7 +32,7 @@ LISTS = {
     "rust/c/recovery_ffi.h": r"\brecovery_ffi_{export}\(",
     "tests/careful/lines.rs": r'"{line}"',
     "tests/alike.py": r"""['"]{line}[ "']""",
-    "docs/SCRIPTS.md": r"^\| `{line}[ `]",
+    "docs/PROGRAMS.md": r"^\| `{line}[ `]",
     "docs/EMBEDDING.md": r"`{name}`",
 }
 LINES = {"AckFrequencyIn": "ack-frequency", "DiscardSpace": "discard"}  # whose lines are not their names

@@ -23,7 +23,7 @@ PICTURES = [  # the picture, the arguments, and the input
     ("pace-newreno.svg", ["burst"], "newreno paced 400\n"),
 ]
 USAGE = "usage: recovery-pictures connection [from=MOMENT] [to=MOMENT] [SEED [WINDOW]] | tunnel | burst\n"
-LINE = "the input is no line as '42000 paced 400 rate=5000 loss=100': docs/PICTURES.md has its words and limits\n"
+LINE = "the input is no line as '42000 paced 400 rate=5000 loss=100': docs/PROGRAMS.md has its words and limits\n"
 REFUSED = [  # the arguments, the input, and what is told
     ([], "", USAGE),
     (["nothing"], "", USAGE),

@@ -26,7 +26,7 @@ LIBRARY = CRATE / "out" / "librecovery_ffi.a"
 RUST = ROOT / "rust" / "quic-recovery"
 DECLARED = {"library": CRATE / "src" / "layout.rt", "rust": RUST / "src" / "ffi.rs", "events": RUST / "src" / "event.rs",
             "c": ROOT / "rust" / "c" / "recovery_ffi.h", "document": ROOT / "docs" / "RUST.md"}
-SCRIPTS = ROOT / "docs" / "SCRIPTS.md"
+PROGRAMS = ROOT / "docs" / "PROGRAMS.md"
 EVENTS = "recovery_events/src/event.rt"
 EVENT = ROOT / "crates" / EVENTS
 CORRUPTED = "ECN corruption"  # the text of the last fault, by which the library does not ask
@@ -399,8 +399,9 @@ def events_in_rust():
 
 
 def table():
-    """The events in Rust, with the exports that hand them in, and their answers as docs/SCRIPTS.md has those of lines."""
-    answers = dict(re.findall(r"^\| `([a-z-]+)[^|]*` \| ([^;|]*)", SCRIPTS.read_text().replace("\\|", "/"), re.M))
+    """The events in Rust, with the exports that hand them in, and their answers as docs/PROGRAMS.md has those of lines."""
+    lines = PROGRAMS.read_text().partition("| Line | Answers |\n")[2].partition("\n\n")[0]
+    answers = dict(re.findall(r"^\| `([a-z-]+)[^|]*` \| ([^;|]*)", lines.replace("\\|", "/"), re.M))
     told = {}
     for line, said in answers.items():
         said = re.sub(r"\(.*?\)|, each.*", "", said)

@@ -197,9 +197,9 @@ def states():
 
 
 def page():
-    text = (ROOT / "docs" / "TRACE.md").read_text()
+    text = (ROOT / "docs" / "PROGRAMS.md").read_text()
     given, wanted = (re.search(rf"```{name}\n(.*?)```", text, re.S)[1] for name in ("trace", "answers"))
-    expect("the example of docs/TRACE.md", ran(["--state"], given), (0, wanted, ""))
+    expect("the example of docs/PROGRAMS.md", ran(["--state"], given), (0, wanted, ""))
 
 
 def peak(count):

@@ -16,7 +16,7 @@ pub enum Failure {
     BadLine(u64),
     #[error("line {0}: not 'SIZE yes' or 'SIZE no'")]
     BadMeasurement(u64),
-    #[error("the input is no line as '42000 paced 400 rate=5000 loss=100': docs/PICTURES.md has its words and limits")]
+    #[error("the input is no line as '42000 paced 400 rate=5000 loss=100': docs/PROGRAMS.md has its words and limits")]
     Settings,
     #[error("more than 20,000 ACKs and waits: draw fewer milliseconds, or a slower link")]
     TooLong,

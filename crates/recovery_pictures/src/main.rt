@@ -1,5 +1,5 @@
 //! The program `recovery-pictures`: draws what a connection, a path or a burst did, from a text, as SVG.
-//! docs/PICTURES.md shows them.
+//! docs/PROGRAMS.md shows them.
 #![tactic(auto)]
 
 mod burst;
