@@ -18,6 +18,7 @@ MOST_BYTES = 190_000  # of all documents together
 SHOWN = re.compile(r"^`(examples/\w+)\.txt`, and what it prints.*\n\n((?:    .*\n)+)", re.M)
 DEFINED = re.compile(r"^ *(?:(?:unfoldable|abbrev|pub|record|data) )*([^\s(:{]+) *[:({]", re.M)
 DECLARED = re.compile(r"\b(?:struct|enum|trait|type|mod) (\w+)|\bimpl(?:<.*?>)? (?:\w+(?:<.*?>)? for )?(\w+)")
+COMMENTS = {".rt": "//.*", ".rs": "//.*", ".antt": "--.*", ".py": "(?m)^ *#.*"}  # a name that stands in them alone is one of the past
 QUALIFIED = re.compile(r"([A-Z]\w+)(?:<[^>]*>)?::(?:\{([^}]*)\}|(\w+))")
 
 # names in backquotes that stand in no source: what the crate that this follows, Rust or the toolchain calls so, and parts of patterns
@@ -26,7 +27,9 @@ OTHERS = {
     "DECISIONS.md": "circular_buffer",
     "DIFFERENCES.md": "first_packet crypto crypto_stream tinyvec Trait clone_box into_any Arc f32 Retransmits ThinRetransmits ArrayRangeSet::default",
     "EMBEDDING.md": "rand_chacha Retransmits max_data handshake_done reset_stream max_stream_data crypto",
+    "PROGRAMS.md": "rttvar",
     "PROVING.md": "same-self- plant",
+    "RUST.md": "malloc",
 }
 TYPES = {"Box", "Pcg32"}  # declared elsewhere, and named with what they have
 
@@ -53,7 +56,7 @@ class Sources:
         self.words = {word for file in files for word in NAME.findall(str(file))}
         self.texts, self.homes = {}, {}
         for file in filter(is_source, files):
-            text = (ROOT / file).read_text(errors="ignore")
+            text = re.sub(COMMENTS.get(file.suffix, "$^"), "", (ROOT / file).read_text(errors="ignore"))
             self.words.update(NAME.findall(text))
             if file.suffix in (".rt", ".rs"):
                 self.texts[file] = set(NAME.findall(text))
@@ -97,7 +100,7 @@ def faults_in(file, text, sources):
         for word in NAME.findall(name):
             if word not in others and not sources.has(word):
                 yield f"{file}: `{word}` (in `{name}`) stands in no source"
-        yield from (f"{file}: `{it}` (in `{name}`) is declared nowhere" for it in sources.misses(name) if it not in others)
+        yield from (f"{file}: `{it}` (in `{name}`) stands in no file that declares it" for it in sources.misses(name) if it not in others)
     for word in sorted(others):
         if word not in words or word in sources.words:
             yield f"tests/documents.py: {word} of {file.name} stands in a source, or the document does not have it: take it out"
