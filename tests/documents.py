@@ -26,7 +26,7 @@ OTHERS = {
     "CONTRIBUTING.md": "plant",
     "DECISIONS.md": "circular_buffer",
     "DIFFERENCES.md": "first_packet crypto crypto_stream tinyvec Trait clone_box into_any Arc f32 Retransmits ThinRetransmits ArrayRangeSet::default",
-    "EMBEDDING.md": "rand_chacha Retransmits max_data handshake_done reset_stream max_stream_data crypto",
+    "EMBEDDING.md": "rand_chacha Retransmits max_data handshake_done reset_stream max_stream_data crypto Meta::default",
     "PROGRAMS.md": "rttvar",
     "PROVING.md": "same-self- plant",
     "RUST.md": "malloc",
@@ -95,7 +95,7 @@ def slugs(file):
 def faults_in(file, text, sources):
     others = set(OTHERS.get(file.name, "").split())
     names = quoted(text)
-    words = {word for name in names for word in NAME.findall(name)} | set(names)
+    words = {word for name in names for word in NAME.findall(name)} | {it.partition("(")[0] for it in names}
     for name in names:
         for word in NAME.findall(name):
             if word not in others and not sources.has(word):
