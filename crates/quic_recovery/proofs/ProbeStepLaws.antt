@@ -23,17 +23,17 @@ use Rattle.quic_recovery.specs.PartReplies.{skipped_in}
 use Rattle.quic_recovery.proofs.DriverLaws.{with_same_space}
 
 -- nothing that is tracked or was received changes
-pub record KeepsPasts {P M : Type 0} (old new : Space P M) : Type 0 where
+pub record Stays {P M : Type 0} (old new : Space P M) : Type 0 where
   pub tracking : tracking_of new ≡ tracking_of old
   pub next : next_number_of new ≡ next_number_of old
   pub acks : acks_of new ≡ acks_of old
   pub dedup : new.dedup ≡ old.dedup
 
-pub stays_as : {P M : Type 0} (like old new : Space P M) → new ≡ like → KeepsPasts old like → KeepsPasts old new
+pub stays_as : {P M : Type 0} (like old new : Space P M) → new ≡ like → Stays old like → Stays old new
 stays_as like old new same stays = rw same stays
 
 module _ {K P M : Type 0} (spaces : Spaces P M) (paths : OfPaths (Path K)) (balanced : AreBalanced spaces paths) where
-  pub stays_balanced : (space : SpaceId) (here : Space P M) → KeepsPasts (space_of space spaces) here
+  pub stays_balanced : (space : SpaceId) (here : Space P M) → Stays (space_of space spaces) here
       → AreBalanced (with_space spaces space here) paths
   stays_balanced space here stays =
       kept spaces paths balanced space here (ap (λ (t : Tracking P M). t.packets) stays.tracking)
@@ -66,7 +66,7 @@ module _ {K P M : Type 0} (spaces : Spaces P M) (paths : OfPaths (Path K)) (bala
 -- counts of ECN are kept, or refused
 pub fed_back_stays : {P M S A B : Type 0} (words : QueueWords P S) (counts : EcnCounts) (result : Result A B)
     (old new : Space P M) → OnOk result (SpaceStep words (feeds_back counts) old new) → OnErr result (new ≡ old)
-    → KeepsPasts old new
+    → Stays old new
 fed_back_stays words counts result old new step same = grind (arith, step, same)
 
 -- ---- acknowledgements of skipped numbers

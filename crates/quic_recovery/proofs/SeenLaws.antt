@@ -55,12 +55,12 @@ module _ {F K Q S M P A : Type 0} (beginning : Beginning F K Q S M P) (see : OfP
   log = (logs_of beginning past).paths
 
   -- of events that make a path or drop one nothing is said
-  abbrev KeepsPasts : Event Q S M P → Reply Q → Type 0
-  KeepsPasts (NewPath now remote is_fresh) (Ok given) = Unit {0}
-  KeepsPasts DropPrevious (Ok given) = Unit {0}
-  KeepsPasts event reply = see (pasts_of beginning ((event, reply) ∷ past)) ≡ see (pasts_of beginning past)
+  abbrev Stays : Event Q S M P → Reply Q → Type 0
+  Stays (NewPath now remote is_fresh) (Ok given) = Unit {0}
+  Stays DropPrevious (Ok given) = Unit {0}
+  Stays event reply = see (pasts_of beginning ((event, reply) ∷ past)) ≡ see (pasts_of beginning past)
 
-  pub stays_seen : (event : Event Q S M P) (reply : Reply Q) → KeepsPasts event reply
+  pub stays_seen : (event : Event Q S M P) (reply : Reply Q) → Stays event reply
   stays_seen (NewPath now remote is_fresh) (Ok given) = tt
   stays_seen DropPrevious (Ok given) = tt
   stays_seen event (Ok given) =

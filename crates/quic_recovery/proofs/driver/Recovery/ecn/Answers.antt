@@ -1,11 +1,11 @@
 use Rattle.std.proofs.Common.{subst}
 use Rattle.recovery_ledger.specs.Spaces.{Space}
-use Rattle.quic_recovery.proofs.ProbeStepLaws.{KeepsPasts, stays_balanced, fed_back_stays}
+use Rattle.quic_recovery.proofs.ProbeStepLaws.{Stays, stays_balanced, fed_back_stays}
 use Rattle.quic_recovery.proofs.driver.Recovery.ecn.Goals as goal
 
 pub invariant_of-self : goal.invariant_of-self
 invariant_of-self g c =
-    let Kept : Space _ _ → Type 0 = λ there. KeepsPasts there c.detect_ecn.new.self in
+    let Kept : Space _ _ → Type 0 = λ there. Stays there c.detect_ecn.new.self in
     record {
       balanced = stays_balanced _ _ c.args.self.now.balanced _ _
           (subst Kept c.index_mut.ensures.value (fed_back_stays g.Q.RetransmitQueue.words _ _ _ _

@@ -30,7 +30,7 @@ use denote.Struct.Owning.{shape, to}
 use denote.Param.{layout}
 use denote.Triple.Spec.{triple_of}
 use denote.Triple.Table.{entered}
-use denote.Triple.Walked.{says, KeepsPasts, stay_dropped, walk_of, ends_at, Extends-dropped, walk_Meets}
+use denote.Triple.Walked.{says, Stays, stay_dropped, walk_of, ends_at, Goes-dropped, walk_Meets}
 use Rattle.std.proofs.alloc.Calls.{handle_tells}
 use Rattle.std_heap.specs.contracts.Global as Heap
 use Rattle.recovery_ffi.proofs.AsBox.{E}
@@ -40,7 +40,7 @@ use Rattle.recovery_ffi.specs.contracts.slot.Slot.empty.Key.{name as #self}
 use Rattle.recovery_ffi.proofs.slot.Slot.empty.Statement as stated
 use Rattle.recovery_ffi.proofs.slot.Slot.empty.Code as code
 
-abbrev stayed : KeepsPasts (F.ended).signature.params (F.ended).kept
+abbrev stayed : Stays (F.ended).signature.params (F.ended).kept
 stayed = (stay_dropped (plain (λ _. Heap.the_row)) yes, tt)
 
 both_tt : (x y : Bool) → T x → T y → T (x && (y && true))
@@ -89,6 +89,6 @@ empty_spec 𝓤 𝓛 𝓜 𝓡 wired =
     let 𝓣 : Tables 𝓤 𝓛.H = tables_of 𝓤 𝓛.H 𝓜 (tables 𝓤 𝓛.H 𝓜 𝓡 𝓡.env) in
     entered 𝓤 𝓛.H (triple_of 𝓛 F.signature (F.spec 𝓛 𝓜.mem 𝓡.returns))
     𝓣.C 𝓣.Λ #self code.function (code.unfolded 𝓤 𝓛.H 𝓜 𝓡 wired)
-    (walk_Meets 𝓛 F.ended stayed (Extends-dropped 𝓛 0 (plain (λ _. Heap.the_row)) yes (λ κs x f. refl), tt)
+    (walk_Meets 𝓛 F.ended stayed (Goes-dropped 𝓛 0 (plain (λ _. Heap.the_row)) yes (λ κs x f. refl), tt)
     (F.clauses 𝓛 𝓜.mem 𝓡.returns) (WpFn 𝓤 𝓛.H 𝓣.C 𝓣.Λ code.function) (WpFn-mono 𝓤 𝓛.H 𝓛.laws 𝓣 code.function)
     (walk 𝓛 𝓜.mem 𝓡.returns 𝓣))

@@ -23,7 +23,7 @@ use denote.Signature.{type_at}
 use denote.Steps.{heard, nothing}
 use denote.Triple.Spec.{triple_of}
 use denote.Triple.Table.{entered}
-use denote.Triple.Walked.{says, KeepsPasts, stay_dropped, walk_of, ends_at, Extends-dropped, walk_Meets}
+use denote.Triple.Walked.{says, Stays, stay_dropped, walk_of, ends_at, Goes-dropped, walk_Meets}
 use Rattle.std_alloc.proofs.BoxSteps.Form.{D, word, box_typed}
 use Rattle.std_alloc.proofs.BoxSteps.Steps.{box_out, box_in}
 use Rattle.recovery_ffi.specs.Held.{IsHeld}
@@ -35,7 +35,7 @@ use Rattle.recovery_ffi.specs.contracts.slot.Slot.into_parts.Key.{name as #self}
 use Rattle.recovery_ffi.proofs.slot.Slot.into_parts.Statement as stated
 use Rattle.recovery_ffi.proofs.slot.Slot.into_parts.Code as code
 
-abbrev stayed : KeepsPasts (F.ended).signature.params (F.ended).kept
+abbrev stayed : Stays (F.ended).signature.params (F.ended).kept
 stayed = (stay_dropped From yes, tt)
 
 module _ {M : Type 1} {𝓤 : Ura M} (𝓛 : Logic 𝓤) (at_mem : Memory → SProp 𝓤) (run : Routine
@@ -86,6 +86,6 @@ into_parts_spec 𝓤 𝓛 𝓜 𝓡 wired =
     let 𝓣 : Tables 𝓤 𝓛.H = tables_of 𝓤 𝓛.H 𝓜 (tables 𝓤 𝓛.H 𝓜 𝓡 𝓡.env) in
     entered 𝓤 𝓛.H (triple_of 𝓛 F.signature (F.spec 𝓛 𝓜.mem 𝓡.returns))
     𝓣.C 𝓣.Λ #self code.function (code.unfolded 𝓤 𝓛.H 𝓜 𝓡 wired)
-    (walk_Meets 𝓛 F.ended stayed (Extends-dropped 𝓛 0 From yes (λ κs x f. refl), tt) (F.clauses 𝓛 𝓜.mem 𝓡.returns)
+    (walk_Meets 𝓛 F.ended stayed (Goes-dropped 𝓛 0 From yes (λ κs x f. refl), tt) (F.clauses 𝓛 𝓜.mem 𝓡.returns)
     (WpFn 𝓤 𝓛.H 𝓣.C 𝓣.Λ code.function) (WpFn-mono 𝓤 𝓛.H 𝓛.laws 𝓣 code.function)
     (walk 𝓛 𝓜.mem 𝓡.returns 𝓣))
