@@ -1,6 +1,7 @@
--- What a `Pacer` holds.
+-- What a `Pacer` holds, and what a `PacerState` says that it does.
 use Rattle.recovery_congestion.specs.Pacing.{Bucket}
 use Rattle.recovery_congestion.specs.declared.pacing.Pacer.TheInside.{Inside}
+use Rattle.recovery_congestion.specs.declared.pacing.PacerState.{PacerState}
 
 abbrev pub bucket_in : Inside → Bucket
 bucket_in pacer = record {
@@ -9,4 +10,13 @@ bucket_in pacer = record {
   mtu = pacer.last_mtu;
   tokens = pacer.tokens;
   last = pacer.prev;
+}
+
+abbrev pub bucket_of : PacerState → Bucket
+bucket_of state = record {
+  capacity = state.capacity;
+  window = state.last_window;
+  mtu = state.last_mtu;
+  tokens = state.tokens;
+  last = state.prev;
 }

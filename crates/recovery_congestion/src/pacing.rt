@@ -1,5 +1,6 @@
 //! Spreads packets over time, so that a window is not sent in one burst (RFC 9002, 7.7).
-ghost use Rattle.std.specs.Prelude.{◌≡◌, ◌+◌, ◌-◌, ◌*◌, ◌/◌, ◌^◌, ◌<◌, ◌≤◌, min, max};
+ghost use Rattle.std.specs.Prelude.{◌≡◌, ◌+◌, ◌-◌, ◌*◌, ◌/◌, ◌^◌, ◌<◌, ◌≤◌, min, max, None, IfSome};
+ghost use Rattle.recovery_congestion.specs.PacerView.{bucket_of};
 ghost use Rattle.recovery_congestion.specs.Pacing.{capacity_of, credit_of, wait_of, bucket_made, resized, refilled, paced, pacer_delay, less_tokens, IsBucketSound};
 
 use recovery_base::time::{Duration, Instant};
@@ -28,6 +29,21 @@ pub struct Pacer {
     prev: Instant,
 }
 
+/// What a pacer holds, as plain numbers: for a caller that keeps them itself. Bytes, and `prev` a moment.
+#[derive(Clone, Copy)]
+pub struct PacerState {
+    /// The most bytes that the bucket takes.
+    pub capacity: u64,
+    /// The congestion window of the last call of `delay`, or the first one.
+    pub last_window: u64,
+    /// The MTU of the last call of `delay`, or the first one.
+    pub last_mtu: u16,
+    /// The bytes in the bucket.
+    pub tokens: u64,
+    /// The latest moment at which it was refilled, or made.
+    pub prev: Instant,
+}
+
 impl Model for Pacer {
     ghost use Rattle.recovery_congestion.specs.Pacing.{Bucket, IsBucketSound};
     ghost use Rattle.recovery_congestion.specs.PacerView.{bucket_in};
@@ -54,6 +70,42 @@ impl Pacer {
             last_mtu: mtu,
             tokens: capacity,
             prev: now,
+        }
+    }
+
+    /// A pacer that holds this; none where no pacer can: more tokens than the capacity, a capacity that is not 10 to 256 times the
+    /// MTU, a window or an MTU of 0.
+    pub fn from_state(state: PacerState) -> Option<Self>
+        ensures none { result ≡ None → ¬ IsBucketSound (bucket_of state) }
+        ensures some { IfSome result (λ pacer. pacer ≡ bucket_of state) }
+    {
+        let mtu = u64::from(state.last_mtu);
+        if state.tokens > state.capacity || state.last_window == 0 || mtu == 0 {
+            return None;
+        }
+        if state.capacity < 10 * mtu || state.capacity > 256 * mtu {
+            return None;
+        }
+        Some(Pacer {
+            capacity: state.capacity,
+            last_window: state.last_window,
+            last_mtu: state.last_mtu,
+            tokens: state.tokens,
+            prev: state.prev,
+        })
+    }
+
+    /// What it holds.
+    pub fn state(&self) -> PacerState
+        ensures state { bucket_of result ≡ self.now }
+        ensures sound { IsBucketSound (bucket_of result) }
+    {
+        PacerState {
+            capacity: self.capacity,
+            last_window: self.last_window,
+            last_mtu: self.last_mtu,
+            tokens: self.tokens,
+            prev: self.prev,
         }
     }
 
