@@ -7,3 +7,6 @@ pub mod Made
 pub mod Views
 pub mod Controllers
 pub mod Marks
+pub mod Discoveries
+pub mod HeldDiscovery
+pub mod Buckets

@@ -164,7 +164,8 @@ fn controller(settings: &Settings) -> ChosenConfig
     ChosenConfig::Reno(reno)
 }
 
-fn discovery(settings: &Settings) -> Option<MtuDiscoveryConfig>
+/// How the MTU is searched for, where settings say how.
+pub fn discovery(settings: &Settings) -> Option<MtuDiscoveryConfig>
     ensures { result ≡ discovery_of settings.now }
 {
     if !settings.searches {

@@ -219,7 +219,8 @@ fn spell_timeout(time: Option<Instant>) -> Reply
     }
 }
 
-fn spell_number(kind: u8, first: u64) -> Reply
+/// An answer that holds a number.
+pub fn spell_number(kind: u8, first: u64) -> Reply
     ensures { result ≡ record (plain kind) { first = first } }
 {
     Reply {
@@ -234,7 +235,8 @@ fn spell_delayed(until: Instant) -> Reply
     spell_number(ANSWER_DELAYED, until.as_nanos())
 }
 
-fn spell_flag(kind: u8, flag: bool) -> Reply
+/// An answer that holds a flag.
+pub fn spell_flag(kind: u8, flag: bool) -> Reply
     ensures { result ≡ record (plain kind) { flag = flag } }
 {
     Reply {

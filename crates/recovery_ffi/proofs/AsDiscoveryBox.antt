@@ -1,0 +1,31 @@
+-- The slot of a discovery and its parts own what a box at the same types owns.
+use mir.Syntax.{impl, tnil, dnil}
+use mathlib.Core.List.{[]}
+use denote.Signature.{Slot, plain}
+use Rattle.std_alloc.proofs.BoxSteps.Form.{Bx}
+use Rattle.std_heap.specs.contracts.Global as Heap
+use Rattle.std_heap.specs.contracts.GlobalAllocator.TheImpl.{ghosts, dict}
+use Rattle.std_heap.proofs.Global.TheLaws as heap
+use Rattle.recovery_mtud.specs.contracts.mtud.MtuDiscovery as Content
+use Rattle.recovery_mtud.proofs.mtud.MtuDiscovery.TheLaws as content
+use Rattle.recovery_ffi.specs.contracts.parts.Parts as Parts
+use Rattle.recovery_ffi.specs.contracts.mtu_slot.MtuSlot as Held
+
+abbrev pub E : Bx
+E = record {
+  row = Content.the_row;
+  laws = content.the_row_laws;
+  al = record {
+    row = Heap.the_row;
+    laws = heap.the_row_laws;
+    g = ghosts;
+    d = dict;
+    drops = impl [] tnil dnil;
+  };
+}
+
+abbrev pub FromParts : Slot 0
+FromParts = plain (λ _. Parts.the_row Content.the_row Heap.the_row ghosts)
+
+abbrev pub FromSlot : Slot 0
+FromSlot = plain (λ _. Held.the_row)
