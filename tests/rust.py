@@ -206,7 +206,7 @@ def declared_in_rust():
         yield ""
         yield from (f"/// {it}" for it in docs)
         yield "#[repr(C)]"
-        if name != "Handle":
+        if not name.endswith("Handle"):
             yield "#[derive(Clone, Copy, Debug, PartialEq, Eq)]"
         yield f"pub struct {name} {{"
         for more, it, kind in fields:

@@ -247,6 +247,40 @@ struct recovery_marks {
     bool lives;
 };
 
+// What is known of an MTU.
+struct recovery_mtuview {
+    // The number of the probe in flight, where there is one; otherwise 0.
+    uint64_t probe;
+    // The MTU in use, in bytes.
+    uint16_t mtu;
+    // Whether a probe is in flight.
+    bool probes;
+    // Whether a search runs.
+    bool searches;
+    // Whether a discovery is held; if not, all else is 0.
+    bool some;
+};
+
+// What a caller holds an MTU discovery by. It begins as all zeros, which holds none; from then on it is the library's own.
+struct recovery_mtuhandle {
+    void *ptr;
+    bool holds;
+};
+
+// A bucket of tokens, one a byte. All zeros is none, and refused.
+struct recovery_bucket {
+    // The most bytes that it takes.
+    uint64_t capacity;
+    // The congestion window that this was computed for, in bytes.
+    uint64_t window;
+    // The bytes in it.
+    uint64_t tokens;
+    // The latest moment at which it was refilled, or made, in nanoseconds.
+    uint64_t last;
+    // The MTU that its capacity was computed for, in bytes.
+    uint16_t mtu;
+};
+
 // The settings: times are in nanoseconds, and sizes in bytes.
 struct recovery_settings {
     // The longest delay of this end's ACKs (RFC 9000, 18.2).
@@ -460,6 +494,54 @@ struct recovery_marks recovery_ffi_marks(struct recovery_handle *handle, bool pr
 // The layer above keeps this with a path from now on. False, and nothing changes, where there is no such path or no such space.
 bool recovery_ffi_set_marks(struct recovery_handle *handle, bool previous, const struct recovery_marks *marks);
 
+// Makes an MTU discovery, as a path of these settings has it: by `initial_mtu`, `min_mtu`, `allow_mtud` and what they say of the
+// search. The peer takes datagrams of at most `limit` bytes; 0 says that it did not tell. The answer is `RECOVERY_NEW_MADE`, or the number
+// of what is wrong; the handle then holds what it held.
+uint8_t recovery_ffi_mtu_new(struct recovery_mtuhandle *mtu, const struct recovery_settings *settings, uint16_t limit);
+
+// Frees a discovery. The handle holds none then; one that holds none stays so.
+void recovery_ffi_mtu_drop(struct recovery_mtuhandle *mtu);
+
+// What is known.
+struct recovery_mtuview recovery_ffi_mtu(struct recovery_mtuhandle *mtu);
+
+// Is a probe due? Its size is that of the answer (`RECOVERY_ANSWER_PROBE`, otherwise `RECOVERY_ANSWER_NO_PROBE`), and it is sent as the packet of
+// this number.
+struct recovery_reply recovery_ffi_mtu_poll(struct recovery_mtuhandle *mtu, uint64_t now, uint64_t number);
+
+// The peer takes datagrams of at most so many bytes. Refused where they are none, and while a search runs: the limit is told
+// before the first poll.
+struct recovery_reply recovery_ffi_mtu_limit(struct recovery_mtuhandle *mtu, uint16_t size);
+
+// A packet of so many bytes was acknowledged (`RECOVERY_ANSWER_ACKED`): the flag says whether it was the probe in flight, whose size is
+// then the MTU.
+struct recovery_reply recovery_ffi_mtu_acked(struct recovery_mtuhandle *mtu, uint64_t number, uint16_t bytes);
+
+// The probe in flight was lost. Where none is, nothing changes.
+struct recovery_reply recovery_ffi_mtu_probe_lost(struct recovery_mtuhandle *mtu);
+
+// A packet of so many bytes was lost that is no probe in flight. Numbers of one moment are told upward, and then
+// `recovery_ffi_mtu_losses_done`.
+struct recovery_reply recovery_ffi_mtu_lost(struct recovery_mtuhandle *mtu, uint64_t number, uint16_t bytes);
+
+// All losses of a moment were told: the flag says whether they are a black hole, which leaves the least MTU.
+struct recovery_reply recovery_ffi_mtu_losses_done(struct recovery_mtuhandle *mtu, uint64_t now);
+
+// All begins anew, with these sizes; refused where one is zero. The peer's limit stays.
+struct recovery_reply recovery_ffi_mtu_reset(struct recovery_mtuhandle *mtu, uint16_t size, uint16_t least);
+
+// A full bucket at the moment `now`, by the RTT (nanoseconds), the congestion window and the MTU (bytes). Of a window or an MTU
+// of 0 it is all zeros, which is none.
+struct recovery_bucket recovery_ffi_pacer(uint64_t rtt, uint64_t window, uint16_t mtu, uint64_t now);
+
+// A packet of so many bytes was sent (`RECOVERY_ANSWER_TRANSMITTED`): it takes tokens, as far as they go. Refused where the bucket is none.
+struct recovery_reply recovery_ffi_pacer_transmit(struct recovery_bucket *bucket, uint16_t bytes);
+
+// May so many bytes be sent at the moment `now` (`RECOVERY_ANSWER_READY`), or when is it to be asked again (`RECOVERY_ANSWER_DELAYED`)? By the RTT
+// (nanoseconds), the MTU and the congestion window (bytes) of that moment. Refused where the window or the MTU is 0, or the bucket
+// is none.
+struct recovery_reply recovery_ffi_pacer_delay(struct recovery_bucket *bucket, uint64_t rtt, uint64_t bytes, uint16_t mtu, uint64_t window, uint64_t now);
+
 // A packet came in (RFC 9000, 12.3): the event `Received`.
 struct recovery_reply recovery_ffi_received(struct recovery_handle *handle, uint8_t space, uint64_t now, uint64_t number, bool ack_eliciting);
 
@@ -559,7 +641,7 @@ struct recovery_reply recovery_ffi_stop_timer(struct recovery_handle *handle, ui
 struct recovery_reply recovery_ffi_next_timeout(struct recovery_handle *handle);
 
 // Does nothing; a library of another layout does not have it, and a program with this header does not link with that one.
-void recovery_ffi_layout(void) __asm__("recovery_ffi_layout_085f3b12");
+void recovery_ffi_layout(void) __asm__("recovery_ffi_layout_dc6aa126");
 __attribute__((used)) static void (*const recovery_ffi_has_this_layout)(void) = recovery_ffi_layout;
 
 #ifdef __cplusplus

@@ -195,7 +195,7 @@ impl fmt::Display for ConfigError {
 impl Error for ConfigError {}
 
 /// In nanoseconds, which stop at `u64::MAX`.
-fn nanos(span: Duration) -> u64 {
+pub(crate) fn nanos(span: Duration) -> u64 {
     u64::try_from(span.as_nanos()).unwrap_or(u64::MAX)
 }
 

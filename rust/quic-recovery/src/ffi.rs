@@ -220,6 +220,45 @@ pub struct Marks {
     pub lives: bool,
 }
 
+/// What is known of an MTU.
+#[repr(C)]
+#[derive(Clone, Copy, Debug, PartialEq, Eq)]
+pub struct MtuView {
+    /// The number of the probe in flight, where there is one; otherwise 0.
+    pub probe: u64,
+    /// The MTU in use, in bytes.
+    pub mtu: u16,
+    /// Whether a probe is in flight.
+    pub probes: bool,
+    /// Whether a search runs.
+    pub searches: bool,
+    /// Whether a discovery is held; if not, all else is 0.
+    pub some: bool,
+}
+
+/// What a caller holds an MTU discovery by. It begins as all zeros, which holds none; from then on it is the library's own.
+#[repr(C)]
+pub struct MtuHandle {
+    pub ptr: *mut u8,
+    pub holds: bool,
+}
+
+/// A bucket of tokens, one a byte. All zeros is none, and refused.
+#[repr(C)]
+#[derive(Clone, Copy, Debug, PartialEq, Eq)]
+pub struct Bucket {
+    /// The most bytes that it takes.
+    pub capacity: u64,
+    /// The congestion window that this was computed for, in bytes.
+    pub window: u64,
+    /// The bytes in it.
+    pub tokens: u64,
+    /// The latest moment at which it was refilled, or made, in nanoseconds.
+    pub last: u64,
+    /// The MTU that its capacity was computed for, in bytes.
+    pub mtu: u16,
+}
+
 /// The settings: times are in nanoseconds, and sizes in bytes.
 #[repr(C)]
 #[derive(Clone, Copy, Debug, PartialEq, Eq)]
@@ -394,7 +433,7 @@ pub struct IdsView {
 
 unsafe extern "C" {
     /// Does nothing; a library of another layout does not have it.
-    #[link_name = "recovery_ffi_layout_085f3b12"]
+    #[link_name = "recovery_ffi_layout_dc6aa126"]
     pub fn recovery_ffi_layout();
 
     /// Makes a recovery, whose peer is at this address and has this id of at most 20 bytes. The answer is `NEW_MADE`, or the number of
@@ -477,6 +516,61 @@ unsafe extern "C" {
     /// The layer above keeps this with a path from now on. False, and nothing changes, where there is no such path or no such space.
     pub fn recovery_ffi_set_marks(handle: *mut Handle, previous: bool, marks: *const Marks)
         -> bool;
+
+    /// Makes an MTU discovery, as a path of these settings has it: by `initial_mtu`, `min_mtu`, `allow_mtud` and what they say of the
+    /// search. The peer takes datagrams of at most `limit` bytes; 0 says that it did not tell. The answer is `NEW_MADE`, or the number
+    /// of what is wrong; the handle then holds what it held.
+    pub fn recovery_ffi_mtu_new(mtu: *mut MtuHandle, settings: *const Settings, limit: u16) -> u8;
+
+    /// Frees a discovery. The handle holds none then; one that holds none stays so.
+    pub fn recovery_ffi_mtu_drop(mtu: *mut MtuHandle);
+
+    /// What is known.
+    pub fn recovery_ffi_mtu(mtu: *mut MtuHandle) -> MtuView;
+
+    /// Is a probe due? Its size is that of the answer (`ANSWER_PROBE`, otherwise `ANSWER_NO_PROBE`), and it is sent as the packet of
+    /// this number.
+    pub fn recovery_ffi_mtu_poll(mtu: *mut MtuHandle, now: u64, number: u64) -> Reply;
+
+    /// The peer takes datagrams of at most so many bytes. Refused where they are none, and while a search runs: the limit is told
+    /// before the first poll.
+    pub fn recovery_ffi_mtu_limit(mtu: *mut MtuHandle, size: u16) -> Reply;
+
+    /// A packet of so many bytes was acknowledged (`ANSWER_ACKED`): the flag says whether it was the probe in flight, whose size is
+    /// then the MTU.
+    pub fn recovery_ffi_mtu_acked(mtu: *mut MtuHandle, number: u64, bytes: u16) -> Reply;
+
+    /// The probe in flight was lost. Where none is, nothing changes.
+    pub fn recovery_ffi_mtu_probe_lost(mtu: *mut MtuHandle) -> Reply;
+
+    /// A packet of so many bytes was lost that is no probe in flight. Numbers of one moment are told upward, and then
+    /// `recovery_ffi_mtu_losses_done`.
+    pub fn recovery_ffi_mtu_lost(mtu: *mut MtuHandle, number: u64, bytes: u16) -> Reply;
+
+    /// All losses of a moment were told: the flag says whether they are a black hole, which leaves the least MTU.
+    pub fn recovery_ffi_mtu_losses_done(mtu: *mut MtuHandle, now: u64) -> Reply;
+
+    /// All begins anew, with these sizes; refused where one is zero. The peer's limit stays.
+    pub fn recovery_ffi_mtu_reset(mtu: *mut MtuHandle, size: u16, least: u16) -> Reply;
+
+    /// A full bucket at the moment `now`, by the RTT (nanoseconds), the congestion window and the MTU (bytes). Of a window or an MTU
+    /// of 0 it is all zeros, which is none.
+    pub fn recovery_ffi_pacer(rtt: u64, window: u64, mtu: u16, now: u64) -> Bucket;
+
+    /// A packet of so many bytes was sent (`ANSWER_TRANSMITTED`): it takes tokens, as far as they go. Refused where the bucket is none.
+    pub fn recovery_ffi_pacer_transmit(bucket: *mut Bucket, bytes: u16) -> Reply;
+
+    /// May so many bytes be sent at the moment `now` (`ANSWER_READY`), or when is it to be asked again (`ANSWER_DELAYED`)? By the RTT
+    /// (nanoseconds), the MTU and the congestion window (bytes) of that moment. Refused where the window or the MTU is 0, or the bucket
+    /// is none.
+    pub fn recovery_ffi_pacer_delay(
+        bucket: *mut Bucket,
+        rtt: u64,
+        bytes: u64,
+        mtu: u16,
+        window: u64,
+        now: u64,
+    ) -> Reply;
 
     /// A packet came in (RFC 9000, 12.3): the event `Received`.
     pub fn recovery_ffi_received(

@@ -33,6 +33,8 @@ mod event;
 // some numbers and calls only programs in C need
 #[allow(dead_code, missing_docs)]
 mod ffi;
+mod mtud;
+mod pacing;
 mod recovery;
 mod types;
 
@@ -41,6 +43,8 @@ pub use config::{
     TransportConfig,
 };
 pub use event::{Answer, EcnFault, Event, Refusal};
+pub use mtud::{MtuDiscovery, NotTaken};
+pub use pacing::Pacer;
 pub use recovery::{IdStats, PacerStats, PathStats, Recovery, RttEstimate, SpaceStats};
 pub use types::{
     AckFrequency, CidTooLong, ConnectionId, EcnCounts, Instant, IssuedCid, NewConnectionId,

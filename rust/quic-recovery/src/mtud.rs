@@ -1,0 +1,183 @@
+//! The search for the MTU of one path, alone.
+use crate::config::{ConfigError, RecoveryConfig, TransportConfig};
+use crate::ffi;
+use crate::types::Instant;
+use std::cell::UnsafeCell;
+use std::error::Error;
+use std::fmt;
+use std::ptr::null_mut;
+
+/// A call that is not taken: an argument lies out of its range, or it comes at the wrong time. Nothing changed.
+#[derive(Clone, Copy, Debug, PartialEq, Eq, Hash)]
+pub struct NotTaken;
+
+impl fmt::Display for NotTaken {
+    fn fmt(&self, f: &mut fmt::Formatter<'_>) -> fmt::Result {
+        f.write_str("an argument lies out of its range, or the call comes at the wrong time")
+    }
+}
+
+impl Error for NotTaken {}
+
+/// The search for the MTU of one path and the detection of black holes (RFC 8899), without a recovery: for a tunnel, or another
+/// datagram protocol. The packets are numbered by the caller, upward, probes among them; sizes are in bytes.
+///
+/// Whatever it is told: a search probes at most 16 sizes by at most 48 probes, and over a link that carries exactly the packets up to
+/// some size it ends less than twice `minimum_change` below the best one (the laws of the crate `recovery_mtud`).
+///
+/// ```
+/// use quic_recovery::{Instant, MtuDiscovery, TransportConfig};
+///
+/// let mut mtu = MtuDiscovery::new(&TransportConfig::default(), None)?;
+/// let now = Instant::from_nanos(0);
+/// let mut number = 0;
+/// while let Some(size) = mtu.poll_transmit(now, number) {
+///     // a link that carries 1500 bytes
+///     if size <= 1500 {
+///         assert!(mtu.on_acked(number, size));
+///     } else {
+///         mtu.on_probe_lost();
+///     }
+///     number += 1;
+/// }
+/// assert_eq!(mtu.current_mtu(), 1452);
+/// # Ok::<(), quic_recovery::ConfigError>(())
+/// ```
+pub struct MtuDiscovery {
+    /// It holds a discovery from `new` to `drop`, and its bytes are moved while it is read.
+    handle: UnsafeCell<ffi::MtuHandle>,
+}
+
+// SAFETY: the handle owns one block of memory, as that of a `Recovery` does.
+unsafe impl Send for MtuDiscovery {}
+
+impl Drop for MtuDiscovery {
+    fn drop(&mut self) {
+        // SAFETY: the handle holds a discovery, and is not used again.
+        unsafe { ffi::recovery_ffi_mtu_drop(self.handle.get()) }
+    }
+}
+
+impl fmt::Debug for MtuDiscovery {
+    fn fmt(&self, f: &mut fmt::Formatter<'_>) -> fmt::Result {
+        f.debug_struct("MtuDiscovery")
+            .field("current_mtu", &self.current_mtu())
+            .field("in_flight_mtu_probe", &self.in_flight_mtu_probe())
+            .finish_non_exhaustive()
+    }
+}
+
+impl MtuDiscovery {
+    /// A discovery that begins to search at the first poll, by the `initial_mtu`, `min_mtu` and `mtu_discovery_config` of these
+    /// settings (without the last it never probes, and still detects black holes). The peer's `max_udp_payload_size`, where it is
+    /// known (RFC 9000, 18.2), is never passed by a probe; 0 stands for one that is not known.
+    pub fn new(
+        config: &TransportConfig,
+        peer_max_udp_payload_size: Option<u16>,
+    ) -> Result<Self, ConfigError> {
+        let settings = RecoveryConfig {
+            transport: *config,
+            ..RecoveryConfig::default()
+        }
+        .settings();
+        let mut handle = ffi::MtuHandle {
+            ptr: null_mut(),
+            holds: false,
+        };
+        // SAFETY: the handle is as it begins. The first call does nothing; a library of another layout does not have it.
+        let code = unsafe {
+            ffi::recovery_ffi_layout();
+            let limit = peer_max_udp_payload_size.unwrap_or(0);
+            ffi::recovery_ffi_mtu_new(&mut handle, &settings, limit)
+        };
+        match ConfigError::from_number(code) {
+            Some(error) => Err(error),
+            None => Ok(MtuDiscovery {
+                handle: UnsafeCell::new(handle),
+            }),
+        }
+    }
+
+    fn view(&self) -> ffi::MtuView {
+        // SAFETY: the handle holds a discovery, and no call is made within another.
+        unsafe { ffi::recovery_ffi_mtu(self.handle.get()) }
+    }
+
+    /// The MTU in use.
+    pub fn current_mtu(&self) -> u16 {
+        self.view().mtu
+    }
+
+    /// The number of the probe in flight.
+    pub fn in_flight_mtu_probe(&self) -> Option<u64> {
+        let view = self.view();
+        view.probes.then_some(view.probe)
+    }
+
+    /// Whether a search has begun and not ended.
+    pub fn is_searching(&self) -> bool {
+        self.view().searches
+    }
+
+    /// The size of the probe to send now as the packet of this number, if one is due. None while a probe is in flight, and before
+    /// the next search.
+    pub fn poll_transmit(&mut self, now: Instant, next_packet_number: u64) -> Option<u16> {
+        let handle = self.handle.get_mut();
+        // SAFETY: the handle holds a discovery.
+        let reply =
+            unsafe { ffi::recovery_ffi_mtu_poll(handle, now.as_nanos(), next_packet_number) };
+        (reply.kind == ffi::ANSWER_PROBE).then_some(reply.size)
+    }
+
+    /// The peer takes no packets larger than this. Not taken where it is 0, and while a search runs: the limit is told before the
+    /// first poll.
+    pub fn on_peer_max_udp_payload_size_received(&mut self, size: u16) -> Result<(), NotTaken> {
+        // SAFETY: the handle holds a discovery.
+        taken(unsafe { ffi::recovery_ffi_mtu_limit(self.handle.get_mut(), size) })
+    }
+
+    /// A packet of so many bytes was acknowledged: whether it was the probe in flight, whose size is then the MTU.
+    pub fn on_acked(&mut self, packet_number: u64, packet_bytes: u16) -> bool {
+        let handle = self.handle.get_mut();
+        // SAFETY: the handle holds a discovery.
+        unsafe { ffi::recovery_ffi_mtu_acked(handle, packet_number, packet_bytes) }.flag
+    }
+
+    /// The probe in flight was lost. Where none is, nothing changes.
+    pub fn on_probe_lost(&mut self) {
+        // SAFETY: the handle holds a discovery.
+        let _done = unsafe { ffi::recovery_ffi_mtu_probe_lost(self.handle.get_mut()) };
+    }
+
+    /// A packet of so many bytes was lost that is no probe in flight. Those of one moment are told by rising numbers, and then
+    /// `black_hole_detected` is called.
+    pub fn on_non_probe_lost(&mut self, packet_number: u64, packet_bytes: u16) {
+        let handle = self.handle.get_mut();
+        // SAFETY: the handle holds a discovery.
+        let _done = unsafe { ffi::recovery_ffi_mtu_lost(handle, packet_number, packet_bytes) };
+    }
+
+    /// All losses of a moment were told: whether they are a black hole, which leaves the least MTU, and no search before the
+    /// cooldown is over (RFC 8899, 4.3).
+    pub fn black_hole_detected(&mut self, now: Instant) -> bool {
+        let handle = self.handle.get_mut();
+        // SAFETY: the handle holds a discovery.
+        unsafe { ffi::recovery_ffi_mtu_losses_done(handle, now.as_nanos()) }.flag
+    }
+
+    /// All begins anew, with these sizes; not taken where one is 0. The peer's limit stays.
+    pub fn reset(&mut self, current_mtu: u16, min_mtu: u16) -> Result<(), NotTaken> {
+        let handle = self.handle.get_mut();
+        // SAFETY: the handle holds a discovery.
+        taken(unsafe { ffi::recovery_ffi_mtu_reset(handle, current_mtu, min_mtu) })
+    }
+}
+
+/// Whether a call was taken.
+pub(crate) fn taken(reply: ffi::Reply) -> Result<(), NotTaken> {
+    if reply.kind == ffi::ANSWER_REFUSED {
+        Err(NotTaken)
+    } else {
+        Ok(())
+    }
+}
