@@ -615,7 +615,7 @@ def in_c(folder, source, program):
 
 def programs_in_c(folder, made):
     """The programs in C and C++: each prints what stands beside it."""
-    for source, wanted in [("main.c", "main.out"), ("misuse.c", "misuse.out"), ("main.cpp", "main_cpp.out")]:
+    for source, wanted in [("main.c", "main.out"), ("misuse.c", "misuse.out"), ("tunnel.c", "tunnel.out"), ("main.cpp", "main_cpp.out")]:
         program = made / source.replace(".", "_")
         if ran(f"{source} is compiled", in_c(folder, source, program)) is not None:
             found = ran(f"{source} ends well", [program])

@@ -1,5 +1,5 @@
 -- What a call of a pacer comes to that stands alone (RFC 9002, 7.7).
-use Rattle.std.specs.Prelude.{◌≡◌, ◌⊎◌, ¬, ℕ, ◌<◌, ◌==◌, ◌||◌, if◌then◌else◌, Option, Some, None}
+use Rattle.std.specs.Prelude.{◌≡◌, ◌⊎◌, ℕ, ◌<◌, ◌==◌, ◌||◌, if◌then◌else◌, Option, Some, None}
 use Rattle.recovery_congestion.specs.Pacing as Pacing
 use Rattle.recovery_congestion.specs.Pacing.{PacerCall, IsBucketSound, bucket_made, paced, pacer_delay, less_tokens}
 use Rattle.recovery_ffi.specs.declared.numbers.TheConstants.{ANSWER_DELAYED, ANSWER_READY, ANSWER_TRANSMITTED}

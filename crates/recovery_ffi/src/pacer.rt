@@ -1,13 +1,13 @@
 //! Pacing alone, without a recovery: for a tunnel, or another datagram protocol (RFC 9002, 7.7). The bucket is the caller's, and
 //! takes no memory of the library.
-ghost use Rattle.std.specs.Prelude.{◌≡◌, None, MatchOption, ¬};
+ghost use Rattle.std.specs.Prelude.{◌≡◌, None, MatchOption};
 ghost use Rattle.recovery_congestion.specs.Pacing.{IsBucketSound};
 ghost use Rattle.recovery_ffi.specs.Buckets.{Delays, Transmits, bucket_first, bucket_in, bucket_shown};
 
 use crate::numbers::{ANSWER_DELAYED, ANSWER_READY, ANSWER_TRANSMITTED};
 use crate::stack::{Reply, spell_number};
-use quic_recovery::pacing::{Pacer, PacerState};
 use quic_recovery::time::{Duration, Instant};
+use recovery_congestion::pacing::{Pacer, PacerState};
 
 /// A bucket of tokens, one a byte. All zeros is none, and refused.
 #[repr(C)]
@@ -25,7 +25,7 @@ pub struct Bucket {
     pub mtu: u16,
 }
 
-fn pacer(bucket: &Bucket) -> Option<Pacer>
+fn pacer_in(bucket: &Bucket) -> Option<Pacer>
     ensures { MatchOption result (¬ IsBucketSound (bucket_in bucket.now)) (λ pacer. pacer ≡ bucket_in bucket.now) }
 {
     Pacer::from_state(PacerState {
@@ -37,7 +37,7 @@ fn pacer(bucket: &Bucket) -> Option<Pacer>
     })
 }
 
-fn bucket(pacer: &Pacer) -> Bucket
+fn bucket_of(pacer: &Pacer) -> Bucket
     ensures { result ≡ bucket_shown pacer.now }
 {
     let state = pacer.state();
@@ -65,7 +65,7 @@ pub extern "C" fn recovery_ffi_pacer(rtt: u64, window: u64, mtu: u16, now: u64) 
             mtu: 0,
         };
     }
-    bucket(&Pacer::new(
+    bucket_of(&Pacer::new(
         Duration::from_nanos(rtt),
         window,
         mtu,
@@ -78,11 +78,11 @@ pub extern "C" fn recovery_ffi_pacer(rtt: u64, window: u64, mtu: u16, now: u64) 
 pub extern "C" fn recovery_ffi_pacer_transmit(bucket: &mut Bucket, bytes: u16) -> Reply
     ensures { Transmits bytes bucket.old result bucket.new }
 {
-    let Some(mut paced) = pacer(bucket) else {
+    let Some(mut paced) = pacer_in(bucket) else {
         return Reply::bad_argument();
     };
     paced.on_transmit(bytes);
-    *bucket = self::bucket(&paced);
+    *bucket = bucket_of(&paced);
     Reply::plain(ANSWER_TRANSMITTED)
 }
 
@@ -104,7 +104,7 @@ pub extern "C" fn recovery_ffi_pacer_delay(
     if window == 0 || mtu == 0 {
         return Reply::bad_argument();
     }
-    let Some(mut paced) = pacer(bucket) else {
+    let Some(mut paced) = pacer_in(bucket) else {
         return Reply::bad_argument();
     };
     let until = paced.delay(
@@ -114,7 +114,7 @@ pub extern "C" fn recovery_ffi_pacer_delay(
         window,
         Instant::from_nanos(now),
     );
-    *bucket = self::bucket(&paced);
+    *bucket = bucket_of(&paced);
     match until {
         Some(until) => spell_number(ANSWER_DELAYED, until.as_nanos()),
         None => Reply::plain(ANSWER_READY),
