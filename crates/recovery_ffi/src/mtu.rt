@@ -1,5 +1,5 @@
-//! MTU discovery alone, without a recovery: for a tunnel, or another datagram protocol (RFC 8899). Packets are numbered by the
-//! caller, upward, probes among them.
+//! MTU discovery alone, without a recovery: for a tunnel, or another datagram protocol (RFC 8899). Packets are numbered
+//! by the caller, upward, probes among them.
 ghost use Rattle.std.specs.Prelude.{◌≡◌, None};
 ghost use Rattle.recovery_ffi.specs.Discoveries.{DiscoveryAnswers, NewDiscovery, ReadsMtu, discovery_by, mtu_shown};
 ghost use Rattle.recovery_ffi.specs.Settings.{IsSound};
@@ -29,9 +29,9 @@ pub struct MtuView {
     pub some: bool,
 }
 
-/// Makes an MTU discovery, as a path of these settings has it: by `initial_mtu`, `min_mtu`, `allow_mtud` and what they say of the
-/// search. The peer takes datagrams of at most `limit` bytes; 0 says that it did not tell. The answer is `NEW_MADE`, or the number
-/// of what is wrong; the handle then holds what it held.
+/// Makes an MTU discovery, as a path of these settings has it: by `initial_mtu`, `min_mtu`, `allow_mtud` and what they
+/// say of the search. The peer takes datagrams of at most `limit` bytes; 0 says that it did not tell. The answer is
+/// `NEW_MADE`, or the number of what is wrong; the handle then holds what it held.
 #[unsafe(no_mangle)]
 pub extern "C" fn recovery_ffi_mtu_new(
     alloc: Global,
@@ -112,8 +112,8 @@ fn show(discovery: &MtuDiscovery) -> MtuView
     }
 }
 
-/// Is a probe due? Its size is that of the answer (`ANSWER_PROBE`, otherwise `ANSWER_NO_PROBE`), and it is sent as the packet of
-/// this number.
+/// Is a probe due? Its size is that of the answer (`ANSWER_PROBE`, otherwise `ANSWER_NO_PROBE`), and it is sent as the
+/// packet of this number.
 #[unsafe(no_mangle)]
 pub extern "C" fn recovery_ffi_mtu_poll(
     alloc: Global,
@@ -132,8 +132,8 @@ pub extern "C" fn recovery_ffi_mtu_poll(
     )
 }
 
-/// The peer takes datagrams of at most so many bytes. Refused where they are none, and while a search runs: the limit is told
-/// before the first poll.
+/// The peer takes datagrams of at most so many bytes. Refused where they are none, and while a search runs: the limit
+/// is told before the first poll.
 #[unsafe(no_mangle)]
 pub extern "C" fn recovery_ffi_mtu_limit(alloc: Global, mtu: &mut MtuHandle, size: u16) -> Reply
     ensures { DiscoveryAnswers mtu.old.slot.held (Limit size) result mtu.new.slot.held }
@@ -141,8 +141,8 @@ pub extern "C" fn recovery_ffi_mtu_limit(alloc: Global, mtu: &mut MtuHandle, siz
     mtu.call(alloc, Call::Limit { size })
 }
 
-/// A packet of so many bytes was acknowledged (`ANSWER_ACKED`): the flag says whether it was the probe in flight, whose size is
-/// then the MTU.
+/// A packet of so many bytes was acknowledged (`ANSWER_ACKED`): the flag says whether it was the probe in flight, whose
+/// size is then the MTU.
 #[unsafe(no_mangle)]
 pub extern "C" fn recovery_ffi_mtu_acked(
     alloc: Global,

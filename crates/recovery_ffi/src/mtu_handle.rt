@@ -10,7 +10,8 @@ use quic_recovery::time::Instant;
 use recovery_mtud::mtud::MtuDiscovery;
 use std::alloc::Global;
 
-/// What a caller holds an MTU discovery by. It begins as all zeros, which holds none; from then on it is the library's own.
+/// What a caller holds an MTU discovery by. It begins as all zeros, which holds none; from then on it is the library's
+/// own.
 #[repr(C)]
 pub struct MtuHandle {
     pub slot: MtuSlot,

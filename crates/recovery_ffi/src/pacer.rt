@@ -1,5 +1,5 @@
-//! Pacing alone, without a recovery: for a tunnel, or another datagram protocol (RFC 9002, 7.7). The bucket is the caller's, and
-//! takes no memory of the library.
+//! Pacing alone, without a recovery: for a tunnel, or another datagram protocol (RFC 9002, 7.7). The bucket is the
+//! caller's, and takes no memory of the library.
 ghost use Rattle.std.specs.Prelude.{◌≡◌, None, MatchOption};
 ghost use Rattle.recovery_congestion.specs.Pacing.{IsBucketSound};
 ghost use Rattle.recovery_ffi.specs.Buckets.{Delays, Transmits, bucket_first, bucket_in, bucket_shown};
@@ -50,8 +50,8 @@ fn bucket_of(pacer: &Pacer) -> Bucket
     }
 }
 
-/// A full bucket at the moment `now`, by the RTT (nanoseconds), the congestion window and the MTU (bytes). Of a window or an MTU
-/// of 0 it is all zeros, which is none.
+/// A full bucket at the moment `now`, by the RTT (nanoseconds), the congestion window and the MTU (bytes). Of a window
+/// or an MTU of 0 it is all zeros, which is none.
 #[unsafe(no_mangle)]
 pub extern "C" fn recovery_ffi_pacer(rtt: u64, window: u64, mtu: u16, now: u64) -> Bucket
     ensures { result ≡ bucket_first rtt window mtu now }
@@ -73,7 +73,8 @@ pub extern "C" fn recovery_ffi_pacer(rtt: u64, window: u64, mtu: u16, now: u64) 
     ))
 }
 
-/// A packet of so many bytes was sent (`ANSWER_TRANSMITTED`): it takes tokens, as far as they go. Refused where the bucket is none.
+/// A packet of so many bytes was sent (`ANSWER_TRANSMITTED`): it takes tokens, as far as they go. Refused where the
+/// bucket is none.
 #[unsafe(no_mangle)]
 pub extern "C" fn recovery_ffi_pacer_transmit(bucket: &mut Bucket, bytes: u16) -> Reply
     ensures { Transmits bytes bucket.old result bucket.new }
@@ -86,9 +87,9 @@ pub extern "C" fn recovery_ffi_pacer_transmit(bucket: &mut Bucket, bytes: u16) -
     Reply::plain(ANSWER_TRANSMITTED)
 }
 
-/// May so many bytes be sent at the moment `now` (`ANSWER_READY`), or when is it to be asked again (`ANSWER_DELAYED`)? By the RTT
-/// (nanoseconds), the MTU and the congestion window (bytes) of that moment. Refused where the window or the MTU is 0, or the bucket
-/// is none.
+/// May so many bytes be sent at the moment `now` (`ANSWER_READY`), or when is it to be asked again (`ANSWER_DELAYED`)?
+/// By the RTT (nanoseconds), the MTU and the congestion window (bytes) of that moment. Refused where the window or the
+/// MTU is 0, or the bucket is none.
 #[unsafe(no_mangle)]
 pub extern "C" fn recovery_ffi_pacer_delay(
     bucket: &mut Bucket,

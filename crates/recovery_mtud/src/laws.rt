@@ -14,15 +14,15 @@ pub fn discovery_stays_sound()
         → (calls : List MtuCall) → ArePositiveMtuCalls calls → IsDiscoverySound (discovery_by made calls) }
 {}
 
-/// The MTU in use changes to the size of an acknowledged probe, down to the peer's limit, to the least MTU by a report, or by a
-/// reset, and else never.
+/// The MTU in use changes to the size of an acknowledged probe, down to the peer's limit, to the least MTU by a report,
+/// or by a reset, and else never.
 #[tactic(auto, using(crate::proofs::DiscoveryLaws::discovery_after_mtu))]
 pub fn mtu_changes()
     ensures { (call : MtuCall) (old : Discovery) → (discovery_after call old).mtu ≡ mtu_after call old }
 {}
 
-/// What [`MtuDiscovery::new`] and [`MtuDiscovery::disabled`] give was told nothing yet, and searches by the settings that were
-/// handed in: from there the laws below go.
+/// What [`MtuDiscovery::new`] and [`MtuDiscovery::disabled`] give was told nothing yet, and searches by the settings
+/// that were handed in: from there the laws below go.
 ///
 /// [`MtuDiscovery::new`]: crate::mtud::MtuDiscovery::new
 /// [`MtuDiscovery::disabled`]: crate::mtud::MtuDiscovery::disabled
@@ -34,8 +34,8 @@ pub fn discoveries_begin_untold()
         → search_settings (discovery_made mtu min_mtu limit searched) ≡ searched }
 {}
 
-/// Whatever a discovery is told, in whatever order: the search that runs has probed at most 16 sizes by at most 48 probes
-/// (RFC 8899, 5.3.2 leaves the search to us).
+/// Whatever a discovery is told, in whatever order: the search that runs has probed at most 16 sizes by at most 48
+/// probes (RFC 8899, 5.3.2 leaves the search to us).
 pub fn searches_take_few()
     ensures { (made : Discovery) (settings : MtuDiscoveryConfig) → IsUntold made
         → search_settings made ≡ Some settings → 3 ≤ settings.minimum_change → settings.upper_bound < 2 ^ 16
@@ -62,8 +62,8 @@ pub fn probes_come_in_searches()
         → poll_of now (discovery_by made calls) ≡ None }
 {}
 
-/// A black hole is reported only where four bursts of losses stand, where no number is told as acknowledged and as lost; and
-/// it is reported where four have closed that no larger packet answered (RFC 8899, 4.3).
+/// A black hole is reported only where four bursts of losses stand, where no number is told as acknowledged and as
+/// lost; and it is reported where four have closed that no larger packet answered (RFC 8899, 4.3).
 #[tactic(auto, using(crate::proofs::BurstRunLaws::four_stand, crate::proofs::BurstRunLaws::four_report))]
 pub fn four_bursts_are_a_black_hole()
     ensures only { (made : Discovery) → IsUntold made → (calls : List MtuCall)
