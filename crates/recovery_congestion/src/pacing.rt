@@ -5,11 +5,12 @@ ghost use Rattle.recovery_congestion.specs.Pacing.{capacity_of, credit_of, wait_
 use recovery_base::time::{Duration, Instant};
 use std::marker::Model;
 
-/// A full bucket lasts this long: timers of user space are good to a millisecond, and longer bursts would undo the pacing.
+/// A full bucket lasts this long: timers of user space are good to a millisecond, and longer bursts would undo the
+/// pacing.
 const BURST_INTERVAL_NANOS: u128 = 2_000_000;
 
-/// This many packets may go out at once at any rate: the first flight is not held up, and several packets are handed to the
-/// kernel by one call.
+/// This many packets may go out at once at any rate: the first flight is not held up, and several packets are handed to
+/// the kernel by one call.
 const MIN_BURST_SIZE: u128 = 10;
 
 /// No more packets go out at once: nothing else is done while they are made.
@@ -82,8 +83,8 @@ impl Pacer {
 
     /// When to ask again whether so many bytes may be sent, or `None` where they may be sent now.
     ///
-    /// The RTT, the MTU and the congestion window (bytes, neither is 0) are those of the moment `now`, which may be earlier
-    /// than that of a call before: then no time has passed. Nothing is delayed at an RTT of 0 or a window above
+    /// The RTT, the MTU and the congestion window (bytes, neither is 0) are those of the moment `now`, which may be
+    /// earlier than that of a call before: then no time has passed. Nothing is delayed at an RTT of 0 or a window above
     /// `u32::MAX`. The answer stops at `u64::MAX` nanoseconds.
     pub fn delay(
         &mut self,
@@ -166,7 +167,8 @@ fn credit(rtt: Duration, window: u64, elapsed: u64) -> u128
     )
 }
 
-/// Nanoseconds until so many bytes have come. The division by 5 goes before the product with 4, so that no product wraps.
+/// Nanoseconds until so many bytes have come. The division by 5 goes before the product with 4, so that no product
+/// wraps.
 fn wait(rtt: Duration, window: u64, short: u64) -> u128
     requires { 0 < window }
     ensures value { result ≡ wait_of rtt window short }

@@ -188,8 +188,8 @@ where
         true
     }
 
-    /// The least number of a packet whose queue has something to be sent. Cost: logarithmic in the packets tracked, beside
-    /// those that are passed over: a packet that is known to have nothing is passed over once.
+    /// The least number of a packet whose queue has something to be sent. Cost: logarithmic in the packets tracked,
+    /// beside those that are passed over: a packet that is known to have nothing is passed over once.
     pub fn first_filled(&mut self, streams: &Q::Streams) -> Option<u64>
         ensures number { result ≡ first_filled Q.words streams.now self.old.packets }
         ensures unchanged { self.new ≡ self.old }

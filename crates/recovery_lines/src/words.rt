@@ -347,7 +347,8 @@ impl<'a> Words<'a> {
         true
     }
 
-    /// All words that are left as items, 0 to `u64::MAX` each. No memory is taken unless they all are, and there is one.
+    /// All words that are left as items, 0 to `u64::MAX` each. No memory is taken unless they all are, and there is
+    /// one.
     pub fn items(&mut self, alloc: Global) -> Result<Option<Vec<u64>>, NoMemory>
         ensures found { IfOk result (AreItemsRead self.old self.new) }
         ensures memory { OnErr result

@@ -10,8 +10,8 @@ pub fn discovery_stays_sound()
         → (calls : List MtuCall) → ArePositiveMtuCalls calls → IsDiscoverySound (discovery_by made calls) }
 {}
 
-/// The MTU in use changes to the size of an acknowledged probe, down to the peer's limit, to the least MTU by a report, or by a
-/// reset, and else never.
+/// The MTU in use changes to the size of an acknowledged probe, down to the peer's limit, to the least MTU by a report,
+/// or by a reset, and else never.
 #[tactic(auto, using(crate::proofs::DiscoveryLaws::discovery_after_mtu))]
 pub fn mtu_changes()
     ensures { (call : MtuCall) (old : Discovery) → (discovery_after call old).mtu ≡ mtu_after call old }
