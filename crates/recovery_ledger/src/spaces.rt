@@ -4,7 +4,7 @@ ghost use Rattle.std.specs.Prelude.{◌≡◌, ◌≢◌, Decides, ◌<◌, ◌�
 ghost use Rattle.std.specs.Option.{is_some};
 ghost use Rattle.recovery_base.specs.declared.below.SpaceId.{SpaceId};
 ghost use Rattle.recovery_base.specs.Ecn.{ecn_fault};
-ghost use Rattle.recovery_ledger.specs.Packets.{AreBelow, IsAboveLast, HasSize, IsTooLarge, silent_in, packet_at, with_contents, forgotten_entry, after_sending};
+ghost use Rattle.recovery_ledger.specs.Packets.{AreBelow, IsAboveLast, HasSize, IsTooLarge, most_silent, silent_in, packet_at, with_contents, forgotten_entry, after_sending};
 ghost use Rattle.recovery_ledger.specs.Places.{HasSlots, FindsPacket};
 ghost use Rattle.recovery_ledger.specs.Probes.{probe_found};
 ghost use Rattle.recovery_ledger.specs.Queued.{IsSendable};
@@ -301,7 +301,7 @@ where
         ensures ok { OnOk result
             (self.new ≡ with_tracking (after_sending number packet (tracking_of self.old)) self.old) }
         ensures forgotten { IfOk result (λ gone. gone ≡ forgotten_entry packet (tracking_of self.old)) }
-        ensures bound { length (silent_in (tracking_of self.new)) ≤ 1001 }
+        ensures bound { length (silent_in (tracking_of self.new)) ≤ most_silent }
         ensures err { OnErr result (self.new ≡ self.old) }
     {
         self.sent_packets.insert(number, packet)
