@@ -21,6 +21,9 @@ import tempfile
 from dataclasses import dataclass, field
 
 ROOT = pathlib.Path(__file__).resolve().parent.parent
+sys.path.insert(0, str(ROOT / "tests"))
+from tree import listed  # noqa: E402
+
 OLD_FORM = "ddbca9f"  # one number of 128 bits for the window, an ordered map for the packets
 LAWS_OF_PACKETS = ["proofs/Sending.antt"]
 OLD_LAWS = "611d23d"  # the first revision that has these; they are proved over the crates of OLD_FORM too
@@ -89,16 +92,13 @@ def laws_of(name, revision):
 
 def crates_below(needs, revision):
     """The lines of crates.txt of these crates and all below them."""
-    lines = {}
-    for line in text_of("crates.txt", revision).splitlines():
-        if line.strip() and not line.startswith("#"):
-            lines[line.split(":")[0]] = line
+    uses = dict(listed(text_of("crates.txt", revision)))
     found, waiting = {}, list(needs)
     while waiting:
         name = waiting.pop()
-        if name in lines and name not in found:
-            found[name] = lines[name]
-            waiting += lines[name].split(":")[1].split()
+        if name in uses and name not in found:
+            found[name] = f"{name}: {' '.join(uses[name])}"
+            waiting += uses[name]
     return found
 
 

@@ -1,9 +1,10 @@
 //! What happens to a connection, what is answered, and why an event is refused: written by `tests/rust.py --write` from the
 //! sources of the library, and compared with them by its tests.
 use crate::ffi;
+use crate::timer::Timer;
 use crate::types::{
     AckFrequency, ConnectionId, EcnCounts, Instant, IssuedCid, NewConnectionId, PathName,
-    SendableFrames, SpaceId, Timer,
+    SendableFrames, SpaceId,
 };
 use std::error::Error;
 use std::fmt;

@@ -34,6 +34,7 @@ mod event;
 #[allow(dead_code, missing_docs)]
 mod ffi;
 mod recovery;
+mod timer;
 mod types;
 
 pub use config::{
@@ -42,9 +43,10 @@ pub use config::{
 };
 pub use event::{Answer, EcnFault, Event, Refusal};
 pub use recovery::{IdStats, PacerStats, PathStats, Recovery, RttEstimate, SpaceStats};
+pub use timer::Timer;
 pub use types::{
     AckFrequency, CidTooLong, ConnectionId, EcnCounts, Instant, IssuedCid, NewConnectionId,
-    PathMarks, PathName, ResetToken, SendableFrames, SpaceId, Timer, VarInt,
+    PathMarks, PathName, ResetToken, SendableFrames, SpaceId, VarInt,
 };
 
 /// This crate's version, and the logic that the library behind it says it was proved with.
