@@ -30,13 +30,15 @@ from dataclasses import dataclass
 from typing import Callable, Iterator
 
 ROOT = pathlib.Path(__file__).resolve().parent.parent
+sys.path.insert(0, str(ROOT / "tests"))
+import tree  # noqa: E402
+
 SCRIPT = ROOT / "recovery-replay"
 PROGRAM = ROOT / "crates" / "recovery_program" / "out" / "recovery_program"
 CAREFUL = ROOT / "tests" / "careful"
 FORMS = ["careful", "listed", "plain"]  # the programs there
 SPACES = ["initial", "handshake", "data"]
-TIMERS = ["loss-detection", "idle", "close", "key-discard", "path-validation", "keep-alive", "pacing", "push-new-cid",
-          "max-ack-delay"]
+TIMERS = tree.timers()
 MOST_IDS = 64  # that one line issues
 
 

@@ -12,14 +12,16 @@ import subprocess
 import sys
 import tempfile
 
-ROOT = pathlib.Path(__file__).resolve().parent.parent
+import tree
+from tree import ROOT
+
 PROGRAM = ROOT / "crates" / "recovery_program" / "out" / "recovery_program"
 CAREFUL = ROOT / "tests" / "careful" / "careful.rs"
 LAST = 2**64 - 1
 ENDS = [0, 1, 2**62 - 1, 2**62, 2**62 + 1, 2**63, LAST - 1, LAST]
 SIZES = [0, 1, 1199, 1200, 1201, 1252, 1400, 1452, 1500, 9000, 65535]
 SPACES = ["initial", "handshake", "data"]
-TIMERS = ["loss-detection", "idle", "close", "key-discard", "path-validation", "keep-alive", "pacing", "push-new-cid", "max-ack-delay"]
+TIMERS = tree.timers()
 MILLISECOND = 10**6
 SECOND = 10**9
 MOST_FAULTS = 5  # that are told

@@ -1,6 +1,6 @@
 #!/usr/bin/env python3
 """Reads crates.txt beside the crates: each crate stands there once, and below the crates that it names; each is named in docs/ARCHITECTURE.md; they are
-few for their code, since each costs the gate a reading of all that is below it; and no line of their code is longer than 120 columns. With --table it prints
+few for their code, since each costs the gate a reading of all that is below it; and no line of their code but an import is longer than 120 columns. With --table it prints
 what each crate has."""
 import argparse
 import re
@@ -11,10 +11,9 @@ from tree import ROOT, rows
 CRATES = ROOT / "crates"
 LEAST_LINES = 700  # of code for each crate, on the mean
 COLUMNS = 120
+IMPORT = re.compile(r"\s*(ghost )?(pub )?use ")  # which has a line of its own, however long
 # crates that still have longer lines: who brings one below takes it out
-WIDE = set("""quic_recovery quic_recovery_rows quic_recovery_tests recovery_acks recovery_base recovery_congestion recovery_detection recovery_embedding
-recovery_events recovery_ffi recovery_ids recovery_ledger recovery_lines recovery_mtud recovery_config recovery_parts_tests recovery_paths recovery_queue
-recovery_program recovery_replay recovery_replay_tests recovery_skips recovery_trace""".split())
+WIDE = {"quic_recovery", "recovery_replay"}
 
 
 def lines(name, rooms, kind):
@@ -49,7 +48,7 @@ def out_of_place(crates):
 def too_long(name):
     for file in sorted((CRATES / name / "src").rglob("*.rt")):
         for number, line in enumerate(file.read_text().splitlines(), 1):
-            if len(line) > COLUMNS:
+            if len(line) > COLUMNS and not IMPORT.match(line):
                 yield f"{file.relative_to(ROOT)}:{number} has {len(line)} columns, and not at most {COLUMNS}"
 
 

@@ -1,13 +1,14 @@
 #!/usr/bin/env python3
 """Counts in how many files of the library each event is named: in its code and definitions, in the promises that speak of it, and in its
 proofs. Tests, rows and the example are apart, and so is the file that declares it. What does not speak of an event should not name it:
-the means have a bound with room for a tenth more, and no event may be named in far more files than the others. And each event stands in
-every list of events that is written by hand."""
-import pathlib
+the means have a bound with room for a tenth more, and no event may be named in far more files than the others. And each event, each
+refusal and each timer stands in every list of them that is written by hand, by the name and the number that the library has."""
 import re
 import sys
 
-ROOT = pathlib.Path(__file__).resolve().parent.parent
+import tree
+from tree import ROOT
+
 APART = re.compile(r"_tests$|_(rows|refused_memory)$|^recovery_(embedding|pictures|detection|ffi|trace)$")
 ROWS = re.compile(r"Rows$|^RowStart$")
 IMPORT = re.compile(r"\bEvent\.TheVariants\.\{([^}]*)\}")
@@ -35,6 +36,16 @@ LISTS = {
     "docs/PROGRAMS.md": r"^\| `{line}[ `]",
     "docs/EMBEDDING.md": r"`{name}`",
 }
+# the same of refusals and of timers: what reads their table has no list of its own
+REFUSALS = {
+    "docs/PROGRAMS.md": r"refused {number} {name}\b",
+    "docs/EMBEDDING.md": r"`{name}`",
+}
+TIMERS = {
+    "docs/PROGRAMS.md": r"`{name}`",
+    "bench/careful/lines.rs": r'b"{name}" => Some\({place}\)',
+}
+REFUSED = ["README.md", "docs/*.md", "bench/careful/*.rs", "tests/*.py"]  # where refusals are named with their numbers
 LINES = {"AckFrequencyIn": "ack-frequency", "DiscardSpace": "discard"}  # whose lines are not their names
 
 
@@ -46,6 +57,20 @@ def missing(events):
             line = LINES.get(name) or re.sub(r"(?<!^)(?=[A-Z])", "-", name).lower()
             if not re.search(form.format(name=name, line=line, export=line.replace("-", "_")), text, re.M):
                 yield f"{name} is not in {place}, where each event has its place"
+
+
+def names_missing():
+    """The lists that a refusal or a timer is missing from, and refusals that are named with another's number."""
+    refusals = [{"number": number, "name": name} for number, (name, _) in enumerate(tree.refusals(), 1)]
+    timers = [{"place": place, "name": name} for place, name in enumerate(tree.timers())]
+    for lists, found in (REFUSALS, refusals), (TIMERS, timers):
+        for place, form in lists.items():
+            text = (ROOT / place).read_text()
+            yield from (f"{it['name']} is not in {place}, where each has its place" for it in found if not re.search(form.format(**it), text))
+    right = {(str(it["number"]), it["name"]) for it in refusals}
+    for path in sorted(it for place in REFUSED for it in ROOT.glob(place)):
+        wrong = set(re.findall(r"\brefused (\d+) ([A-Z]\w+)", path.read_text())) - right
+        yield from (f"{path.relative_to(ROOT)} has a refusal {number} {name}, which is none" for number, name in sorted(wrong))
 
 
 def room_of(path):
@@ -91,12 +116,13 @@ def main():
     wrong += [f"on the mean an event is named in {means[room]:.2f} {told[room]}, and not in at most {MEANS[room]}: {DO[room]}"
               for room in range(3) if means[room] > MEANS[room]]
     wrong += missing(events)
+    wrong += names_missing()
     for fault in wrong:
         print(f"events: {fault}", file=sys.stderr)
     most = [max(counts, key=lambda name: counts[name][room]) for room in range(3)]
     said = [f"{mean:.1f} {what} (most {name}, {counts[name][room]})" for room, (mean, what, name) in enumerate(zip(means, told, most))]
     print(f"events: on the mean one is named in {said[0]}, {said[1]} and {said[2]}")
-    checks = 3 * (len(events) + 1) + len(LISTS) * len(events)
+    checks = 3 * (len(events) + 1) + len(LISTS) * len(events) + len(REFUSALS) * len(tree.refusals()) + len(TIMERS) * len(tree.timers()) + 1
     print(f"events: {checks - len(wrong)} passed, {len(wrong)} failed")
     return 1 if wrong else 0
 

@@ -74,7 +74,7 @@ def rows():
                 else:
                     script, wanted = "\n".join(lines).encode(), "".join(f"{it}\n" for it in answers).encode()
                     for end in b"\n", b"":
-                        expect(name, ran([PROGRAM, *arguments], script + end), (0, wanted, b""))
+                        tests.answers(name, script, ran([PROGRAM, *arguments], script + end), (0, wanted, b""))
 
 
 def arguments():
@@ -85,26 +85,6 @@ def arguments():
     for words in *refused, ["", "1"], ["1", "2", "3"], ["-", "1", "1"]:
         for program in PROGRAM, ROOT / "recovery-replay":
             expect(f"{program.name} with arguments {words}", ran([program, *words], LINE), (2, b"", USAGE))
-
-
-def pages():
-    """What the program says of itself is on standard output."""
-    status, text, errors = ran([PROGRAM, "--help"], stdin=subprocess.DEVNULL)
-    expect("help", (status, text.startswith(USAGE), b"recovery-trace" in text, errors), (0, True, True, b""))
-    expect("version", ran([PROGRAM, "--version"], stdin=subprocess.DEVNULL), (0, b"recovery-replay 0.11.19\n", b""))
-    for words in ["--help", "1"], ["1", "--version"], ["--helpful"]:
-        expect(f"arguments {words}", ran([PROGRAM, *words]), (2, b"", USAGE))
-    with open("/dev/full", "wb") as full:
-        expect("a failed page", ran([PROGRAM, "--help"], stdout=full), (1, None, b"replay: write failed\n"))
-
-
-def closed_pipe():
-    """Nobody reads the answers: no failure."""
-    for words in [], ["--help"], ["--version"]:
-        left, right = os.pipe()
-        os.close(left)
-        expect(f"a closed pipe, {words}", ran([PROGRAM, *words], stdout=right), (0, None, b""))
-        os.close(right)
 
 
 def pages():

@@ -7,8 +7,8 @@ C++.
     tests/rust.py --declared passes what needs no library: the declarations, the toolchain's logic, rustfmt, cargo check and cargo doc
     tests/rust.py --library  proves the library and builds it, where it is older than its sources, and writes into it what it
                              was proved with
-    tests/rust.py --write    writes the declarations, by the library's sources: rust/c/recovery_ffi.h, ffi.rs and event.rs of
-                             rust/quic-recovery/src, the table of docs/RUST.md and the library's layout.rt
+    tests/rust.py --write    writes the declarations, by the library's sources: rust/c/recovery_ffi.h, ffi.rs, event.rs and
+                             timer.rs of rust/quic-recovery/src, the table of docs/RUST.md and the library's layout.rt
 """
 import hashlib
 import os
@@ -20,15 +20,18 @@ import subprocess
 import sys
 import tempfile
 
-ROOT = pathlib.Path(__file__).resolve().parent.parent
+import tree
+from tree import ROOT
+
 CRATE = ROOT / "crates" / "recovery_ffi"
 LIBRARY = CRATE / "out" / "librecovery_ffi.a"
 RUST = ROOT / "rust" / "quic-recovery"
 DECLARED = {"library": CRATE / "src" / "layout.rt", "rust": RUST / "src" / "ffi.rs", "events": RUST / "src" / "event.rs",
-            "c": ROOT / "rust" / "c" / "recovery_ffi.h", "document": ROOT / "docs" / "RUST.md"}
+            "timers": RUST / "src" / "timer.rs", "c": ROOT / "rust" / "c" / "recovery_ffi.h", "document": ROOT / "docs" / "RUST.md"}
 PROGRAMS = ROOT / "docs" / "PROGRAMS.md"
 EVENTS = "recovery_events/src/event.rt"
 EVENT = ROOT / "crates" / EVENTS
+TIMERS = "recovery_base/src/timer.rt"
 CORRUPTED = "ECN corruption"  # the text of the last fault, by which the library does not ask
 
 # what stands for a type of the library in Rust
@@ -80,17 +83,8 @@ GROUPS = {
     "TIMER": "What a timer is for.",
 }
 
-passed = failed = 0
-
-
-def expect(name, holds, more=""):
-    global passed, failed
-    if holds:
-        passed += 1
-    else:
-        failed += 1
-        print(f"rust: {name} failed\n{more}".rstrip(), file=sys.stderr, flush=True)
-    return holds
+tests = tree.Tests("rust")
+expect = tests.holds
 
 
 # ---- the declarations
@@ -130,10 +124,10 @@ def constants():
     for docs, group, name, number in found:
         groups.setdefault(group, []).append((name, number, documented(docs)))
     codes = (CRATE / "src" / "codes.rt").read_text()
-    numbered = re.findall(r"Refusal::(\w+)(?:\(_\))? => (\d+),", (ROOT / "crates" / EVENTS).read_text())
-    groups["REFUSAL"] = coded(EVENTS, "Refusal", [(number, it) for it, number in numbered]) + groups["REFUSAL"]
+    numbered = [(str(number), name) for number, (name, _) in enumerate(tree.refusals(), 1)]
+    groups["REFUSAL"] = coded(EVENTS, "Refusal", numbered) + groups["REFUSAL"]
     groups["SPACE"] = coded("recovery_base/src/below.rt", "SpaceId", re.findall(r"(\d+) => Some\(SpaceId::(\w+)\)", codes))
-    groups["TIMER"] = coded("recovery_base/src/timer.rt", "Timer", re.findall(r"(\d+) => Some\(Timer::(\w+)\)", codes))
+    groups["TIMER"] = coded(TIMERS, "Timer", [(str(number), name) for number, name in enumerate(variants(TIMERS, "Timer"))])
     return groups
 
 
@@ -353,9 +347,8 @@ def faults_in_rust():
 
 def refusals_in_rust():
     """The numbers and the texts of refusals."""
-    text = EVENT.read_text()
-    numbered = re.findall(r"Refusal::(\w+)(\(_\))? => \d+,", text)
-    texts = {name: said for said, name in re.findall(r'#\[error\("([^"]+)"\)\]\n    (\w+)', text)}
+    texts = dict(tree.refusals())
+    numbered = [(name, "(_)" if "{0}" in said else "") for name, said in texts.items()]
     yield ""
     yield "impl Refusal {"
     yield "    /// By the number that the library gives it; of one by ECN with the number of the fault."
@@ -381,7 +374,8 @@ def events_in_rust():
     yield "//! What happens to a connection, what is answered, and why an event is refused: written by `tests/rust.py --write` from the"
     yield "//! sources of the library, and compared with them by its tests."
     yield "use crate::ffi;"
-    yield "use crate::types::{AckFrequency, ConnectionId, EcnCounts, Instant, IssuedCid, NewConnectionId, PathName, SendableFrames, SpaceId, Timer};"
+    yield "use crate::timer::Timer;"
+    yield "use crate::types::{AckFrequency, ConnectionId, EcnCounts, Instant, IssuedCid, NewConnectionId, PathName, SendableFrames, SpaceId};"
     yield "use std::error::Error;"
     yield "use std::fmt;"
     yield "use std::net::SocketAddr;"
@@ -396,6 +390,39 @@ def events_in_rust():
     yield ""
     yield from enum_in_rust("Refusal", "Clone, Copy, Debug, PartialEq, Eq, Hash")
     yield from refusals_in_rust()
+
+
+def timers_in_rust():
+    yield "//! What timers are for, and their names: written by `tests/rust.py --write` from the sources of the library, and compared with"
+    yield "//! them by its tests."
+    yield "use crate::ffi;"
+    yield ""
+    yield "/// What a timer is for."
+    yield "#[derive(Clone, Copy, Debug, PartialEq, Eq, PartialOrd, Ord, Hash)]"
+    yield "#[repr(u8)]"
+    yield "pub enum Timer {"
+    found = list(zip(variants(TIMERS, "Timer").items(), tree.timers(), strict=True))
+    for (name, docs), _ in found:
+        yield from (f"    /// {it}" for it in docs)
+        yield f"    {name} = ffi::TIMER_{snake(name)},"
+    yield "}"
+    yield ""
+    yield "impl Timer {"
+    yield "    /// All timers, in the order of the enum."
+    yield f"    pub const VALUES: [Timer; {len(found)}] = [{', '.join(f'Timer::{name}' for (name, _), _ in found)}];"
+    yield ""
+    yield "    /// The timer's name in scripts and logs: small letters with hyphens."
+    yield "    pub fn name(self) -> &'static str {"
+    yield "        match self {"
+    yield from (f'            Timer::{name} => "{said}",' for (name, _), said in found)
+    yield "        }"
+    yield "    }"
+    yield ""
+    yield "    /// The timer of this name, or `None` where none has it."
+    yield "    pub fn named(name: &str) -> Option<Self> {"
+    yield "        Timer::VALUES.into_iter().find(|it| it.name() == name)"
+    yield "    }"
+    yield "}"
 
 
 def table():
@@ -429,10 +456,11 @@ def formatted(text):
 
 
 def declarations():
-    written = {"library": declared_in_library(), "rust": declared_in_rust(), "events": events_in_rust(), "c": declared_in_c()}
+    written = {"library": declared_in_library(), "rust": declared_in_rust(), "events": events_in_rust(), "timers": timers_in_rust(),
+               "c": declared_in_c()}
     texts = {which: "\n".join(lines) + "\n" for which, lines in written.items()}
     texts["document"] = documented_in_rust()
-    return {which: formatted(text) if which in ("rust", "events") else text for which, text in texts.items()}
+    return {which: formatted(text) if which in ("rust", "events", "timers") else text for which, text in texts.items()}
 
 
 # ---- the library
@@ -457,17 +485,9 @@ def kit():
     sys.exit("rust: there is no liblibc_c.a beside the toolchain's rt")
 
 
-def uses():
-    """What each crate of the repository stands on, the kit's crates among it."""
-    rows = (it.partition("#")[0].partition(":") for it in (ROOT / "crates.txt").read_text().splitlines())
-    return {name.split()[0]: below.split() for name, colon, below in rows if colon}
-
-
-def below(name, found=()):
-    """The repository's crates that one stands on."""
-    for it in (it for it in uses()[name] if it in uses()):
-        found = found if it in found else (*below(it, found), it)
-    return found
+def below(name):
+    """The repository's crates that one stands on, the lowest first."""
+    return [it for it in tree.made_of(name) if it != name]
 
 
 def rlib(name):
@@ -476,7 +496,8 @@ def rlib(name):
 
 def compiled():
     """Builds the library over what the crates below it were built as, which proves it; the gate leaves those."""
-    named = {it: rlib(it) if it in uses() else kit() / "rlibs" / f"{it}.rlib" for it in ("std", *uses()[CRATE.name])}
+    uses = dict(tree.listed())
+    named = {it: rlib(it) if it in uses else kit() / "rlibs" / f"{it}.rlib" for it in ("std", *uses[CRATE.name])}
     words = [kit() / "bin" / "rattle", "build", "--crate-name", CRATE.name, "src/lib.rt", "--crate-type", "staticlib", "--links", f"{CRATE.name}="]
     words += [word for name, at in named.items() for word in ("--extern", f"{name}={at}")]
     words += [word for at in (kit() / "rlibs", *(rlib(it).parent for it in below(CRATE.name))) for word in ("-L", f"dependency={at}")]
@@ -531,9 +552,8 @@ def built():
 def ran(name, words, scarce=None, fails=False, **how):
     """What it printed, where it ended well; or, where it is to fail, where it did."""
     limit = (lambda: resource.setrlimit(resource.RLIMIT_AS, (scarce, scarce))) if scarce else None
-    run = subprocess.run(words, stdin=subprocess.DEVNULL, stdout=subprocess.PIPE, stderr=subprocess.PIPE, text=True, preexec_fn=limit, **how)
-    said = run.stdout + run.stderr
-    return (said if fails else run.stdout) if expect(name, (run.returncode != 0) == fails, said) else None
+    status, printed, errors = tree.ran(words, stdin=subprocess.DEVNULL, text=True, preexec_fn=limit, **how)
+    return (printed + errors if fails else printed) if expect(name, (status != 0) == fails, printed + errors) else None
 
 
 def cargo_with(folder, **more):
@@ -544,9 +564,8 @@ def cargo_with(folder, **more):
 def cargo(folder):
     """The Rust crate: each test counts."""
     how = cargo_with(folder)
-    global passed
-    tests = ran("cargo test", ["cargo", "test", "--release", "--offline"], **how)
-    passed += sum(int(it) for it in re.findall(r"^test result: ok\. (\d+) passed", tests or "", re.M))
+    said = ran("cargo test", ["cargo", "test", "--release", "--offline"], **how)
+    tests.passed += sum(int(it) for it in re.findall(r"^test result: ok\. (\d+) passed", said or "", re.M))
     ran("cargo clippy", ["cargo", "clippy", "--all-targets", "--offline", "--", "-D", "warnings"], **how)
     ran("the examples", ["cargo", "build", "--release", "--examples", "--offline"], **how)
     examples = RUST / "target" / "release" / "examples"
@@ -648,8 +667,7 @@ def main():
             cargo(folder)
             programs_in_c(folder, made)
             older(folder, made)
-    print(f"rust: {passed} passed, {failed} failed")
-    return 1 if failed else 0
+    tests.end()
 
 
 sys.exit(main())

@@ -13,8 +13,9 @@ import sys
 import threading
 
 import program as rows
+import tree
+from tree import ROOT
 
-ROOT = pathlib.Path(__file__).resolve().parent.parent
 PROGRAM = ROOT / "crates" / "recovery_trace" / "out" / "recovery_trace"
 REPLAY = ROOT / "crates" / "recovery_program" / "out" / "recovery_program"
 METRICS = {"bytes_in_flight", "packets_in_flight", "congestion_window", "smoothed_rtt", "rtt_variance", "min_rtt", "latest_rtt", "mtu", "pacer_tokens"}
@@ -84,30 +85,21 @@ ARGUMENTS = [
     (["1", "2", "3"], 2, "", USAGE),
 ]
 
-passed = failed = 0
-
-
-def expect(name, found, wanted):
-    global passed, failed
-    if found == wanted:
-        passed += 1
-    else:
-        failed += 1
-        print(f"trace: {name}: {found!r}, and not {wanted!r}", file=sys.stderr, flush=True)
+tests = tree.Tests("trace")
+expect = tests.expect
 
 
 def ran(words, given, program=None):
-    run = subprocess.run([program or PROGRAM, *words], input=given, capture_output=True, text=True)
-    return run.returncode, run.stdout, run.stderr
+    return tree.ran([program or PROGRAM, *words], given, text=True)
 
 
 def scripts():
     for script in sorted((ROOT / "examples").glob("*.txt")):
-        expect(script.name, ran([], script.read_text()), (0, script.with_suffix(".out").read_text(), ""))
+        given = script.read_text()
+        tests.answers(script.name, given, ran([], given), (0, script.with_suffix(".out").read_text(), ""))
         if REPLAY.exists():
             for words in ["7"], ["-", "24000"]:
-                wanted = ran(words, script.read_text(), REPLAY)
-                expect(f"{script.name} with {words}", ran(words, script.read_text()), wanted)
+                tests.answers(f"{script.name} with {words}", given, ran(words, given), ran(words, given, REPLAY))
 
 
 def every_row():
@@ -115,15 +107,15 @@ def every_row():
     for path in sorted(rows.ROWS.glob("*.txt")):
         for place, words, lines, answers in rows.scripts(path):
             if answers is not None:
-                wanted = "".join(f"{answer}\n" for answer in answers)
-                expect(f"{path.name}, line {place}", ran(words, "\n".join(lines)), (0, wanted, ""))
+                given, wanted = "\n".join(lines), "".join(f"{answer}\n" for answer in answers)
+                tests.answers(f"{path.name}, line {place}", given, ran(words, given), (0, wanted, ""))
 
 
 def recording():
     """The beginning of a recording of a real connection, as the picture of it has it."""
     script = (ROOT / "tests" / "pictures" / "connection.txt").read_text()
     if REPLAY.exists():
-        expect("a recording", ran([], script), ran([], script, REPLAY))
+        tests.answers("a recording", script, ran([], script), ran([], script, REPLAY))
 
 
 def lockstep():
@@ -229,9 +221,8 @@ def main():
         PROGRAM = pathlib.Path(sys.argv[1]).resolve()
     for part in scripts, every_row, recording, lockstep, lines, arguments, closed_pipe, states, page, memory:
         part()
-    print(f"trace: {passed} passed, {failed} failed")
-    return int(failed > 0)
+    tests.end()
 
 
 if __name__ == "__main__":
-    sys.exit(main())
+    main()

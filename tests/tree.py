@@ -2,6 +2,7 @@
 and what a test counts."""
 import contextlib
 import fcntl
+import itertools
 import os
 import pathlib
 import re
@@ -20,10 +21,16 @@ class Unfit(Exception):
     """Why nothing can be proved here, in one line."""
 
 
+def listed(text=None):
+    """The crates of crates.txt, or of such a text, in order, each with all that it stands on, the kit's crates among it."""
+    text = (ROOT / "crates.txt").read_text() if text is None else text
+    lines = (line.partition("#")[0].partition(":") for line in text.splitlines())
+    return [(name.split()[0], below.split()) for name, colon, below in lines if colon]
+
+
 def rows():
     """The crates of crates.txt in order, each with those of the repository that it stands on."""
-    lines = (line.partition("#")[0].partition(":") for line in (ROOT / "crates.txt").read_text().splitlines())
-    found = [(name.split()[0], below.split()) for name, colon, below in lines if colon]
+    found = listed()
     names = {name for name, _ in found}
     return [(name, [it for it in below if it in names]) for name, below in found]
 
@@ -142,6 +149,18 @@ def ends_quietly(main):
         sys.exit(status)
 
 
+def timers():
+    """The names of timers in scripts, in their order, as the library has them."""
+    return re.findall(r'^            Timer::\w+ => "([a-z-]+)",$', (ROOT / "crates" / "recovery_base" / "src" / "timer.rt").read_text(), re.M)
+
+
+def refusals():
+    """The refusals in the order of their numbers, from 1 on, as the library has them: the name of each, and its text; `{0}` stands for a text
+    that it holds."""
+    body = re.search(r"^pub enum Refusal \{\n(.*?)^\}", (ROOT / "crates" / "recovery_events" / "src" / "event.rt").read_text(), re.M | re.S)[1]
+    return [(name, said) for said, name in re.findall(r'#\[error\("([^"]+)"\)\]\n    (\w+)', body)]
+
+
 class Tests:
     """What the tests of a script passed and failed."""
 
@@ -155,6 +174,24 @@ class Tests:
             self.failed += 1
             shown = ", and not ".join(text if len(text) < SHOWN else f"{text[:SHOWN]} .." for text in map(repr, (found, wanted)))
             print(f"{self.name}: {what}: {shown}", file=sys.stderr, flush=True)
+
+    def answers(self, what, script, found, wanted):
+        """What a program came to with a script: status, answers and errors. Of answers that differ the first is told, with its line."""
+        lines = [it for it in script.splitlines() if it and it[:1] not in ("#", b"#")]
+        came, want = found[1].splitlines(), wanted[1].splitlines()
+        parted = next((at for at, both in enumerate(itertools.zip_longest(came, want)) if both[0] != both[1]), None)
+        if found == wanted or parted is None:
+            return self.expect(what, found, wanted)
+        told = [it[parted] if parted < len(it) else None for it in (lines, came, want)]
+        self.expect(f"{what}: the line {told[0]!r}", *told[1:])
+
+    def holds(self, what, holds, said=""):
+        """Whether it holds: where it does not, what was said is told."""
+        self.passed += bool(holds)
+        if not holds:
+            self.failed += 1
+            print(f"{self.name}: {what} failed\n{said}".rstrip(), file=sys.stderr, flush=True)
+        return holds
 
     def end(self):
         print(f"{self.name}: {self.passed} passed, {self.failed} failed")

@@ -85,8 +85,8 @@ enum recovery_refusal {
     RECOVERY_REFUSAL_CIDS_NOT_IN_USE = 13,
     // The number was not issued (RFC 9000, 19.16).
     RECOVERY_REFUSAL_UNISSUED_CID = 14,
-    // An ACK_FREQUENCY frame asks for a delay below 1 ms (draft-ietf-quic-ack-frequency-04, section 4). The number of the
-    // frame is kept.
+    // An ACK_FREQUENCY frame asks for a delay below 1 ms (draft-ietf-quic-ack-frequency-04, section 4). The number of
+    // the frame is kept.
     RECOVERY_REFUSAL_DELAY_TOO_SMALL = 15,
     // A number was acknowledged that was skipped, and never sent (RFC 9000, 21.4).
     RECOVERY_REFUSAL_SKIPPED_ACKED = 16,
@@ -100,8 +100,8 @@ enum recovery_refusal {
     RECOVERY_REFUSAL_CONFLICT = 20,
     // The handle holds no recovery.
     RECOVERY_REFUSAL_NO_RECOVERY = 254,
-    // An argument lies out of its range: a space or a timer that there is not, an id of more than 20 bytes, a number of a frame
-    // of 2^62 or more, nanoseconds of a second or more.
+    // An argument lies out of its range: a space or a timer that there is not, an id of more than 20 bytes, a number of a
+    // frame of 2^62 or more, nanoseconds of a second or more.
     RECOVERY_REFUSAL_BAD_ARGUMENT = 255,
 };
 
@@ -231,7 +231,8 @@ struct recovery_handle {
 struct recovery_marks {
     // What its PATH_CHALLENGE frame says, where one was sent (RFC 9000, 8.2.1).
     uint64_t challenge;
-    // The number of the first packet that was sent after a sample of the round-trip time (RFC 9002, 7.6.2), where there is one.
+    // The number of the first packet that was sent after a sample of the round-trip time (RFC 9002, 7.6.2), where
+    // there is one.
     uint64_t first_number;
     // The space of that packet.
     uint8_t first_space;
@@ -261,7 +262,8 @@ struct recovery_mtuview {
     bool some;
 };
 
-// What a caller holds an MTU discovery by. It begins as all zeros, which holds none; from then on it is the library's own.
+// What a caller holds an MTU discovery by. It begins as all zeros, which holds none; from then on it is the library's
+// own.
 struct recovery_mtuhandle {
     void *ptr;
     bool holds;
@@ -335,19 +337,20 @@ struct recovery_reply {
     uint8_t kind;
     // The number of the refusal, or 0; of one by ECN `first` is the number of the fault.
     uint8_t refusal;
-    // New: whether to start the timer for a late ACK. Sent: whether a silent packet was forgotten for it. Acked, lost: whether
-    // it was the probe of the path's MTU. Retire: whether numbers are to be retired. Flag: yes or no. Timeout: whether a
-    // timer is set. Black hole: whether one was reported. Sendable: whether an ACK is to be sent. Otherwise false.
+    // New: whether to start the timer for a late ACK. Sent: whether a silent packet was forgotten for it. Acked, lost:
+    // whether it was the probe of the path's MTU. Retire: whether numbers are to be retired. Flag: yes or no. Timeout:
+    // whether a timer is set. Black hole: whether one was reported. Sendable: whether an ACK is to be sent. Otherwise
+    // false.
     bool flag;
     // Sendable: whether there is something else to be sent. Otherwise false.
     bool other;
     // Probe: its size in bytes. Otherwise 0.
     uint16_t size;
-    // Sent, probe: the number that it was given. Retire: the first number. Timeout, delayed: the moment, in nanoseconds. In
-    // flight: the bytes. Otherwise 0.
+    // Sent, probe: the number that it was given. Retire: the first number. Timeout, delayed: the moment, in
+    // nanoseconds. In flight: the bytes. Otherwise 0.
     uint64_t first;
-    // Sent: the number that was forgotten. Retire: one above the last number. In flight: how many packets elicit an ACK.
-    // Otherwise 0.
+    // Sent: the number that was forgotten. Retire: one above the last number. In flight: how many packets elicit an
+    // ACK. Otherwise 0.
     uint64_t second;
 };
 
@@ -377,7 +380,8 @@ struct recovery_pathview {
     uint64_t pto_base;
     // The most bytes that the pacer's bucket holds (RFC 9002, 7.7).
     uint64_t pacer_capacity;
-    // The bytes in that bucket, as the last datagram or question left it: what time has brought since is not among them.
+    // The bytes in that bucket, as the last datagram or question left it: what time has brought since is not among
+    // them.
     uint64_t pacer_tokens;
     // The slow start threshold, where there is one: `u64::MAX` before the first loss (RFC 9002, 7.3.1).
     uint64_t ssthresh;
@@ -439,8 +443,8 @@ struct recovery_idsview {
     uint64_t peer_max_ack_delay;
 };
 
-// Makes a recovery, whose peer is at this address and has this id of at most 20 bytes. The answer is `RECOVERY_NEW_MADE`, or the number of
-// what is wrong; the handle then holds what it held.
+// Makes a recovery, whose peer is at this address and has this id of at most 20 bytes. The answer is `RECOVERY_NEW_MADE`, or
+// the number of what is wrong; the handle then holds what it held.
 uint8_t recovery_ffi_new(struct recovery_handle *handle, const struct recovery_settings *settings, const struct recovery_address *remote, const uint8_t *initial_cid, size_t initial_cid_len, uint64_t now);
 
 // Frees a recovery. The handle holds none then; one that holds none stays so.
@@ -491,12 +495,13 @@ bool recovery_ffi_is_token(struct recovery_handle *handle, const uint8_t *token)
 // What the layer above keeps with a path.
 struct recovery_marks recovery_ffi_marks(struct recovery_handle *handle, bool previous);
 
-// The layer above keeps this with a path from now on. False, and nothing changes, where there is no such path or no such space.
+// The layer above keeps this with a path from now on. False, and nothing changes, where there is no such path or no
+// such space.
 bool recovery_ffi_set_marks(struct recovery_handle *handle, bool previous, const struct recovery_marks *marks);
 
-// Makes an MTU discovery, as a path of these settings has it: by `initial_mtu`, `min_mtu`, `allow_mtud` and what they say of the
-// search. The peer takes datagrams of at most `limit` bytes; 0 says that it did not tell. The answer is `RECOVERY_NEW_MADE`, or the number
-// of what is wrong; the handle then holds what it held.
+// Makes an MTU discovery, as a path of these settings has it: by `initial_mtu`, `min_mtu`, `allow_mtud` and what they
+// say of the search. The peer takes datagrams of at most `limit` bytes; 0 says that it did not tell. The answer is
+// `RECOVERY_NEW_MADE`, or the number of what is wrong; the handle then holds what it held.
 uint8_t recovery_ffi_mtu_new(struct recovery_mtuhandle *mtu, const struct recovery_settings *settings, uint16_t limit);
 
 // Frees a discovery. The handle holds none then; one that holds none stays so.
@@ -505,16 +510,16 @@ void recovery_ffi_mtu_drop(struct recovery_mtuhandle *mtu);
 // What is known.
 struct recovery_mtuview recovery_ffi_mtu(struct recovery_mtuhandle *mtu);
 
-// Is a probe due? Its size is that of the answer (`RECOVERY_ANSWER_PROBE`, otherwise `RECOVERY_ANSWER_NO_PROBE`), and it is sent as the packet of
-// this number.
+// Is a probe due? Its size is that of the answer (`RECOVERY_ANSWER_PROBE`, otherwise `RECOVERY_ANSWER_NO_PROBE`), and it is sent as the
+// packet of this number.
 struct recovery_reply recovery_ffi_mtu_poll(struct recovery_mtuhandle *mtu, uint64_t now, uint64_t number);
 
-// The peer takes datagrams of at most so many bytes. Refused where they are none, and while a search runs: the limit is told
-// before the first poll.
+// The peer takes datagrams of at most so many bytes. Refused where they are none, and while a search runs: the limit
+// is told before the first poll.
 struct recovery_reply recovery_ffi_mtu_limit(struct recovery_mtuhandle *mtu, uint16_t size);
 
-// A packet of so many bytes was acknowledged (`RECOVERY_ANSWER_ACKED`): the flag says whether it was the probe in flight, whose size is
-// then the MTU.
+// A packet of so many bytes was acknowledged (`RECOVERY_ANSWER_ACKED`): the flag says whether it was the probe in flight, whose
+// size is then the MTU.
 struct recovery_reply recovery_ffi_mtu_acked(struct recovery_mtuhandle *mtu, uint64_t number, uint16_t bytes);
 
 // The probe in flight was lost. Where none is, nothing changes.
@@ -530,16 +535,17 @@ struct recovery_reply recovery_ffi_mtu_losses_done(struct recovery_mtuhandle *mt
 // All begins anew, with these sizes; refused where one is zero. The peer's limit stays.
 struct recovery_reply recovery_ffi_mtu_reset(struct recovery_mtuhandle *mtu, uint16_t size, uint16_t least);
 
-// A full bucket at the moment `now`, by the RTT (nanoseconds), the congestion window and the MTU (bytes). Of a window or an MTU
-// of 0 it is all zeros, which is none.
+// A full bucket at the moment `now`, by the RTT (nanoseconds), the congestion window and the MTU (bytes). Of a window
+// or an MTU of 0 it is all zeros, which is none.
 struct recovery_bucket recovery_ffi_pacer(uint64_t rtt, uint64_t window, uint16_t mtu, uint64_t now);
 
-// A packet of so many bytes was sent (`RECOVERY_ANSWER_TRANSMITTED`): it takes tokens, as far as they go. Refused where the bucket is none.
+// A packet of so many bytes was sent (`RECOVERY_ANSWER_TRANSMITTED`): it takes tokens, as far as they go. Refused where the
+// bucket is none.
 struct recovery_reply recovery_ffi_pacer_transmit(struct recovery_bucket *bucket, uint16_t bytes);
 
-// May so many bytes be sent at the moment `now` (`RECOVERY_ANSWER_READY`), or when is it to be asked again (`RECOVERY_ANSWER_DELAYED`)? By the RTT
-// (nanoseconds), the MTU and the congestion window (bytes) of that moment. Refused where the window or the MTU is 0, or the bucket
-// is none.
+// May so many bytes be sent at the moment `now` (`RECOVERY_ANSWER_READY`), or when is it to be asked again (`RECOVERY_ANSWER_DELAYED`)?
+// By the RTT (nanoseconds), the MTU and the congestion window (bytes) of that moment. Refused where the window or the
+// MTU is 0, or the bucket is none.
 struct recovery_reply recovery_ffi_pacer_delay(struct recovery_bucket *bucket, uint64_t rtt, uint64_t bytes, uint16_t mtu, uint64_t window, uint64_t now);
 
 // A packet came in (RFC 9000, 12.3): the event `Received`.
@@ -557,7 +563,8 @@ struct recovery_reply recovery_ffi_lost(struct recovery_handle *handle, uint8_t 
 // The keys of a space are dropped (RFC 9002, 6.4): the event `DiscardSpace`.
 struct recovery_reply recovery_ffi_discard(struct recovery_handle *handle, uint8_t space);
 
-// How many items the queue that was taken last has; they are written where there is room for all. None, before one was taken.
+// How many items the queue that was taken last has; they are written where there is room for all. None, before one was
+// taken.
 size_t recovery_ffi_taken(struct recovery_handle *handle, uint64_t *out, size_t out_len);
 
 // What is in flight on a path? The event `InFlight`.
@@ -614,8 +621,8 @@ struct recovery_spaceview recovery_ffi_space(struct recovery_handle *handle, uin
 // One of the ranges of numbers that are to be acknowledged in a space, in ascending order.
 struct recovery_rangeview recovery_ffi_range(struct recovery_handle *handle, uint8_t space, size_t index);
 
-// How long ago the largest packet of a space came, which an ACK frame tells (RFC 9000, 13.2.5): zero before the first, none
-// where there is no such space or it is discarded.
+// How long ago the largest packet of a space came, which an ACK frame tells (RFC 9000, 13.2.5): zero before the first,
+// none where there is no such space or it is discarded.
 struct recovery_momentview recovery_ffi_ack_delay(struct recovery_handle *handle, uint8_t space, uint64_t now);
 
 // When a timer expires.
@@ -624,11 +631,13 @@ struct recovery_momentview recovery_ffi_timer(struct recovery_handle *handle, ui
 // The ids of both ends, and how late ACKs may be.
 struct recovery_idsview recovery_ffi_ids(struct recovery_handle *handle);
 
-// When the oldest of this end's ids is to be retired (RFC 9000, 5.1.2), where they end: what `RECOVERY_TIMER_PUSH_NEW_CID` is set to.
+// When the oldest of this end's ids is to be retired (RFC 9000, 5.1.2), where they end: what `RECOVERY_TIMER_PUSH_NEW_CID` is
+// set to.
 struct recovery_momentview recovery_ffi_next_id_timeout(struct recovery_handle *handle);
 
-// The default settings: an address that is not validated, ACKs 25 ms late at most, ids of 8 bytes that last 10 s, one of them
-// issued, no skips, an RTT of 333 ms, MTUs of 1200 bytes and up to 1452, and NewReno with 12,000 bytes and a half.
+// The default settings: an address that is not validated, ACKs 25 ms late at most, ids of 8 bytes that last 10 s, one
+// of them issued, no skips, an RTT of 333 ms, MTUs of 1200 bytes and up to 1452, and NewReno with 12,000 bytes and a
+// half.
 struct recovery_settings recovery_ffi_default_settings(void);
 
 // A timer is set to a moment in nanoseconds: the event `SetTimer`.

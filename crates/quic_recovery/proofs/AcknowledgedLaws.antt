@@ -3,7 +3,8 @@
 use Rattle.std.proofs.lemmas.Bool.Decides.{nat_tests}
 use Rattle.std.proofs.Common.{◌≡◌, ◌≤◌, ℕ, ◌==◌, ◌&&◌, Bool, true, false, cond, List, ◌∷◌, length, Option, None, Some, Ok, Err, ◌⊎◌, inl, inr, ◌↔◌, IsTrue, IsSomeAnd, refl, arith}
 use Rattle.std.proofs.lemmas.Bool.{cases_lt}
-use Rattle.recovery_acks.specs.Runs.{AtMost, EndsRun, IsInHighest}
+use Rattle.recovery_acks.specs.Acks.{most_ranges}
+use Rattle.recovery_acks.specs.Runs.{AtMost, EndsRun, IsInHighest, LiesBelow}
 use Rattle.recovery_base.proofs.WindowLaws.{iff_trans}
 use Rattle.recovery_acks.proofs.HighestRunLaws.{highest_alike}
 use Rattle.recovery_base.specs.declared.below.SpaceId.{SpaceId}
@@ -22,7 +23,7 @@ use Rattle.quic_recovery.specs.Told.{logs_of, known_by, Told}
 use Rattle.quic_recovery.specs.History.{AtEach, Beginning, History, Reply, history}
 use Rattle.quic_recovery.specs.Known.{Known}
 use Rattle.quic_recovery.specs.Logs.{onto}
-use Rattle.quic_recovery.specs.Promises.Acknowledged.{HasCome, KeepsToAcknowledge, LiesBelow, WasDropped, largest_in}
+use Rattle.quic_recovery.specs.Promises.Acknowledged.{HasCome, KeepsToAcknowledge, WasDropped, largest_in}
 use Rattle.quic_recovery.proofs.CarriedLaws.{AllCarry, carries_largest, keeps_carried, none_carry}
 use Rattle.quic_recovery.proofs.Runs.{kept_after}
 use Rattle.quic_recovery.proofs.EntryKinds.{SpaceKind, hearing, acknowledging, space_kind, space_kept}
@@ -56,15 +57,15 @@ module _ {P M S : Type 0} (words : QueueWords P S) (log : List (SpaceEntry P M))
   Comes b m n = ((b && m == n) ≡ true) ⊎ Came n
 
   abbrev Drops : Bool → ℕ → ℕ → Type 0
-  Drops b m n = ((b ≡ true) × LiesBelow (With m Stands) n) ⊎ (((b && m == n) ≡ false) × Dropped n)
+  Drops b m n = ((b ≡ true) × LiesBelow most_ranges (With m Stands) n) ⊎ (((b && m == n) ≡ false) × Dropped n)
 
   module _ (m n : ℕ) where
-    stands : IsInHighest 64 (With m Stands) n ↔ (Comes true m n × ¬ Drops true m n)
+    stands : IsInHighest most_ranges (With m Stands) n ↔ (Comes true m n × ¬ Drops true m n)
     stands = (
       λ high. (grind (arith, nat_tests, high.0), λ drops. grind (arith, nat_tests, high.0, high.1, drops)),
       λ both. (
         grind (arith, nat_tests, both.0, both.1),
-        many_or_few 64 (λ end. (n ≤ end) × EndsRun (With m Stands) end) (λ low. both.1 (inl (refl, low))),
+        many_or_few most_ranges (λ end. (n ≤ end) × EndsRun (With m Stands) end) (λ low. both.1 (inl (refl, low))),
       ),
     )
 
@@ -73,7 +74,7 @@ module _ {P M S : Type 0} (words : QueueWords P S) (log : List (SpaceEntry P M))
 
     arrives : (b : Bool) (now : ℕ) (eliciting : Bool)
         → IsAfter (cond b (Some (heard now m eliciting)) None) n (Comes b m n) (Drops b m n)
-    arrives true now eliciting = iff_trans (highest_alike alike 64 n) stands
+    arrives true now eliciting = iff_trans (highest_alike alike most_ranges n) stands
     arrives false now eliciting = grind (arith, kept n)
 
   -- ---- a tracked packet is acknowledged, which carried the ACK of the numbers up to a largest one

@@ -5,8 +5,8 @@ ghost use Rattle.quic_recovery.specs.Same.{DecidesReplies, DecidesStates};
 use recovery_congestion::congestion::ControllerFactory;
 use recovery_queue::queue::RetransmitQueue;
 
-/// Two replies that may be given to one event after one history are the same, unless memory was refused: queues by what they
-/// hold, texts by what they say.
+/// Two replies that may be given to one event after one history are the same, unless memory was refused: queues by what
+/// they hold, texts by what they say.
 pub fn one_reply<F: ControllerFactory, Q: RetransmitQueue>()
     ensures { DecidesReplies F.built F.Controller.words (queue_meaning Q.contents Q.words Q.blank) }
 {}

@@ -16,8 +16,8 @@ use recovery_paths::paths::PathMarks;
 use recovery_queue::queue::RetransmitQueue;
 use std::alloc::Global;
 
-/// A [`Recovery`] that carries its past: there are a beginning and a list of events with their replies by which it came to be
-/// what it is, and each was replied what the events before it say.
+/// A [`Recovery`] that carries its past: there are a beginning and a list of events with their replies by which it came
+/// to be what it is, and each was replied what the events before it say.
 ///
 /// No list is kept: that there is one is proved of every value of this type, and costs nothing at run time. So what
 /// [`LiveRecovery::apply`] promises holds at each call of a connection that never ends, with no premise.
@@ -36,8 +36,8 @@ where
     Q::Streams: Drop,
     R: Rng + Drop,
 {
-    /// A recovery to which nothing has happened yet, made at the moment `now`, as [`Recovery::new`] makes it. `NoMemory` as
-    /// there.
+    /// A recovery to which nothing has happened yet, made at the moment `now`, as [`Recovery::new`] makes it.
+    /// `NoMemory` as there.
     pub fn new(
         alloc: Global,
         config: RecoveryConfig<F>,
@@ -63,9 +63,9 @@ where
         &self.recovery
     }
 
-    /// One event, as [`Recovery::apply`] does it. There are a beginning and a past by which the recovery came here; the reply
-    /// is what that past says, every promise of whole runs holds at this moment, and from that past the recovery has gone on by
-    /// this event and this reply.
+    /// One event, as [`Recovery::apply`] does it. There are a beginning and a past by which the recovery came here; the
+    /// reply is what that past says, every promise of whole runs holds at this moment, and from that past the recovery
+    /// has gone on by this event and this reply.
     #[inline(always)]
     pub fn apply(&mut self, event: Event<Q>) -> Result<Answer<Q>, Refusal>
         // What the event is told, by the state before it, and what it changes.

@@ -2,9 +2,9 @@
 -- Nothing rests on them.
 use Rattle.std.proofs.Common.{◌≡◌, ℕ, zero, suc, ◌+◌, ◌<◌, ◌≤◌, ◌⊎◌, Bool, true, false, List, [], ◌∷◌, Option, None, Some, Ok, inl, inr, refl, arith}
 use Rattle.std.proofs.lemmas.Bool.Decides.{nat_tests}
-use Rattle.recovery_acks.specs.Acks.{AsksAtOnce, fresh}
+use Rattle.recovery_acks.specs.Acks.{AsksAtOnce, fresh, most_ranges}
 use Rattle.std.specs.Option.{unwrap_or}
-use Rattle.recovery_acks.specs.Runs.{Ascend, AtMost, EndsRun}
+use Rattle.recovery_acks.specs.Runs.{Ascend, AtMost, EndsRun, LiesBelow}
 use Rattle.recovery_base.specs.declared.below.SpaceId.TheVariants.{Initial, Handshake, Data}
 use Rattle.recovery_base.specs.Numbers.{With}
 use Rattle.recovery_ledger.specs.Acks.{IsRequired}
@@ -13,7 +13,7 @@ use Rattle.recovery_events.specs.declared.event.Event.TheVariants as event
 use Rattle.recovery_events.specs.declared.event.Answer.TheVariants as answer
 use Rattle.quic_recovery.specs.Told.{logs_of}
 use Rattle.quic_recovery.specs.History.{Beginning, History, Reply}
-use Rattle.quic_recovery.specs.Promises.Acknowledged.{HasCome, LiesBelow, WasDropped, largest_in}
+use Rattle.quic_recovery.specs.Promises.Acknowledged.{HasCome, WasDropped, largest_in}
 use Rattle.quic_recovery.specs.Promises.Duty.{AcknowledgesInTime, timer_runs, waits}
 
 -- ---- ranges
@@ -47,7 +47,7 @@ ascends from (suc more) low sum up = (
   ascends (from + 1) more (from + from + 1) (omega (arith, sum)) (omega arith),
 )
 
-zero_lies_below : LiesBelow Evens 0
+zero_lies_below : LiesBelow most_ranges Evens 0
 zero_lies_below few = let many : 65 ≤ 64 = few (by_two 0 65) (ascends 0 65 0 refl (omega arith)) in omega (arith, many)
 
 -- ---- what is to be acknowledged: 3 and 7 came, and the packet with the ACK of 3 was acknowledged

@@ -1,5 +1,5 @@
-//! Packet number spaces and paths. What no run reaches, since the numbers or bytes before it are too many, is proved for
-//! every state that stands there, and not run.
+//! Packet number spaces and paths. What no run reaches, since the numbers or bytes before it are too many, is proved
+//! for every state that stands there, and not run.
 ghost use Rattle.std.specs.Prelude.{◌≡◌, IfSome, true};
 
 use crate::driver::holds;

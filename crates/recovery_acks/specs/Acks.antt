@@ -119,8 +119,7 @@ IsOutOfOrder Known threshold acknowledged before greatest number =
 -- an ack-eliciting packet asks for an ACK at once: with it more came since the last ACK than may, or it is out of
 -- order; these are the counts before it, and the numbers known with it
 abbrev pub AsksAtOnce : (ℕ → Type 0) → AckCounts → ℕ → Type 0
-AsksAtOnce Known counts number =
-    let before = unwrap_or counts.greatest 0 in
+AsksAtOnce Known counts number = let before = unwrap_or counts.greatest 0 in
     (counts.thresholds.0 < counted counts.eliciting)
     ⊎ IsOutOfOrder Known counts.thresholds.1 counts.acknowledged before (max before number) number
 

@@ -10,8 +10,8 @@ use recovery_base::time::Duration;
 /// The least delay that a peer may ask for: what timers can keep (RFC 9002, 6.1.2).
 const TIMER_GRANULARITY_NANOS: u128 = 1_000_000;
 
-/// An RTT counts as this much at least, the default of `max_ack_delay` (RFC 9000, 18.2): on a short path more ACKs would
-/// else be asked for than come without a request.
+/// An RTT counts as this much at least, the default of `max_ack_delay` (RFC 9000, 18.2): on a short path more ACKs
+/// would else be asked for than come without a request.
 const MIN_AUTOMATIC_ACK_DELAY_MILLIS: u64 = 25;
 
 /// The delays of ACKs, as asked for and as asked by the peer (draft-ietf-quic-ack-frequency-04, sections 4 and 7).
@@ -41,8 +41,8 @@ impl AckFrequencyState {
     }
 
     /// The delay to ask the peer for: the configured one or else the peer's, at most the RTT, which counts as 25 ms at
-    /// least, and at least the peer's `min_ack_delay`, which is in microseconds (draft-ietf-quic-ack-frequency-04, sections
-    /// 3 and 4).
+    /// least, and at least the peer's `min_ack_delay`, which is in microseconds (draft-ietf-quic-ack-frequency-04,
+    /// sections 3 and 4).
     pub fn candidate_max_ack_delay(
         &self,
         rtt: Duration,
@@ -64,8 +64,8 @@ impl AckFrequencyState {
         wanted.min(most).max(least)
     }
 
-    /// The longest delay that the peer may use, which a probe timeout allows for: its own, or the one asked for, where that
-    /// is longer and on its way (RFC 9002, 6.2.1; draft-ietf-quic-ack-frequency-04, section 7).
+    /// The longest delay that the peer may use, which a probe timeout allows for: its own, or the one asked for, where
+    /// that is longer and on its way (RFC 9002, 6.2.1; draft-ietf-quic-ack-frequency-04, section 7).
     pub fn max_ack_delay_for_pto(&self) -> Duration
         ensures { result ≡ longest_delay (pending_of self.now) self.now.peer_max_ack_delay }
     {
@@ -75,8 +75,8 @@ impl AckFrequencyState {
         }
     }
 
-    /// The number of the next request, counted from 0 (draft-ietf-quic-ack-frequency-04, section 4). None past 2^62 - 1,
-    /// and then nothing changes.
+    /// The number of the next request, counted from 0 (draft-ietf-quic-ack-frequency-04, section 4). None past
+    /// 2^62 - 1, and then nothing changes.
     pub fn next_sequence_number(&mut self) -> Option<VarInt>
         ensures number { MatchOption result (2 ^ 62 ≤ next_of self.old)
             (λ number. number ≡ next_of self.old) }
@@ -92,8 +92,8 @@ impl AckFrequencyState {
         }
     }
 
-    /// Whether a request is worth sending (draft-ietf-quic-ack-frequency-04, section 4): none was made yet, or the delay
-    /// wanted is more than a fifth away from the one asked for last.
+    /// Whether a request is worth sending (draft-ietf-quic-ack-frequency-04, section 4): none was made yet, or the
+    /// delay wanted is more than a fifth away from the one asked for last.
     pub fn should_send_ack_frequency(
         &self,
         rtt: Duration,
@@ -126,8 +126,8 @@ impl AckFrequencyState {
         self.in_flight_ack_frequency_frame = Some((pn, requested_max_ack_delay));
     }
 
-    /// The packet `pn` was acknowledged: where it held the request on its way, the peer uses that delay from now on (RFC
-    /// 9002, 6.2.1; draft-ietf-quic-ack-frequency-04, section 7). Else nothing changes.
+    /// The packet `pn` was acknowledged: where it held the request on its way, the peer uses that delay from now on
+    /// (RFC 9002, 6.2.1; draft-ietf-quic-ack-frequency-04, section 7). Else nothing changes.
     pub fn on_acked(&mut self, pn: u64)
         ensures { AcksRequest pn self.old self.new }
     {

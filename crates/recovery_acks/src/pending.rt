@@ -12,8 +12,8 @@ use recovery_base::time::{Duration, Instant};
 use std::alloc::Global;
 use std::marker::Model;
 
-/// The most ranges that an ACK frame carries: each takes 16 bytes at most (RFC 9000, 19.3.1), so that they fit into the least
-/// datagram, of 1200 bytes.
+/// The most ranges that an ACK frame carries: each takes 16 bytes at most (RFC 9000, 19.3.1), so that they fit into the
+/// least datagram, of 1200 bytes.
 const MAX_ACK_BLOCKS: usize = 64;
 
 /// How many packets that are not ack-eliciting may come before an ACK is sent with other frames: the peer keeps them
@@ -47,8 +47,8 @@ impl Model for PendingAcks {
 }
 
 impl PendingAcks {
-    /// Nothing is to be acknowledged. Both thresholds are 1 packet: the second ack-eliciting packet without an ACK asks for
-    /// one at once (RFC 9000, 13.2.2), and so does each that is out of order (13.2.1). It takes no memory.
+    /// Nothing is to be acknowledged. Both thresholds are 1 packet: the second ack-eliciting packet without an ACK asks
+    /// for one at once (RFC 9000, 13.2.2), and so does each that is out of order (13.2.1). It takes no memory.
     pub fn new(alloc: Global) -> Self
         ensures value { result ≡ new_acks [] }
         ensures sound { AreAcksSound result }
@@ -67,8 +67,8 @@ impl PendingAcks {
         }
     }
 
-    /// Takes both thresholds of an ACK_FREQUENCY frame, in packets (draft-ietf-quic-ack-frequency-04, section 4). Nothing
-    /// else changes.
+    /// Takes both thresholds of an ACK_FREQUENCY frame, in packets (draft-ietf-quic-ack-frequency-04, section 4).
+    /// Nothing else changes.
     pub fn set_ack_frequency_params(&mut self, frame: &AckFrequency)
         ensures takes { self.new
             ≡ with_thresholds frame.now.ack_eliciting_threshold frame.now.reordering_threshold
@@ -97,8 +97,8 @@ impl PendingAcks {
         self.immediate_ack_required = self.ack_eliciting_since_last_ack_sent > 0;
     }
 
-    /// When a delay ends that starts with the first ack-eliciting packet since the last ACK that came while no ACK could be sent
-    /// at once; none before one came (RFC 9000, 13.2.1). It stops at `u64::MAX` nanoseconds.
+    /// When a delay ends that starts with the first ack-eliciting packet since the last ACK that came while no ACK
+    /// could be sent at once; none before one came (RFC 9000, 13.2.1). It stops at `u64::MAX` nanoseconds.
     pub fn max_ack_delay_timeout(&self, max_ack_delay: Duration) -> Option<Instant>
         ensures { result ≡ timeout_at max_ack_delay self.now.base }
     {
@@ -108,8 +108,8 @@ impl PendingAcks {
         }
     }
 
-    /// Whether an ACK may be sent in a packet of its own: one is required, and a number is to be acknowledged (RFC 9000,
-    /// 13.2.1).
+    /// Whether an ACK may be sent in a packet of its own: one is required, and a number is to be acknowledged (RFC
+    /// 9000, 13.2.1).
     pub fn can_send(&self) -> bool
         ensures { Decides result (CanSend self.now) }
     {
@@ -134,8 +134,8 @@ impl PendingAcks {
         }
     }
 
-    /// A packet came, after its number went into `dedup`. The answer is whether the delay timer is to be armed (RFC 9000,
-    /// 13.2.1).
+    /// A packet came, after its number went into `dedup`. The answer is whether the delay timer is to be armed (RFC
+    /// 9000, 13.2.1).
     ///
     /// An ack-eliciting packet asks for an ACK at once where more of them came since the last one than may, or where it
     /// is out of order (RFC 9000, 13.2.1 and 13.2.2; draft-ietf-quic-ack-frequency-04, section 6.1). The others are
@@ -186,8 +186,8 @@ impl PendingAcks {
         true
     }
 
-    /// An ACK was sent, which is taken to hold all numbers that are to be acknowledged. They stay, for the next ACK (RFC
-    /// 9000, 13.2.3); none is required any more, no delay runs, and packets are counted anew.
+    /// An ACK was sent, which is taken to hold all numbers that are to be acknowledged. They stay, for the next ACK
+    /// (RFC 9000, 13.2.3); none is required any more, no delay runs, and packets are counted anew.
     pub fn acks_sent(&mut self)
         ensures sends { self.new ≡ acks_sent self.old }
         ensures sound { AreAcksSound self.new }

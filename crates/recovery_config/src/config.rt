@@ -242,8 +242,8 @@ impl<F> TransportConfig<F> {
         self
     }
 
-    /// How the MTU of paths is searched for; none turns the search off. Default: that of `MtuDiscoveryConfig` (RFC 9000,
-    /// 14.3).
+    /// How the MTU of paths is searched for; none turns the search off. Default: that of `MtuDiscoveryConfig` (RFC
+    /// 9000, 14.3).
     pub fn mtu_discovery_config(&mut self, value: Option<MtuDiscoveryConfig>) -> &mut Self
         ensures same { result.ghost_name ≡ self.entry.ghost_name }
         ensures value { result.now ≡ record self.old { mtu_discovery_config = value } }

@@ -24,8 +24,9 @@ pub struct ControllerMetrics {
 
 /// How much may be in flight on a path (RFC 9002, 7).
 ///
-/// An implementation says by functions of its own (`words`) what each call does to what contracts see of it (`content`),
-/// and keeps the laws: a sound content stays sound as long as MTUs are above zero, and its window is above zero.
+/// An implementation says by functions of its own (`words`) what each call does to what contracts see of it
+/// (`content`), and keeps the laws: a sound content stays sound as long as MTUs are above zero, and its window is above
+/// zero.
 pub trait Controller: Sized {
     /// What contracts see of a controller. No code makes a value of it.
     type Content;
@@ -82,8 +83,8 @@ pub trait Controller: Sized {
     fn on_mtu_update(&mut self, new_mtu: u16)
         ensures { content self.new ≡ words.after (takes_mtu new_mtu) (content self.old) };
 
-    /// The congestion window: how many bytes may be in flight (RFC 9002, 7 and 7.2). It is above zero where the content is
-    /// sound.
+    /// The congestion window: how many bytes may be in flight (RFC 9002, 7 and 7.2). It is above zero where the content
+    /// is sound.
     fn window(&self) -> u64
         ensures { result ≡ words.window (content self.now) };
 

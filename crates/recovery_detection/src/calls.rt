@@ -78,8 +78,8 @@ impl LossDetector {
     }
 }
 
-/// Any calls, one after another, from a detector to which nothing has happened yet: the reply to each. `NoMemory` where there is no
-/// room for the replies.
+/// Any calls, one after another, from a detector to which nothing has happened yet: the reply to each. `NoMemory` where
+/// there is no room for the replies.
 pub fn run(alloc: Global, calls: &[Call]) -> Result<Vec<Reply>, NoMemory>
     // Each reply is what the calls before it say.
     ensures told { IfOk result (λ replies. IsRun calls.now replies.items) }

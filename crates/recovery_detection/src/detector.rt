@@ -34,8 +34,8 @@ impl<T: Drop> From<AllocFailed<T>> for TrackError {
 
 /// Finds the packets of one packet number space that are lost (RFC 9002, 6.1), and hands each packet out once.
 ///
-/// A detector carries its past: there are calls with their replies by which it came to be what it is. No list is kept: that there is
-/// one is proved of every value of this type, and costs nothing at run time.
+/// A detector carries its past: there are calls with their replies by which it came to be what it is. No list is kept:
+/// that there is one is proved of every value of this type, and costs nothing at run time.
 #[derive(Drop)]
 pub struct LossDetector {
     alloc: Global,
@@ -114,8 +114,8 @@ impl LossDetector {
         Ok(())
     }
 
-    /// An ACK came in with the range of numbers `first` to `last` (RFC 9000, 19.3): the packets that it newly acknowledges, in the
-    /// order of their numbers. `NoMemory` changes nothing.
+    /// An ACK came in with the range of numbers `first` to `last` (RFC 9000, 19.3): the packets that it newly
+    /// acknowledges, in the order of their numbers. `NoMemory` changes nothing.
     pub fn on_ack(&mut self, first: u64, last: u64) -> Result<Vec<Sent>, below::NoMemory>
         ensures acks { IfOk result (λ acked. Acks self.old first last acked.items self.new) }
 
@@ -132,8 +132,8 @@ impl LossDetector {
         Ok(acked)
     }
 
-    /// The packets that are lost now, in the order of their numbers, and the moment when the next one will be, in `loss_time`.
-    /// `NoMemory` changes nothing.
+    /// The packets that are lost now, in the order of their numbers, and the moment when the next one will be, in
+    /// `loss_time`. `NoMemory` changes nothing.
     pub fn detect_lost(
         &mut self,
         now: Instant,
@@ -170,8 +170,8 @@ impl LossDetector {
         self.loss_time = None;
     }
 
-    /// When a probe is to go out: so long after the last packet tracked that elicits an ACK; none, where there is no such packet
-    /// (RFC 9002, 6.2.1). It stops at the last moment of the clock.
+    /// When a probe is to go out: so long after the last packet tracked that elicits an ACK; none, where there is no
+    /// such packet (RFC 9002, 6.2.1). It stops at the last moment of the clock.
     pub fn probe_at(&self, timeout: Duration) -> Option<Instant>
         ensures { result ≡ probe_moment timeout self.now }
     {

@@ -1,5 +1,6 @@
 //! Loss detection and PTO (RFC 9002, 6.1 and 6.2): a layer above the recovery, which decides neither. A stack keeps a
-//! [`LossDetector`] for each packet number space, and hands each packet that leaves it in to the recovery. Begin at `detector.rt`.
+//! [`LossDetector`] for each packet number space, and hands each packet that leaves it in to the recovery. Begin at
+//! `detector.rt`.
 #![tactic(auto)]
 
 mod calls;

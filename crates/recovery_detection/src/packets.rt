@@ -70,8 +70,8 @@ impl Sent {
     }
 }
 
-/// The packets with a number of `first` to `last`, as an ACK range has it (RFC 9000, 19.3), in their order. `AllocError` where there
-/// is no room for them: the packets stay as they are.
+/// The packets with a number of `first` to `last`, as an ACK range has it (RFC 9000, 19.3), in their order.
+/// `AllocError` where there is no room for them: the packets stay as they are.
 pub fn acked_among(
     alloc: Global,
     packets: &[Sent],
@@ -94,8 +94,8 @@ pub fn drop_acked(packets: &mut Vec<Sent>, first: u64, last: u64)
     packets.retain(|packet| !packet.is_in(first, last));
 }
 
-/// The packets that are lost at `now` (RFC 9002, 6.1), in their order. `AllocError` where there is no room for them: the packets
-/// stay as they are.
+/// The packets that are lost at `now` (RFC 9002, 6.1), in their order. `AllocError` where there is no room for them:
+/// the packets stay as they are.
 pub fn lost_among(
     alloc: Global,
     packets: &[Sent],

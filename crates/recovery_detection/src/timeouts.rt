@@ -1,4 +1,5 @@
-//! How long to wait before a packet is lost and before a probe goes out (RFC 9002, 6.1.2 and 6.2), and the next timeout of all spaces.
+//! How long to wait before a packet is lost and before a probe goes out (RFC 9002, 6.1.2 and 6.2), and the next timeout
+//! of all spaces.
 ghost use Rattle.std.specs.Prelude.{◌≡◌};
 ghost use Rattle.recovery_detection.specs.Timeouts.{loss_delay_of, probe_timeout_of, up_to_longest, IsEarliest, IsNextTimeout};
 
@@ -8,8 +9,8 @@ use recovery_base::timer::earlier;
 /// The least span that timers keep: a millisecond (RFC 9002, 6.1.2: kGranularity), in nanoseconds.
 const GRANULARITY: u128 = 1_000_000;
 
-/// How long after its sending a packet is lost, where a later one is acknowledged: 9/8 of the greater RTT, at least a millisecond
-/// (RFC 9002, 6.1.2). It stops at `Duration::MAX`.
+/// How long after its sending a packet is lost, where a later one is acknowledged: 9/8 of the greater RTT, at least a
+/// millisecond (RFC 9002, 6.1.2). It stops at `Duration::MAX`.
 pub fn loss_delay(smoothed: Duration, latest: Duration) -> Duration
     ensures { result ≡ loss_delay_of smoothed latest }
 {
@@ -17,9 +18,10 @@ pub fn loss_delay(smoothed: Duration, latest: Duration) -> Duration
     up_to_longest(nanos.max(GRANULARITY))
 }
 
-/// How long after the last ack-eliciting packet a probe goes out (RFC 9002, 6.2.1). `base` is the smoothed RTT with four times its
-/// variation, as `rtt.pto_base()` has it; `max_ack_delay` is the peer's in the space of 1-RTT packets, and zero in the others; `count`
-/// is how many probe timeouts expired in a row, of which each doubles the span. It stops at `Duration::MAX`.
+/// How long after the last ack-eliciting packet a probe goes out (RFC 9002, 6.2.1). `base` is the smoothed RTT with
+/// four times its variation, as `rtt.pto_base()` has it; `max_ack_delay` is the peer's in the space of 1-RTT packets,
+/// and zero in the others; `count` is how many probe timeouts expired in a row, of which each doubles the span. It
+/// stops at `Duration::MAX`.
 pub fn probe_timeout(base: Duration, max_ack_delay: Duration, count: u32) -> Duration
     ensures { result ≡ probe_timeout_of base max_ack_delay count }
 {
@@ -48,8 +50,8 @@ fn earliest(moments: &[Option<Instant>]) -> Option<Instant>
     least
 }
 
-/// What `Timer::LossDetection` is set to: the earliest loss time of the spaces, or else the earliest moment of a probe (RFC 9002,
-/// A.8). Where there is neither, the timer is stopped.
+/// What `Timer::LossDetection` is set to: the earliest loss time of the spaces, or else the earliest moment of a probe
+/// (RFC 9002, A.8). Where there is neither, the timer is stopped.
 pub fn next_timeout(losses: &[Option<Instant>], probes: &[Option<Instant>]) -> Option<Instant>
     ensures { IsNextTimeout losses.now probes.now result }
 {

@@ -37,8 +37,8 @@ impl Connection {
         }
     }
 
-    /// The timer for a late ACK is to start: of 1-RTT packets as late as the peer asked last, while one of Initial and Handshake
-    /// packets goes out at once (RFC 9000, 13.2.1).
+    /// The timer for a late ACK is to start: of 1-RTT packets as late as the peer asked last, while one of Initial and
+    /// Handshake packets goes out at once (RFC 9000, 13.2.1).
     fn plan_ack(&mut self, space: SpaceId, now: Instant, arm: bool) -> Result<Heard, Refusal> {
         if arm && space == SpaceId::Data {
             let delay = self.state().ack_frequency().max_ack_delay;
@@ -72,8 +72,8 @@ impl Connection {
         Ok(self.must_acknowledge(SpaceId::Data))
     }
 
-    /// An ACK of all numbers goes out in a packet of its own, which congestion control does not count (RFC 9002, 7): the largest
-    /// number in it.
+    /// An ACK of all numbers goes out in a packet of its own, which congestion control does not count (RFC 9002, 7):
+    /// the largest number in it.
     pub fn acknowledge(
         &mut self,
         alloc: Global,

@@ -47,8 +47,9 @@ impl Arrived {
 }
 
 impl Connection {
-    /// An ACK frame comes in: ranges of numbers, each from its first to its last, the largest range first (RFC 9000, 19.3), and how
-    /// long the peer says that it waited. Refused, with nothing done, where a number was skipped or not sent.
+    /// An ACK frame comes in: ranges of numbers, each from its first to its last, the largest range first (RFC 9000,
+    /// 19.3), and how long the peer says that it waited. Refused, with nothing done, where a number was skipped or not
+    /// sent.
     pub fn hear_ack(
         &mut self,
         now: Instant,
@@ -155,8 +156,8 @@ impl Connection {
         }
     }
 
-    /// The time since the packet of the ACK's largest number was sent is a sample of the RTT, where it is newly acknowledged, and with it
-    /// one that elicits an ACK (RFC 9002, 5.1).
+    /// The time since the packet of the ACK's largest number was sent is a sample of the RTT, where it is newly
+    /// acknowledged, and with it one that elicits an ACK (RFC 9002, 5.1).
     fn sample(
         &mut self,
         now: Instant,
@@ -177,8 +178,8 @@ impl Connection {
         })
     }
 
-    /// How long the peer let an ACK wait: nothing in an Initial packet, and once the handshake is confirmed no longer than its
-    /// max_ack_delay, whatever it says (RFC 9002, 5.3).
+    /// How long the peer let an ACK wait: nothing in an Initial packet, and once the handshake is confirmed no longer
+    /// than its max_ack_delay, whatever it says (RFC 9002, 5.3).
     fn delay_of_ack(&self, space: SpaceId, delay: Duration) -> Duration {
         match space {
             SpaceId::Initial => Duration::ZERO,
@@ -187,8 +188,8 @@ impl Connection {
         }
     }
 
-    /// An ACK has counts of ECN, and newly acknowledges so many packets that were sent with ECT(0): whether more of them were marked.
-    /// Counts that cannot be right end the marking on this path (RFC 9000, 13.4.2).
+    /// An ACK has counts of ECN, and newly acknowledges so many packets that were sent with ECT(0): whether more of
+    /// them were marked. Counts that cannot be right end the marking on this path (RFC 9000, 13.4.2).
     fn count_marks(&mut self, newly_acked: u64, counts: EcnCounts) -> Result<bool, Refusal> {
         let counted = Event::Ecn {
             space: SpaceId::Data,
@@ -206,8 +207,9 @@ impl Connection {
         }
     }
 
-    /// Such counts come in behind what arrived: marked packets are a sign of congestion, as lost ones are (RFC 9002, 7.3.2). Those of an ACK
-    /// that does not raise the largest number acknowledged may be older than the last ones, and are left out (RFC 9000, 13.4.2.1).
+    /// Such counts come in behind what arrived: marked packets are a sign of congestion, as lost ones are (RFC 9002,
+    /// 7.3.2). Those of an ACK that does not raise the largest number acknowledged may be older than the last ones, and
+    /// are left out (RFC 9000, 13.4.2.1).
     pub fn hear_counts(
         &mut self,
         now: Instant,

@@ -187,7 +187,8 @@ fn fewer_acks() -> AckFrequency {
     }
 }
 
-/// Packets go out, marked with ECT(0), until the window is full: the number of the first. Then the pacer has no tokens left.
+/// Packets go out, marked with ECT(0), until the window is full: the number of the first. Then the pacer has no tokens
+/// left.
 fn fill_window(
     rt: &(impl Print + AllocGlobal),
     client: &mut Connection,
@@ -267,8 +268,8 @@ fn count_less(rt: &(impl Print + AllocGlobal), client: &mut Connection) -> Resul
     )
 }
 
-/// An ACK of one packet comes in with counts of marks, `millis` after the beginning: how many packets arrive by it, and whether one of
-/// them is marked.
+/// An ACK of one packet comes in with counts of marks, `millis` after the beginning: how many packets arrive by it, and
+/// whether one of them is marked.
 fn count(
     client: &mut Connection,
     millis: u64,

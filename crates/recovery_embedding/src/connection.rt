@@ -15,7 +15,8 @@ use recovery_skips::Skips;
 use std::alloc::Global;
 use std::net::SocketAddr;
 
-/// How late this end's ACKs may be until the peer asks for another delay (RFC 9000, 18.2: max_ack_delay), in milliseconds.
+/// How late this end's ACKs may be until the peer asks for another delay (RFC 9000, 18.2: max_ack_delay), in
+/// milliseconds.
 const MAX_ACK_DELAY: u64 = 25;
 
 /// Which end of a connection this is.
@@ -25,9 +26,9 @@ pub enum Side {
     Server,
 }
 
-/// What the recovery starts with: the default settings of paths, with NewReno; ids of eight bytes that last for ten seconds,
-/// one of them issued; packet numbers that are skipped here and there (RFC 9000, 21.4). A client's peer is validated, a server's
-/// is not until it was seen to receive at its address (RFC 9000, 8.1).
+/// What the recovery starts with: the default settings of paths, with NewReno; ids of eight bytes that last for ten
+/// seconds, one of them issued; packet numbers that are skipped here and there (RFC 9000, 21.4). A client's peer is
+/// validated, a server's is not until it was seen to receive at its address (RFC 9000, 8.1).
 pub fn config(side: Side, remote: SocketAddr) -> RecoveryConfig<NewRenoConfig>
     ensures issued { result.issued ≡ 1 }
     ensures skips { IsSkips result.skips }
@@ -46,8 +47,8 @@ pub fn config(side: Side, remote: SocketAddr) -> RecoveryConfig<NewRenoConfig>
     }
 }
 
-/// The recovery of this stack, with its past: its controllers are NewReno's, its packets carry numbered items, and its skips
-/// are drawn from the words of `Pcg32`.
+/// The recovery of this stack, with its past: its controllers are NewReno's, its packets carry numbered items, and its
+/// skips are drawn from the words of `Pcg32`.
 pub type StackRecovery = LiveRecovery<NewRenoConfig, ItemQueue, Pcg32>;
 
 /// One end of a connection.

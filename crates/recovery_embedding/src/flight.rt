@@ -77,8 +77,8 @@ impl Flight {
         ]
     }
 
-    /// The space in which a packet is lost first by its age, if one waits for that; before all, one in which packets were found lost and
-    /// are not handed in yet.
+    /// The space in which a packet is lost first by its age, if one waits for that; before all, one in which packets
+    /// were found lost and are not handed in yet.
     pub fn first_loss(&self) -> Option<SpaceId> {
         for space in SPACES {
             if self.waiting(space) > 0 {

@@ -13,8 +13,8 @@ impl Connection {
         self.tell(Event::InitialId(id))
     }
 
-    /// The peer issues an id, and may ask for the retirement of others: the numbers for which RETIRE_CONNECTION_ID is to be sent, from the
-    /// first to below the second.
+    /// The peer issues an id, and may ask for the retirement of others: the numbers for which RETIRE_CONNECTION_ID is
+    /// to be sent, from the first to below the second.
     pub fn new_id(&mut self, frame: NewConnectionId) -> Result<Option<(u64, u64)>, Refusal> {
         self.retire(Event::NewId(frame))
     }

@@ -1,5 +1,5 @@
-//! The lines that the example prints, by their form. A function that only prints is proved once; a `println!` amid other calls is
-//! proved with all of them.
+//! The lines that the example prints, by their form. A function that only prints is proved once; a `println!` amid
+//! other calls is proved with all of them.
 use crate::connection::Connection;
 use crate::failure::Failure;
 use quic_recovery::congestion::Controller;

@@ -29,8 +29,8 @@ impl Losses {
         }
     }
 
-    /// The loss of a packet that was not counted in flight, as it holds ACKs alone, is no sign of congestion (RFC 9002, 7 and B.8), nor is
-    /// that of a probe of the MTU (RFC 9000, 14.4).
+    /// The loss of a packet that was not counted in flight, as it holds ACKs alone, is no sign of congestion (RFC 9002,
+    /// 7 and B.8), nor is that of a probe of the MTU (RFC 9000, 14.4).
     fn note(&mut self, size: u16, sent: u64, is_probe: bool) {
         self.packets = self.packets.saturating_add(1);
         if size > 0 && !is_probe {
@@ -41,8 +41,9 @@ impl Losses {
 }
 
 impl Connection {
-    /// The packets of a space that are lost at this moment are handed in, each once; then that these were all, and where one of them
-    /// was in flight, that there is congestion: the window may shrink. Where memory is refused in between, the next call goes on.
+    /// The packets of a space that are lost at this moment are handed in, each once; then that these were all, and
+    /// where one of them was in flight, that there is congestion: the window may shrink. Where memory is refused in
+    /// between, the next call goes on.
     pub fn find_lost(&mut self, now: Instant, space: SpaceId) -> Result<bool, Refusal> {
         let rtt = self.state().current().rtt;
         let delay = loss_delay(rtt.get(), rtt.latest());
@@ -82,8 +83,8 @@ impl Connection {
         Ok(())
     }
 
-    /// A packet is held for lost: its items wait to be sent again. Whether it was a probe of the MTU, whose loss is no sign of congestion
-    /// (RFC 9000, 14.4).
+    /// A packet is held for lost: its items wait to be sent again. Whether it was a probe of the MTU, whose loss is no
+    /// sign of congestion (RFC 9000, 14.4).
     fn packet_lost(&mut self, space: SpaceId, number: u64) -> Result<bool, Refusal> {
         match self.recovery.apply(Event::Lost { space, number }) {
             Ok(Answer::Lost { probe }) => Ok(probe),
@@ -92,7 +93,8 @@ impl Connection {
         }
     }
 
-    /// All that was found lost at one moment was told: whether large datagrams vanish, so that smaller ones are in use now.
+    /// All that was found lost at one moment was told: whether large datagrams vanish, so that smaller ones are in use
+    /// now.
     fn losses_done(&mut self, now: Instant) -> Result<bool, Refusal> {
         match self.recovery.apply(Event::LossesDone { now }) {
             Ok(Answer::BlackHole(is_reported)) => Ok(is_reported),
@@ -111,8 +113,8 @@ impl Connection {
         })
     }
 
-    /// The timer of the loss detection is set to the moment at which the first packet is lost, where one waits for it, and else to that of
-    /// the first probe; with nothing in flight it is stopped (RFC 9002, A.8).
+    /// The timer of the loss detection is set to the moment at which the first packet is lost, where one waits for it,
+    /// and else to that of the first probe; with nothing in flight it is stopped (RFC 9002, A.8).
     pub fn arm_loss_timer(&mut self) -> Result<(), Refusal> {
         let losses = self.flight.loss_times();
         let probes = self.probe_times();
@@ -122,8 +124,8 @@ impl Connection {
         }
     }
 
-    /// When a probe is to go out in each space. Of 1-RTT packets the peer's ACKs may be late, and none is probed for before the
-    /// handshake is confirmed (RFC 9002, 6.2.1).
+    /// When a probe is to go out in each space. Of 1-RTT packets the peer's ACKs may be late, and none is probed for
+    /// before the handshake is confirmed (RFC 9002, 6.2.1).
     fn probe_times(&self) -> [Option<Instant>; 3] {
         let base = self.state().current().rtt.pto_base();
         let soon = probe_timeout(base, Duration::ZERO, self.probes);
@@ -139,7 +141,8 @@ impl Connection {
         ]
     }
 
-    /// The timer of the loss detection expired: whether a probe is to go out. If not, packets were found lost (RFC 9002, A.9).
+    /// The timer of the loss detection expired: whether a probe is to go out. If not, packets were found lost (RFC
+    /// 9002, A.9).
     pub fn loss_timer_expired(&mut self, now: Instant) -> Result<bool, Refusal> {
         let is_probe = match self.flight.first_loss() {
             Some(space) => {
@@ -155,8 +158,8 @@ impl Connection {
         Ok(is_probe)
     }
 
-    /// What goes out, unchecked, in a probe packet. Where nothing waits to be sent it is a PING, whether `ping_pending` was marked just
-    /// now or long ago: no event clears that mark.
+    /// What goes out, unchecked, in a probe packet. Where nothing waits to be sent it is a PING, whether `ping_pending`
+    /// was marked just now or long ago: no event clears that mark.
     pub fn probe(&mut self, space: SpaceId) -> Result<ItemQueue, Refusal> {
         let asked = Event::QueueProbe {
             space,
@@ -170,8 +173,8 @@ impl Connection {
         }
     }
 
-    /// The keys of a space are dropped, and all that was sent in it is neither acknowledged nor lost (RFC 9002, 6.4). With those of the
-    /// Handshake packets the handshake is confirmed (RFC 9001, 4.9.2).
+    /// The keys of a space are dropped, and all that was sent in it is neither acknowledged nor lost (RFC 9002, 6.4).
+    /// With those of the Handshake packets the handshake is confirmed (RFC 9001, 4.9.2).
     pub fn drop_keys(&mut self, space: SpaceId) -> Result<(), Refusal> {
         self.tell(Event::DiscardSpace { space })?;
         self.flight.discard(space);

@@ -11,8 +11,8 @@ impl Connection {
         self.tell(Event::PeerLimit { size })
     }
 
-    /// A larger size may be looked for: number and size of the packet that has to go out, and to fill its datagram, if any. The recovery
-    /// tracks it already, and so does the detector: it is acknowledged or lost as any other.
+    /// A larger size may be looked for: number and size of the packet that has to go out, and to fill its datagram, if
+    /// any. The recovery tracks it already, and so does the detector: it is acknowledged or lost as any other.
     pub fn probe_mtu(&mut self, now: Instant) -> Result<Option<(u64, u16)>, Refusal> {
         let (number, size) = match self.recovery.apply(Event::PollMtu { now }) {
             Ok(Answer::Probe { number, size }) => (number, size),

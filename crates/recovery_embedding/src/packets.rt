@@ -19,7 +19,8 @@ pub struct Outgoing {
 }
 
 impl Connection {
-    /// Whether the window has room for a packet that counts (RFC 9002, 7). Probes of the loss detection go out beyond it.
+    /// Whether the window has room for a packet that counts (RFC 9002, 7). Probes of the loss detection go out beyond
+    /// it.
     pub fn has_room(&self, size: u16) -> bool {
         let path = self.state().current();
         let in_flight = path.in_flight().bytes;
@@ -45,8 +46,8 @@ impl Connection {
         Ok(number)
     }
 
-    /// A packet goes out. The table of replies says that the answer is its number: no other arm can come. With it may come that of
-    /// a packet that elicited no ACK, and is tracked no more.
+    /// A packet goes out. The table of replies says that the answer is its number: no other arm can come. With it may
+    /// come that of a packet that elicited no ACK, and is tracked no more.
     pub fn depart(
         &mut self,
         now: Instant,
@@ -73,8 +74,8 @@ impl Connection {
         self.keep(now, packet, number)
     }
 
-    /// A packet that the recovery tracks is kept until it is acknowledged or lost. Where memory is refused it counts as lost at once,
-    /// so that its items wait to be sent again.
+    /// A packet that the recovery tracks is kept until it is acknowledged or lost. Where memory is refused it counts as
+    /// lost at once, so that its items wait to be sent again.
     pub fn keep(&mut self, now: Instant, packet: Outgoing, number: u64) -> Result<u64, Refusal> {
         let sent = Sent {
             number,

@@ -59,7 +59,8 @@ impl Connection {
         Ok(departure)
     }
 
-    /// A datagram goes out that may not wait, as a probe of the loss detection (RFC 9002, 7.5): it is counted all the same.
+    /// A datagram goes out that may not wait, as a probe of the loss detection (RFC 9002, 7.5): it is counted all the
+    /// same.
     pub fn transmit_at_once(&mut self, now: Instant, bytes: u16) -> Result<(), Refusal> {
         self.tell(Event::Transmit {
             now,
@@ -83,8 +84,9 @@ impl Connection {
         }
     }
 
-    /// The peer is at another address. Where a port alone changed the way is most likely the same, behind a NAT, and what is known of
-    /// it is kept; else all begins anew (RFC 9000, 9.4). The address is to be validated by a challenge (RFC 9000, 8.2).
+    /// The peer is at another address. Where a port alone changed the way is most likely the same, behind a NAT, and
+    /// what is known of it is kept; else all begins anew (RFC 9000, 9.4). The address is to be validated by a challenge
+    /// (RFC 9000, 8.2).
     pub fn peer_moved(
         &mut self,
         now: Instant,
@@ -98,8 +100,8 @@ impl Connection {
         self.set_timer(Timer::PathValidation, now + patience + patience + patience)
     }
 
-    /// A PATH_RESPONSE comes in: whether it answers the challenge, so that the peer is known to receive at the address of the
-    /// current path. The previous one is then used no more.
+    /// A PATH_RESPONSE comes in: whether it answers the challenge, so that the peer is known to receive at the address
+    /// of the current path. The previous one is then used no more.
     pub fn path_response(&mut self, answered: u64) -> Result<bool, Refusal> {
         if self.state().current().challenge != Some(answered) {
             return Ok(false);
@@ -119,8 +121,8 @@ impl Connection {
         })
     }
 
-    /// The network under the current path is another one, though the addresses stay, as when this end changes from one network to
-    /// another behind a tunnel.
+    /// The network under the current path is another one, though the addresses stay, as when this end changes from one
+    /// network to another behind a tunnel.
     pub fn network_changed(&mut self, now: Instant) -> Result<(), Refusal> {
         self.tell(Event::ResetPath { now })
     }

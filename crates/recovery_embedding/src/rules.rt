@@ -1,4 +1,5 @@
-//! What the RFCs ask of a stack in a few places that are easily missed, each seen in a number. Every connection here is new.
+//! What the RFCs ask of a stack in a few places that are easily missed, each seen in a number. Every connection here is
+//! new.
 use crate::client::item;
 use crate::connection::{Connection, Side};
 use crate::failure::Failure;
@@ -125,7 +126,8 @@ fn lose_acks_alone(
     )
 }
 
-/// Counts of an ACK that does not raise the largest number acknowledged may be older than the last ones (RFC 9000, 13.4.2.1).
+/// Counts of an ACK that does not raise the largest number acknowledged may be older than the last ones (RFC 9000,
+/// 13.4.2.1).
 fn leave_out_older_counts(
     rt: &(impl Print + AllocGlobal),
     client: &mut Connection,
@@ -181,8 +183,8 @@ fn arrive_late(alloc: Global, client: &mut Connection) -> Result<(), Refusal> {
     Ok(())
 }
 
-/// The second of two packets arrives after 400 ms again: the first is lost once it is 9/8 of that old, the latest RTT being greater than
-/// the smoothed one (RFC 9002, 6.1.2).
+/// The second of two packets arrives after 400 ms again: the first is lost once it is 9/8 of that old, the latest RTT
+/// being greater than the smoothed one (RFC 9002, 6.1.2).
 fn lose_by_age(alloc: Global, client: &mut Connection) -> Result<(), Refusal> {
     send(alloc, client, 2_000)?;
     let behind = send(alloc, client, 2_000)?;
@@ -273,8 +275,8 @@ fn send_silent(alloc: Global, client: &mut Connection) -> Result<(), Refusal> {
     Ok(())
 }
 
-/// With the keys of a space its packets and the count of probes go (RFC 9002, 6.4 and A.11), and none is probed for in 1-RTT packets before
-/// the handshake is confirmed (RFC 9002, 6.2.1).
+/// With the keys of a space its packets and the count of probes go (RFC 9002, 6.4 and A.11), and none is probed for in
+/// 1-RTT packets before the handshake is confirmed (RFC 9002, 6.2.1).
 fn drop_keys_of_flight(
     rt: &(impl Print + AllocGlobal),
     client: &mut Connection,
@@ -328,8 +330,8 @@ fn mark_challenged(rt: &impl Print, client: &mut Connection) -> Result<(), Failu
     show_value(rt, "packets go out with ECT(0)", &sending_ecn)
 }
 
-/// Where memory is refused to one of the packets that were found lost, it and those behind it wait to be handed in, and nothing is looked
-/// for before they are.
+/// Where memory is refused to one of the packets that were found lost, it and those behind it wait to be handed in, and
+/// nothing is looked for before they are.
 fn keep_what_is_refused(rt: &(impl Print + AllocGlobal)) -> Result<(), Failure> {
     let mut flight = Flight::new(rt.alloc());
     let waiting = lose_two(&mut flight)?;
@@ -341,8 +343,8 @@ fn keep_what_is_refused(rt: &(impl Print + AllocGlobal)) -> Result<(), Failure> 
     )
 }
 
-/// Of five packets the last arrives, so that the first two are lost; one of them is handed in. How many wait once losses are looked for
-/// again.
+/// Of five packets the last arrives, so that the first two are lost; one of them is handed in. How many wait once
+/// losses are looked for again.
 fn lose_two(flight: &mut Flight) -> Result<u64, Failure> {
     for number in 0..5 {
         let packet = Sent {

@@ -30,10 +30,10 @@ pub enum Event<Q: RetransmitQueue> {
         ack_eliciting: bool,
     },
     /// A packet goes out on the current path, under the next number of its space (RFC 9002, A.5). Refused by
-    /// `SpaceDiscarded`, by `NumberTooLarge` where the largest acknowledged number is 2^62 or more, by `NumbersExhausted`
-    /// where the next number is 2^62 or more, by `Overflow` where the bytes in flight, or the count of packets that elicit an
-    /// ACK, would pass `u64::MAX`, then by `NoMemory`. Cost: constant over all calls, but for a packet that is forgotten, which
-    /// costs what `Acked` does.
+    /// `SpaceDiscarded`, by `NumberTooLarge` where the largest acknowledged number is 2^62 or more, by
+    /// `NumbersExhausted` where the next number is 2^62 or more, by `Overflow` where the bytes in flight, or the count
+    /// of packets that elicit an ACK, would pass `u64::MAX`, then by `NoMemory`. Cost: constant over all calls, but for
+    /// a packet that is forgotten, which costs what `Acked` does.
     Send {
         /// The packet number space.
         space: SpaceId,
@@ -62,35 +62,37 @@ pub enum Event<Q: RetransmitQueue> {
         /// Whether the sender had too little to send to fill its window (RFC 9002, 7.8).
         app_limited: bool,
     },
-    /// A packet that was sent is declared lost (RFC 9002, A.10): its queue is to be sent again, behind what is so already.
-    /// Refused by `SpaceDiscarded`, by `NotTracked`, then by `NoMemory`, where the queues could not be joined. Cost:
-    /// logarithmic in the packets tracked, beside that of joining.
+    /// A packet that was sent is declared lost (RFC 9002, A.10): its queue is to be sent again, behind what is so
+    /// already. Refused by `SpaceDiscarded`, by `NotTracked`, then by `NoMemory`, where the queues could not be joined.
+    /// Cost: logarithmic in the packets tracked, beside that of joining.
     Lost {
         /// The packet number space.
         space: SpaceId,
         /// The packet's number.
         number: u64,
     },
-    /// A NEW_CONNECTION_ID frame came in (RFC 9000, 19.15). Refused by `NumberTooLarge` where its number is 2^62 or more, by
-    /// `BadRetirePriorTo` where its retire-prior-to exceeds its number, by `Retired` where its number lies below the active
-    /// one, by `ExceedsLimit` where it lies past the eight numbers that begin at the active one or, where that is greater, at
-    /// its retire-prior-to, then by `Conflict` where its number is held with another id or another token.
+    /// A NEW_CONNECTION_ID frame came in (RFC 9000, 19.15). Refused by `NumberTooLarge` where its number is 2^62 or
+    /// more, by `BadRetirePriorTo` where its retire-prior-to exceeds its number, by `Retired` where its number lies
+    /// below the active one, by `ExceedsLimit` where it lies past the eight numbers that begin at the active one or,
+    /// where that is greater, at its retire-prior-to, then by `Conflict` where its number is held with another id or
+    /// another token.
     NewId(NewConnectionId),
     /// The next id of the peer is to be used, where one is held (RFC 9000, 5.1.2). Never refused.
     NextId,
-    /// The server chose another id for the handshake (RFC 9000, 7.2). Refused by `NotInitialId` where the active id is no
-    /// longer the initial one.
+    /// The server chose another id for the handshake (RFC 9000, 7.2). Refused by `NotInitialId` where the active id is
+    /// no longer the initial one.
     InitialId(ConnectionId),
-    /// This end issues ids (RFC 9000, 5.1.1). Refused by `NumberTooLarge` where more than 2^62 would be issued, by `BadRange`
-    /// where the numbers do not go on from the count issued, then by `NoMemory`. An empty list is never refused.
+    /// This end issues ids (RFC 9000, 5.1.1). Refused by `NumberTooLarge` where more than 2^62 would be issued, by
+    /// `BadRange` where the numbers do not go on from the count issued, then by `NoMemory`. An empty list is never
+    /// refused.
     IssueIds {
         /// When they are issued: their lifetime begins.
         now: Instant,
         /// The ids, in the order of their numbers.
         ids: Vec<IssuedCid>,
     },
-    /// The timer for new ids expired (`Timer::PushNewCid`): the oldest deadline is taken. The answer is whether the peer is
-    /// to be asked by a NEW_CONNECTION_ID frame to retire numbers (RFC 9000, 5.1.2). Never refused.
+    /// The timer for new ids expired (`Timer::PushNewCid`): the oldest deadline is taken. The answer is whether the
+    /// peer is to be asked by a NEW_CONNECTION_ID frame to retire numbers (RFC 9000, 5.1.2). Never refused.
     IdTimeout,
     /// A RETIRE_CONNECTION_ID frame came in (RFC 9000, 19.16). Refused by `CidsNotInUse`, then by `UnissuedCid`.
     PeerRetired {
@@ -99,9 +101,9 @@ pub enum Event<Q: RetransmitQueue> {
         /// How many ids the peer is ready to hold (RFC 9000, 18.2: active_connection_id_limit).
         limit: u64,
     },
-    /// An ACK_FREQUENCY frame came in (draft-ietf-quic-ack-frequency-04, section 4). Refused by `SpaceDiscarded` once the
-    /// space of 1-RTT packets is discarded, then by `DelayTooSmall` where it is newer than the last one and asks for less
-    /// than 1 ms; then its number is kept.
+    /// An ACK_FREQUENCY frame came in (draft-ietf-quic-ack-frequency-04, section 4). Refused by `SpaceDiscarded` once
+    /// the space of 1-RTT packets is discarded, then by `DelayTooSmall` where it is newer than the last one and asks
+    /// for less than 1 ms; then its number is kept.
     AckFrequencyIn(AckFrequency),
     /// An ACK frame was sent that holds all numbers that are to be acknowledged (RFC 9000, 13.2.1). Refused by
     /// `SpaceDiscarded`.
@@ -126,11 +128,11 @@ pub enum Event<Q: RetransmitQueue> {
         /// The timer; the others stay.
         timer: Timer,
     },
-    /// When does the next timer expire (for losses and probes: RFC 9002, A.3)? The answer is the least moment that a timer is
-    /// set to, if any is set. Never refused.
+    /// When does the next timer expire (for losses and probes: RFC 9002, A.3)? The answer is the least moment that a
+    /// timer is set to, if any is set. Never refused.
     NextTimeout,
-    /// The keys of a space are dropped, and with them all that it tracks (RFC 9002, 6.4). Every later event on the space is
-    /// refused by `SpaceDiscarded`, and so is this one. Cost: linear in the packets that the space tracks.
+    /// The keys of a space are dropped, and with them all that it tracks (RFC 9002, 6.4). Every later event on the
+    /// space is refused by `SpaceDiscarded`, and so is this one. Cost: linear in the packets that the space tracks.
     DiscardSpace {
         /// The packet number space.
         space: SpaceId,
@@ -147,8 +149,8 @@ pub enum Event<Q: RetransmitQueue> {
         /// The time from a packet's sending to the ACK that newly acknowledges it.
         rtt: Duration,
     },
-    /// A datagram came in on a path (RFC 9000, 8.1). Refused by `NoSuchPath`, then by `Overflow` where the bytes that came
-    /// in on the path would pass `u64::MAX`.
+    /// A datagram came in on a path (RFC 9000, 8.1). Refused by `NoSuchPath`, then by `Overflow` where the bytes that
+    /// came in on the path would pass `u64::MAX`.
     DatagramIn {
         /// The path.
         path: PathName,
@@ -160,9 +162,9 @@ pub enum Event<Q: RetransmitQueue> {
         /// The path.
         path: PathName,
     },
-    /// A datagram is to be transmitted on the current path. Refused by `Overflow` where the bytes transmitted would pass
-    /// `u64::MAX`. A checked one is `Blocked` by the amplification limit (RFC 9000, 8.1), or else `Delayed` by the pacer
-    /// (RFC 9002, 7.7); neither is counted.
+    /// A datagram is to be transmitted on the current path. Refused by `Overflow` where the bytes transmitted would
+    /// pass `u64::MAX`. A checked one is `Blocked` by the amplification limit (RFC 9000, 8.1), or else `Delayed` by the
+    /// pacer (RFC 9002, 7.7); neither is counted.
     Transmit {
         /// When it is transmitted.
         now: Instant,
@@ -171,8 +173,8 @@ pub enum Event<Q: RetransmitQueue> {
         /// Whether the amplification limit and the pacer are asked.
         checked: bool,
     },
-    /// May so many bytes be transmitted on the current path, as far as the pacer goes (RFC 9002, 7.7)? Never refused. The
-    /// question brings the pacer the tokens of the time that passed.
+    /// May so many bytes be transmitted on the current path, as far as the pacer goes (RFC 9002, 7.7)? Never refused.
+    /// The question brings the pacer the tokens of the time that passed.
     PacerCheck {
         /// When it is asked.
         now: Instant,
@@ -190,8 +192,8 @@ pub enum Event<Q: RetransmitQueue> {
         /// How many bytes were lost.
         bytes: u64,
     },
-    /// All packets that one ACK newly acknowledges were told: the controller of the current path learns what is still in
-    /// flight. Never refused.
+    /// All packets that one ACK newly acknowledges were told: the controller of the current path learns what is still
+    /// in flight. Never refused.
     EndAcks {
         /// When the ACK came in.
         now: Instant,
@@ -200,28 +202,29 @@ pub enum Event<Q: RetransmitQueue> {
         /// The largest number that was acknowledged, if any.
         largest: Option<u64>,
     },
-    /// Is a probe of the current path's MTU due (RFC 8899, 5; RFC 9000, 14.3)? One that is due goes out as a packet of 1-RTT keys that
-    /// elicits an ACK, under the next number, and is tracked like any other. Refused by `SpaceDiscarded`, by
-    /// `NumbersExhausted` where the next number is 2^62 or more, and where a probe is due by `Overflow`, where the bytes in
-    /// flight, or the count of packets that elicit an ACK, would pass `u64::MAX`, then by `NoMemory`.
+    /// Is a probe of the current path's MTU due (RFC 8899, 5; RFC 9000, 14.3)? One that is due goes out as a packet of
+    /// 1-RTT keys that elicits an ACK, under the next number, and is tracked like any other. Refused by
+    /// `SpaceDiscarded`, by `NumbersExhausted` where the next number is 2^62 or more, and where a probe is due by
+    /// `Overflow`, where the bytes in flight, or the count of packets that elicit an ACK, would pass `u64::MAX`, then
+    /// by `NoMemory`.
     PollMtu {
         /// When it is asked.
         now: Instant,
     },
-    /// The peer takes datagrams of at most so many bytes (RFC 9000, 18.2: max_udp_payload_size). Refused by `ZeroMtu`, then by
-    /// `Searching` while the current path's MTU is searched for.
+    /// The peer takes datagrams of at most so many bytes (RFC 9000, 18.2: max_udp_payload_size). Refused by `ZeroMtu`,
+    /// then by `Searching` while the current path's MTU is searched for.
     PeerLimit {
         /// The largest size in bytes, above zero.
         size: u16,
     },
-    /// All packets that were found lost together were told: was there a black hole for large datagrams (RFC 8899, 4.3)? Never
-    /// refused.
+    /// All packets that were found lost together were told: was there a black hole for large datagrams (RFC 8899, 4.3)?
+    /// Never refused.
     LossesDone {
         /// When they were found lost.
         now: Instant,
     },
-    /// The counts of ECN of an ACK frame (RFC 9000, 13.4.2). Refused by `SpaceDiscarded`, then by `Ecn` where the check of
-    /// RFC 9000, 13.4.2.1 fails; the answer is whether more packets were marked as congested.
+    /// The counts of ECN of an ACK frame (RFC 9000, 13.4.2). Refused by `SpaceDiscarded`, then by `Ecn` where the check
+    /// of RFC 9000, 13.4.2.1 fails; the answer is whether more packets were marked as congested.
     Ecn {
         /// The packet number space.
         space: SpaceId,
@@ -230,9 +233,9 @@ pub enum Event<Q: RetransmitQueue> {
         /// Its counts.
         counts: EcnCounts,
     },
-    /// An ACK frame acknowledges a range of numbers (RFC 9000, 13.1). Refused by `SpaceDiscarded`, by `NumberTooLarge` where
-    /// the last number is 2^62 or more, by `BadRange` where the range ends before it begins, then by `SkippedAcked` where
-    /// it holds the last number of 1-RTT packets that was skipped (RFC 9000, 21.4).
+    /// An ACK frame acknowledges a range of numbers (RFC 9000, 13.1). Refused by `SpaceDiscarded`, by `NumberTooLarge`
+    /// where the last number is 2^62 or more, by `BadRange` where the range ends before it begins, then by
+    /// `SkippedAcked` where it holds the last number of 1-RTT packets that was skipped (RFC 9000, 21.4).
     CheckAck {
         /// The packet number space.
         space: SpaceId,
@@ -241,10 +244,10 @@ pub enum Event<Q: RetransmitQueue> {
         /// The last number.
         high: u64,
     },
-    /// A probe packet is to be sent (RFC 9002, 6.2.4): where nothing waits to be sent again, the first tracked packet with a
-    /// queue gives it up, and where none has one a PING is marked, unless the peer is to be asked for an ACK at once. Refused by
-    /// `SpaceDiscarded`, then by `NoMemory` where a queue is moved. Cost: linear in the packets that are passed over; one whose
-    /// queue is void is passed over once, and by later probes not again.
+    /// A probe packet is to be sent (RFC 9002, 6.2.4): where nothing waits to be sent again, the first tracked packet
+    /// with a queue gives it up, and where none has one a PING is marked, unless the peer is to be asked for an ACK at
+    /// once. Refused by `SpaceDiscarded`, then by `NoMemory` where a queue is moved. Cost: linear in the packets that
+    /// are passed over; one whose queue is void is passed over once, and by later probes not again.
     QueueProbe {
         /// The packet number space.
         space: SpaceId,
@@ -258,14 +261,16 @@ pub enum Event<Q: RetransmitQueue> {
         /// The packet number space.
         space: SpaceId,
     },
-    /// Another path is used from now on (RFC 9000, 9.3): the current path becomes the previous one, and an older previous
-    /// one is dropped. Refused by `Overflow` where 2^64 paths were made, then, where the path is not fresh, by `NoMemory`.
+    /// Another path is used from now on (RFC 9000, 9.3): the current path becomes the previous one, and an older
+    /// previous one is dropped. Refused by `Overflow` where 2^64 paths were made, then, where the path is not fresh, by
+    /// `NoMemory`.
     NewPath {
         /// When it is made.
         now: Instant,
         /// The address of the peer.
         remote: SocketAddr,
-        /// Whether round-trip times, controller and MTU begin anew, and are not those of the current path (RFC 9000, 9.4).
+        /// Whether round-trip times, controller and MTU begin anew, and are not those of the current path (RFC 9000,
+        /// 9.4).
         fresh: bool,
     },
     /// Round-trip times, controller, pacer and MTU of the current path begin anew (RFC 9000, 9.4). Never refused.
@@ -304,8 +309,8 @@ pub enum Answer<Q> {
         /// Whether it was the probe of the path's MTU.
         probe: bool,
     },
-    /// Which numbers of the peer's ids are to be retired (RFC 9000, 5.1.2), with the stateless reset token of the id that is
-    /// active from now on; `None` where the active id stays.
+    /// Which numbers of the peer's ids are to be retired (RFC 9000, 5.1.2), with the stateless reset token of the id
+    /// that is active from now on; `None` where the active id stays.
     Retire(Option<(Range<u64>, ResetToken)>),
     /// Yes or no, as the event asks.
     Flag(bool),
@@ -320,8 +325,8 @@ pub enum Answer<Q> {
     },
     /// The datagram is transmitted.
     Transmitted,
-    /// The datagram is not transmitted: the address of the path is not validated, and it would get more than three times
-    /// the bytes that came from it (RFC 9000, 8.1).
+    /// The datagram is not transmitted: the address of the path is not validated, and it would get more than three
+    /// times the bytes that came from it (RFC 9000, 8.1).
     Blocked,
     /// The bytes are not to be transmitted yet: the pacer is to be asked again at this moment (RFC 9002, 7.7).
     Delayed(Instant),
@@ -391,8 +396,8 @@ pub enum Refusal {
     /// The number was not issued (RFC 9000, 19.16).
     #[error("the connection id was not issued")]
     UnissuedCid,
-    /// An ACK_FREQUENCY frame asks for a delay below 1 ms (draft-ietf-quic-ack-frequency-04, section 4). The number of the
-    /// frame is kept.
+    /// An ACK_FREQUENCY frame asks for a delay below 1 ms (draft-ietf-quic-ack-frequency-04, section 4). The number of
+    /// the frame is kept.
     #[error("the requested delay is too small")]
     DelayTooSmall,
     /// A number was acknowledged that was skipped, and never sent (RFC 9000, 21.4).

@@ -1,5 +1,5 @@
 -- Enums and what else crosses by numbers.
-use Rattle.std.specs.Prelude.{◌≡◌, ℕ, ◌+◌, ◌-◌, ◌*◌, ◌^◌, ◌&&◌, Bool, IsTrue, IsFalse, List, length, Option, Some, None, option_map, option_and_then, min, take, if◌then◌else◌, ◌==◌, nat_lt, nat_le}
+use Rattle.std.specs.Prelude.{◌≡◌, ℕ, ◌+◌, ◌-◌, ◌*◌, ◌^◌, ◌&&◌, Bool, IsTrue, IsFalse, List, length, Option, Some, None, option_map, option_and_then, min, take, slice_get, if◌then◌else◌, ◌==◌, nat_lt, nat_le}
 use Rattle.std.specs.Net.Addr.{ipv4_octets, ipv6_segments, segments_of}
 use Rattle.std.specs.Net.Socket.{v4_ip, v4_port, v6_ip, v6_port, v6_flowinfo, v6_scope_id}
 use Rattle.std.specs.declared.net.socket_addr.SocketAddr.{SocketAddr}
@@ -11,7 +11,7 @@ use Rattle.recovery_base.specs.declared.below.frames.EcnCounts.{EcnCounts}
 use Rattle.recovery_base.specs.declared.below.ids.IssuedCid.{IssuedCid}
 use Rattle.recovery_base.specs.declared.below.ids.NewConnectionId.{NewConnectionId}
 use Rattle.recovery_base.specs.declared.timer.Timer.{Timer}
-use Rattle.recovery_base.specs.declared.timer.Timer.TheVariants.{LossDetection, Idle, Close, KeyDiscard, PathValidation, KeepAlive, Pacing, PushNewCid, MaxAckDelay}
+use Rattle.recovery_base.specs.declared.timer.TheConstants.Timer.{VALUES}
 use Rattle.recovery_paths.specs.declared.path_pair.PathName.{PathName}
 use Rattle.recovery_paths.specs.declared.path_pair.PathName.TheVariants.{Current, Previous}
 use Rattle.recovery_ffi.specs.declared.codes.Address.{Address}
@@ -29,16 +29,7 @@ space_number Handshake = 1
 space_number Data = 2
 
 abbrev pub timer_coded : ℕ → Option Timer
-timer_coded code =
-    if code == 0 then Some LossDetection else
-    (if code == 1 then Some Idle else
-    (if code == 2 then Some Close else
-    (if code == 3 then Some KeyDiscard else
-    (if code == 4 then Some PathValidation else
-    (if code == 5 then Some KeepAlive else
-    (if code == 6 then Some Pacing else
-    (if code == 7 then Some PushNewCid else
-    (if code == 8 then Some MaxAckDelay else None))))))))
+timer_coded = slice_get VALUES
 
 abbrev pub path_coded : Bool → PathName
 path_coded previous = if previous then Previous else Current

@@ -67,22 +67,11 @@ pub fn space_number(space: SpaceId) -> u8
     }
 }
 
-/// The timer of a number; none has any other.
+/// The timer of a number: its place in the enum, from 0 on. None has any other.
 pub fn timer_coded(code: u8) -> Option<Timer>
     ensures { result ≡ timer_coded code }
 {
-    match code {
-        0 => Some(Timer::LossDetection),
-        1 => Some(Timer::Idle),
-        2 => Some(Timer::Close),
-        3 => Some(Timer::KeyDiscard),
-        4 => Some(Timer::PathValidation),
-        5 => Some(Timer::KeepAlive),
-        6 => Some(Timer::Pacing),
-        7 => Some(Timer::PushNewCid),
-        8 => Some(Timer::MaxAckDelay),
-        _ => None,
-    }
+    Timer::VALUES.get(usize::from(code)).copied()
 }
 
 /// Which of the two paths: the previous one, or else the one in use.

@@ -1,5 +1,6 @@
-//! A recovery for C and Rust: an exported function for each event, and for what can be read. Each says what the live recovery's
-//! `apply` says of its event, whatever came before, and refuses a call that spells none; docs/RUST.md says what a caller keeps.
+//! A recovery for C and Rust: an exported function for each event, and for what can be read. Each says what the live
+//! recovery's `apply` says of its event, whatever came before, and refuses a call that spells none; docs/RUST.md says
+//! what a caller keeps.
 #![tactic(auto)]
 
 mod acks;
@@ -41,8 +42,8 @@ use settings::{Settings, config, fault};
 use stack::Stack;
 use std::alloc::Global;
 
-/// Makes a recovery, whose peer is at this address and has this id of at most 20 bytes. The answer is `NEW_MADE`, or the number of
-/// what is wrong; the handle then holds what it held.
+/// Makes a recovery, whose peer is at this address and has this id of at most 20 bytes. The answer is `NEW_MADE`, or
+/// the number of what is wrong; the handle then holds what it held.
 #[unsafe(no_mangle)]
 pub extern "C" fn recovery_ffi_new(
     alloc: Global,
@@ -74,8 +75,8 @@ pub extern "C" fn recovery_ffi_new(
 
 /// Holds a recovery that is made of sound settings; false where there is no memory.
 ///
-/// Never inlined: its frame is large, and where clang puts the probe of a large frame behind the tests of a caller's arguments,
-/// the probe overwrites a register that a test has set.
+/// Never inlined: its frame is large, and where clang puts the probe of a large frame behind the tests of a caller's
+/// arguments, the probe overwrites a register that a test has set.
 #[inline(never)]
 fn make(
     alloc: Global,

@@ -1,4 +1,5 @@
-//! What the layer above keeps with a path (RFC 9000, 8.2 and 13.4; RFC 9002, 7.6): it is read and set, and no event changes it.
+//! What the layer above keeps with a path (RFC 9000, 8.2 and 13.4; RFC 9002, 7.6): it is read and set, and no event
+//! changes it.
 ghost use Rattle.std.specs.Prelude.{◌≡◌, None};
 ghost use Rattle.quic_recovery.specs.Above.{marks_at};
 ghost use Rattle.quic_recovery.specs.State.{parts_of};
@@ -20,7 +21,8 @@ use std::alloc::Global;
 pub struct Marks {
     /// What its PATH_CHALLENGE frame says, where one was sent (RFC 9000, 8.2.1).
     pub challenge: u64,
-    /// The number of the first packet that was sent after a sample of the round-trip time (RFC 9002, 7.6.2), where there is one.
+    /// The number of the first packet that was sent after a sample of the round-trip time (RFC 9002, 7.6.2), where
+    /// there is one.
     pub first_number: u64,
     /// The space of that packet.
     pub first_space: u8,
@@ -134,7 +136,8 @@ pub extern "C" fn recovery_ffi_marks(alloc: Global, handle: &mut Handle, previou
     marks
 }
 
-/// The layer above keeps this with a path from now on. False, and nothing changes, where there is no such path or no such space.
+/// The layer above keeps this with a path from now on. False, and nothing changes, where there is no such path or no
+/// such space.
 #[unsafe(no_mangle)]
 pub extern "C" fn recovery_ffi_set_marks(
     alloc: Global,

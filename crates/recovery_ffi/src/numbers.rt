@@ -1,5 +1,5 @@
-//! The numbers that stand for what crosses: answers, refusals of a call, faults of counts, what comes of making a recovery,
-//! and settings that choose. `tests/rust.py --write` writes them for Rust and for C.
+//! The numbers that stand for what crosses: answers, refusals of a call, faults of counts, what comes of making a
+//! recovery, and settings that choose. `tests/rust.py --write` writes them for Rust and for C.
 
 /// The packet is new.
 pub const ANSWER_NEW: u8 = 0;
@@ -44,8 +44,8 @@ pub const ANSWER_REFUSED: u8 = 255;
 
 /// The handle holds no recovery.
 pub const REFUSAL_NO_RECOVERY: u8 = 254;
-/// An argument lies out of its range: a space or a timer that there is not, an id of more than 20 bytes, a number of a frame
-/// of 2^62 or more, nanoseconds of a second or more.
+/// An argument lies out of its range: a space or a timer that there is not, an id of more than 20 bytes, a number of a
+/// frame of 2^62 or more, nanoseconds of a second or more.
 pub const REFUSAL_BAD_ARGUMENT: u8 = 255;
 
 /// The count of ECT(0) fell.

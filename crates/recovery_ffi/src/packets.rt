@@ -136,7 +136,8 @@ pub extern "C" fn recovery_ffi_discard(alloc: Global, handle: &mut Handle, space
     handle.apply(alloc, Event::DiscardSpace { space })
 }
 
-/// How many items the queue that was taken last has; they are written where there is room for all. None, before one was taken.
+/// How many items the queue that was taken last has; they are written where there is room for all. None, before one was
+/// taken.
 #[unsafe(no_mangle)]
 pub extern "C" fn recovery_ffi_taken(alloc: Global, handle: &mut Handle, out: &mut [u64]) -> usize
     ensures { Reads handle.old.slot.held handle.new.slot.held

@@ -1,4 +1,5 @@
-//! Counts of ECN, ranges that are acknowledged, probes and what waits to be sent again (RFC 9000, 13.4; RFC 9002, 6.2.4).
+//! Counts of ECN, ranges that are acknowledged, probes and what waits to be sent again (RFC 9000, 13.4; RFC 9002,
+//! 6.2.4).
 ghost use Rattle.recovery_ffi.specs.Answers.{AnswersTo};
 ghost use Rattle.recovery_ffi.specs.Codes.{counts, space_coded};
 ghost use Rattle.recovery_events.specs.declared.event.Event.TheVariants.{CheckAck, Ecn, QueueProbe, TakePending};

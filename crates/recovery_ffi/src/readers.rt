@@ -1,5 +1,5 @@
-//! What can be read of a recovery: paths, spaces, ranges to be acknowledged, timers, ids. Of a handle that holds none it is what
-//! there is where there is nothing.
+//! What can be read of a recovery: paths, spaces, ranges to be acknowledged, timers, ids. Of a handle that holds none
+//! it is what there is where there is nothing.
 ghost use Rattle.std.specs.Prelude.{◌≡◌, slice_get, None};
 ghost use Rattle.recovery_ids.specs.LocalIds.{first_moment};
 ghost use Rattle.recovery_paths.specs.PathLog.{path_of};
@@ -63,8 +63,8 @@ pub extern "C" fn recovery_ffi_range(
     view
 }
 
-/// How long ago the largest packet of a space came, which an ACK frame tells (RFC 9000, 13.2.5): zero before the first, none
-/// where there is no such space or it is discarded.
+/// How long ago the largest packet of a space came, which an ACK frame tells (RFC 9000, 13.2.5): zero before the first,
+/// none where there is no such space or it is discarded.
 #[unsafe(no_mangle)]
 pub extern "C" fn recovery_ffi_ack_delay(
     alloc: Global,
@@ -113,7 +113,8 @@ pub extern "C" fn recovery_ffi_ids(alloc: Global, handle: &mut Handle) -> IdsVie
     view
 }
 
-/// When the oldest of this end's ids is to be retired (RFC 9000, 5.1.2), where they end: what `TIMER_PUSH_NEW_CID` is set to.
+/// When the oldest of this end's ids is to be retired (RFC 9000, 5.1.2), where they end: what `TIMER_PUSH_NEW_CID` is
+/// set to.
 #[unsafe(no_mangle)]
 pub extern "C" fn recovery_ffi_next_id_timeout(alloc: Global, handle: &mut Handle) -> MomentView
     ensures { Reads handle.old.slot.held handle.new.slot.held (λ stack.

@@ -70,8 +70,9 @@ pub struct Settings {
     pub searches: bool,
 }
 
-/// The default settings: an address that is not validated, ACKs 25 ms late at most, ids of 8 bytes that last 10 s, one of them
-/// issued, no skips, an RTT of 333 ms, MTUs of 1200 bytes and up to 1452, and NewReno with 12,000 bytes and a half.
+/// The default settings: an address that is not validated, ACKs 25 ms late at most, ids of 8 bytes that last 10 s, one
+/// of them issued, no skips, an RTT of 333 ms, MTUs of 1200 bytes and up to 1452, and NewReno with 12,000 bytes and a
+/// half.
 #[unsafe(no_mangle)]
 pub extern "C" fn recovery_ffi_default_settings() -> Settings
     ensures defaults { result ≡ default_settings }

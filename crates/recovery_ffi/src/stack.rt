@@ -52,19 +52,20 @@ pub struct Reply {
     pub kind: u8,
     /// The number of the refusal, or 0; of one by ECN `first` is the number of the fault.
     pub refusal: u8,
-    /// New: whether to start the timer for a late ACK. Sent: whether a silent packet was forgotten for it. Acked, lost: whether
-    /// it was the probe of the path's MTU. Retire: whether numbers are to be retired. Flag: yes or no. Timeout: whether a
-    /// timer is set. Black hole: whether one was reported. Sendable: whether an ACK is to be sent. Otherwise false.
+    /// New: whether to start the timer for a late ACK. Sent: whether a silent packet was forgotten for it. Acked, lost:
+    /// whether it was the probe of the path's MTU. Retire: whether numbers are to be retired. Flag: yes or no. Timeout:
+    /// whether a timer is set. Black hole: whether one was reported. Sendable: whether an ACK is to be sent. Otherwise
+    /// false.
     pub flag: bool,
     /// Sendable: whether there is something else to be sent. Otherwise false.
     pub other: bool,
     /// Probe: its size in bytes. Otherwise 0.
     pub size: u16,
-    /// Sent, probe: the number that it was given. Retire: the first number. Timeout, delayed: the moment, in nanoseconds. In
-    /// flight: the bytes. Otherwise 0.
+    /// Sent, probe: the number that it was given. Retire: the first number. Timeout, delayed: the moment, in
+    /// nanoseconds. In flight: the bytes. Otherwise 0.
     pub first: u64,
-    /// Sent: the number that was forgotten. Retire: one above the last number. In flight: how many packets elicit an ACK.
-    /// Otherwise 0.
+    /// Sent: the number that was forgotten. Retire: one above the last number. In flight: how many packets elicit an
+    /// ACK. Otherwise 0.
     pub second: u64,
 }
 

@@ -42,7 +42,8 @@ pub struct PathView {
     pub pto_base: u64,
     /// The most bytes that the pacer's bucket holds (RFC 9002, 7.7).
     pub pacer_capacity: u64,
-    /// The bytes in that bucket, as the last datagram or question left it: what time has brought since is not among them.
+    /// The bytes in that bucket, as the last datagram or question left it: what time has brought since is not among
+    /// them.
     pub pacer_tokens: u64,
     /// The slow start threshold, where there is one: `u64::MAX` before the first loss (RFC 9002, 7.3.1).
     pub ssthresh: u64,

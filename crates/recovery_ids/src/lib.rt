@@ -1,4 +1,5 @@
-//! Connection ids (RFC 9000, 5.1): those that the peer issued (`queue.rt`), and those that this end issued (`state.rt`).
+//! Connection ids (RFC 9000, 5.1): those that the peer issued (`queue.rt`), and those that this end issued
+//! (`state.rt`).
 #![tactic(auto)]
 
 mod iter;

@@ -23,9 +23,9 @@ struct CidTimestamp {
 /// The ids that this end issued: which of them the peer did not retire, and when it is to be asked to (RFC 9000,
 /// 5.1.2). The numbers begin at 0 and go on without gaps.
 ///
-/// What is kept grows with the numbers that are not retired, and not with how far they lie apart, and with the deadlines,
-/// of which each batch of equal moments has one. A number has a slot of 16 bytes; beside two slots for each number at most
-/// 64 are kept.
+/// What is kept grows with the numbers that are not retired, and not with how far they lie apart, and with the
+/// deadlines, of which each batch of equal moments has one. A number has a slot of 16 bytes; beside two slots for each
+/// number at most 64 are kept.
 #[derive(Drop)]
 pub struct CidState {
     /// Deadlines, the oldest first.
@@ -89,8 +89,8 @@ impl CidState {
     /// Counts the numbers 0 to `issued - 1` as issued, none of them retired, each with a deadline one lifetime from
     /// `now`. Without a lifetime, or where the deadline would pass the clock's end, none is stored.
     ///
-    /// `NoMemory` where there is no room for them, which is asked for at once: 16 bytes a number, so that of a count past
-    /// all memory none is taken. Where none is issued, no memory is taken. The time is linear in the count.
+    /// `NoMemory` where there is no room for them, which is asked for at once: 16 bytes a number, so that of a count
+    /// past all memory none is taken. Where none is issued, no memory is taken. The time is linear in the count.
     pub fn new(
         alloc: Global,
         cid_len: usize,
@@ -177,8 +177,8 @@ impl CidState {
     /// A refusal changes nothing: `CidsNotInUse` where the ids have no bytes, else `UnissuedCid` where the number was
     /// not issued.
     ///
-    /// It takes no memory, and logarithmic time in the unretired numbers, on the mean of many calls: slots are closed up
-    /// where more of them are empty than filled.
+    /// It takes no memory, and logarithmic time in the unretired numbers, on the mean of many calls: slots are closed
+    /// up where more of them are empty than filled.
     pub fn on_cid_retirement(&mut self, sequence: u64, limit: u64) -> Result<bool, RetireError>
         ensures reply { MatchResult result
             (λ more. AcceptsRetirement self.old sequence limit more self.new)

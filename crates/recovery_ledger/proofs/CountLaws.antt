@@ -3,7 +3,7 @@ use Rattle.std.proofs.lemmas.Bool.Decides.{nat_tests}
 use Rattle.std.proofs.Common.{◌≡◌, ℕ, ◌+◌, ◌-◌, ◌<◌, ◌≤◌, ◌⊎◌, MatchOption, true, false, [], ◌∷◌, ◌++◌, length, Option, None, Some, refl, arith, filter}
 use Rattle.std.specs.Prelude.{sum_by}
 use Rattle.std.proofs.lemmas.List.Sums.{sum_by-cons}
-use Rattle.recovery_ledger.specs.Packets.{Packet, Packets, Tracking, packet_at, without, is_above, silent_above, least_number, forgotten_number}
+use Rattle.recovery_ledger.specs.Packets.{Packet, Packets, Tracking, packet_at, without, most_silent, is_above, silent_above, least_number, forgotten_number}
 use Rattle.recovery_ledger.specs.Counts.{silent_count, eliciting_count, size_count, AreCounted}
 use Rattle.recovery_ledger.proofs.PacketLaws.{found-append, AllBelow, sum-without, silent_count-length, some_of, first_found, first_passes}
 
@@ -42,22 +42,22 @@ module _ {P M : Type 0} where
 
       -- ---- limits
 
-      -- at most 1001 silent packets are above the last eliciting number
-      pub silent_bound : length (silent_above last packets) ≤ 1001
+      -- at most `most_silent` silent packets are above the last eliciting number
+      pub silent_bound : length (silent_above last packets) ≤ most_silent
       silent_bound = omega (arith, silent_count-length last packets, counted.bound, counted.silent_is)
 
       module _ {tracking : Tracking P M} (is : record { packets = packets; last_eliciting = last } ≡ tracking) where
         -- ---- what is forgotten
 
         pub none_forgotten : {inside packet : Packet P M} → inside ≡ packet
-            → (inside.ack_eliciting ≡ true) ⊎ (silent < 1001)
+            → (inside.ack_eliciting ≡ true) ⊎ (silent < most_silent)
             → None ≡ forgotten_number tracking.last_eliciting packet tracking.packets
         none_forgotten view none =
             grind (arith, nat_tests, is, view, none, counted.silent_is, silent_count-length last packets)
 
         module _ {inside packet : Packet P M} (view : inside ≡ packet) (is_silent : inside.ack_eliciting ≡ false) where
-          -- the least number above the last eliciting one is what is forgotten, once there are 1001 silent packets
-          pub forgotten_is : 1001 ≤ silent → least_number (filter (λ entry. is_above last entry.0) packets)
+          -- the least number above the last eliciting one is what is forgotten, once there are so many silent packets
+          pub forgotten_is : most_silent ≤ silent → least_number (filter (λ entry. is_above last entry.0) packets)
               ≡ forgotten_number tracking.last_eliciting packet tracking.packets
           forgotten_is full = grind (
             arith,

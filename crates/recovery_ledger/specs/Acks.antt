@@ -2,7 +2,7 @@
 -- QUIC ACK frequency extension, draft-ietf-quic-ack-frequency-04).
 use Rattle.std.specs.Prelude.{ℕ, ◌≡◌, ◌<◌, ◌⊎◌, List, [], ◌∷◌, Bool, IsTrue}
 use Rattle.recovery_base.specs.Numbers.{With}
-use Rattle.recovery_acks.specs.Acks.{AckCounts, AsksAtOnce, fresh, counts_acked, counts_inserted, counts_received}
+use Rattle.recovery_acks.specs.Acks.{AckCounts, AsksAtOnce, fresh, counts_acked, counts_inserted, counts_received, most_ranges}
 use Rattle.recovery_acks.specs.Runs.{IsInHighest}
 use Rattle.recovery_queue.specs.Queues.{QueueWords}
 use Rattle.recovery_ledger.specs.Packets.{packet_at, is_above, largest_acked_by}
@@ -13,10 +13,10 @@ use Rattle.recovery_ledger.specs.Tracked.{sent_by}
 -- ---- the ACK set
 
 module _ {P M S : Type 0} (words : QueueWords P S) where
-  -- the numbers that were new and not subtracted, cut after each to the 64 highest runs
+  -- the numbers that were new and not subtracted, cut after each to the highest runs, `most_ranges` of them
   abbrev pub ToAcknowledge : List (SpaceEntry P M) → ℕ → Type 0
   ToAcknowledge [] n = ⊥
-  ToAcknowledge (heard now number eliciting ∷ earlier) n = IsInHighest 64 (With number (ToAcknowledge earlier)) n
+  ToAcknowledge (heard now m eliciting ∷ earlier) n = IsInHighest most_ranges (With m (ToAcknowledge earlier)) n
   ToAcknowledge (acknowledged number ∷ earlier) n =
       ToAcknowledge earlier n
       × IsTrue (is_above (largest_acked_by (packet_at (sent_by words earlier).tracked number)) n)
@@ -54,8 +54,7 @@ Arms Came Required Started counts number eliciting =
 abbrev pub StartedAt : {P M : Type 0} → List (SpaceEntry P M) → ℕ → Type 0
 StartedAt [] moment = ⊥
 StartedAt (heard now number eliciting ∷ earlier) moment =
-    StartedAt earlier moment
-    ⊎ ((moment ≡ now)
+    StartedAt earlier moment ⊎ ((moment ≡ now)
     × Arms (CameIn earlier) (IsRequired earlier) (StartedAt earlier) (counts_by earlier) number eliciting)
 StartedAt (ack_goes ∷ earlier) moment = ⊥
 StartedAt (entry ∷ earlier) moment = StartedAt earlier moment

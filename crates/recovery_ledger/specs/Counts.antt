@@ -3,7 +3,7 @@ use Rattle.std.specs.Prelude.{◌≡◌, ℕ, ◌^◌, ◌<◌, ◌≤◌, ◌==
 use Rattle.recovery_queue.specs.declared.slots.Slot.{Slot}
 use Rattle.recovery_queue.specs.Slots.{entries_in, IsClosedUp}
 use Rattle.recovery_queue.specs.Queues.{QueueWords, IsVoid}
-use Rattle.recovery_ledger.specs.Packets.{Packet, Packets, AreBelow, is_above, is_silent_above}
+use Rattle.recovery_ledger.specs.Packets.{Packet, Packets, AreBelow, most_silent, is_above, is_silent_above}
 
 abbrev pub silent_count : {P M : Type 0} → Option ℕ → ℕ × Packet P M → ℕ
 silent_count last entry = if is_silent_above last entry then 1 else 0
@@ -14,14 +14,14 @@ eliciting_count last entry = if is_above last entry.0 && entry.1.ack_eliciting t
 abbrev pub size_count : {P M : Type 0} → Packet P M → ℕ
 size_count packet = if packet.size == 0 then 0 else 1
 
--- Silent packets (RFC 9002, 2: not ack-eliciting) above the last eliciting number are counted, at most 1001, and no
--- other kind is above it; the packets with a size are counted.
+-- Silent packets (RFC 9002, 2: not ack-eliciting) above the last eliciting number are counted, at most `most_silent`,
+-- and no other kind is above it; the packets with a size are counted.
 pub record AreCounted {P M : Type 0} (packets : Packets P M) (last : Option ℕ)
     (silent sized : ℕ) : Type 0 where
   pub silent_is : silent ≡ sum_by (silent_count last) packets
   pub others : sum_by (eliciting_count last) packets ≡ 0
   pub sized_is : sized ≡ sum_by (λ entry. size_count entry.1) packets
-  pub bound : silent ≤ 1001
+  pub bound : silent ≤ most_silent
 
 -- the packets above a number are not below another
 abbrev pub AreAboveFrom : {P M : Type 0} → Option ℕ → ℕ → Packets P M → Type 0

@@ -30,8 +30,7 @@ module _ {P M S : Type 0} (words : QueueWords P S) where
   -- the space was made
   abbrev pub largest_acknowledged : ℕ → List (SpaceEntry P M) → Option ℕ × ℕ
   largest_acknowledged start [] = (None, start)
-  largest_acknowledged start (acknowledged number ∷ earlier) =
-      let old = largest_acknowledged start earlier in
+  largest_acknowledged start (acknowledged number ∷ earlier) = let old = largest_acknowledged start earlier in
       option_map_or (λ packet. if is_above old.0 number then (Some number, packet.time_sent) else old)
       (packet_at (sent_by words earlier).tracked number) old
   largest_acknowledged start (entry ∷ earlier) = largest_acknowledged start earlier

@@ -1,5 +1,5 @@
 -- Tracked packets of one space, in the order of their numbers (RFC 9002, A.1).
-use Rattle.std.specs.Prelude.{◌≡◌, ◌≢◌, ℕ, ◌<◌, ◌≤◌, ◌^◌, IsSomeAnd, option_map, ◌⊎◌, Bool, true, not, ◌&&◌, nat_lt, List, [], ◌∷◌, ◌++◌, length, filter, Option, None, Some, if◌then◌else◌}
+use Rattle.std.specs.Prelude.{◌≡◌, ◌≢◌, ℕ, ◌<◌, ◌≤◌, ◌^◌, IsSomeAnd, option_map, ◌⊎◌, Bool, true, not, ◌&&◌, nat_lt, nat_le, List, [], ◌∷◌, ◌++◌, length, filter, Option, None, Some, if◌then◌else◌}
 use Rattle.std.specs.Option.{option_and_then, option_map_or}
 use Rattle.std.specs.Ordering.{nat_cmp}
 use Rattle.std.specs.BTreeMap.{is_at}
@@ -79,11 +79,14 @@ abbrev pub least_number : {P M : Type 0} → Packets P M → Option ℕ
 least_number [] = None
 least_number (entry ∷ packets) = Some entry.0
 
--- the number that is forgotten when a packet is sent: where that is silent, the least of 1001 silent ones
+-- the most silent packets above the last ack-eliciting one that are tracked: quinn-proto keeps 1000 beside the newest
+abbrev pub most_silent : ℕ
+most_silent = 1001
+
+-- the number that is forgotten when a packet is sent: where that is silent, the least of so many silent ones
 abbrev pub forgotten_number : {P M : Type 0} → Option ℕ → Packet P M → Packets P M → Option ℕ
-forgotten_number last packet packets =
-    let silent = silent_above last packets in
-    if packet.ack_eliciting then None else if nat_lt 1000 (length silent) then least_number silent else None
+forgotten_number last packet packets = let silent = silent_above last packets in
+    if not packet.ack_eliciting && nat_le most_silent (length silent) then least_number silent else None
 
 abbrev pub without_some : {P M : Type 0} → Packets P M → Option ℕ → Packets P M
 without_some packets number = option_map_or (without packets) number packets
@@ -94,17 +97,14 @@ sent_onto last number packet packets =
     without_some packets (forgotten_number last packet packets) ++ (number, packet) ∷ []
 
 abbrev pub numbered : {P M : Type 0} → ℕ → Option (Packet P M) → Option (ℕ × Packet P M)
-numbered number None = None
-numbered number (Some packet) = Some (number, packet)
+numbered number = option_map (λ packet. (number, packet))
 
 -- a number with its packet
 abbrev pub entry_at : {P M : Type 0} → Packets P M → Option ℕ → Option (ℕ × Packet P M)
-entry_at packets None = None
-entry_at packets (Some number) = numbered number (packet_at packets number)
+entry_at packets = option_and_then (λ number. numbered number (packet_at packets number))
 
 abbrev pub entry_number : {P M : Type 0} → Option (ℕ × Packet P M) → Option ℕ
-entry_number None = None
-entry_number (Some entry) = Some entry.0
+entry_number = option_map (λ entry. entry.0)
 
 -- a number that is none of a packet (RFC 9000, 12.3)
 abbrev pub IsTooLarge : Option ℕ → Type 0

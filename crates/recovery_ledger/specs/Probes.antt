@@ -17,7 +17,6 @@ module _ {P M S : Type 0} (words : QueueWords P S) (streams : S) where
 
   -- what a probe finds, with these contents pending
   abbrev pub probe_found : P → Packets P M → ProbeFound
-  probe_found pending packets =
-      let none_pending = words.is_empty pending streams in
+  probe_found pending packets = let none_pending = words.is_empty pending streams in
       let moved = if none_pending then first_filled packets else None in
       record { moved = moved; nothing = none_pending && is_none moved }

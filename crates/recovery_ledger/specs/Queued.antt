@@ -40,8 +40,7 @@ module _ {P M S : Type 0} (words : QueueWords P S) where
   -- what was lost or found by a probe, since all was handed out; a space that is discarded has nothing to send
   abbrev pub queued_by : List (SpaceEntry P M) → Queued P
   queued_by [] = record { pending = words.empty; ping = false; immediate = false; ecn = no_ecn }
-  queued_by (loses number ∷ earlier) =
-      let lost = packet_at (sent_by words earlier).tracked number in
+  queued_by (loses number ∷ earlier) = let lost = packet_at (sent_by words earlier).tracked number in
       record (queued_by earlier) { pending = joined_with (queued_by earlier).pending lost }
   queued_by (probes immediate found ∷ earlier) =
       probe_queued immediate found (sent_by words earlier).tracked (queued_by earlier)

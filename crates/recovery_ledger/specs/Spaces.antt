@@ -8,7 +8,7 @@ use Rattle.recovery_base.specs.declared.below.frames.EcnCounts.{EcnCounts}
 use Rattle.recovery_base.specs.declared.dedup.Dedup.{Dedup}
 use Rattle.recovery_base.specs.Numbers.{Recent, With, Exceeds, IsNew}
 use Rattle.recovery_base.specs.Received.{Has}
-use Rattle.recovery_acks.specs.Acks.{AckCounts, Acks, AsksAtOnce, IsPending, SubtractsBelow, acks_sent, counts_inserted, counts_received, new_acks, with_required, with_thresholds}
+use Rattle.recovery_acks.specs.Acks.{AckCounts, Acks, AsksAtOnce, IsPending, SubtractsBelow, acks_sent, counts_inserted, counts_received, most_ranges, new_acks, with_required, with_thresholds}
 use Rattle.recovery_queue.specs.Queues.{QueueWords}
 use Rattle.recovery_ledger.specs.declared.spaces.ReceiveError.{ReceiveError}
 use Rattle.recovery_ledger.specs.declared.spaces.ReceiveError.TheVariants.{NumberTooLarge, NoMemory}
@@ -73,8 +73,7 @@ packets_of space = space.sent_packets.packets
 
 -- what is known of the packets sent
 abbrev pub sent_of : {P M : Type 0} → Space P M → Sent P M
-sent_of space =
-    let packets = space.sent_packets in
+sent_of space = let packets = space.sent_packets in
     record { next = space.next_packet_number; last = packets.last_eliciting; tracked = packets.packets }
 
 -- what is to be sent again, and what probes ask for
@@ -167,7 +166,7 @@ ArmsBy known = Arms known.came known.required known.started
 
 -- a new number came and is to be acknowledged
 pub record HearsNew (Numbers : ℕ → Type 0) (old : Acks) (now number : ℕ) (eliciting : Bool) (new : Acks) : Type 0 where
-  pub pending : (n : ℕ) → IsPending new n ↔ IsInHighest 64 (With number (IsPending old)) n
+  pub pending : (n : ℕ) → IsPending new n ↔ IsInHighest most_ranges (With number (IsPending old)) n
   pub required : IsTrue new.required
       ↔ (IsTrue old.required ⊎ (IsTrue eliciting × AsksAtOnce (With number Numbers) old.counts number))
   pub started : (m : ℕ) → (new.base ≡ Some m)

@@ -17,8 +17,8 @@ pub struct InFlight {
 }
 
 impl InFlight {
-    /// The counters with one packet more (RFC 9002, B.2): its size in bytes, and one where it elicits an ACK. `None` where one
-    /// would pass `u64::MAX`.
+    /// The counters with one packet more (RFC 9002, B.2): its size in bytes, and one where it elicits an ACK. `None`
+    /// where one would pass `u64::MAX`.
     pub fn checked_insert<Q: RetransmitQueue>(self, packet: &SentPacket<Q>) -> Option<InFlight>
         ensures { SomeIff result (¬ Overflows self packet.now) (with_packet self packet.now) }
     {
@@ -30,8 +30,8 @@ impl InFlight {
         })
     }
 
-    /// The counters without a packet that is counted (RFC 9002, B.2): less its size in bytes, and one less where it elicits an
-    /// ACK.
+    /// The counters without a packet that is counted (RFC 9002, B.2): less its size in bytes, and one less where it
+    /// elicits an ACK.
     pub fn remove<Q: RetransmitQueue>(self, packet: &SentPacket<Q>) -> InFlight
         requires { IsCounted self packet.now }
         ensures { result ≡ without_packet self packet.now }

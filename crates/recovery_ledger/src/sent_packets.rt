@@ -1,7 +1,7 @@
 //! The packets that a packet number space tracks (RFC 9002, A.1), by number.
 ghost use Rattle.std.specs.Prelude.{◌≡◌, Decides, ◌^◌, ◌<◌, ◌≤◌, [], ◌∷◌, IfSome, IfOk, OnOk, OnErr, IfNone, MatchOption, length, filter};
 ghost use Rattle.std.specs.Option.{is_some};
-ghost use Rattle.recovery_ledger.specs.Packets.{Tracking, no_packets, packet_at, AreBelow, IsAboveLast, HasSize, is_above, least_number, silent_in, forgotten_number, forgotten_entry, after_sending, after_taking, after_carrying, contents_or};
+ghost use Rattle.recovery_ledger.specs.Packets.{Tracking, no_packets, packet_at, AreBelow, IsAboveLast, HasSize, most_silent, is_above, least_number, silent_in, forgotten_number, forgotten_entry, after_sending, after_taking, after_carrying, contents_or};
 ghost use Rattle.recovery_queue.specs.Queues.{IsVoid};
 ghost use Rattle.recovery_queue.specs.Slots.{entries_in};
 ghost use Rattle.recovery_ledger.specs.Places.{HasSlots, FindsPacket};
@@ -115,7 +115,7 @@ where
         requires above_last { IsAboveLast self.old.last_eliciting number }
         ensures ok { OnOk result (self.new ≡ after_sending number packet self.old) }
         ensures forgotten { IfOk result (λ gone. gone ≡ forgotten_entry packet self.old) }
-        ensures bound { length (silent_in self.new) ≤ 1001 }
+        ensures bound { length (silent_in self.new) ≤ most_silent }
         ensures err { OnErr result (self.new ≡ self.old) }
     {
         let least = self.forgotten(&packet);
@@ -188,8 +188,8 @@ where
         true
     }
 
-    /// The least number of a packet whose queue has something to be sent. Cost: logarithmic in the packets tracked, beside
-    /// those that are passed over: a packet that is known to have nothing is passed over once.
+    /// The least number of a packet whose queue has something to be sent. Cost: logarithmic in the packets tracked,
+    /// beside those that are passed over: a packet that is known to have nothing is passed over once.
     pub fn first_filled(&mut self, streams: &Q::Streams) -> Option<u64>
         ensures number { result ≡ first_filled Q.words streams.now self.old.packets }
         ensures unchanged { self.new ≡ self.old }

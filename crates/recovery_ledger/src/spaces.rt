@@ -4,7 +4,7 @@ ghost use Rattle.std.specs.Prelude.{◌≡◌, ◌≢◌, Decides, ◌<◌, ◌�
 ghost use Rattle.std.specs.Option.{is_some};
 ghost use Rattle.recovery_base.specs.declared.below.SpaceId.{SpaceId};
 ghost use Rattle.recovery_base.specs.Ecn.{ecn_fault};
-ghost use Rattle.recovery_ledger.specs.Packets.{AreBelow, IsAboveLast, HasSize, IsTooLarge, silent_in, packet_at, with_contents, forgotten_entry, after_sending};
+ghost use Rattle.recovery_ledger.specs.Packets.{AreBelow, IsAboveLast, HasSize, IsTooLarge, most_silent, silent_in, packet_at, with_contents, forgotten_entry, after_sending};
 ghost use Rattle.recovery_ledger.specs.Places.{HasSlots, FindsPacket};
 ghost use Rattle.recovery_ledger.specs.Probes.{probe_found};
 ghost use Rattle.recovery_ledger.specs.Queued.{IsSendable};
@@ -222,7 +222,8 @@ where
         self.sent_packets.last_eliciting()
     }
 
-    /// Gives out the next packet number, below 2^62. `None`, and nothing changed, where it would be 2^62 (RFC 9000, 12.3).
+    /// Gives out the next packet number, below 2^62. `None`, and nothing changed, where it would be 2^62 (RFC 9000,
+    /// 12.3).
     pub fn get_tx_number(&mut self) -> Option<u64>
         ensures number { IfSome result (λ number. number ≡ next_number_of self.old) }
         ensures limit { IfSome result (λ number. number < 2 ^ 62) }
@@ -288,8 +289,8 @@ where
 
     /// Tracks a packet under a number above all that were sent. A silent one (RFC 9002, 2: it elicits no ACK) makes the
     /// space forget the least of 1001 silent packets that are tracked above the last one that elicits an ACK: that one
-    /// is handed back with its number. After `NoMemory`, which comes only where a slot was refused, the space is as it was, and
-    /// the packet dropped. Cost: constant over all calls, but for a forgotten packet that of `take`.
+    /// is handed back with its number. After `NoMemory`, which comes only where a slot was refused, the space is as it
+    /// was, and the packet dropped. Cost: constant over all calls, but for a forgotten packet that of `take`.
     pub fn sent(
         &mut self,
         number: u64,
@@ -300,31 +301,31 @@ where
         ensures ok { OnOk result
             (self.new ≡ with_tracking (after_sending number packet (tracking_of self.old)) self.old) }
         ensures forgotten { IfOk result (λ gone. gone ≡ forgotten_entry packet (tracking_of self.old)) }
-        ensures bound { length (silent_in (tracking_of self.new)) ≤ 1001 }
+        ensures bound { length (silent_in (tracking_of self.new)) ≤ most_silent }
         ensures err { OnErr result (self.new ≡ self.old) }
     {
         self.sent_packets.insert(number, packet)
     }
 
-    /// How many slots stand for the tracked packets: a packet that is taken leaves its slot empty. At most 64 are empty beside
-    /// as many as there are packets: past that they are closed up in place. Constant cost.
+    /// How many slots stand for the tracked packets: a packet that is taken leaves its slot empty. At most 64 are empty
+    /// beside as many as there are packets: past that they are closed up in place. Constant cost.
     pub fn slots(&self) -> usize
         ensures { HasSlots (packets_of self.now) result }
     {
         self.sent_packets.slots()
     }
 
-    /// The place of the packet of a number among the slots, `None` where it is not tracked, and how many slots were looked
-    /// at: at most as many as the count of slots has binary digits.
+    /// The place of the packet of a number among the slots, `None` where it is not tracked, and how many slots were
+    /// looked at: at most as many as the count of slots has binary digits.
     pub fn find(&self, number: u64) -> (Option<usize>, u32)
         ensures { FindsPacket (packets_of self.now) number result }
     {
         self.sent_packets.find(number)
     }
 
-    /// Takes out the packet of a number, if it is tracked. It takes no memory. Cost: that of `find`, and constant beside it
-    /// over all calls: empty slots are closed up once there are more than 64 beside as many as there are packets, so that
-    /// at least half as many packets were taken since the last time as slots are gone over.
+    /// Takes out the packet of a number, if it is tracked. It takes no memory. Cost: that of `find`, and constant
+    /// beside it over all calls: empty slots are closed up once there are more than 64 beside as many as there are
+    /// packets, so that at least half as many packets were taken since the last time as slots are gone over.
     pub fn take(&mut self, number: u64) -> Option<SentPacket<Q>>
         ensures packet { result ≡ packet_at (packets_of self.old) number }
         ensures after { self.new ≡ space_takes number self.old }
@@ -388,9 +389,9 @@ where
     }
 
     /// Moves the contents of a tracked packet behind the pending ones, to be sent again (RFC 9000, 13.3); the packet is
-    /// left with an empty queue. False, and nothing changed, where it is not tracked. `NoMemory`, of which a packet that is
-    /// not tracked is never refused, changes nothing. Cost: logarithmic in the packets tracked, and that of the queue's
-    /// `append`.
+    /// left with an empty queue. False, and nothing changed, where it is not tracked. `NoMemory`, of which a packet
+    /// that is not tracked is never refused, changes nothing. Cost: logarithmic in the packets tracked, and that of the
+    /// queue's `append`.
     pub fn queue_lost(&mut self, number: u64) -> Result<bool, NoMemory>
         ensures found { IfOk result (λ found. found ≡ is_some (packet_at (packets_of self.old) number)) }
         ensures tracked { OnErr result (packet_at (packets_of self.old) number ≢ None) }
@@ -410,9 +411,9 @@ where
         }
     }
 
-    /// A packet is lost (RFC 9002, A.10): its contents are moved behind the pending ones, and it is tracked no more. It is
-    /// handed back with an empty queue. `None`, and nothing changed, where it is not tracked; then memory is never refused.
-    /// `NoMemory` changes nothing. Cost as of `queue_lost`.
+    /// A packet is lost (RFC 9002, A.10): its contents are moved behind the pending ones, and it is tracked no more. It
+    /// is handed back with an empty queue. `None`, and nothing changed, where it is not tracked; then memory is never
+    /// refused. `NoMemory` changes nothing. Cost as of `queue_lost`.
     pub fn lose(&mut self, number: u64) -> Result<Option<SentPacket<Q>>, NoMemory>
         ensures packet { IfOk result (λ packet. packet
             ≡ option_map (with_contents Q.words.empty) (packet_at (packets_of self.old) number)) }

@@ -3,8 +3,9 @@
 use Rattle.std.proofs.Common.{arith, ◌≡◌, ℕ, ◌^◌, List, [], ◌∷◌, Option, Some, None, decimal, refl}
 use Rattle.std.proofs.lemmas.Slice.Eq.{bytes_eq-Decides}
 use lib.Chars.{codes}
+use Rattle.recovery_base.specs.Timers.{timer_named}
 use Rattle.recovery_lines.specs.Fields.{Field, Value, word_for, Fits, a_largest}
-use Rattle.recovery_lines.specs.Reading.{◌>>=◌, field, value_of, flag_of, space_of, timer_of, path_of, largest_of, number_of}
+use Rattle.recovery_lines.specs.Reading.{◌>>=◌, field, value_of, flag_of, space_of, path_of, largest_of, number_of}
 use Rattle.std.proofs.lemmas.Fmt.{decimal_is_IsNumeral}
 use Rattle.recovery_lines.proofs.NumberWordLaws.{number_takes, number_again}
 use Rattle.recovery_lines.proofs.PlainWordLaws.{IsPlain, decimal_plain}
@@ -16,12 +17,12 @@ bind_some (Some x) f y e = (x, refl, e)
 bind_some None f y e = absurd cc
 
 takes : (f : Field) (text : List ℕ) (x : Value f) → value_of f text ≡ Some x → (text ≡ word_for f x) × Fits f x
-unfolding flag_of space_of timer_of path_of largest_of
+unfolding flag_of space_of timer_named path_of largest_of
 takes a_largest text (Some n) e = grind (arith, e, bytes_eq-Decides text, number_takes (2 ^ 64) text n)
 takes f text x e = first_of (search number_takes, grind (arith, e, bytes_eq-Decides text))
 
 pub again : (f : Field) (x : Value f) → Fits f x → (value_of f (word_for f x) ≡ Some x) × IsPlain (word_for f x)
-unfolding flag_of space_of timer_of path_of largest_of
+unfolding flag_of space_of timer_named path_of largest_of
 again a_largest (Some n) h = (
   grind (arith, number_again (2 ^ 64) n, decimal_is_IsNumeral n h, bytes_eq-Decides (decimal n) (codes "-")),
   grind (arith, decimal_plain),

@@ -4,8 +4,9 @@ use Rattle.std.specs.Prelude.{ℕ, ◌*◌, ◌<◌, ◌^◌, Bool, List, [], �
 use Rattle.std.specs.List.{AllByRecursion}
 use Rattle.recovery_base.specs.declared.below.SpaceId.{SpaceId}
 use Rattle.recovery_base.specs.declared.timer.Timer.{Timer}
+use Rattle.recovery_base.specs.Timers.{timer_name}
 use Rattle.recovery_events.specs.declared.event.PathName.{PathName}
-use Rattle.recovery_lines.specs.Words.{flag_word, space_word, timer_word, path_word, largest_word}
+use Rattle.recovery_lines.specs.Words.{flag_word, space_word, path_word, largest_word}
 
 pub data Field : Type 0 where
   a_space : Field
@@ -40,7 +41,7 @@ Value a_count = ℕ
 -- the word of a value
 abbrev pub word_for : (field : Field) → Value field → List ℕ
 word_for a_space = space_word
-word_for a_timer = timer_word
+word_for a_timer = timer_name
 word_for a_path = path_word
 word_for a_flag = flag_word
 word_for a_largest = largest_word

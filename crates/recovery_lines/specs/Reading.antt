@@ -9,8 +9,7 @@ use Rattle.std.specs.Str.Parse.{digits_value}
 use lib.Chars.{codes}
 use Rattle.recovery_base.specs.declared.below.SpaceId.{SpaceId}
 use Rattle.recovery_base.specs.declared.below.SpaceId.TheVariants.{Initial, Handshake, Data}
-use Rattle.recovery_base.specs.declared.timer.Timer.{Timer}
-use Rattle.recovery_base.specs.declared.timer.Timer.TheVariants.{LossDetection, Idle, Close, KeyDiscard, PathValidation, KeepAlive, Pacing, PushNewCid, MaxAckDelay}
+use Rattle.recovery_base.specs.Timers.{timer_named}
 use Rattle.recovery_events.specs.declared.event.PathName.{PathName}
 use Rattle.recovery_events.specs.declared.event.PathName.TheVariants.{Current, Previous}
 use Rattle.recovery_lines.specs.declared.lines.Line.{Line}
@@ -45,15 +44,6 @@ space_names = (codes "initial", Initial) ∷ (codes "handshake", Handshake) ∷ 
 
 unfoldable pub space_of : List ℕ → Option SpaceId
 space_of = named space_names
-
-abbrev pub timer_names : List (List ℕ × Timer)
-timer_names = (codes "loss-detection", LossDetection) ∷ (codes "idle", Idle) ∷ (codes "close", Close)
-    ∷ (codes "key-discard", KeyDiscard) ∷ (codes "path-validation", PathValidation)
-    ∷ (codes "keep-alive", KeepAlive) ∷ (codes "pacing", Pacing) ∷ (codes "push-new-cid", PushNewCid)
-    ∷ (codes "max-ack-delay", MaxAckDelay) ∷ []
-
-unfoldable pub timer_of : List ℕ → Option Timer
-timer_of = named timer_names
 
 abbrev pub path_names : List (List ℕ × PathName)
 path_names = (codes "current", Current) ∷ (codes "previous", Previous) ∷ []
@@ -114,7 +104,7 @@ ReadsBy read old new result = Reads (λ x. x) result (words_left new) (read (wor
 -- how a field is read from its word
 abbrev pub value_of : (field : Field) → List ℕ → Option (Value field)
 value_of a_space = space_of
-value_of a_timer = timer_of
+value_of a_timer = timer_named
 value_of a_path = path_of
 value_of a_flag = flag_of
 value_of a_largest = largest_of

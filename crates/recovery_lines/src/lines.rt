@@ -459,7 +459,8 @@ fn zero_ids(alloc: Global, first: u64, count: u64) -> Result<Vec<IssuedCid>, NoM
     Ok(ids)
 }
 
-/// Puts the event of what a line says behind the events; false, and nothing, where a number of an id would pass `u64::MAX`.
+/// Puts the event of what a line says behind the events; false, and nothing, where a number of an id would pass
+/// `u64::MAX`.
 #[inline(always)]
 fn push_meant(line: Line, events: &mut Vec<Event<ItemQueue>>) -> Result<bool, NoMemory>
     requires { vec_len events.old < vec_capacity events.old }
@@ -499,8 +500,9 @@ fn push_read(
     }
 }
 
-/// Puts the event of a line without items behind the events, by the line's name and the words behind it. Names of other lengths are
-/// not compared with it. Each form has a push of its own, so that no event is put together where forms meet.
+/// Puts the event of a line without items behind the events, by the line's name and the words behind it. Names of other
+/// lengths are not compared with it. Each form has a push of its own, so that no event is put together where forms
+/// meet.
 #[tactic(auto, unfolding(crate::specs::Reading::line_behind))]
 fn push_behind(
     name: &[u8],
@@ -566,8 +568,9 @@ fn push_behind(
     }
 }
 
-/// Puts the event that a line spells, given without its line feed, behind the events, which have room for one more: whether it
-/// spells one. Where it spells none, or memory is refused, they stay as they were; the one refusal is `NoMemory`.
+/// Puts the event that a line spells, given without its line feed, behind the events, which have room for one more:
+/// whether it spells one. Where it spells none, or memory is refused, they stay as they were; the one refusal is
+/// `NoMemory`.
 pub fn push_event(line: &[u8], events: &mut Vec<Event<ItemQueue>>) -> Result<bool, NoMemory>
     requires { vec_len events.old < vec_capacity events.old }
     // What is read is spelled so, and what is spelled is read: a line spells at most one event.

@@ -2,8 +2,9 @@
 ghost use Rattle.std.specs.Prelude.{◌≡◌, ◌*◌, ◌<◌, ◌^◌, ◌==◌, [], Some, length, take};
 ghost use Rattle.std.specs.Prelude.{bytes_eq, Decides, IfOk, IfSome, OnErr, IsSome, IsSomeAnd};
 ghost use Rattle.std.specs.List.{position_or_len};
+ghost use Rattle.recovery_base.specs.Timers.{timer_named};
 ghost use Rattle.recovery_lines.specs.Words.{words_of};
-ghost use Rattle.recovery_lines.specs.Reading.{IsFirstNumber, Reads, ReadsBy, words_left, first_word, field, flag_of, space_of, timer_of, path_of, largest_of, number_of};
+ghost use Rattle.recovery_lines.specs.Reading.{IsFirstNumber, Reads, ReadsBy, words_left, first_word, field, flag_of, space_of, path_of, largest_of, number_of};
 ghost use Rattle.recovery_lines.specs.Reading.{items_read, AreItemsRead};
 
 use crate::blanks::word_len;
@@ -94,24 +95,6 @@ fn space_in(word: &[u8]) -> Option<SpaceId>
         name if is_name(name, "initial") => Some(SpaceId::Initial),
         name if is_name(name, "handshake") => Some(SpaceId::Handshake),
         name if is_name(name, "data") => Some(SpaceId::Data),
-        _ => None,
-    }
-}
-
-#[tactic(auto, unfolding(crate::specs::Reading::timer_of))]
-fn timer_in(word: &[u8]) -> Option<Timer>
-    ensures { result ≡ timer_of word.now }
-{
-    match word {
-        name if is_name(name, "loss-detection") => Some(Timer::LossDetection),
-        name if is_name(name, "idle") => Some(Timer::Idle),
-        name if is_name(name, "close") => Some(Timer::Close),
-        name if is_name(name, "key-discard") => Some(Timer::KeyDiscard),
-        name if is_name(name, "path-validation") => Some(Timer::PathValidation),
-        name if is_name(name, "keep-alive") => Some(Timer::KeepAlive),
-        name if is_name(name, "pacing") => Some(Timer::Pacing),
-        name if is_name(name, "push-new-cid") => Some(Timer::PushNewCid),
-        name if is_name(name, "max-ack-delay") => Some(Timer::MaxAckDelay),
         _ => None,
     }
 }
@@ -322,9 +305,9 @@ impl<'a> Words<'a> {
     /// The next word as a timer, by its name in small letters with hyphens.
     #[tactic(auto, unfolding(crate::specs::Reading::field))]
     pub fn timer(&mut self) -> Option<Timer>
-        ensures { ReadsBy (field timer_of) self.old self.new result }
+        ensures { ReadsBy (field timer_named) self.old self.new result }
     {
-        timer_in(self.next()?)
+        Timer::named(self.next()?)
     }
 
     /// Whether no word is left.
@@ -347,7 +330,8 @@ impl<'a> Words<'a> {
         true
     }
 
-    /// All words that are left as items, 0 to `u64::MAX` each. No memory is taken unless they all are, and there is one.
+    /// All words that are left as items, 0 to `u64::MAX` each. No memory is taken unless they all are, and there is
+    /// one.
     pub fn items(&mut self, alloc: Global) -> Result<Option<Vec<u64>>, NoMemory>
         ensures found { IfOk result (AreItemsRead self.old self.new) }
         ensures memory { OnErr result

@@ -19,7 +19,8 @@ pub struct MtuDiscoveryConfig {
 }
 
 impl MtuDiscoveryConfig {
-    /// How long it takes from the end of a search to the next one. Default 600 s (the PMTU_RAISE_TIMER of RFC 8899, 5.1.1).
+    /// How long it takes from the end of a search to the next one. Default 600 s (the PMTU_RAISE_TIMER of RFC 8899,
+    /// 5.1.1).
     pub fn interval(&mut self, value: Duration) -> &mut Self
         ensures same { result.ghost_name ≡ self.entry.ghost_name }
         ensures value { result.now ≡ record self.old { interval = value } }
@@ -28,8 +29,8 @@ impl MtuDiscoveryConfig {
         self
     }
 
-    /// The largest size that is probed, in bytes: at most 65,527, which is stored for a greater one. Default 1452, what IPv6 and
-    /// UDP leave of an Ethernet frame.
+    /// The largest size that is probed, in bytes: at most 65,527, which is stored for a greater one. Default 1452, what
+    /// IPv6 and UDP leave of an Ethernet frame.
     pub fn upper_bound(&mut self, value: u16) -> &mut Self
         ensures same { result.ghost_name ≡ self.entry.ghost_name }
         ensures value { result.now ≡ record self.old { upper_bound = min value 65527 } }
@@ -48,7 +49,8 @@ impl MtuDiscoveryConfig {
         self
     }
 
-    /// The least step from one size to the next that is worth a probe, in bytes: at least 1, which is stored for 0. Default 20.
+    /// The least step from one size to the next that is worth a probe, in bytes: at least 1, which is stored for 0.
+    /// Default 20.
     ///
     /// At 1 and 2 a search may probe its lower bound again, and at 1 a size below it.
     pub fn minimum_change(&mut self, value: u16) -> &mut Self

@@ -13,11 +13,11 @@ use recovery_base::below::SpaceId;
 use recovery_base::time::Instant;
 use std::marker::Model;
 
-/// What is known of the MTU of one path: the size in use, a search for a larger one, and the losses that may mean that it
-/// fell.
+/// What is known of the MTU of one path: the size in use, a search for a larger one, and the losses that may mean that
+/// it fell.
 ///
-/// A search probes sizes in the middle of its bounds, each three times at most, and begins again after an interval. Four
-/// suspicious bursts of losses are a black hole: the least MTU is then in use again (RFC 8899, 4.3).
+/// A search probes sizes in the middle of its bounds, each three times at most, and begins again after an interval.
+/// Four suspicious bursts of losses are a black hole: the least MTU is then in use again (RFC 8899, 4.3).
 ///
 /// Contracts see a `Discovery`. Its MTU is above zero, and it keeps at most four bursts. Sizes are in bytes.
 #[derive(Clone, Copy)]
@@ -70,8 +70,8 @@ impl MtuDiscovery {
         }
     }
 
-    /// A discovery that never probes. Black holes are detected all the same: the MTU then falls from `plpmtu` to `min_mtu`.
-    /// Both are above zero.
+    /// A discovery that never probes. Black holes are detected all the same: the MTU then falls from `plpmtu` to
+    /// `min_mtu`. Both are above zero.
     pub fn disabled(plpmtu: u16, min_mtu: u16) -> Self
         requires mtu { 0 < plpmtu }
         requires least { 0 < min_mtu }
@@ -84,8 +84,8 @@ impl MtuDiscovery {
         }
     }
 
-    /// Begins anew with these sizes, both above zero. The peer's limit stays, also of the MTU in use; a disabled discovery has
-    /// none, and stays disabled.
+    /// Begins anew with these sizes, both above zero. The peer's limit stays, also of the MTU in use; a disabled
+    /// discovery has none, and stays disabled.
     pub fn reset(&mut self, current_mtu: u16, min_mtu: u16)
         requires mtu { 0 < current_mtu }
         requires least { 0 < min_mtu }
@@ -185,8 +185,8 @@ impl MtuDiscovery {
         }
     }
 
-    /// A packet of Data that is no probe in flight was lost, of so many bytes. It joins the burst whose last number is the one
-    /// before it; else that burst closes and another begins.
+    /// A packet of Data that is no probe in flight was lost, of so many bytes. It joins the burst whose last number is
+    /// the one before it; else that burst closes and another begins.
     ///
     /// `black_hole_detected` is to be called once all losses of a moment were told: only then is the last burst known
     /// to be whole.

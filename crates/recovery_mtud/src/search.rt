@@ -153,9 +153,9 @@ impl Search {
         }
     }
 
-    /// The search that a poll goes on with, or begins: none while a probe is in flight, since what becomes of it says which
-    /// size is next, and a lost one costs a whole packet; another search after a while, since a path may come to carry
-    /// more (RFC 8899, 5.1.1).
+    /// The search that a poll goes on with, or begins: none while a probe is in flight, since what becomes of it says
+    /// which size is next, and a lost one costs a whole packet; another search after a while, since a path may come to
+    /// carry more (RFC 8899, 5.1.1).
     fn probing_at(&self, mtu: u16, now: Instant) -> Option<Probing>
         requires { 0 < mtu }
         ensures value { result ≡ probing_at mtu now self.now }

@@ -75,7 +75,8 @@ fn apply(acks: &mut PendingAcks, dedup: &mut Dedup, call: Call, number: u64) -> 
     Some(false)
 }
 
-/// A call and its packet's number; then whether the timer starts and an ACK may be sent, and where a delay of 1 us would end.
+/// A call and its packet's number; then whether the timer starts and an ACK may be sent, and where a delay of 1 us
+/// would end.
 type Row = (Call, u64, bool, bool, Option<u64>);
 
 /// Asserts that in each row all is seen as it says. Numbers rise.

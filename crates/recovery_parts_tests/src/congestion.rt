@@ -61,8 +61,8 @@ fn is_cloned<C: Controller + Drop>(controller: &C) -> bool {
     }
 }
 
-/// Asserts that the window of a controller that is made at 0 with an MTU of 1200 is the initial one, and after each row as
-/// it says, where rows count from 1; that of a clone is the same in the end.
+/// Asserts that the window of a controller that is made at 0 with an MTU of 1200 is the initial one, and after each row
+/// as it says, where rows count from 1; that of a clone is the same in the end.
 fn play<F: ControllerFactory>(rt: &impl Abort, factory: F, initial: u64, rows: &[(Call, u64)])
 where
     F: Drop,

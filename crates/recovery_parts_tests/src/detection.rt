@@ -35,7 +35,8 @@ fn six(rt: &impl Abort, alloc: Global) -> LossDetector {
 /// What a detector is told or asked, and what it answers.
 #[derive(Clone, Copy)]
 enum Row {
-    /// A packet of this number that elicits an ACK is sent: whether it is tracked. If not, its number is none above the last.
+    /// A packet of this number that elicits an ACK is sent: whether it is tracked. If not, its number is none above the
+    /// last.
     Sends(u64, bool),
     /// Numbers from one to another are acknowledged: those that are so for the first time.
     Acks(u64, u64, &'static [u64]),

@@ -121,8 +121,8 @@ fn play_default(rt: &impl Abort, rows: &[Row]) {
     play(rt, &mut discovery, rows);
 }
 
-/// A search over a link that carries so many bytes: the sizes that it probes, and the MTU at its end. A size that the link
-/// carries is acknowledged, and any other is lost three times.
+/// A search over a link that carries so many bytes: the sizes that it probes, and the MTU at its end. A size that the
+/// link carries is acknowledged, and any other is lost three times.
 type Search = (Setting, u16, &'static [u16], u16);
 
 /// How often a size is probed over a link.

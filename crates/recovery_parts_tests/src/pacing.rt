@@ -145,7 +145,8 @@ fn an_rtt_alone_changes_no_capacity(rt: HostRuntime) {
     play(&rt, &FRESH, 0, &ROWS);
 }
 
-/// The path that a pacer is made for, what the path has when so many bytes are asked for at 0, and the moment that is told.
+/// The path that a pacer is made for, what the path has when so many bytes are asked for at 0, and the moment that is
+/// told.
 type Single = (Path, Path, u64, Option<u64>);
 
 fn play_each(rt: &impl Abort, rows: &[Single]) {

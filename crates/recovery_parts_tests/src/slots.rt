@@ -1,5 +1,5 @@
-//! Packets are acknowledged in some order, all but the first: that one is found, and few slots are left. The limit of the
-//! slots, and that few are looked at, is proved.
+//! Packets are acknowledged in some order, all but the first: that one is found, and few slots are left. The limit of
+//! the slots, and that few are looked at, is proved.
 use crate::rows::holds;
 use recovery_base::below::NoMemory;
 use recovery_base::time::Instant;

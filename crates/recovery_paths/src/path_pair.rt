@@ -93,8 +93,8 @@ impl<C: Controller + Drop> PathPair<C> {
         }
     }
 
-    /// A datagram came in on a path, of so many bytes (RFC 9000, 8.1). Refused by `NoSuchPath`, then by `Overflow`; a refusal
-    /// changes nothing.
+    /// A datagram came in on a path, of so many bytes (RFC 9000, 8.1). Refused by `NoSuchPath`, then by `Overflow`; a
+    /// refusal changes nothing.
     pub fn receive_datagram(&mut self, name: PathName, bytes: u64) -> Result<(), DatagramError>
         ensures ok { OnOk result (self.new ≡ on_path_of name (on_state (after_receiving bytes)) self.old) }
         ensures no_path { IsErrOf result DatagramError.NoSuchPath ↔ (path_of name self.old ≡ None) }
@@ -131,8 +131,8 @@ impl<C: Controller + Drop> PathPair<C> {
         }
     }
 
-    /// The layer above keeps this with a path from now on; what it kept before is handed back. `None`, and nothing, where no
-    /// path of the name lives.
+    /// The layer above keeps this with a path from now on; what it kept before is handed back. `None`, and nothing,
+    /// where no path of the name lives.
     pub fn set_marks(&mut self, name: PathName, marks: PathMarks) -> Option<PathMarks>
         ensures before { result ≡ option_map (λ path. path.marks) (path_of name self.old) }
         ensures after { self.new ≡ on_path_of name (with_marks marks) self.old }
@@ -143,10 +143,10 @@ impl<C: Controller + Drop> PathPair<C> {
         }
     }
 
-    /// Tracks a packet of the path in use in a space, and counts it there (RFC 9002, B.2). A packet that the space forgets
-    /// for it is handed back with its number, and is no longer counted on its path. `Overflow` is tested before anything is
-    /// forgotten; a refusal drops the packet and leaves all else. Cost: constant over all calls, but for a packet that is
-    /// forgotten, which costs what `take` does.
+    /// Tracks a packet of the path in use in a space, and counts it there (RFC 9002, B.2). A packet that the space
+    /// forgets for it is handed back with its number, and is no longer counted on its path. `Overflow` is tested before
+    /// anything is forgotten; a refusal drops the packet and leaves all else. Cost: constant over all calls, but for a
+    /// packet that is forgotten, which costs what `take` does.
     pub fn sent<Q>(
         &mut self,
         number: u64,
@@ -181,8 +181,8 @@ impl<C: Controller + Drop> PathPair<C> {
         self.current.on_sent(now, bytes, number);
     }
 
-    /// A packet of a space was acknowledged: whether it was the probe of the MTU in flight. It is counted on its path no
-    /// more, and the path in use is told of it, as [`PathData::on_packet_acked`] says.
+    /// A packet of a space was acknowledged: whether it was the probe of the MTU in flight. It is counted on its path
+    /// no more, and the path in use is told of it, as [`PathData::on_packet_acked`] says.
     pub fn on_packet_acked<Q: RetransmitQueue>(
         &mut self,
         space: SpaceId,
@@ -200,8 +200,8 @@ impl<C: Controller + Drop> PathPair<C> {
             .on_packet_acked(space, number, now, packet, app_limited)
     }
 
-    /// A packet of a space was lost: whether it was the probe of the MTU in flight. It is counted on its path no more, and
-    /// the path in use is told of it, as [`PathData::on_packet_lost`] says.
+    /// A packet of a space was lost: whether it was the probe of the MTU in flight. It is counted on its path no more,
+    /// and the path in use is told of it, as [`PathData::on_packet_lost`] says.
     pub fn on_packet_lost<Q: RetransmitQueue>(
         &mut self,
         space: SpaceId,
@@ -216,8 +216,8 @@ impl<C: Controller + Drop> PathPair<C> {
         self.current.on_packet_lost(space, number, packet)
     }
 
-    /// Takes every packet of a space out, and counts each on its path no more (RFC 9002, 6.4). Cost: linear in the packets
-    /// that the space tracks.
+    /// Takes every packet of a space out, and counts each on its path no more (RFC 9002, 6.4). Cost: linear in the
+    /// packets that the space tracks.
     pub fn forget_all<Q>(&mut self, space: &mut PacketSpace<Q>)
     where
         Q: RetransmitQueue + Drop,
@@ -231,8 +231,8 @@ impl<C: Controller + Drop> PathPair<C> {
         }
     }
 
-    /// A path to another address is used from now on (RFC 9000, 9.3), and the one in use becomes the previous one; an older
-    /// previous one is dropped.
+    /// A path to another address is used from now on (RFC 9000, 9.3), and the one in use becomes the previous one; an
+    /// older previous one is dropped.
     pub fn move_to(&mut self, path: PathData<C>)
         ensures { self.new ≡ moved_to path self.old }
     {

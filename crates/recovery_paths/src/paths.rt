@@ -1,5 +1,5 @@
-//! What is kept for each network path: its round-trip time, its controller and its pacer, what came in and went out, and what
-//! is in flight on it (RFC 9000, 8 and 9; RFC 9002).
+//! What is kept for each network path: its round-trip time, its controller and its pacer, what came in and went out,
+//! and what is in flight on it (RFC 9000, 8 and 9; RFC 9002).
 ghost use Rattle.std.specs.Prelude.{◌≡◌, Decides, ◌↔◌, ◌<◌, ◌+◌, ◌^◌, ◌≤◌, Bool, None, false, OnOk, OnErr, IfOk, IsErrOf};
 ghost use Rattle.std.specs.Option.{IfSome};
 ghost use Rattle.recovery_congestion.specs.Calls.{sends, ends_acks, congests};
@@ -129,9 +129,9 @@ impl<C: Controller> Model for PathData<C> {
 }
 
 impl<C: Controller + Drop> PathData<C> {
-    /// A path on which nothing was sent yet, to an address that is not validated. Its controller is built and its pacer is
-    /// full, for the initial MTU and RTT of the settings. Its MTU is searched for where that is allowed and the settings say
-    /// how, up to the peer's limit (bytes, above zero) where there is one.
+    /// A path on which nothing was sent yet, to an address that is not validated. Its controller is built and its pacer
+    /// is full, for the initial MTU and RTT of the settings. Its MTU is searched for where that is allowed and the
+    /// settings say how, up to the peer's limit (bytes, above zero) where there is one.
     pub fn new<F: ControllerFactory<Controller = C>>(
         remote: SocketAddr,
         allow_mtud: bool,
@@ -259,10 +259,10 @@ impl<C: Controller + Drop> PathData<C> {
         !self.validated && 3 * u128::from(self.total_recvd) < sent
     }
 
-    /// Tracks a packet of this path in a space, and counts it (RFC 9002, B.2). A packet that the space forgets for it is
-    /// handed back with its number, and is no longer counted where it is one of this path's. `Overflow` is tested before
-    /// anything is forgotten; a refusal drops the packet and leaves all else. Cost: constant over all calls, but for a packet
-    /// that is forgotten, which costs what `take` does.
+    /// Tracks a packet of this path in a space, and counts it (RFC 9002, B.2). A packet that the space forgets for it
+    /// is handed back with its number, and is no longer counted where it is one of this path's. `Overflow` is tested
+    /// before anything is forgotten; a refusal drops the packet and leaves all else. Cost: constant over all calls, but
+    /// for a packet that is forgotten, which costs what `take` does.
     pub fn sent<Q>(
         &mut self,
         number: u64,
@@ -310,8 +310,8 @@ impl<C: Controller + Drop> PathData<C> {
         true
     }
 
-    /// A datagram came in on the path, of so many bytes (RFC 9000, 8.1): the total has them. `TotalOverflow`, where it would
-    /// pass `u64::MAX`, changes nothing.
+    /// A datagram came in on the path, of so many bytes (RFC 9000, 8.1): the total has them. `TotalOverflow`, where it
+    /// would pass `u64::MAX`, changes nothing.
     pub fn receive_datagram(&mut self, bytes: u64) -> Result<(), TotalOverflow>
         ensures ok { OnOk result (self.new ≡ on_state (after_receiving bytes) self.old) }
         ensures overflow { OnErr result (2 ^ 64 ≤ self.old.state.total_recvd + bytes) }
@@ -391,8 +391,8 @@ impl<C: Controller + Drop> PathData<C> {
         space == SpaceId::Data && self.on_data_lost(number, packet.size)
     }
 
-    /// The controller is told that an ACK ends: the bytes still in flight on the path, whether the sender had too little to
-    /// send to fill its window (RFC 9002, 7.8), and the largest number that was acknowledged, if any.
+    /// The controller is told that an ACK ends: the bytes still in flight on the path, whether the sender had too
+    /// little to send to fill its window (RFC 9002, 7.8), and the largest number that was acknowledged, if any.
     pub fn on_end_acks(&mut self, now: Instant, app_limited: bool, largest: Option<u64>)
         ensures { let bytes = (counters_of self.old.ledger).bytes in
             self.new ≡ on_state (after_telling C.words (ends_acks now bytes app_limited largest)) self.old }
@@ -401,8 +401,8 @@ impl<C: Controller + Drop> PathData<C> {
             .on_end_acks(now, self.in_flight.bytes, app_limited, largest);
     }
 
-    /// The controller is told of packets that were lost or marked (RFC 9002, 7.3), the last of them sent at `sent`: whether
-    /// the congestion is persistent (RFC 9002, 7.6), and how many bytes were lost.
+    /// The controller is told of packets that were lost or marked (RFC 9002, 7.3), the last of them sent at `sent`:
+    /// whether the congestion is persistent (RFC 9002, 7.6), and how many bytes were lost.
     pub fn on_congestion_event(
         &mut self,
         now: Instant,
@@ -417,8 +417,8 @@ impl<C: Controller + Drop> PathData<C> {
             .on_congestion_event(now, sent, is_persistent, lost_bytes);
     }
 
-    /// When to ask the pacer again for so many bytes, or `None` where they may be sent now: it is asked with the path's RTT,
-    /// MTU and window (RFC 9002, 7.7).
+    /// When to ask the pacer again for so many bytes, or `None` where they may be sent now: it is asked with the path's
+    /// RTT, MTU and window (RFC 9002, 7.7).
     pub fn delay(&mut self, now: Instant, bytes_to_send: u64) -> Option<Instant>
         ensures answer { result ≡ path_delay C.words now bytes_to_send self.old.state }
         ensures asked { self.new ≡ on_state (after_asking C.words now bytes_to_send) self.old }
@@ -436,8 +436,8 @@ impl<C: Controller + Drop> PathData<C> {
         self.total_sent.checked_add(u64::from(bytes)).is_some()
     }
 
-    /// A datagram of so many bytes is transmitted: the total has them (RFC 9000, 8.1), and the pacer takes its tokens off
-    /// (RFC 9002, 7.7).
+    /// A datagram of so many bytes is transmitted: the total has them (RFC 9000, 8.1), and the pacer takes its tokens
+    /// off (RFC 9002, 7.7).
     pub fn transmit(&mut self, bytes: u16)
         requires { self.old.state.total_sent + bytes < 2 ^ 64 }
         ensures { self.new ≡ on_state (after_transmitting bytes) self.old }
@@ -446,8 +446,8 @@ impl<C: Controller + Drop> PathData<C> {
         self.pacing.on_transmit(bytes);
     }
 
-    /// A packet of 1-RTT keys was lost, of so many bytes: whether it was the probe of the MTU in flight. Any other counts
-    /// as the sign of a black hole (RFC 8899, 4.3).
+    /// A packet of 1-RTT keys was lost, of so many bytes: whether it was the probe of the MTU in flight. Any other
+    /// counts as the sign of a black hole (RFC 8899, 4.3).
     fn on_data_lost(&mut self, number: u64, bytes: u16) -> bool
         ensures probe { result ≡ is_probe number self.old.state.discovery }
         ensures state { let call = loss_call number bytes self.old.state.discovery in
@@ -462,8 +462,8 @@ impl<C: Controller + Drop> PathData<C> {
         is_probe
     }
 
-    /// All losses of a moment were told: whether there was a black hole. Then the least MTU is in use, and the controller is told of
-    /// it (RFC 8899, 4.3).
+    /// All losses of a moment were told: whether there was a black hole. Then the least MTU is in use, and the
+    /// controller is told of it (RFC 8899, 4.3).
     pub fn on_losses_done(&mut self, now: Instant) -> bool
         ensures report { result ≡ reports self.old.state.discovery }
         ensures state { let changes = reports self.old.state.discovery in
@@ -476,8 +476,8 @@ impl<C: Controller + Drop> PathData<C> {
         is_black_hole
     }
 
-    /// The peer takes datagrams of at most so many bytes, above zero (RFC 9000, 18.2), while no search runs. The MTU in use falls to
-    /// it; the controller is told nothing.
+    /// The peer takes datagrams of at most so many bytes, above zero (RFC 9000, 18.2), while no search runs. The MTU in
+    /// use falls to it; the controller is told nothing.
     pub fn limit_by_peer(&mut self, size: u16)
         requires size { 0 < size }
         requires no_search { is_searching_of self.old.state.discovery ≡ false }

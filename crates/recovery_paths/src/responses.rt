@@ -89,8 +89,8 @@ impl PathResponses {
         put(&mut self.pending, response);
     }
 
-    /// Takes the last response out, where it goes to another address than `remote`: its token and its address. `None`, and
-    /// nothing changed, where none is to be sent or the last one goes to `remote`.
+    /// Takes the last response out, where it goes to another address than `remote`: its token and its address. `None`,
+    /// and nothing changed, where none is to be sent or the last one goes to `remote`.
     ///
     /// It looks at the last one alone, since one to `remote` is soon sent on the path.
     #[tactic(auto, using(crate::proofs::ResponseLaws::take_sound))]
@@ -107,8 +107,8 @@ impl PathResponses {
         Some((response.token, response.remote))
     }
 
-    /// Takes the last response out, where it goes to `remote`: its token. `None`, and nothing changed, where none is to be
-    /// sent or the last one goes to another address.
+    /// Takes the last response out, where it goes to `remote`: its token. `None`, and nothing changed, where none is to
+    /// be sent or the last one goes to another address.
     ///
     /// It looks at the last one alone, since one to another address is soon sent off the path.
     #[tactic(auto, using(crate::proofs::ResponseLaws::take_sound))]

@@ -5,7 +5,7 @@ pub const VERSION: &str = "recovery-replay 0.11.19\n";
 /// What `--help` writes.
 pub const HELP: &str = "\
 usage: recovery-replay [SEED [WINDOW]]
-Replays a script: reads events from standard input, one a line, and writes what each is answered, once the input is over.
+Replays a script: reads events from standard input, one a line, and writes what each is answered, once the input ends.
 
   SEED       skips packet numbers as this seed draws them (0 to 18446744073709551615); -, or none: skips none
   WINDOW     a congestion window that never changes, in bytes, above 0; none: NewReno

@@ -129,8 +129,8 @@ impl<T: Drop> SlotQueue<T> {
         (place, looks.count())
     }
 
-    /// The place of what is filed under a number, and how many slots were looked at for it: at most as many as the count
-    /// of slots has binary digits, and at most one where no number is left out.
+    /// The place of what is filed under a number, and how many slots were looked at for it: at most as many as the
+    /// count of slots has binary digits, and at most one where no number is left out.
     pub fn find(&self, number: u64) -> (Option<usize>, u32)
         ensures { Finds self.now number result }
     {
@@ -178,8 +178,8 @@ impl<T: Drop> SlotQueue<T> {
 
     /// Files an item under a number above all under which something is filed, any `u64`.
     ///
-    /// `AllocError` changes nothing, and the item is dropped. It costs a few steps, beside one for each empty slot at the
-    /// end with that number or one above, which goes, and a move of the slots where they need more room.
+    /// `AllocError` changes nothing, and the item is dropped. It costs a few steps, beside one for each empty slot at
+    /// the end with that number or one above, which goes, and a move of the slots where they need more room.
     pub fn push(&mut self, number: u64, item: T) -> Result<(), AllocError>
         requires { IsAboveAll (entries_in self.old) number }
         ensures ok { OnOk result

@@ -35,10 +35,10 @@ module _ (skips : Skips) (words : Stream) where
       ]
 
   -- a skip lies below n just where its place is below their count
-  pub skips_below_counts : (n k s : ℕ) → (skip_at skips words k).0 ≡ Some s
+  pub below_counts : (n k s : ℕ) → (skip_at skips words k).0 ≡ Some s
       → (s < n) ↔ (k < skips_below skips words n)
-  skips_below_counts zero k s is = grind arith
-  skips_below_counts (suc n) k s is = go (skips_below_counts n) (is_skipped skips words n) refl
+  below_counts zero k s is = grind arith
+  below_counts (suc n) k s is = go (below_counts n) (is_skipped skips words n) refl
     where
       go : Counts n (skips_below skips words n) → (here : Bool) → is_skipped skips words n ≡ here
           → (s < suc n) ↔ (k < (if here then suc (skips_below skips words n) else skips_below skips words n))
@@ -54,7 +54,7 @@ module _ (skips : Skips) (words : Stream) where
   skipped_in_sequence n = (
     λ here. (skips_below skips words n, is_at-some n _ here),
     λ found. is_at-self n _
-        (rw (only_at n _ (skips_below_counts n) found.0 found.1) at found.1),
+        (rw (only_at n _ (below_counts n) found.0 found.1) at found.1),
   )
 
   pub skip_before_greatest : (n : ℕ) → IsGreatestBelow skips words n (skip_before skips words n)

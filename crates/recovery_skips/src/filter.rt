@@ -147,8 +147,8 @@ impl PacketNumberFilter {
     }
 
     /// Gives out the number that `peek` tells, where `next` is one above the last one, or 0 before the first. Where a
-    /// skip was passed, the skip behind it is drawn from `max(2^e, number + 1)..2^(e + 1)`, `e` being 6 and one more each
-    /// time, so that the number just given out is never skipped.
+    /// skip was passed, the skip behind it is drawn from `max(2^e, number + 1)..2^(e + 1)`, `e` being 6 and one more
+    /// each time, so that the number just given out is never skipped.
     ///
     /// `None` where `peek` tells 2^62 or more (RFC 9000, 12.3): nothing has changed then, and no word is drawn.
     pub fn allocate<R: Rng>(&mut self, rng: &mut R, next: u64) -> Option<u64>

@@ -30,8 +30,8 @@ pub fn skips_ascend()
         (skip_at skips words (suc k)).0 ≡ Some t → s + 2 ≤ t }
 {}
 
-/// The first skip lies below 64, and the one behind so many others as k from `2^(5 + k)` up to below `2^(6 + k)`. A filter
-/// comes to 58 skips at most.
+/// The first skip lies below 64, and the one behind so many others as k from `2^(5 + k)` up to below `2^(6 + k)`. A
+/// filter comes to 58 skips at most.
 #[tactic(auto, using(crate::proofs::DrawLaws::skip_below_power, crate::proofs::SkipLaws::skip_from_power))]
 pub fn skips_lie_between_powers()
     ensures below { (skips : Skips) (words : Stream) → IsSkips skips → AreWords words →
@@ -42,7 +42,7 @@ pub fn skips_lie_between_powers()
 {}
 
 /// A number is skipped just where it stands in the sequence of skips, and those below a number are counted.
-#[tactic(auto, using(crate::proofs::SkipCountLaws::skipped_in_sequence, crate::proofs::SkipCountLaws::skips_below_counts))]
+#[tactic(auto, using(crate::proofs::SkipCountLaws::skipped_in_sequence, crate::proofs::SkipCountLaws::below_counts))]
 pub fn sequence_is_skipped()
     ensures skipped { (skips : Skips) (words : Stream) (n : ℕ) →
         (is_skipped skips words n ≡ true)

@@ -1,4 +1,5 @@
-//! The program `recovery-trace`: one event at a time, its reply at once, and the state where it is asked for. Begin at `turn.rt`.
+//! The program `recovery-trace`: one event at a time, its reply at once, and the state where it is asked for. Begin at
+//! `turn.rt`.
 #![tactic(auto)]
 
 mod faults;

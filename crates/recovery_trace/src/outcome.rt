@@ -24,8 +24,8 @@ pub enum Outcome {
 }
 
 impl Outcome {
-    /// The exit status: 0 where all went well, 2 where a line or the arguments could not be read, 1 where reading, writing or
-    /// memory failed. That nobody reads on is no failure.
+    /// The exit status: 0 where all went well, 2 where a line or the arguments could not be read, 1 where reading,
+    /// writing or memory failed. That nobody reads on is no failure.
     pub fn status(self) -> u8
         ensures { result ≡ status_of self }
     {

@@ -52,8 +52,8 @@ fn keep(line: &mut Vec<u8>, byte: u8) -> Result<(), Outcome>
     }
 }
 
-/// Reads one line in place of what `line` held, without its line feed: of a line of more than 4096 bytes the first 4097,
-/// by which it is known to be too long. `None` where the input is over.
+/// Reads one line in place of what `line` held, without its line feed: of a line of more than 4096 bytes the first
+/// 4097, by which it is known to be too long. `None` where the input is over.
 pub fn next_line<R: Read>(input: &mut R, line: &mut Vec<u8>) -> Result<Option<Next>, Outcome>
     ensures { MatchResult result (IsLine (R.remaining input.old) (R.remaining input.new) line.new.items)
         (BreaksOff (R.remaining input.old) (R.remaining input.new)) }

@@ -92,8 +92,8 @@ fn with_word(choice: Choice, place: Place, word: &[u8]) -> Option<(Choice, Place
     }
 }
 
-/// What the words behind the program's name ask for. Flags may stand anywhere; the first of `--help` and `--version` decides,
-/// unless a word before it is unknown.
+/// What the words behind the program's name ask for. Flags may stand anywhere; the first of `--help` and `--version`
+/// decides, unless a word before it is unknown.
 pub fn request_of(words: &[String]) -> Request {
     let mut choice = Choice {
         seed: None,

@@ -48,7 +48,8 @@ fn write_spans(
 {
     write!(
         text,
-        ",\"smoothed_rtt\":{smoothed}e-6,\"rtt_variance\":{variance}e-6,\"min_rtt\":{least}e-6,\"latest_rtt\":{latest}e-6"
+        ",\"smoothed_rtt\":{smoothed}e-6,\"rtt_variance\":{variance}e-6,\
+        \"min_rtt\":{least}e-6,\"latest_rtt\":{latest}e-6"
     )
 }
 

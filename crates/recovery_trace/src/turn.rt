@@ -100,8 +100,9 @@ fn write_out<W: Write>(output: &mut W, text: &str) -> Result<(), Outcome>
     }
 }
 
-/// One line: its event is done, and its answer is written to `output` and flushed before this returns; or what it is of it that
-/// cannot be read is told to `errors`, and nothing is done. `text` is what is written, of which the caller keeps the room.
+/// One line: its event is done, and its answer is written to `output` and flushed before this returns; or what it is of
+/// it that cannot be read is told to `errors`, and nothing is done. `text` is what is written, of which the caller
+/// keeps the room.
 ///
 /// What cannot be told to `errors` is left out.
 pub fn take_turn<F, W, E>(

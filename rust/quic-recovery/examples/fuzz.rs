@@ -36,5 +36,8 @@ fn main() {
         events += found.len();
         seed += 1;
     }
-    println!("{events} events, all as the program answers");
+    match program {
+        Some(_) => println!("{events} events, all as the program answers"),
+        None => println!("{events} events, compared with nothing"),
+    }
 }

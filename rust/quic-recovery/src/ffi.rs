@@ -70,8 +70,8 @@ pub const REFUSAL_BAD_RETIRE_PRIOR_TO: u8 = 12;
 pub const REFUSAL_CIDS_NOT_IN_USE: u8 = 13;
 /// The number was not issued (RFC 9000, 19.16).
 pub const REFUSAL_UNISSUED_CID: u8 = 14;
-/// An ACK_FREQUENCY frame asks for a delay below 1 ms (draft-ietf-quic-ack-frequency-04, section 4). The number of the
-/// frame is kept.
+/// An ACK_FREQUENCY frame asks for a delay below 1 ms (draft-ietf-quic-ack-frequency-04, section 4). The number of
+/// the frame is kept.
 pub const REFUSAL_DELAY_TOO_SMALL: u8 = 15;
 /// A number was acknowledged that was skipped, and never sent (RFC 9000, 21.4).
 pub const REFUSAL_SKIPPED_ACKED: u8 = 16;
@@ -85,8 +85,8 @@ pub const REFUSAL_BAD_RANGE: u8 = 19;
 pub const REFUSAL_CONFLICT: u8 = 20;
 /// The handle holds no recovery.
 pub const REFUSAL_NO_RECOVERY: u8 = 254;
-/// An argument lies out of its range: a space or a timer that there is not, an id of more than 20 bytes, a number of a frame
-/// of 2^62 or more, nanoseconds of a second or more.
+/// An argument lies out of its range: a space or a timer that there is not, an id of more than 20 bytes, a number of a
+/// frame of 2^62 or more, nanoseconds of a second or more.
 pub const REFUSAL_BAD_ARGUMENT: u8 = 255;
 
 /// The count of ECT(0) fell.
@@ -204,7 +204,8 @@ pub struct Handle {
 pub struct Marks {
     /// What its PATH_CHALLENGE frame says, where one was sent (RFC 9000, 8.2.1).
     pub challenge: u64,
-    /// The number of the first packet that was sent after a sample of the round-trip time (RFC 9002, 7.6.2), where there is one.
+    /// The number of the first packet that was sent after a sample of the round-trip time (RFC 9002, 7.6.2), where
+    /// there is one.
     pub first_number: u64,
     /// The space of that packet.
     pub first_space: u8,
@@ -236,7 +237,8 @@ pub struct MtuView {
     pub some: bool,
 }
 
-/// What a caller holds an MTU discovery by. It begins as all zeros, which holds none; from then on it is the library's own.
+/// What a caller holds an MTU discovery by. It begins as all zeros, which holds none; from then on it is the library's
+/// own.
 #[repr(C)]
 pub struct MtuHandle {
     pub ptr: *mut u8,
@@ -317,19 +319,20 @@ pub struct Reply {
     pub kind: u8,
     /// The number of the refusal, or 0; of one by ECN `first` is the number of the fault.
     pub refusal: u8,
-    /// New: whether to start the timer for a late ACK. Sent: whether a silent packet was forgotten for it. Acked, lost: whether
-    /// it was the probe of the path's MTU. Retire: whether numbers are to be retired. Flag: yes or no. Timeout: whether a
-    /// timer is set. Black hole: whether one was reported. Sendable: whether an ACK is to be sent. Otherwise false.
+    /// New: whether to start the timer for a late ACK. Sent: whether a silent packet was forgotten for it. Acked, lost:
+    /// whether it was the probe of the path's MTU. Retire: whether numbers are to be retired. Flag: yes or no. Timeout:
+    /// whether a timer is set. Black hole: whether one was reported. Sendable: whether an ACK is to be sent. Otherwise
+    /// false.
     pub flag: bool,
     /// Sendable: whether there is something else to be sent. Otherwise false.
     pub other: bool,
     /// Probe: its size in bytes. Otherwise 0.
     pub size: u16,
-    /// Sent, probe: the number that it was given. Retire: the first number. Timeout, delayed: the moment, in nanoseconds. In
-    /// flight: the bytes. Otherwise 0.
+    /// Sent, probe: the number that it was given. Retire: the first number. Timeout, delayed: the moment, in
+    /// nanoseconds. In flight: the bytes. Otherwise 0.
     pub first: u64,
-    /// Sent: the number that was forgotten. Retire: one above the last number. In flight: how many packets elicit an ACK.
-    /// Otherwise 0.
+    /// Sent: the number that was forgotten. Retire: one above the last number. In flight: how many packets elicit an
+    /// ACK. Otherwise 0.
     pub second: u64,
 }
 
@@ -361,7 +364,8 @@ pub struct PathView {
     pub pto_base: u64,
     /// The most bytes that the pacer's bucket holds (RFC 9002, 7.7).
     pub pacer_capacity: u64,
-    /// The bytes in that bucket, as the last datagram or question left it: what time has brought since is not among them.
+    /// The bytes in that bucket, as the last datagram or question left it: what time has brought since is not among
+    /// them.
     pub pacer_tokens: u64,
     /// The slow start threshold, where there is one: `u64::MAX` before the first loss (RFC 9002, 7.3.1).
     pub ssthresh: u64,
@@ -436,8 +440,8 @@ unsafe extern "C" {
     #[link_name = "recovery_ffi_layout_dc6aa126"]
     pub fn recovery_ffi_layout();
 
-    /// Makes a recovery, whose peer is at this address and has this id of at most 20 bytes. The answer is `NEW_MADE`, or the number of
-    /// what is wrong; the handle then holds what it held.
+    /// Makes a recovery, whose peer is at this address and has this id of at most 20 bytes. The answer is `NEW_MADE`, or
+    /// the number of what is wrong; the handle then holds what it held.
     pub fn recovery_ffi_new(
         handle: *mut Handle,
         settings: *const Settings,
@@ -513,13 +517,14 @@ unsafe extern "C" {
     /// What the layer above keeps with a path.
     pub fn recovery_ffi_marks(handle: *mut Handle, previous: bool) -> Marks;
 
-    /// The layer above keeps this with a path from now on. False, and nothing changes, where there is no such path or no such space.
+    /// The layer above keeps this with a path from now on. False, and nothing changes, where there is no such path or no
+    /// such space.
     pub fn recovery_ffi_set_marks(handle: *mut Handle, previous: bool, marks: *const Marks)
         -> bool;
 
-    /// Makes an MTU discovery, as a path of these settings has it: by `initial_mtu`, `min_mtu`, `allow_mtud` and what they say of the
-    /// search. The peer takes datagrams of at most `limit` bytes; 0 says that it did not tell. The answer is `NEW_MADE`, or the number
-    /// of what is wrong; the handle then holds what it held.
+    /// Makes an MTU discovery, as a path of these settings has it: by `initial_mtu`, `min_mtu`, `allow_mtud` and what they
+    /// say of the search. The peer takes datagrams of at most `limit` bytes; 0 says that it did not tell. The answer is
+    /// `NEW_MADE`, or the number of what is wrong; the handle then holds what it held.
     pub fn recovery_ffi_mtu_new(mtu: *mut MtuHandle, settings: *const Settings, limit: u16) -> u8;
 
     /// Frees a discovery. The handle holds none then; one that holds none stays so.
@@ -528,16 +533,16 @@ unsafe extern "C" {
     /// What is known.
     pub fn recovery_ffi_mtu(mtu: *mut MtuHandle) -> MtuView;
 
-    /// Is a probe due? Its size is that of the answer (`ANSWER_PROBE`, otherwise `ANSWER_NO_PROBE`), and it is sent as the packet of
-    /// this number.
+    /// Is a probe due? Its size is that of the answer (`ANSWER_PROBE`, otherwise `ANSWER_NO_PROBE`), and it is sent as the
+    /// packet of this number.
     pub fn recovery_ffi_mtu_poll(mtu: *mut MtuHandle, now: u64, number: u64) -> Reply;
 
-    /// The peer takes datagrams of at most so many bytes. Refused where they are none, and while a search runs: the limit is told
-    /// before the first poll.
+    /// The peer takes datagrams of at most so many bytes. Refused where they are none, and while a search runs: the limit
+    /// is told before the first poll.
     pub fn recovery_ffi_mtu_limit(mtu: *mut MtuHandle, size: u16) -> Reply;
 
-    /// A packet of so many bytes was acknowledged (`ANSWER_ACKED`): the flag says whether it was the probe in flight, whose size is
-    /// then the MTU.
+    /// A packet of so many bytes was acknowledged (`ANSWER_ACKED`): the flag says whether it was the probe in flight, whose
+    /// size is then the MTU.
     pub fn recovery_ffi_mtu_acked(mtu: *mut MtuHandle, number: u64, bytes: u16) -> Reply;
 
     /// The probe in flight was lost. Where none is, nothing changes.
@@ -553,16 +558,17 @@ unsafe extern "C" {
     /// All begins anew, with these sizes; refused where one is zero. The peer's limit stays.
     pub fn recovery_ffi_mtu_reset(mtu: *mut MtuHandle, size: u16, least: u16) -> Reply;
 
-    /// A full bucket at the moment `now`, by the RTT (nanoseconds), the congestion window and the MTU (bytes). Of a window or an MTU
-    /// of 0 it is all zeros, which is none.
+    /// A full bucket at the moment `now`, by the RTT (nanoseconds), the congestion window and the MTU (bytes). Of a window
+    /// or an MTU of 0 it is all zeros, which is none.
     pub fn recovery_ffi_pacer(rtt: u64, window: u64, mtu: u16, now: u64) -> Bucket;
 
-    /// A packet of so many bytes was sent (`ANSWER_TRANSMITTED`): it takes tokens, as far as they go. Refused where the bucket is none.
+    /// A packet of so many bytes was sent (`ANSWER_TRANSMITTED`): it takes tokens, as far as they go. Refused where the
+    /// bucket is none.
     pub fn recovery_ffi_pacer_transmit(bucket: *mut Bucket, bytes: u16) -> Reply;
 
-    /// May so many bytes be sent at the moment `now` (`ANSWER_READY`), or when is it to be asked again (`ANSWER_DELAYED`)? By the RTT
-    /// (nanoseconds), the MTU and the congestion window (bytes) of that moment. Refused where the window or the MTU is 0, or the bucket
-    /// is none.
+    /// May so many bytes be sent at the moment `now` (`ANSWER_READY`), or when is it to be asked again (`ANSWER_DELAYED`)?
+    /// By the RTT (nanoseconds), the MTU and the congestion window (bytes) of that moment. Refused where the window or the
+    /// MTU is 0, or the bucket is none.
     pub fn recovery_ffi_pacer_delay(
         bucket: *mut Bucket,
         rtt: u64,
@@ -609,7 +615,8 @@ unsafe extern "C" {
     /// The keys of a space are dropped (RFC 9002, 6.4): the event `DiscardSpace`.
     pub fn recovery_ffi_discard(handle: *mut Handle, space: u8) -> Reply;
 
-    /// How many items the queue that was taken last has; they are written where there is room for all. None, before one was taken.
+    /// How many items the queue that was taken last has; they are written where there is room for all. None, before one was
+    /// taken.
     pub fn recovery_ffi_taken(handle: *mut Handle, out: *mut u64, out_len: usize) -> usize;
 
     /// What is in flight on a path? The event `InFlight`.
@@ -697,8 +704,8 @@ unsafe extern "C" {
     /// One of the ranges of numbers that are to be acknowledged in a space, in ascending order.
     pub fn recovery_ffi_range(handle: *mut Handle, space: u8, index: usize) -> RangeView;
 
-    /// How long ago the largest packet of a space came, which an ACK frame tells (RFC 9000, 13.2.5): zero before the first, none
-    /// where there is no such space or it is discarded.
+    /// How long ago the largest packet of a space came, which an ACK frame tells (RFC 9000, 13.2.5): zero before the first,
+    /// none where there is no such space or it is discarded.
     pub fn recovery_ffi_ack_delay(handle: *mut Handle, space: u8, now: u64) -> MomentView;
 
     /// When a timer expires.
@@ -707,11 +714,13 @@ unsafe extern "C" {
     /// The ids of both ends, and how late ACKs may be.
     pub fn recovery_ffi_ids(handle: *mut Handle) -> IdsView;
 
-    /// When the oldest of this end's ids is to be retired (RFC 9000, 5.1.2), where they end: what `TIMER_PUSH_NEW_CID` is set to.
+    /// When the oldest of this end's ids is to be retired (RFC 9000, 5.1.2), where they end: what `TIMER_PUSH_NEW_CID` is
+    /// set to.
     pub fn recovery_ffi_next_id_timeout(handle: *mut Handle) -> MomentView;
 
-    /// The default settings: an address that is not validated, ACKs 25 ms late at most, ids of 8 bytes that last 10 s, one of them
-    /// issued, no skips, an RTT of 333 ms, MTUs of 1200 bytes and up to 1452, and NewReno with 12,000 bytes and a half.
+    /// The default settings: an address that is not validated, ACKs 25 ms late at most, ids of 8 bytes that last 10 s, one
+    /// of them issued, no skips, an RTT of 333 ms, MTUs of 1200 bytes and up to 1452, and NewReno with 12,000 bytes and a
+    /// half.
     pub fn recovery_ffi_default_settings() -> Settings;
 
     /// A timer is set to a moment in nanoseconds: the event `SetTimer`.

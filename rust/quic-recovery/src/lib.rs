@@ -36,6 +36,7 @@ mod ffi;
 mod mtud;
 mod pacing;
 mod recovery;
+mod timer;
 mod types;
 
 pub use config::{
@@ -46,9 +47,10 @@ pub use event::{Answer, EcnFault, Event, Refusal};
 pub use mtud::{MtuDiscovery, NotTaken};
 pub use pacing::Pacer;
 pub use recovery::{IdStats, PacerStats, PathStats, Recovery, RttEstimate, SpaceStats};
+pub use timer::Timer;
 pub use types::{
     AckFrequency, CidTooLong, ConnectionId, EcnCounts, Instant, IssuedCid, NewConnectionId,
-    PathMarks, PathName, ResetToken, SendableFrames, SpaceId, Timer, VarInt,
+    PathMarks, PathName, ResetToken, SendableFrames, SpaceId, VarInt,
 };
 
 /// This crate's version, and the logic that the library behind it says it was proved with.

@@ -2,7 +2,8 @@
 use crate::config::{address, ConfigError, RecoveryConfig};
 use crate::event::{Answer, Event, Refusal};
 use crate::ffi;
-use crate::types::{Instant, PathMarks, PathName, ResetToken, SendableFrames, SpaceId, Timer};
+use crate::timer::Timer;
+use crate::types::{Instant, PathMarks, PathName, ResetToken, SendableFrames, SpaceId};
 use std::cell::UnsafeCell;
 use std::fmt;
 use std::ops::Range;

@@ -41,45 +41,6 @@ pub enum PathName {
     Previous,
 }
 
-/// What a timer is for.
-#[derive(Clone, Copy, Debug, PartialEq, Eq, PartialOrd, Ord, Hash)]
-#[repr(u8)]
-pub enum Timer {
-    /// Packets are declared lost, or a probe is sent (RFC 9002, 6.1.2 and 6.2).
-    LossDetection = ffi::TIMER_LOSS_DETECTION,
-    /// The connection was idle for too long (RFC 9000, 10.1).
-    Idle = ffi::TIMER_IDLE,
-    /// The connection is closed for good (RFC 9000, 10.2).
-    Close = ffi::TIMER_CLOSE,
-    /// Keys are discarded (RFC 9001, 4.9).
-    KeyDiscard = ffi::TIMER_KEY_DISCARD,
-    /// The validation of a path failed (RFC 9000, 8.2.4).
-    PathValidation = ffi::TIMER_PATH_VALIDATION,
-    /// A PING keeps the connection alive (RFC 9000, 10.1.2).
-    KeepAlive = ffi::TIMER_KEEP_ALIVE,
-    /// The pacer has tokens again (RFC 9002, 7.7).
-    Pacing = ffi::TIMER_PACING,
-    /// New ids are to be issued (RFC 9000, 5.1.2).
-    PushNewCid = ffi::TIMER_PUSH_NEW_CID,
-    /// An ACK is to be sent (RFC 9000, 13.2.1).
-    MaxAckDelay = ffi::TIMER_MAX_ACK_DELAY,
-}
-
-impl Timer {
-    /// All timers.
-    pub const VALUES: [Timer; 9] = [
-        Timer::LossDetection,
-        Timer::Idle,
-        Timer::Close,
-        Timer::KeyDiscard,
-        Timer::PathValidation,
-        Timer::KeepAlive,
-        Timer::Pacing,
-        Timer::PushNewCid,
-        Timer::MaxAckDelay,
-    ];
-}
-
 /// A moment: nanoseconds since a start that the caller chooses.
 #[derive(Clone, Copy, Debug, PartialEq, Eq, PartialOrd, Ord, Hash)]
 pub struct Instant(u64);

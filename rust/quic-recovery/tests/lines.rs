@@ -32,13 +32,10 @@ fn examples() {
     assert!(seen > 5);
 }
 
-/// Random events; with no proved program there is nothing to compare with, and the test says so.
+/// Random events; with no proved program there is nothing to compare with, and the test fails.
 #[test]
 fn random_events() {
-    let Some(program) = program() else {
-        println!("there is no proved program: ./prove builds it");
-        return;
-    };
+    let program = program().expect("there is no proved program: ./prove builds it");
     let count = std::env::var("QUIC_RECOVERY_EVENTS").ok();
     let count = count.map_or(EVENTS, |it| it.parse().unwrap());
     for seed in 0..(count / EACH) as u64 {

@@ -1,7 +1,8 @@
 -- What is to be acknowledged (RFC 9000, 13.2.3 and 13.2.4): new numbers, but those up to the largest number in the ACK
 -- of a packet that was acknowledged since they came, and those that came to lie below the 64 highest ranges.
 use Rattle.std.specs.Prelude.{◌≡◌, ℕ, ◌≤◌, ◌⊎◌, ◌↔◌, ◌==◌, ◌&&◌, true, false, [], ◌∷◌, IsSomeAnd, Option, None, Ok, if◌then◌else◌}
-use Rattle.recovery_acks.specs.Runs.{AtMost, EndsRun}
+use Rattle.recovery_acks.specs.Acks.{most_ranges}
+use Rattle.recovery_acks.specs.Runs.{LiesBelow}
 use Rattle.recovery_base.specs.declared.below.SpaceId.{SpaceId}
 use Rattle.recovery_base.specs.declared.below.SpaceId.TheVariants.{Data}
 use Rattle.recovery_base.specs.Numbers.{With}
@@ -11,10 +12,6 @@ use Rattle.recovery_events.specs.declared.event.Event.TheVariants.{Received, Sen
 use Rattle.recovery_events.specs.declared.event.Answer.TheVariants.{New, Sent, Probe}
 use Rattle.quic_recovery.specs.Told.{logs_of}
 use Rattle.quic_recovery.specs.History.{Beginning, History}
-
--- more than 64 ranges of a set end at a number or above it
-abbrev pub LiesBelow : (ℕ → Type 0) → ℕ → Type 0
-LiesBelow Numbers n = ¬ AtMost 64 (λ end. (n ≤ end) × EndsRun Numbers end)
 
 module _ {Q S M P : Type 0} (space : SpaceId) where
   -- a number was new in the space
@@ -39,7 +36,8 @@ module _ {Q S M P : Type 0} (space : SpaceId) where
   WasDropped n ((Acked there now m app_limited, Ok answer) ∷ earlier) =
       ((same_space there space ≡ true) × IsSomeAnd (largest_in m earlier) (λ l. n ≤ l)) ⊎ WasDropped n earlier
   WasDropped n ((Received there now m eliciting, Ok (New started)) ∷ earlier) =
-      ((same_space there space ≡ true) × LiesBelow (With m (λ k. HasCome k earlier × ¬ WasDropped k earlier)) n)
+      ((same_space there space ≡ true)
+      × LiesBelow most_ranges (With m (λ k. HasCome k earlier × ¬ WasDropped k earlier)) n)
       ⊎ (((same_space there space && m == n) ≡ false) × WasDropped n earlier)
   WasDropped n (happened ∷ earlier) = WasDropped n earlier
 

@@ -4,6 +4,7 @@ use Rattle.std.specs.Prelude.{◌≡◌, ℕ, ◌+◌, ◌^◌, Bool, true, fals
 use Rattle.std.specs.List.{list_all}
 use Rattle.std.specs.Set.{is_member}
 use Rattle.recovery_base.specs.declared.below.SpaceId.{SpaceId}
+use Rattle.recovery_base.specs.Numbers.{most_below}
 use Rattle.recovery_base.specs.Spaces.{same_space}
 use Rattle.recovery_events.specs.declared.event.Event.{Event}
 use Rattle.recovery_events.specs.declared.event.Event.TheVariants.{Received, DiscardSpace}
@@ -11,10 +12,10 @@ use Rattle.recovery_events.specs.declared.event.Answer.TheVariants.{New, Duplica
 use Rattle.recovery_events.specs.declared.event.Refusal.TheVariants.{SpaceDiscarded, NumberTooLarge, NoMemory}
 use Rattle.quic_recovery.specs.History.{History, Reply}
 
--- it exceeds every number that came, or it is none of them, and at most 128 below each
+-- it exceeds every number that came, or it is none of them, and at most 128 (`most_below`) below each
 abbrev pub is_new : List ℕ → ℕ → Bool
 is_new came n = list_all (λ m. nat_lt m n) came
-    || (not (is_member nat_eq came n) && list_all (λ m. nat_le m (n + 128)) came)
+    || (not (is_member nat_eq came n) && list_all (λ m. nat_le m (n + most_below)) came)
 
 -- what a packet is replied, where its space was discarded or not, its number is too large or not, and new or not
 abbrev pub IsVerdict : {Q : Type 0} → Bool → Bool → Bool → Reply Q → Type 0

@@ -21,7 +21,8 @@ where
     ghost use Rattle.recovery_events.specs.declared.event.Event.TheVariants.{PollMtu, PeerLimit, LossesDone};
     ghost use Rattle.quic_recovery.specs.State.{Transition};
 
-    /// Is a probe of the MTU due? The discovery is kept once the probe is tracked, so that a refusal leaves it as it was.
+    /// Is a probe of the MTU due? The discovery is kept once the probe is tracked, so that a refusal leaves it as it
+    /// was.
     pub(super) fn poll_mtu(&mut self, now: Instant) -> Result<Answer<Q>, Refusal>
         ensures { Transition (PollMtu now) self.old result self.new }
     {

@@ -156,8 +156,8 @@ where
     }
 }
 
-/// The number that is given out next in a space, where `next` is one above the last one: numbers of 1-RTT packets are skipped
-/// at times (RFC 9000, 21.4).
+/// The number that is given out next in a space, where `next` is one above the last one: numbers of 1-RTT packets are
+/// skipped at times (RFC 9000, 21.4).
 fn number_behind(filter: &PacketNumberFilter, space: SpaceId, next: u64) -> u64
     ensures { result ≡ number_behind filter.now space next }
 {

@@ -75,8 +75,8 @@ fn leaves_the_last_counts(left: &Reno) -> bool {
     }
 }
 
-/// The first cause that holds is told, and what is refused keeps the old counts. That the count of ECT(1) falls cannot be
-/// seen here: it never rises.
+/// The first cause that holds is told, and what is refused keeps the old counts. That the count of ECT(1) falls cannot
+/// be seen here: it never rises.
 #[test]
 fn counts_of_ecn(rt: HostRuntime) {
     check_left(
@@ -99,7 +99,8 @@ fn counts_of_ecn(rt: HostRuntime) {
     );
 }
 
-/// What is lost is added to what waits already; a probe takes what waits, or else what the first packet with a queue has.
+/// What is lost is added to what waits already; a probe takes what waits, or else what the first packet with a queue
+/// has.
 #[test]
 fn what_is_sent_again(rt: HostRuntime) {
     check(
@@ -139,8 +140,8 @@ fn has_marks(left: &Reno, ping: bool, immediate_ack: bool, probes: u32) -> bool 
     }
 }
 
-/// Where nothing is found a PING is marked, unless an ACK at once is asked for. Queues are asked with the streams of the
-/// event.
+/// Where nothing is found a PING is marked, unless an ACK at once is asked for. Queues are asked with the streams of
+/// the event.
 #[test]
 fn a_probe_that_finds_nothing(rt: HostRuntime) {
     check_left(

@@ -59,8 +59,8 @@ fn three_times_what_came_in(rt: HostRuntime) {
     );
 }
 
-/// What is told of a controller holds of another one: its window, 24,000 bytes at first, halves at each congestion event,
-/// and no acknowledgement raises it.
+/// What is told of a controller holds of another one: its window, 24,000 bytes at first, halves at each congestion
+/// event, and no acknowledgement raises it.
 #[test]
 fn a_controller_that_halves(rt: HostRuntime) {
     let transport = TransportConfig::with_factory(HalvingConfig::new(24_000));

@@ -66,8 +66,9 @@ impl ArrayRangeSet {
 
     /// Adds a number below 2^62, and says whether it is new.
     ///
-    /// `NoMemory` changes nothing; a number that is in the set takes no memory. It costs a look at the last range, a binary
-    /// search of the ranges where the number lies below that one, and a move of those above where one comes or goes.
+    /// `NoMemory` changes nothing; a number that is in the set takes no memory. It costs a look at the last range, a
+    /// binary search of the ranges where the number lies below that one, and a move of those above where one comes or
+    /// goes.
     pub fn insert_one(&mut self, x: u64) -> Result<bool, NoMemory>
         requires { x < 2 ^ 62 }
         ensures inserts { IfOk result (λ new. InsertsOne self.old x new self.new) }
@@ -81,8 +82,8 @@ impl ArrayRangeSet {
 
     /// Takes the numbers of a range out, and says whether one went.
     ///
-    /// `NoMemory` changes nothing. Memory is taken only where one of the ranges holds numbers on both sides of those that
-    /// go: a removal that starts at 0 takes none. It costs one pass over the ranges.
+    /// `NoMemory` changes nothing. Memory is taken only where one of the ranges holds numbers on both sides of those
+    /// that go: a removal that starts at 0 takes none. It costs one pass over the ranges.
     pub fn remove(&mut self, range: Range<u64>) -> Result<bool, NoMemory>
         ensures removes { IfOk result (λ some.
             Removes self.old range.start range.end some self.new) }

@@ -10,7 +10,8 @@ use recovery_base::below::NoMemory;
 use recovery_base::time::Instant;
 use std::marker::Model;
 
-/// The default initial window, in bytes: ten datagrams of 1200 bytes, since these are less than 14720 bytes (RFC 9002, 7.2).
+/// The default initial window, in bytes: ten datagrams of 1200 bytes, since these are less than 14720 bytes (RFC 9002,
+/// 7.2).
 const INITIAL_WINDOW: u64 = 12_000;
 
 /// How a [`NewReno`] begins, and how a loss reduces its window.
@@ -84,8 +85,8 @@ impl ControllerFactory for NewRenoConfig {
     ghost starts_at_initial = { λ factory now mtu. refl };
 }
 
-/// A window that grows by the bytes acknowledged up to a threshold, above it by one MTU for each window of them, and falls
-/// by a fixed factor at a loss, once in a recovery (RFC 9002, 7.3).
+/// A window that grows by the bytes acknowledged up to a threshold, above it by one MTU for each window of them, and
+/// falls by a fixed factor at a loss, once in a recovery (RFC 9002, 7.3).
 #[derive(Clone, Drop)]
 pub struct NewReno {
     config: NewRenoConfig,
@@ -97,8 +98,8 @@ pub struct NewReno {
 }
 
 impl NewReno {
-    /// In slow start, with the window of the configuration, for a path of this MTU in bytes. Packets sent at this moment
-    /// or before count as sent before it.
+    /// In slow start, with the window of the configuration, for a path of this MTU in bytes. Packets sent at this
+    /// moment or before count as sent before it.
     pub fn new(config: NewRenoConfig, now: Instant, current_mtu: u16) -> Self
         ensures value { result ≡ reno_made config now current_mtu }
         ensures sound { 0 < current_mtu → IsRenoSound result }

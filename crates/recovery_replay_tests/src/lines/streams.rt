@@ -51,7 +51,8 @@ impl Read for Source<'_> {
     }
 }
 
-/// Takes bytes in small pieces, each after an interrupted write, as long as it has room; then it fails, in one way, or takes none.
+/// Takes bytes in small pieces, each after an interrupted write, as long as it has room; then it fails, in one way, or
+/// takes none.
 #[derive(Drop)]
 struct Sink {
     taken: Vec<u8>,
@@ -135,8 +136,8 @@ fn assert_front(rt: &impl Abort, alloc: Global, front: &[u8], fails: bool) {
     }
 }
 
-/// Asserts how a run ends whose output takes some bytes of the answers, and then fails, and maybe no flush: where nobody reads them any
-/// more (a closed pipe), quietly.
+/// Asserts how a run ends whose output takes some bytes of the answers, and then fails, and maybe no flush: where
+/// nobody reads them any more (a closed pipe), quietly.
 fn assert_room(rt: &impl Abort, alloc: Global, front: &[u8], fails: bool, flush_fails: bool) {
     let is_cut = front.len() < ANSWERS.len();
     let is_broken = if is_cut { fails } else { flush_fails };

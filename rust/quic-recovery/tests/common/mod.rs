@@ -14,18 +14,6 @@ pub struct Line {
     ids: Vec<IssuedCid>,
 }
 
-const TIMERS: [&str; 9] = [
-    "loss-detection",
-    "idle",
-    "close",
-    "key-discard",
-    "path-validation",
-    "keep-alive",
-    "pacing",
-    "push-new-cid",
-    "max-ack-delay",
-];
-
 const SPACES: [(&str, SpaceId); 3] = [
     ("initial", SpaceId::Initial),
     ("handshake", SpaceId::Handshake),
@@ -95,8 +83,7 @@ impl Line {
     }
 
     fn timer(&self, at: usize) -> Timer {
-        let found = TIMERS.iter().position(|it| *it == self.words[at]);
-        Timer::VALUES[found.unwrap()]
+        Timer::named(&self.words[at]).unwrap()
     }
 
     fn var(&self, at: usize) -> VarInt {
@@ -416,6 +403,10 @@ impl Events {
         }
     }
 
+    fn any_timer(&mut self) -> &'static str {
+        Timer::VALUES[self.below(9) as usize].name()
+    }
+
     fn path(&mut self) -> &'static str {
         if self.below(6) == 0 {
             "previous"
@@ -543,10 +534,10 @@ impl Events {
                 )
             }
             65..=79 => {
-                let timer = TIMERS[self.below(9) as usize];
+                let timer = self.any_timer();
                 format!("set-timer {timer} {}", now + self.below(1_000_000_000))
             }
-            80..=86 => format!("stop-timer {}", TIMERS[self.below(9) as usize]),
+            80..=86 => format!("stop-timer {}", self.any_timer()),
             _ => "next-timeout".into(),
         }
     }

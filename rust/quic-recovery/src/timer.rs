@@ -1,0 +1,62 @@
+//! What timers are for, and their names: written by `tests/rust.py --write` from the sources of the library, and compared with
+//! them by its tests.
+use crate::ffi;
+
+/// What a timer is for.
+#[derive(Clone, Copy, Debug, PartialEq, Eq, PartialOrd, Ord, Hash)]
+#[repr(u8)]
+pub enum Timer {
+    /// When to declare packets lost or to send a probe (RFC 9002, 6.2 and A.8).
+    LossDetection = ffi::TIMER_LOSS_DETECTION,
+    /// When to close for want of traffic (RFC 9000, 10.1).
+    Idle = ffi::TIMER_IDLE,
+    /// When a closing or draining connection ends (RFC 9000, 10.2).
+    Close = ffi::TIMER_CLOSE,
+    /// When keys that an update replaced are dropped (RFC 9001, 6.5).
+    KeyDiscard = ffi::TIMER_KEY_DISCARD,
+    /// When the validation of a new path has failed (RFC 9000, 8.2.4).
+    PathValidation = ffi::TIMER_PATH_VALIDATION,
+    /// When to send a PING against the idle timeout (RFC 9000, 10.1.2).
+    KeepAlive = ffi::TIMER_KEEP_ALIVE,
+    /// When the pacer lets the next packet go (RFC 9002, 7.7).
+    Pacing = ffi::TIMER_PACING,
+    /// When to issue new connection ids (RFC 9000, 5.1.1).
+    PushNewCid = ffi::TIMER_PUSH_NEW_CID,
+    /// When to send an ACK that was held back (RFC 9000, 13.2.1).
+    MaxAckDelay = ffi::TIMER_MAX_ACK_DELAY,
+}
+
+impl Timer {
+    /// All timers, in the order of the enum.
+    pub const VALUES: [Timer; 9] = [
+        Timer::LossDetection,
+        Timer::Idle,
+        Timer::Close,
+        Timer::KeyDiscard,
+        Timer::PathValidation,
+        Timer::KeepAlive,
+        Timer::Pacing,
+        Timer::PushNewCid,
+        Timer::MaxAckDelay,
+    ];
+
+    /// The timer's name in scripts and logs: small letters with hyphens.
+    pub fn name(self) -> &'static str {
+        match self {
+            Timer::LossDetection => "loss-detection",
+            Timer::Idle => "idle",
+            Timer::Close => "close",
+            Timer::KeyDiscard => "key-discard",
+            Timer::PathValidation => "path-validation",
+            Timer::KeepAlive => "keep-alive",
+            Timer::Pacing => "pacing",
+            Timer::PushNewCid => "push-new-cid",
+            Timer::MaxAckDelay => "max-ack-delay",
+        }
+    }
+
+    /// The timer of this name, or `None` where none has it.
+    pub fn named(name: &str) -> Option<Self> {
+        Timer::VALUES.into_iter().find(|it| it.name() == name)
+    }
+}
