@@ -43,9 +43,9 @@ REFUSALS = {
 }
 TIMERS = {
     "docs/PROGRAMS.md": r"`{name}`",
-    "bench/careful/lines.rs": r'b"{name}" => Some\({place}\)',
+    "tests/careful/lines.rs": r'b"{name}" => Some\({place}\)',
 }
-REFUSED = ["README.md", "docs/*.md", "bench/careful/*.rs", "tests/*.py"]  # where refusals are named with their numbers
+REFUSED = ["README.md", "docs/*.md", "tests/careful/*.rs", "tests/*.py"]  # where refusals are named with their numbers
 LINES = {"AckFrequencyIn": "ack-frequency", "DiscardSpace": "discard"}  # whose lines are not their names
 
 
