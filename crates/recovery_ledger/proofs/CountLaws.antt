@@ -4,7 +4,7 @@ use Rattle.std.proofs.Common.{◌≡◌, ℕ, ◌+◌, ◌-◌, ◌<◌, ◌≤�
 use Rattle.std.specs.Prelude.{sum_by}
 use Rattle.std.proofs.lemmas.List.Sums.{sum_by-cons}
 use Rattle.recovery_ledger.specs.Packets.{Packet, Packets, Tracking, packet_at, without, most_silent, is_above, silent_above, least_number, forgotten_number}
-use Rattle.recovery_ledger.specs.Counts.{silent_count, eliciting_count, size_count, AreCounted}
+use Rattle.recovery_ledger.specs.Counts.{silent_count, eliciting_count, size_count, elicits_count, AreCounted}
 use Rattle.recovery_ledger.proofs.PacketLaws.{found-append, AllBelow, sum-without, silent_count-length, some_of, first_found, first_passes}
 
 module _ {P M : Type 0} where
@@ -27,17 +27,21 @@ module _ {P M : Type 0} where
         none_above last packets,
       )
 
-  module _ {packets : Packets P M} {last : Option ℕ} {silent sized : ℕ} (counted : AreCounted packets last silent sized)
+  module _ {packets : Packets P M} {last : Option ℕ} {silent sized eliciting : ℕ}
+      (counted : AreCounted packets last silent sized eliciting)
     where
       -- a packet that is taken: there is something to take from the counts
       pub counted_taken : (number : ℕ) (packet : Packet P M) → packet_at packets number ≡ Some packet
           → AreCounted (without packets number) last (silent - silent_count last (number, packet))
-          (sized - size_count packet) × (silent_count last (number, packet) ≤ silent) × (size_count packet ≤ sized)
+          (sized - size_count packet) (eliciting - elicits_count packet)
+          × (silent_count last (number, packet) ≤ silent) × (size_count packet ≤ sized)
+          × (elicits_count packet ≤ eliciting)
       counted_taken number packet found = grind (
         arith,
         sum-without (silent_count last) packets number packet found,
         sum-without (eliciting_count last) packets number packet found,
         sum-without (λ entry. size_count entry.1) packets number packet found,
+        sum-without (λ entry. elicits_count entry.1) packets number packet found,
       )
 
       -- ---- limits

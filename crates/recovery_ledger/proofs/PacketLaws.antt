@@ -10,8 +10,8 @@ use Rattle.std.proofs.lemmas.Bool.Decides.{nat_tests}
 use Rattle.std.proofs.lemmas.Map.Lookups.{exact_unsigned}
 use Rattle.recovery_queue.proofs.SlotLaws.{at_itself}
 pub use Rattle.recovery_queue.proofs.SlotEntryLaws.{AllBelow, all_below}
-use Rattle.recovery_ledger.specs.Packets.{Packet, Packets, packet_at, without, without_some, replaced, carrying, AreBelow, HasSize, is_above, is_silent_above, silent_above, least_number, forgotten_number, entry_at, entry_number}
-use Rattle.recovery_ledger.specs.Counts.{silent_count, eliciting_count, size_count}
+use Rattle.recovery_ledger.specs.Packets.{Packet, Packets, packet_at, without, without_some, replaced, carrying, AreBelow, HasSize, HasEliciting, is_above, is_silent_above, silent_above, least_number, forgotten_number, entry_at, entry_number}
+use Rattle.recovery_ledger.specs.Counts.{silent_count, eliciting_count, size_count, elicits_count}
 
 pub number_at : (number other : ℕ) → is_at (nat_cmp number) other ≡ true → other ≡ number
 number_at number other e = sym (exact_unsigned number other ((Equal-is (nat_cmp number other)).0 e))
@@ -106,6 +106,18 @@ module _ {P M : Type 0} where
         nat_tests,
         sum_by-cons (λ (p : ℕ × Packet P M). size_count p.1) entry packets,
         sized_counted packets,
+      )
+
+  -- those that elicit an ACK are counted, and where none is counted there is none
+  pub eliciting_counted : (packets : Packets P M) → (let eliciting = sum_by (λ entry. elicits_count entry.1) packets in
+      (eliciting ≤ length packets) × ((eliciting ≢ 0) ↔ HasEliciting packets))
+  eliciting_counted [] = (omega arith, (λ some. some refl, λ eliciting none. eliciting))
+  eliciting_counted (entry ∷ packets) =
+      grind (
+        arith,
+        nat_tests,
+        sum_by-cons (λ (p : ℕ × Packet P M). elicits_count p.1) entry packets,
+        eliciting_counted packets,
       )
 
   -- ---- silent packets

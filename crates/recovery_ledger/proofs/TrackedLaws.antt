@@ -9,7 +9,7 @@ use Rattle.recovery_queue.proofs.SlotLaws.{Slots, slot_within}
 use Rattle.recovery_ledger.specs.Probes.{first_filled}
 use Rattle.recovery_ledger.specs.Places.{HasSlots, IsPlaceOf, FindsPacket}
 use Rattle.recovery_ledger.specs.Packets.{Packet, Packets, AreBelow, packet_at, without, replaced, with_contents, is_above, least_number, IsAboveLast}
-use Rattle.recovery_ledger.specs.Counts.{silent_count, eliciting_count, size_count, AreCounted, AreAboveFrom, AreTracked, AreVoidBelow}
+use Rattle.recovery_ledger.specs.Counts.{silent_count, eliciting_count, size_count, elicits_count, AreCounted, AreAboveFrom, AreTracked, AreVoidBelow}
 use Rattle.recovery_ledger.proofs.PacketLaws.{AllBelow-push, sum-without, sum-replaced, number_at, AllBelow, all_below, are_below, found-append}
 use Rattle.std.proofs.lemmas.List.Sums.{sum_by_push}
 use Rattle.recovery_ledger.proofs.CountLaws.{none_above, counted_taken}
@@ -74,7 +74,8 @@ module _ {P M S : Type 0} (words : QueueWords P S) (last : Option ℕ) (from fil
         grind (arith, number_at number entry.0, kept_replaced packets lower limit less void)
 
 module _ {P M S : Type 0} {words : QueueWords P S} {slots : Slots (Packet P M)} {last : Option ℕ}
-    {silent sized from filled : ℕ} (tracked : AreTracked words slots last silent sized from filled) where
+    {silent sized eliciting from filled : ℕ}
+    (tracked : AreTracked words slots last silent sized eliciting from filled) where
   abbrev old : Packets P M
   old = entries_in slots
 
@@ -82,16 +83,16 @@ module _ {P M S : Type 0} {words : QueueWords P S} {slots : Slots (Packet P M)} 
   kept_all = (tracked.found, tracked.void, all_below old (2 ^ 64) tracked.small)
 
   -- what is tracked once each packet is kept
-  tracked_by : {new : Slots (Packet P M)} {next : Option ℕ} {fewer less lower empty : ℕ} {packets : Packets P M}
-      → entries_in new ≡ packets → AreCounted packets next fewer less → IsClosedUp new
-      → AreKept words next lower empty packets (2 ^ 64) → AreTracked words new next fewer less lower empty
+  tracked_by : {new : Slots (Packet P M)} {next : Option ℕ} {fewer less some lower empty : ℕ} {packets : Packets P M}
+      → entries_in new ≡ packets → AreCounted packets next fewer less some → IsClosedUp new
+      → AreKept words next lower empty packets (2 ^ 64) → AreTracked words new next fewer less some lower empty
   tracked_by {packets = packets} is counted closed kept =
       grind (arith, is, counted, closed, kept, are_below packets (2 ^ 64))
 
   module _ {new : Slots (Packet P M)} (number : ℕ) (packet : Packet P M) where
     pub tracked_taken : packet_at old number ≡ Some packet → entries_in new ≡ without old number → IsClosedUp new
-        → AreTracked words new last (silent - silent_count last (number, packet)) (sized - size_count packet) from
-        filled
+        → AreTracked words new last (silent - silent_count last (number, packet)) (sized - size_count packet)
+        (eliciting - elicits_count packet) from filled
     tracked_taken found is closed =
         tracked_by is (counted_taken tracked.counted number packet found).0 closed
         (kept_without words last from filled old (2 ^ 64) number kept_all)
@@ -99,7 +100,7 @@ module _ {P M S : Type 0} {words : QueueWords P S} {slots : Slots (Packet P M)} 
     pub tracked_carrying : {lower : ℕ} (contents : P) → packet_at old number ≡ Some packet
         → entries_in new ≡ replaced number (Some (with_contents contents packet)) old
         → length new ≡ length slots → lower ≤ filled → (number < lower → IsVoid words contents)
-        → AreTracked words new last silent sized from lower
+        → AreTracked words new last silent sized eliciting from lower
     tracked_carrying {lower} contents found is same less nothing =
         let kept = kept_replaced words last from filled number (with_contents contents packet) old lower (2 ^ 64) less
         nothing kept_all in
@@ -120,12 +121,16 @@ module _ {P M S : Type 0} {words : QueueWords P S} {slots : Slots (Packet P M)} 
       closed_pushed : IsClosedUp new
       closed_pushed = grind (arith, is, one, length-append old ((number, packet) ∷ []), tracked.closed)
 
-      pub tracked_eliciting : AreTracked words new (Some number) 0 (sized + size_count packet) from (min filled number)
-      tracked_eliciting =
+      pub tracked_eliciting : {inside : Packet P M} → inside ≡ packet → inside.ack_eliciting ≡ true
+          → AreTracked words new (Some number) 0 (sized + size_count packet) (eliciting + 1) from (min filled number)
+      tracked_eliciting view elicits =
           tracked_by is (grind (
             arith,
             tracked.counted,
             sum_by_push (λ (entry : ℕ × Packet P M). size_count entry.1) old (number, packet),
+            sum_by_push (λ (entry : ℕ × Packet P M). elicits_count entry.1) old (number, packet),
+            view,
+            elicits,
             none_above number (old ++ (number, packet) ∷ []) (AllBelow-push old number packet kept_below.2),
           )) closed_pushed
           (kept_pushed words last from filled number packet old (Some number) from fits
@@ -133,7 +138,8 @@ module _ {P M S : Type 0} {words : QueueWords P S} {slots : Slots (Packet P M)} 
 
       pub tracked_silent : {inside : Packet P M} → inside ≡ packet → inside.ack_eliciting ≡ false
           → IsAboveLast last number → silent ≤ 1000
-          → AreTracked words new last (silent + 1) (sized + size_count packet) (min from number) (min filled number)
+          → AreTracked words new last (silent + 1) (sized + size_count packet) eliciting (min from number)
+          (min filled number)
       tracked_silent view is_silent above room =
           tracked_by is (grind (arith, nat_tests, tracked.counted, view, sum_by_push, above)) closed_pushed
           (kept_pushed words last from filled number packet old last (min from number) fits
@@ -144,7 +150,8 @@ module _ {P M S : Type 0} {words : QueueWords P S} {slots : Slots (Packet P M)} 
         {inside : Packet P M} → inside ≡ packet → inside.ack_eliciting ≡ false → IsAboveLast last number
         → packet_at old least ≡ Some gone → is_above last least ≡ true
         → AreAboveFrom last least old → entries_in left ≡ without (entries_in new) least → IsClosedUp left
-        → AreTracked words left last silent (sized + size_count packet - size_count gone) least (min filled number)
+        → AreTracked words left last silent (sized + size_count packet - size_count gone) eliciting least
+        (min filled number)
     tracked_forgetting least gone view is_silent above found up lowest taken closed =
         tracked_by (grind (arith, taken, is, (found-append old ((number, packet) ∷ []) least gone found).1))
         (grind (

@@ -11,16 +11,21 @@ silent_count last entry = if is_silent_above last entry then 1 else 0
 abbrev pub eliciting_count : {P M : Type 0} → Option ℕ → ℕ × Packet P M → ℕ
 eliciting_count last entry = if is_above last entry.0 && entry.1.ack_eliciting then 1 else 0
 
+-- one for a packet that elicits an ACK
+abbrev pub elicits_count : {P M : Type 0} → Packet P M → ℕ
+elicits_count packet = if packet.ack_eliciting then 1 else 0
+
 abbrev pub size_count : {P M : Type 0} → Packet P M → ℕ
 size_count packet = if packet.size == 0 then 0 else 1
 
 -- Silent packets (RFC 9002, 2: not ack-eliciting) above the last eliciting number are counted, at most `most_silent`,
--- and no other kind is above it; the packets with a size are counted.
+-- and no other kind is above it; the packets with a size are counted, and those that elicit an ACK.
 pub record AreCounted {P M : Type 0} (packets : Packets P M) (last : Option ℕ)
-    (silent sized : ℕ) : Type 0 where
+    (silent sized eliciting : ℕ) : Type 0 where
   pub silent_is : silent ≡ sum_by (silent_count last) packets
   pub others : sum_by (eliciting_count last) packets ≡ 0
   pub sized_is : sized ≡ sum_by (λ entry. size_count entry.1) packets
+  pub eliciting_is : eliciting ≡ sum_by (λ entry. elicits_count entry.1) packets
   pub bound : silent ≤ most_silent
 
 -- the packets above a number are not below another
@@ -38,8 +43,8 @@ AreVoidBelow words from (entry ∷ packets) =
 -- The packets are counted, their slots are closed up, and the silent ones and those with contents are found each from
 -- a number on.
 pub record AreTracked {P M S : Type 0} (words : QueueWords P S) (slots : List (Slot (Packet P M)))
-    (last : Option ℕ) (silent sized from filled_from : ℕ) : Type 0 where
-  pub counted : AreCounted (entries_in slots) last silent sized
+    (last : Option ℕ) (silent sized eliciting from filled_from : ℕ) : Type 0 where
+  pub counted : AreCounted (entries_in slots) last silent sized eliciting
   pub closed : IsClosedUp slots
   pub found : AreAboveFrom last from (entries_in slots)
   pub small : AreBelow (entries_in slots) (2 ^ 64)

@@ -1,9 +1,10 @@
 -- Tracked packets of one space, in the order of their numbers (RFC 9002, A.1).
-use Rattle.std.specs.Prelude.{◌≡◌, ◌≢◌, ℕ, ◌<◌, ◌≤◌, ◌^◌, IsSomeAnd, option_map, ◌⊎◌, Bool, true, not, ◌&&◌, nat_lt, nat_le, List, [], ◌∷◌, ◌++◌, length, filter, Option, None, Some, if◌then◌else◌}
+use Rattle.std.specs.Prelude.{◌≡◌, ◌≢◌, ℕ, ◌<◌, ◌≤◌, ◌^◌, IsSomeAnd, option_map, ◌⊎◌, Bool, IsTrue, true, not, ◌&&◌, nat_lt, nat_le, List, [], ◌∷◌, ◌++◌, length, filter, Option, None, Some, if◌then◌else◌}
 use Rattle.std.specs.Option.{option_and_then, option_map_or}
 use Rattle.std.specs.Ordering.{nat_cmp}
 use Rattle.std.specs.BTreeMap.{is_at}
 use Rattle.std.specs.Map.{lookup, remove_entry, set_value}
+use Rattle.recovery_queue.specs.Slots.{first_entry, is_from}
 
 -- a packet as contracts see it; the contents P are what its queue holds (RFC 9000, 13.3), and M is what else an
 -- application keeps of it
@@ -61,6 +62,15 @@ IsAboveLast last number = (m : ℕ) → last ≡ Some m → m < number
 abbrev pub HasSize : {P M : Type 0} → Packets P M → Type 0
 HasSize [] = ⊥
 HasSize (entry ∷ packets) = (entry.1.size ≢ 0) ⊎ HasSize packets
+
+-- some packet elicits an ACK
+abbrev pub HasEliciting : {P M : Type 0} → Packets P M → Type 0
+HasEliciting [] = ⊥
+HasEliciting (entry ∷ packets) = IsTrue entry.1.ack_eliciting ⊎ HasEliciting packets
+
+-- the first packet at or above a number, with its number
+abbrev pub first_from : {P M : Type 0} → ℕ → Packets P M → Option (ℕ × Packet P M)
+first_from number packets = first_entry (filter (is_from number) packets)
 
 -- ---- silent packets
 

@@ -1,12 +1,12 @@
 //! The packets that a packet number space tracks (RFC 9002, A.1), by number.
-ghost use Rattle.std.specs.Prelude.{◌≡◌, Decides, ◌^◌, ◌<◌, ◌≤◌, [], ◌∷◌, IfSome, IfOk, OnOk, OnErr, IfNone, MatchOption, length, filter};
+ghost use Rattle.std.specs.Prelude.{◌≡◌, Decides, ◌^◌, ◌<◌, ◌≤◌, [], ◌∷◌, None, Some, IfSome, IfOk, OnOk, OnErr, IfNone, MatchOption, length, filter};
 ghost use Rattle.std.specs.Option.{is_some};
-ghost use Rattle.recovery_ledger.specs.Packets.{Tracking, no_packets, packet_at, AreBelow, IsAboveLast, HasSize, most_silent, is_above, least_number, silent_in, forgotten_number, forgotten_entry, after_sending, after_taking, after_carrying, contents_or};
+ghost use Rattle.recovery_ledger.specs.Packets.{Tracking, no_packets, packet_at, AreBelow, IsAboveLast, HasSize, HasEliciting, first_from, most_silent, is_above, least_number, silent_in, forgotten_number, forgotten_entry, after_sending, after_taking, after_carrying, contents_or};
 ghost use Rattle.recovery_queue.specs.Queues.{IsVoid};
 ghost use Rattle.recovery_queue.specs.Slots.{entries_in};
 ghost use Rattle.recovery_ledger.specs.Places.{HasSlots, FindsPacket};
 ghost use Rattle.recovery_ledger.specs.Probes.{first_filled};
-ghost use Rattle.recovery_ledger.specs.Counts.{silent_count, size_count, AreAboveFrom, AreVoidBelow};
+ghost use Rattle.recovery_ledger.specs.Counts.{silent_count, size_count, elicits_count, AreAboveFrom, AreVoidBelow};
 
 use crate::spaces::SentPacket;
 use recovery_base::below::NoMemory;
@@ -32,6 +32,7 @@ pub struct SentPackets<Q: RetransmitQueue> {
     last_eliciting: Option<u64>,
     silent: u64,
     sized: u64,
+    eliciting: u64,
     silent_from: u64,
     filled_from: u64,
 }
@@ -48,7 +49,7 @@ impl<Q: RetransmitQueue> Model for SentPackets<Q> {
 
     ghost invariant = { λ a.
         AreTracked Q.words a.packets a.last_eliciting
-        a.silent a.sized a.silent_from a.filled_from };
+        a.silent a.sized a.eliciting a.silent_from a.filled_from };
 }
 
 impl<Q> SentPackets<Q>
@@ -65,6 +66,7 @@ where
             last_eliciting: None,
             silent: 0,
             sized: 0,
+            eliciting: 0,
             silent_from: 0,
             filled_from: 0,
         }
@@ -128,6 +130,7 @@ where
         self.filled_from = self.filled_from.min(number);
         if is_eliciting {
             self.last_eliciting = Some(number);
+            self.eliciting += 1;
             self.silent = 0;
             return Ok(None);
         }
@@ -153,6 +156,7 @@ where
         let packet = self.packets.take(number)?;
         self.silent -= silent_count(self.last_eliciting, number, &packet);
         self.sized -= size_count(&packet);
+        self.eliciting -= elicits_count(&packet);
         Some(packet)
     }
 
@@ -166,6 +170,7 @@ where
         let (number, packet) = self.packets.pop_first()?;
         self.silent -= silent_count(self.last_eliciting, number, &packet);
         self.sized -= size_count(&packet);
+        self.eliciting -= elicits_count(&packet);
         Some((number, packet))
     }
 
@@ -199,6 +204,21 @@ where
         found
     }
 
+    /// The first packet at or above a number, with its number.
+    pub fn tracked_from(&self, number: u64) -> Option<(u64, &SentPacket<Q>)>
+        ensures { MatchOption result (first_from number self.now.packets ≡ None)
+            (λ found. first_from number self.now.packets ≡ Some (found.0, found.1.now)) }
+    {
+        self.packets.entry_from(number)
+    }
+
+    /// Whether some packet elicits an ACK. Constant cost.
+    pub fn has_ack_eliciting(&self) -> bool
+        ensures { Decides result (HasEliciting self.now.packets) }
+    {
+        self.eliciting != 0
+    }
+
     /// Whether some packet has a size. Constant cost.
     pub fn has_size(&self) -> bool
         ensures { Decides result (HasSize self.now.packets) }
@@ -212,6 +232,13 @@ fn size_count<Q: RetransmitQueue>(packet: &SentPacket<Q>) -> u64
     ensures { result ≡ size_count packet.now }
 {
     if packet.size == 0 { 0 } else { 1 }
+}
+
+/// One for a packet that elicits an ACK.
+fn elicits_count<Q: RetransmitQueue>(packet: &SentPacket<Q>) -> u64
+    ensures { result ≡ elicits_count packet.now }
+{
+    if packet.ack_eliciting { 1 } else { 0 }
 }
 
 /// One for a silent packet with a number above another, where there is one.

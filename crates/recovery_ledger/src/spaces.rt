@@ -4,7 +4,7 @@ ghost use Rattle.std.specs.Prelude.{◌≡◌, ◌≢◌, Decides, ◌<◌, ◌�
 ghost use Rattle.std.specs.Option.{is_some};
 ghost use Rattle.recovery_base.specs.declared.below.SpaceId.{SpaceId};
 ghost use Rattle.recovery_base.specs.Ecn.{ecn_fault};
-ghost use Rattle.recovery_ledger.specs.Packets.{AreBelow, IsAboveLast, HasSize, IsTooLarge, most_silent, silent_in, packet_at, with_contents, forgotten_entry, after_sending};
+ghost use Rattle.recovery_ledger.specs.Packets.{AreBelow, IsAboveLast, HasSize, HasEliciting, first_from, IsTooLarge, most_silent, silent_in, packet_at, with_contents, forgotten_entry, after_sending};
 ghost use Rattle.recovery_ledger.specs.Places.{HasSlots, FindsPacket};
 ghost use Rattle.recovery_ledger.specs.Probes.{probe_found};
 ghost use Rattle.recovery_ledger.specs.Queued.{IsSendable};
@@ -343,6 +343,22 @@ where
         ensures none { IfNone result (self.new ≡ self.old) }
     {
         self.sent_packets.pop_first()
+    }
+
+    /// The first tracked packet at or above a number, with its number: so that the packets can be gone over by number,
+    /// upward (RFC 9002, 6.1). Cost: that of `find`, beside the empty slots that are passed over.
+    pub fn tracked_from(&self, number: u64) -> Option<(u64, &SentPacket<Q>)>
+        ensures { MatchOption result (first_from number (packets_of self.now) ≡ None)
+            (λ found. first_from number (packets_of self.now) ≡ Some (found.0, found.1.now)) }
+    {
+        self.sent_packets.tracked_from(number)
+    }
+
+    /// Whether some tracked packet elicits an ACK (RFC 9002, 2). Constant cost.
+    pub fn has_ack_eliciting(&self) -> bool
+        ensures { Decides result (HasEliciting (packets_of self.now)) }
+    {
+        self.sent_packets.has_ack_eliciting()
     }
 
     /// Whether some tracked packet has a size other than 0. Constant cost.

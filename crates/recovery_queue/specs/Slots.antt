@@ -172,6 +172,10 @@ is_from number entry = not (nat_lt entry.0 number)
 abbrev pub entries_from : {T : Type 0} → ℕ → List (Slot T) → List (ℕ × T)
 entries_from number slots = filter (is_from number) (entries_in slots)
 
+abbrev pub first_entry : {T : Type 0} → List (ℕ × T) → Option (ℕ × T)
+first_entry [] = None
+first_entry (entry ∷ entries) = Some entry
+
 abbrev pub first_number : {T : Type 0} → List (ℕ × T) → Option ℕ
 first_number [] = None
 first_number (entry ∷ entries) = Some entry.0

@@ -4,7 +4,7 @@ ghost use Rattle.std.specs.VecDeque.{deque_len, deque_capacity};
 ghost use Rattle.std.specs.Ordering.{nat_cmp};
 ghost use Rattle.std.specs.BTreeMap.{is_at};
 ghost use Rattle.std.specs.Map.{remove_entry};
-ghost use Rattle.recovery_queue.specs.Slots.{entries_in, item_at, AreRising, IsFiledAt, Divides, Encloses, IsHeldAt, IsEmptyAt, IsAboveAll, IsClosedUp, IsFrontEmpty, IsBackFrom, Replaces, Rises, LeavesNoneOut, IsFirst, IsFirstWith, IsLast, Finds, IsWithinDigits, ClosesUp, TakesOut, trimmed, AreFrom, entries_from, first_number, is_filled};
+ghost use Rattle.recovery_queue.specs.Slots.{entries_in, item_at, AreRising, IsFiledAt, Divides, Encloses, IsHeldAt, IsEmptyAt, IsAboveAll, IsClosedUp, IsFrontEmpty, IsBackFrom, Replaces, Rises, LeavesNoneOut, IsFirst, IsFirstWith, IsLast, Finds, IsWithinDigits, ClosesUp, TakesOut, trimmed, AreFrom, entries_from, first_entry, first_number, is_filled};
 
 mod looks;
 
@@ -228,17 +228,30 @@ impl<T: Drop> SlotQueue<T> {
         Some((number, item))
     }
 
+    /// What is filed under the lowest number from another on, with that number. Cost: that of `find`, beside the empty
+    /// slots that are passed over.
+    pub fn entry_from(&self, number: u64) -> Option<(u64, &T)>
+        ensures first { MatchOption result (first_entry (entries_from number self.now) ≡ None)
+            (λ found. first_entry (entries_from number self.now) ≡ Some (found.0, found.1.now)) }
+        ensures lowest { IfSome result (λ found. AreFrom found.0 (entries_from number self.now)) }
+    {
+        for place in self.place_from(number)..self.len() {
+            if let Some(found) = self.get(place) {
+                return Some(found);
+            }
+        }
+        None
+    }
+
     /// The first number under which something is filed, from another on.
     pub fn first_from(&self, number: u64) -> Option<u64>
         ensures first { result ≡ first_number (entries_from number self.now) }
         ensures lowest { IfSome result (λ found. AreFrom found (entries_from number self.now)) }
     {
-        for place in self.place_from(number)..self.len() {
-            if let Some((found, _)) = self.get(place) {
-                return Some(found);
-            }
+        match self.entry_from(number) {
+            Some((found, _)) => Some(found),
+            None => None,
         }
-        None
     }
 
     /// Closes up empty slots: those before the first filled one always, the others where they are too many.

@@ -2,7 +2,7 @@ use Rattle.recovery_queue.specs.Slots.{entries_in}
 use Rattle.std.proofs.Common.{ap, arith}
 use Rattle.recovery_ledger.specs.Packets.{entry_at}
 use Rattle.recovery_ledger.proofs.CountLaws.{IsForgotten, silent_bound, silent_few, forgotten_found}
-use Rattle.recovery_ledger.proofs.PacketLaws.{sized_counted}
+use Rattle.recovery_ledger.proofs.PacketLaws.{eliciting_counted, sized_counted}
 use Rattle.recovery_ledger.proofs.TrackedLaws.{tracked_eliciting, tracked_silent, tracked_forgetting}
 use Rattle.recovery_ledger.proofs.sent_packets.SentPackets.insert.Goals as goal
 
@@ -18,11 +18,21 @@ overflow_add-self g c =
 
 -- ---- a packet that elicits an ACK
 
+pub overflow_add-self-then-is_eliciting : goal.overflow_add-self-then-is_eliciting
+overflow_add-self-then-is_eliciting g c =
+    grind (
+      arith,
+      c.self.invariant.counted.eliciting_is,
+      eliciting_counted (entries_in c.self.inside.packets),
+      c.filled-filled.ensures.few,
+    )
+
 pub invariant_of-self-then-is_eliciting : goal.invariant_of-self-then-is_eliciting
 invariant_of-self-then-is_eliciting g c =
     rw (c.size_count-count.ensures, c.min-self-inside.ensures)
     (tracked_eliciting c.self.invariant _ _ _ c.ranges.number.fits
-    (rw (← c.self.view_is) at c.requires.above) c.in_ok-push.ensures.ok c.in_ok-push.ensures.one_more)
+    (rw (← c.self.view_is) at c.requires.above) c.in_ok-push.ensures.ok c.in_ok-push.ensures.one_more
+    c.packet.view_is c.if-is_eliciting.true)
 
 pub returns-then-is_eliciting-clause-ok : goal.returns-then-is_eliciting-clause-ok
 returns-then-is_eliciting-clause-ok g c =
