@@ -167,8 +167,8 @@ def checksum():
 def declared_in_library():
     yield "//! Which layout crosses: written by `tests/rust.py --write`."
     yield ""
-    yield "/// A program that was written for this layout names this function, and links with a library of the same layout alone. It does"
-    yield "/// nothing."
+    yield "/// A program that was written for this layout names this function, and links with a library of the same layout alone."
+    yield "/// It does nothing."
     yield "#[unsafe(no_mangle)]"
     yield f'pub extern "C" fn recovery_ffi_layout_{checksum()}() {{}}'
 

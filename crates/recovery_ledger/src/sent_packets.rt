@@ -70,8 +70,8 @@ where
         }
     }
 
-    /// How many slots stand for the packets: one that is taken leaves its slot empty. At most 64 are empty beside as many
-    /// as there are packets: past that they are closed up in place. Constant cost.
+    /// How many slots stand for the packets: one that is taken leaves its slot empty. At most 64 are empty beside as
+    /// many as there are packets: past that they are closed up in place. Constant cost.
     pub fn slots(&self) -> usize
         ensures { HasSlots self.now.packets result }
     {
@@ -148,9 +148,9 @@ where
         Ok(Some((least, gone)))
     }
 
-    /// Takes the packet of a number out. `None`, and nothing changed, where it is not tracked. It takes no memory. Cost:
-    /// that of `find`, and constant beside it over all calls: empty slots are closed up once there are more than 64
-    /// beside as many as there are packets, so that at least half as many packets were taken since the last time as
+    /// Takes the packet of a number out. `None`, and nothing changed, where it is not tracked. It takes no memory.
+    /// Cost: that of `find`, and constant beside it over all calls: empty slots are closed up once there are more than
+    /// 64 beside as many as there are packets, so that at least half as many packets were taken since the last time as
     /// slots are gone over.
     pub fn remove(&mut self, number: u64) -> Option<SentPacket<Q>>
         ensures value { result ≡ packet_at self.old.packets number }

@@ -1,11 +1,10 @@
 //! What is kept for each packet number space (RFC 9000, 12.3): received numbers, sent numbers, tracked packets, what is
 //! to be sent again, and what probes ask for.
-ghost use Rattle.std.specs.Prelude.{◌≡◌, ◌≢◌, Decides, ◌<◌, ◌≤◌, ◌^◌, ◌∷◌, [], IfOk, OnOk, OnErr, IfSome, IfNone, IsSome, None, Some, MatchOption, MatchResult, false, not, ◌||◌, length, nat_lt, option_map};
+ghost use Rattle.std.specs.Prelude.{◌≡◌, ◌≢◌, ◌<◌, ◌≤◌, ◌^◌, ◌∷◌, [], IfOk, OnOk, OnErr, IfSome, IfNone, IsSome, None, Some, MatchOption, MatchResult, false, not, ◌||◌, nat_lt, option_map};
 ghost use Rattle.std.specs.Option.{is_some};
 ghost use Rattle.recovery_base.specs.declared.below.SpaceId.{SpaceId};
 ghost use Rattle.recovery_base.specs.Ecn.{ecn_fault};
-ghost use Rattle.recovery_ledger.specs.Packets.{AreBelow, IsAboveLast, HasSize, IsTooLarge, most_silent, silent_in, packet_at, with_contents, forgotten_entry, after_sending};
-ghost use Rattle.recovery_ledger.specs.Places.{HasSlots, FindsPacket};
+ghost use Rattle.recovery_ledger.specs.Packets.{IsTooLarge, packet_at, with_contents};
 ghost use Rattle.recovery_ledger.specs.Probes.{probe_found};
 ghost use Rattle.recovery_ledger.specs.Queued.{IsSendable};
 ghost use Rattle.recovery_ledger.specs.SpaceLog.{loses, probes, takes_pending, feeds_back};
