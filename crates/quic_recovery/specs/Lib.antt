@@ -1,4 +1,5 @@
 pub mod Above
+pub mod Config
 pub mod Entries
 pub mod History
 pub mod IdReplies

@@ -137,8 +137,8 @@ impl Readings {
         self.moment(here.loss_time);
         self.number(here.crypto_offset);
         self.number(here.next_packet_number());
-        self.option(here.largest_ack_eliciting_sent());
-        self.flag(here.has_in_flight());
+        self.option(here.sent_packets.last_eliciting());
+        self.flag(here.sent_packets.has_size());
         let frames = here.can_send(&());
         self.flag(frames.acks);
         self.flag(frames.other);

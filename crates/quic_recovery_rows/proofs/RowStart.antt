@@ -1,6 +1,6 @@
 -- How the runs of worked rows begin: with the settings of the replay program, over NewReno and queues of numbered
 -- items. The rows of the table of replies begin so.
-use Rattle.std.proofs.Common.{ℕ, ◌*◌, ◌^◌, ◌++◌, false, true, List, [], ◌∷◌, ◌==◌, length, replicate, Some}
+use Rattle.std.proofs.Common.{ℕ, ◌++◌, List, [], ◌∷◌, ◌==◌, length, replicate}
 use Rattle.std.specs.declared.net.socket_addr.SocketAddr.{SocketAddr}
 use Rattle.rand_core.specs.Stream.{Stream}
 use Rattle.recovery_base.specs.declared.below.frames.AckFrequency.{AckFrequency}
@@ -12,6 +12,7 @@ use Rattle.recovery_queue.specs.Queues.{QueueWords}
 use Rattle.recovery_skips.specs.declared.filter.Skips.{Skips}
 use Rattle.quic_recovery.specs.declared.driver.RecoveryConfig.{RecoveryConfig}
 use Rattle.recovery_events.specs.declared.event.Event.{Event}
+use Rattle.quic_recovery.specs.Config.{config_with}
 use Rattle.quic_recovery.specs.History.{Beginning, History, QueueMeaning, Reply, begins, queue_meaning}
 use Rattle.quic_recovery.specs.Told.{Told}
 
@@ -47,16 +48,8 @@ ack_frame sequence delay = record {
 
 -- a run begins with ids of so many bytes, and with these skips
 abbrev pub row_config : SocketAddr → ℕ → Skips → RecoveryConfig RenoSettings
-row_config remote cid_len skips = record {
-  transport = settings_with default_reno;
-  remote = remote;
-  validated = false;
-  allow_mtud = true;
-  max_ack_delay = 25 * 10 ^ 6;
-  initial_cid = replicate 8 255;
+row_config remote cid_len skips = record (config_with (settings_with default_reno) remote (replicate 8 255)) {
   cid_len = cid_len;
-  cid_lifetime = Some (10 * 10 ^ 9);
-  issued = 1;
   skips = skips;
 }
 

@@ -8,7 +8,6 @@ use quic_recovery::driver::RecoveryConfig;
 use rand_core::SeedableRng;
 use rand_pcg::Pcg32;
 use recovery_base::below::ConnectionId;
-use recovery_base::time::Duration;
 use recovery_skips::Skips;
 use std::net::{IpAddr, Ipv4Addr, SocketAddr};
 
@@ -30,18 +29,11 @@ pub fn settings_with<F: Drop>(
     ensures issued { result.issued ≡ 1 }
     ensures skips { IsSkips result.skips }
 {
-    RecoveryConfig {
-        transport,
-        remote: SocketAddr::new(IpAddr::V4(Ipv4Addr::new(192, 0, 2, 1)), 4433),
-        validated: false,
-        allow_mtud: true,
-        max_ack_delay: Duration::from_millis(25),
-        initial_cid: ConnectionId::new(&[0xFF; 8]),
-        cid_len,
-        cid_lifetime: Some(Duration::from_secs(10)),
-        issued: 1,
-        skips,
-    }
+    let remote = SocketAddr::new(IpAddr::V4(Ipv4Addr::new(192, 0, 2, 1)), 4433);
+    let mut config = RecoveryConfig::new(transport, remote, ConnectionId::new(&[0xFF; 8]));
+    config.cid_len(cid_len);
+    config.skips(skips);
+    config
 }
 
 /// The words that skips are drawn from, where they are drawn.

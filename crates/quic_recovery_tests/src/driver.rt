@@ -205,7 +205,7 @@ fn leaves_nothing_in_flight(left: &Reno) -> bool {
         && left.current().generation() == 0
         && left.space(SpaceId::Initial).is_none()
         && space.next_packet_number() == 2
-        && space.largest_ack_eliciting_sent() == Some(1)
+        && space.sent_packets.last_eliciting() == Some(1)
         && space.largest_acked_packet == Some(0)
-        && !space.has_in_flight()
+        && !space.sent_packets.has_size()
 }

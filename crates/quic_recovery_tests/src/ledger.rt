@@ -50,7 +50,7 @@ fn frames_back(alloc: Global, frames: u64, as_first: bool) -> Option<u64>
     let mut space = PacketSpace::<Tally>::new(alloc, at(0));
     let mut sent = packet(0, 9);
     sent.stream_frames = frames;
-    space.sent(0, sent).ok()?;
+    space.sent_packets.insert(0, sent).ok()?;
     if as_first {
         let (_, packet) = space.take_first()?;
         Some(packet.stream_frames)

@@ -7,17 +7,12 @@ use crate::losses::Losses;
 use quic_recovery::below::{ConnectionId, ResetToken};
 use quic_recovery::config::TransportConfig;
 use quic_recovery::congestion::NewRenoConfig;
-use quic_recovery::time::Duration;
 use quic_recovery::{Event, LiveRecovery, Recovery, RecoveryConfig, Refusal};
 use rand_pcg::Pcg32;
 use recovery_queue::items::ItemQueue;
 use recovery_skips::Skips;
 use std::alloc::Global;
 use std::net::SocketAddr;
-
-/// How late this end's ACKs may be until the peer asks for another delay (RFC 9000, 18.2: max_ack_delay), in
-/// milliseconds.
-const MAX_ACK_DELAY: u64 = 25;
 
 /// Which end of a connection this is.
 #[derive(Clone, Copy, PartialEq, Eq)]
@@ -26,25 +21,18 @@ pub enum Side {
     Server,
 }
 
-/// What the recovery starts with: the default settings of paths, with NewReno; ids of eight bytes that last for ten
-/// seconds, one of them issued; packet numbers that are skipped here and there (RFC 9000, 21.4). A client's peer is
-/// validated, a server's is not until it was seen to receive at its address (RFC 9000, 8.1).
+/// What the recovery starts with: the defaults, with NewReno, but for packet numbers that are skipped here and there
+/// (RFC 9000, 21.4). A client's peer is validated, a server's is not until it was seen to receive at its address (RFC
+/// 9000, 8.1).
 pub fn config(side: Side, remote: SocketAddr) -> RecoveryConfig<NewRenoConfig>
     ensures issued { result.issued ≡ 1 }
     ensures skips { IsSkips result.skips }
 {
-    RecoveryConfig {
-        transport: TransportConfig::default(),
-        remote,
-        validated: side == Side::Client,
-        allow_mtud: true,
-        max_ack_delay: Duration::from_millis(MAX_ACK_DELAY),
-        initial_cid: ConnectionId::new(&[0xff; 8]),
-        cid_len: 8,
-        cid_lifetime: Some(Duration::from_secs(10)),
-        issued: 1,
-        skips: Skips::Drawn,
-    }
+    let id = ConnectionId::new(&[0xff; 8]);
+    let mut config = RecoveryConfig::new(TransportConfig::default(), remote, id);
+    config.validated(side == Side::Client);
+    config.skips(Skips::Drawn);
+    config
 }
 
 /// The recovery of this stack, with its past: its controllers are NewReno's, its packets carry numbered items, and its

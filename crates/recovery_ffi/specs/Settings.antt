@@ -13,6 +13,7 @@ use Rattle.recovery_queue.specs.Items.{item_words}
 use Rattle.recovery_skips.specs.declared.filter.Skips.{Skips}
 use Rattle.recovery_skips.specs.declared.filter.Skips.TheVariants.{Drawn, Disabled, Starting}
 use Rattle.quic_recovery.specs.declared.driver.RecoveryConfig.{RecoveryConfig}
+use Rattle.quic_recovery.specs.Config.{config_with}
 use Rattle.quic_recovery.specs.History.{Beginning, begins, queue_meaning}
 use Rattle.recovery_ffi.specs.Controllers.{chosen_made, chosen_words}
 use Rattle.recovery_ffi.specs.declared.controllers.Chosen.{Chosen}
@@ -79,13 +80,10 @@ transport_of settings = record (settings_with (controller_of settings)) {
 }
 
 abbrev pub config_of : Settings → List ℕ → SocketAddr → RecoveryConfig ChosenConfig
-config_of settings cid remote = record {
-  transport = transport_of settings;
-  remote = remote;
+config_of settings cid remote = record (config_with (transport_of settings) remote cid) {
   validated = settings.validated;
   allow_mtud = settings.allow_mtud;
   max_ack_delay = settings.max_ack_delay;
-  initial_cid = cid;
   cid_len = settings.cid_len;
   cid_lifetime = maybe settings.ids_end settings.cid_lifetime;
   issued = settings.issued;

@@ -138,18 +138,15 @@ pub fn config(
     ensures config { result ≡ config_of settings.now initial_cid remote }
     ensures skips { IsSkips result.skips }
 {
-    RecoveryConfig {
-        transport: transport(settings),
-        remote,
-        validated: settings.validated,
-        allow_mtud: settings.allow_mtud,
-        max_ack_delay: Duration::from_nanos(settings.max_ack_delay),
-        initial_cid,
-        cid_len: usize::from(settings.cid_len),
-        cid_lifetime: lifetime(settings.ids_end, settings.cid_lifetime),
-        issued: settings.issued,
-        skips: skips(settings.skips, settings.first_skip),
-    }
+    let mut config = RecoveryConfig::new(transport(settings), remote, initial_cid);
+    config.validated(settings.validated);
+    config.allow_mtud(settings.allow_mtud);
+    config.max_ack_delay(Duration::from_nanos(settings.max_ack_delay));
+    config.cid_len(usize::from(settings.cid_len));
+    config.cid_lifetime(lifetime(settings.ids_end, settings.cid_lifetime));
+    config.issued(settings.issued);
+    config.skips(skips(settings.skips, settings.first_skip));
+    config
 }
 
 fn controller(settings: &Settings) -> ChosenConfig

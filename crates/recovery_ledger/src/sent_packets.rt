@@ -72,21 +72,23 @@ where
         }
     }
 
-    /// How many slots hold the packets, and were left empty by others.
+    /// How many slots stand for the packets: one that is taken leaves its slot empty. At most 64 are empty beside as
+    /// many as there are packets: past that they are closed up in place. Constant cost.
     pub fn slots(&self) -> usize
         ensures { HasSlots self.now.packets result }
     {
         self.packets.len()
     }
 
-    /// The place of a tracked packet, and how many slots were looked at for it.
+    /// The place of the packet of a number among the slots, `None` where it is not tracked, and how many slots were
+    /// looked at: at most as many as the count of slots has binary digits.
     pub fn find(&self, number: u64) -> (Option<usize>, u32)
         ensures { FindsPacket self.now.packets number result }
     {
         self.packets.find(number)
     }
 
-    /// The number of the last packet sent that elicits an ACK.
+    /// The number of the last packet sent that elicits an ACK, tracked or not.
     pub fn last_eliciting(&self) -> Option<u64>
         ensures { result ≡ self.now.last_eliciting }
     {
@@ -106,8 +108,10 @@ where
         first_silent(&self.packets, self.last_eliciting, self.silent_from)
     }
 
-    /// Tracks a packet with a number above all others. A silent packet past the limit makes the least silent one be
-    /// forgotten: that one is handed back. `NoMemory` drops the packet, and changes nothing else.
+    /// Tracks a packet under a number above all that were sent. A silent one (RFC 9002, 2: it elicits no ACK) makes the
+    /// least of 1001 silent packets be forgotten that are tracked above the last one that elicits an ACK: that one is
+    /// handed back with its number. `NoMemory`, which comes only where a slot was refused, drops the packet and changes
+    /// nothing else. Cost: constant over all calls, but for a forgotten packet that of `remove`.
     pub fn insert(
         &mut self,
         number: u64,
@@ -147,7 +151,10 @@ where
         Ok(Some((least, gone)))
     }
 
-    /// Takes the packet of a number out. `None`, and nothing changed, where it is not tracked.
+    /// Takes the packet of a number out. `None`, and nothing changed, where it is not tracked. It takes no memory.
+    /// Cost: that of `find`, and constant beside it over all calls: empty slots are closed up once there are more than
+    /// 64 beside as many as there are packets, so that at least half as many packets were taken since the last time as
+    /// slots are gone over.
     pub fn remove(&mut self, number: u64) -> Option<SentPacket<Q>>
         ensures value { result ≡ packet_at self.old.packets number }
         ensures after { self.new ≡ after_taking number self.old }
@@ -160,7 +167,8 @@ where
         Some(packet)
     }
 
-    /// Takes the packet with the least number out. `None`, and nothing changed, where none is tracked.
+    /// Takes the packet with the least number out. `None`, and nothing changed, where none is tracked. Cost as of
+    /// `remove`.
     pub fn pop_first(&mut self) -> Option<(u64, SentPacket<Q>)>
         ensures packets { MatchOption result (self.old.packets ≡ [])
             (λ entry. self.old.packets ≡ entry ∷ self.new.packets) }
@@ -204,7 +212,8 @@ where
         found
     }
 
-    /// The first packet at or above a number, with its number.
+    /// The first tracked packet at or above a number, with its number: so that the packets can be gone over by number,
+    /// upward (RFC 9002, 6.1). Cost: that of `find`, beside the empty slots that are passed over.
     pub fn tracked_from(&self, number: u64) -> Option<(u64, &SentPacket<Q>)>
         ensures { MatchOption result (first_from number self.now.packets ≡ None)
             (λ found. first_from number self.now.packets ≡ Some (found.0, found.1.now)) }
@@ -212,14 +221,14 @@ where
         self.packets.entry_from(number)
     }
 
-    /// Whether some packet elicits an ACK. Constant cost.
+    /// Whether some tracked packet elicits an ACK (RFC 9002, 2). Constant cost.
     pub fn has_ack_eliciting(&self) -> bool
         ensures { Decides result (HasEliciting self.now.packets) }
     {
         self.eliciting != 0
     }
 
-    /// Whether some packet has a size. Constant cost.
+    /// Whether some tracked packet has a size other than 0. Constant cost.
     pub fn has_size(&self) -> bool
         ensures { Decides result (HasSize self.now.packets) }
     {

@@ -1,17 +1,16 @@
 //! What is kept for each packet number space (RFC 9000, 12.3): received numbers, sent numbers, tracked packets, what is
 //! to be sent again, and what probes ask for.
-ghost use Rattle.std.specs.Prelude.{◌≡◌, ◌≢◌, Decides, ◌<◌, ◌≤◌, ◌^◌, ◌∷◌, [], IfOk, OnOk, OnErr, IfSome, IfNone, IsSome, None, Some, MatchOption, MatchResult, false, not, ◌||◌, length, nat_lt, option_map};
+ghost use Rattle.std.specs.Prelude.{◌≡◌, ◌≢◌, ◌<◌, ◌≤◌, ◌^◌, ◌∷◌, [], IfOk, OnOk, OnErr, IfSome, IfNone, IsSome, None, Some, MatchOption, MatchResult, false, not, ◌||◌, nat_lt, option_map};
 ghost use Rattle.std.specs.Option.{is_some};
 ghost use Rattle.recovery_base.specs.declared.below.SpaceId.{SpaceId};
 ghost use Rattle.recovery_base.specs.Ecn.{ecn_fault};
-ghost use Rattle.recovery_ledger.specs.Packets.{AreBelow, IsAboveLast, HasSize, HasEliciting, first_from, IsTooLarge, most_silent, silent_in, packet_at, with_contents, forgotten_entry, after_sending};
-ghost use Rattle.recovery_ledger.specs.Places.{HasSlots, FindsPacket};
+ghost use Rattle.recovery_ledger.specs.Packets.{IsTooLarge, packet_at, with_contents};
 ghost use Rattle.recovery_ledger.specs.Probes.{probe_found};
 ghost use Rattle.recovery_ledger.specs.Queued.{IsSendable};
 ghost use Rattle.recovery_ledger.specs.SpaceLog.{loses, probes, takes_pending, feeds_back};
 ghost use Rattle.recovery_ledger.specs.Spaces.{space_of, tracking_of, with_tracking, packets_of, acks_of, queued_of, with_acks, next_number_of, IsMade, after_number, after_eliciting, after_acknowledging, space_takes, space_moves, space_probes, HasGreatestCome, SpaceStep, ReceiveReply, heard_of, arrives, SubtractsLargest};
 
-use crate::sent_packets::SentPackets;
+pub use crate::sent_packets::SentPackets;
 use recovery_acks::PendingAcks;
 use recovery_base::below::{EcnCounts, NoMemory, SpaceId};
 use recovery_base::dedup::Dedup;
@@ -146,8 +145,9 @@ pub struct PacketSpace<Q: RetransmitQueue> {
     pub loss_time: Option<Instant>,
     /// How many bytes of CRYPTO frames were sent: the offset of the next one (RFC 9000, 19.6).
     pub crypto_offset: u64,
+    /// The packets that are tracked, by number (RFC 9002, A.1).
+    pub sent_packets: SentPackets<Q>,
     next_packet_number: u64,
-    sent_packets: SentPackets<Q>,
     alloc: Global,
 }
 
@@ -215,13 +215,6 @@ where
         self.next_packet_number
     }
 
-    /// The number of the last packet sent that elicits an ACK, tracked or not.
-    pub fn largest_ack_eliciting_sent(&self) -> Option<u64>
-        ensures { result ≡ (tracking_of self.now).last_eliciting }
-    {
-        self.sent_packets.last_eliciting()
-    }
-
     /// Gives out the next packet number, below 2^62. `None`, and nothing changed, where it would be 2^62 (RFC 9000,
     /// 12.3).
     pub fn get_tx_number(&mut self) -> Option<u64>
@@ -287,45 +280,7 @@ where
         Ok(Receipt::New { arm })
     }
 
-    /// Tracks a packet under a number above all that were sent. A silent one (RFC 9002, 2: it elicits no ACK) makes the
-    /// space forget the least of 1001 silent packets that are tracked above the last one that elicits an ACK: that one
-    /// is handed back with its number. After `NoMemory`, which comes only where a slot was refused, the space is as it
-    /// was, and the packet dropped. Cost: constant over all calls, but for a forgotten packet that of `take`.
-    pub fn sent(
-        &mut self,
-        number: u64,
-        packet: SentPacket<Q>,
-    ) -> Result<Option<(u64, SentPacket<Q>)>, NoMemory>
-        requires above { AreBelow (packets_of self.old) number }
-        requires above_last { IsAboveLast (tracking_of self.old).last_eliciting number }
-        ensures ok { OnOk result
-            (self.new ≡ with_tracking (after_sending number packet (tracking_of self.old)) self.old) }
-        ensures forgotten { IfOk result (λ gone. gone ≡ forgotten_entry packet (tracking_of self.old)) }
-        ensures bound { length (silent_in (tracking_of self.new)) ≤ most_silent }
-        ensures err { OnErr result (self.new ≡ self.old) }
-    {
-        self.sent_packets.insert(number, packet)
-    }
-
-    /// How many slots stand for the tracked packets: a packet that is taken leaves its slot empty. At most 64 are empty
-    /// beside as many as there are packets: past that they are closed up in place. Constant cost.
-    pub fn slots(&self) -> usize
-        ensures { HasSlots (packets_of self.now) result }
-    {
-        self.sent_packets.slots()
-    }
-
-    /// The place of the packet of a number among the slots, `None` where it is not tracked, and how many slots were
-    /// looked at: at most as many as the count of slots has binary digits.
-    pub fn find(&self, number: u64) -> (Option<usize>, u32)
-        ensures { FindsPacket (packets_of self.now) number result }
-    {
-        self.sent_packets.find(number)
-    }
-
-    /// Takes out the packet of a number, if it is tracked. It takes no memory. Cost: that of `find`, and constant
-    /// beside it over all calls: empty slots are closed up once there are more than 64 beside as many as there are
-    /// packets, so that at least half as many packets were taken since the last time as slots are gone over.
+    /// Takes out the packet of a number, as [`SentPackets::remove`] does.
     pub fn take(&mut self, number: u64) -> Option<SentPacket<Q>>
         ensures packet { result ≡ packet_at (packets_of self.old) number }
         ensures after { self.new ≡ space_takes number self.old }
@@ -334,7 +289,7 @@ where
         self.sent_packets.remove(number)
     }
 
-    /// Takes out the packet with the least number, if any is tracked. It takes no memory. Cost as of `take`.
+    /// Takes out the packet with the least number, as [`SentPackets::pop_first`] does.
     pub fn take_first(&mut self) -> Option<(u64, SentPacket<Q>)>
         ensures first { MatchOption result (packets_of self.old ≡ [])
             (λ entry. packets_of self.old ≡ entry ∷ packets_of self.new) }
@@ -343,29 +298,6 @@ where
         ensures none { IfNone result (self.new ≡ self.old) }
     {
         self.sent_packets.pop_first()
-    }
-
-    /// The first tracked packet at or above a number, with its number: so that the packets can be gone over by number,
-    /// upward (RFC 9002, 6.1). Cost: that of `find`, beside the empty slots that are passed over.
-    pub fn tracked_from(&self, number: u64) -> Option<(u64, &SentPacket<Q>)>
-        ensures { MatchOption result (first_from number (packets_of self.now) ≡ None)
-            (λ found. first_from number (packets_of self.now) ≡ Some (found.0, found.1.now)) }
-    {
-        self.sent_packets.tracked_from(number)
-    }
-
-    /// Whether some tracked packet elicits an ACK (RFC 9002, 2). Constant cost.
-    pub fn has_ack_eliciting(&self) -> bool
-        ensures { Decides result (HasEliciting (packets_of self.now)) }
-    {
-        self.sent_packets.has_ack_eliciting()
-    }
-
-    /// Whether some tracked packet has a size other than 0. Constant cost.
-    pub fn has_in_flight(&self) -> bool
-        ensures { Decides result (HasSize (packets_of self.now)) }
-    {
-        self.sent_packets.has_size()
     }
 
     /// A packet was tracked under a number, and sent at this moment: the number is given out, and those from the next

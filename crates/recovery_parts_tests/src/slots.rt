@@ -47,7 +47,7 @@ pub(crate) fn packet(alloc: Global) -> SentPacket<ItemQueue> {
 fn sent(rt: &impl Abort, alloc: Global, count: u64) -> PacketSpace<ItemQueue> {
     let mut space = PacketSpace::new(alloc, Instant::from_nanos(0));
     for number in 0..count {
-        match space.sent(number, packet(alloc)) {
+        match space.sent_packets.insert(number, packet(alloc)) {
             Ok(_) => {}
             Err(NoMemory) => panic!(rt; "{number}"),
         }
@@ -66,10 +66,10 @@ fn assert_closed_up(rt: &impl Abort, alloc: Global, order: Order, count: u64) {
         let number = order.number(step, count);
         holds(rt, takes(&mut space, number), number);
     }
-    holds(rt, space.slots() <= 66, count);
-    holds(rt, space.find(0).0.is_some(), count);
+    holds(rt, space.sent_packets.slots() <= 66, count);
+    holds(rt, space.sent_packets.find(0).0.is_some(), count);
     holds(rt, takes(&mut space, 0), 0);
-    holds(rt, space.find(0) == (None, 0), 0);
+    holds(rt, space.sent_packets.find(0) == (None, 0), 0);
 }
 
 #[test]

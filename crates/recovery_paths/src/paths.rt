@@ -286,7 +286,7 @@ impl<C: Controller + Drop> PathData<C> {
         let Some(in_flight) = self.in_flight.checked_insert(&packet) else {
             return Err(LedgerError::Overflow);
         };
-        let forgotten = match space.sent(number, packet) {
+        let forgotten = match space.sent_packets.insert(number, packet) {
             Ok(forgotten) => forgotten,
             Err(NoMemory) => return Err(LedgerError::NoMemory),
         };

@@ -5,7 +5,6 @@ ghost use Rattle.recovery_skips.specs.Skips.{IsSkips};
 use quic_recovery::RecoveryConfig;
 use quic_recovery::below::ConnectionId;
 use quic_recovery::config::TransportConfig;
-use quic_recovery::time::Duration;
 use recovery_replay::replay::skips;
 use std::net::{IpAddr, Ipv4Addr, SocketAddr};
 
@@ -23,16 +22,8 @@ pub fn config<F>(transport: TransportConfig<F>, seed: Option<u64>) -> RecoveryCo
     ensures issued { result.issued ≡ 1 }
     ensures skips { IsSkips result.skips }
 {
-    RecoveryConfig {
-        transport,
-        remote: SocketAddr::new(IpAddr::V4(Ipv4Addr::new(127, 0, 0, 1)), 4433),
-        validated: false,
-        allow_mtud: true,
-        max_ack_delay: Duration::from_millis(25),
-        initial_cid: ConnectionId::new(&[0xff; 8]),
-        cid_len: 8,
-        cid_lifetime: Some(Duration::from_secs(10)),
-        issued: 1,
-        skips: skips(seed),
-    }
+    let remote = SocketAddr::new(IpAddr::V4(Ipv4Addr::new(127, 0, 0, 1)), 4433);
+    let mut config = RecoveryConfig::new(transport, remote, ConnectionId::new(&[0xff; 8]));
+    config.skips(skips(seed));
+    config
 }

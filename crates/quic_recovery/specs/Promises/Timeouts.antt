@@ -2,7 +2,7 @@
 -- next timeout is the least of these.
 use Rattle.std.specs.Prelude.{◌≡◌, ℕ, min, List, [], ◌∷◌, map, Option, None, Some, option_map, unwrap_or, Ok, if◌then◌else◌}
 use Rattle.recovery_base.specs.declared.timer.Timer.{Timer}
-use Rattle.recovery_base.specs.declared.timer.Timer.TheVariants.{LossDetection, Idle, Close, KeyDiscard, PathValidation, KeepAlive, Pacing, PushNewCid, MaxAckDelay}
+use Rattle.recovery_base.specs.declared.timer.TheConstants.Timer.{VALUES}
 use Rattle.recovery_base.specs.Timers.{same_timer}
 use Rattle.recovery_events.specs.declared.event.Event.{Event}
 use Rattle.recovery_events.specs.declared.event.Event.TheVariants.{SetTimer, StopTimer, NextTimeout}
@@ -10,8 +10,7 @@ use Rattle.recovery_events.specs.declared.event.Answer.TheVariants.{Timeout, Don
 use Rattle.quic_recovery.specs.History.{History, Reply}
 
 abbrev pub every_timer : List Timer
-every_timer = LossDetection ∷ Idle ∷ Close ∷ KeyDiscard ∷ PathValidation ∷ KeepAlive ∷ Pacing ∷ PushNewCid ∷ MaxAckDelay
-    ∷ []
+every_timer = VALUES
 
 -- the least of the moments that are there
 abbrev pub least : List (Option ℕ) → Option ℕ

@@ -84,7 +84,7 @@ where
             Err(error) => return Err(refusal_of(error)),
         };
         here.on_sent(number, ack_eliciting, now);
-        give_out(&mut self.filter, &mut self.rng, space, next);
+        draw_skip(&mut self.filter, &mut self.rng, space, next);
         self.paths.on_sent(now, u64::from(size), number);
         Ok(Answer::Sent {
             number,
@@ -168,7 +168,7 @@ fn number_behind(filter: &PacketNumberFilter, space: SpaceId, next: u64) -> u64
 }
 
 /// That number is given out, below 2^62: where a 1-RTT number was skipped for it, the next skip is drawn.
-fn give_out<R: Rng>(filter: &mut PacketNumberFilter, rng: &mut R, space: SpaceId, next: u64)
+fn draw_skip<R: Rng>(filter: &mut PacketNumberFilter, rng: &mut R, space: SpaceId, next: u64)
     requires { number_behind filter.old space next < 2 ^ 62 }
     ensures { record { filter = filter.new; words = R.stream rng.new }
         ≡ skipping_behind space next (record { filter = filter.old; words = R.stream rng.old }) }

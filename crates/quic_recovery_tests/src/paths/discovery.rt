@@ -67,7 +67,7 @@ fn a_probe_is_tracked(rt: HostRuntime) {
                 Some(space) => {
                     traces
                         && space.next_packet_number() == 1
-                        && space.largest_ack_eliciting_sent() == Some(0)
+                        && space.sent_packets.last_eliciting() == Some(0)
                         && space.time_of_last_ack_eliciting_packet == Some(at(5))
                 }
                 None => false,

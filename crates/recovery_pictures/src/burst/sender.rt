@@ -28,11 +28,10 @@ fn config<F: ControllerFactory>(factory: F, rtt: u64) -> RecoveryConfig<F>
 {
     let mut transport = TransportConfig::with_factory(factory);
     transport.initial_rtt(Duration::from_nanos(rtt));
-    RecoveryConfig {
-        validated: true,
-        allow_mtud: false,
-        ..start::config(transport, None)
-    }
+    let mut config = start::config(transport, None);
+    config.validated(true);
+    config.allow_mtud(false);
+    config
 }
 
 /// The sender, over controllers of a factory `F`. Moments are nanoseconds since the beginning.

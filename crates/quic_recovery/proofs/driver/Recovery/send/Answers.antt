@@ -59,5 +59,5 @@ returns g c =
     _ _ _ _ _ _
     c.generation.ensures number (omega arith)
     (λ over. ok_is_no_err _ _ (c.in-Ok.ensures.overflow.1 over))
-    (c.number_of.ensures ∙ ap entry_number gone) is (c.give_out.ensures
+    (c.number_of.ensures ∙ ap entry_number gone) is (c.draw_skip.ensures
     ∙ ap (λ (n : ℕ). skipping_behind c.args.space n old.skipping) next) tells
