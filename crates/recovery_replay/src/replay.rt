@@ -237,25 +237,7 @@ pub fn play_bytes(
     }
 }
 
-/// The answers to an input that is read as it comes, and how it ended.
-fn answer_all<R: Read>(
-    alloc: Global,
-    choice: Choice,
-    input: &mut R,
-) -> Result<(Ending, String), NoMemory>
-    ensures { IfOk result (λ all. Session (Runs choice)
-        (λ events. Hears (R.remaining input.old) (R.remaining input.new) events all.0)
-        (λ lines. string_bytes all.1 ≡ lines)) }
-{
-    let mut script = ScriptReader::new(alloc, input);
-    let text = answers(alloc, choice, &mut script)?;
-    match script.ending() {
-        Some(ending) => Ok((ending, text)),
-        None => Err(NoMemory),
-    }
-}
-
-/// Reads events and writes their answers.
+/// Reads events and writes their answers, once the input was read.
 fn play<R: Read, W: Write>(
     alloc: Global,
     words: &[String],
@@ -268,7 +250,8 @@ fn play<R: Read, W: Write>(
     let Some(choice) = choice_in(words) else {
         return Outcome::WrongArguments;
     };
-    let Ok((ending, text)) = answer_all(alloc, choice, input) else {
+    let mut script = ScriptReader::new(alloc, input);
+    let (Ok(text), Some(ending)) = (answers(alloc, choice, &mut script), script.ending()) else {
         return Outcome::OutOfMemory;
     };
     match deliver(output, text.as_bytes()) {
