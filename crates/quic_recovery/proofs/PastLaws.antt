@@ -1,11 +1,11 @@
 -- A past goes on by one event: what `run` promises of a list of events, `apply` promises of the event behind a past.
-use Rattle.std.proofs.Common.{ℕ, ◌<◌, ◌^◌, List, [], ◌∷◌, None, if◌then◌else◌}
+use Rattle.std.proofs.Common.{ℕ, ◌<◌, ◌^◌, ◌∷◌, None, if◌then◌else◌}
 use Rattle.std.specs.Option.{ForSome}
 use mathlib.Core.Logic.{∥∥₁_map}
 use Rattle.recovery_congestion.specs.Controllers.{ControllerWords}
 use Rattle.recovery_paths.specs.Balance.{AreBalanced}
 use Rattle.recovery_events.specs.declared.event.Event.{Event}
-use Rattle.quic_recovery.specs.History.{AtEach, Beginning, History, QueueMeaning, Reply, Throughout, history}
+use Rattle.quic_recovery.specs.History.{AtEach, Beginning, History, QueueMeaning, Reply}
 use Rattle.quic_recovery.specs.Parts.{Parts}
 use Rattle.quic_recovery.specs.Past.{Reached, ReachedSomehow, ExtendsOn, ExtendsFrom, Keeps, KeepsPastsOn, ExtendedOn}
 use Rattle.quic_recovery.specs.State.{Changes}
@@ -26,7 +26,6 @@ use Rattle.quic_recovery.proofs.OwnIdsLaws.{issues_ids}
 use Rattle.quic_recovery.proofs.PacingLaws.{delayed, rate, soon, named}
 use Rattle.quic_recovery.proofs.PeerIdsLaws.{accepts_ids}
 use Rattle.quic_recovery.proofs.RefusedLaws.{refuses_rightly}
-use Rattle.quic_recovery.proofs.Runs.{throughout_each}
 use Rattle.quic_recovery.proofs.SizesLaws.{sizes_told}
 use Rattle.quic_recovery.proofs.ThreefoldLaws.{sends_threefold}
 use Rattle.quic_recovery.proofs.PlainLaws.{timers_told}
@@ -73,21 +72,6 @@ module _ {F K Q S M P : Type 0} (beginning : Beginning F K Q S M P) where
         duty = (keeps_duty beginning now all).0;
         to_acknowledge = keeps_to_acknowledge beginning now all;
       }
-
-  pub keeps_along : UpperFits → (history : History Q S M P) → AtEach (Told beginning) history
-      → AtEach (Keeps beginning) history
-  keeps_along small [] all = tt
-  keeps_along small (happened ∷ before) all =
-      (keeps small before happened.0 happened.1 all, keeps_along small before all.1)
-
-  -- what is promised says what was told
-  pub told_along : (events : List (Event Q S M P)) (replies : List (Reply Q))
-      → Throughout (Keeps beginning) events replies → Throughout (Told beginning) events replies
-  told_along events replies kept = (
-    kept.0,
-    throughout_each (Keeps beginning) (Told beginning)
-        (λ before event reply keeps. keeps.told) (history events replies) kept.1,
-  )
 
   -- from every past by which it came here it goes on: each clause of whole runs, at the event that is put behind it
   pub extends : (past : History Q S M P) (old : Parts K P M) (event : Event Q S M P) (reply : Reply Q)

@@ -1,11 +1,13 @@
 pub mod Above
 pub mod Config
 pub mod Entries
+pub mod Feeding
 pub mod History
 pub mod IdReplies
 pub mod Known
 pub mod Logs
 pub mod Numbers
+pub mod Over
 pub mod Pacing
 pub mod PartReplies
 pub mod Parts

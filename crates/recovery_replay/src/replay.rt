@@ -8,7 +8,8 @@ ghost use Rattle.recovery_replay.specs.Replay.{Runs, RunsOver, Session, PlaysByt
 ghost use Rattle.recovery_replay.specs.Replay.{TellsOutcome, EndsSo};
 
 use crate::fixed_window::FixedWindowConfig;
-use crate::script::{Ending, read_bytes, read_script};
+use crate::script::{Ending, ScriptBytes, ScriptReader};
+use crate::text::AnswerText;
 use crate::writing::deliver;
 use arrayvec::ArrayString;
 use itoa::Buffer;
@@ -16,9 +17,9 @@ use quic_recovery::config::TransportConfig;
 use quic_recovery::congestion::{ControllerFactory, NewRenoConfig};
 use quic_recovery::driver::{Recovery, RecoveryConfig};
 use quic_recovery::event::Event;
+use quic_recovery::feeding::Source;
 use rand_core::SeedableRng;
 use rand_pcg::Pcg32;
-use recovery_answers::answers::render;
 use recovery_base::below::{ConnectionId, NoMemory};
 use recovery_base::time::{Duration, Instant};
 use recovery_lines::lines::peer_at;
@@ -129,33 +130,41 @@ pub fn skips(seed: Option<u64>) -> Skips
     }
 }
 
-/// The lines that are written for events, in a run over these controllers that begins with a seed or with none.
-fn answers_over<F>(
+/// The lines that are written for the events of a script, in a run over these controllers that begins with a seed or with none.
+fn answers_over<F, E>(
     alloc: Global,
     factory: F,
     seed: Option<u64>,
-    events: Vec<Event<ItemQueue>>,
+    script: &mut E,
 ) -> Result<String, NoMemory>
 where
     F: ControllerFactory + Drop,
     F::Controller: Drop,
+    E: Source<Event<ItemQueue>>,
     ensures { IfOk result (λ text. Session (RunsOver F.built F.Controller.words factory seed)
-        (λ said. said ≡ events.items) (λ lines. string_bytes text ≡ lines)) }
+        (λ events. E.gives script.old events script.new) (λ lines. string_bytes text ≡ lines)) }
 {
     let config = config(factory, peer_at(FIRST_PORT), skips(seed));
     let rng = Pcg32::seed_from_u64(seed.unwrap_or(0));
-    let (_, replies) = Recovery::run(alloc, config, rng, Instant::from_nanos(0), events)?;
-    render(alloc, &replies)
+    let text = AnswerText::new(alloc);
+    let start = Instant::from_nanos(0);
+    let (recovery, text) = Recovery::run_over(alloc, config, rng, start, script, text)?;
+    drop(recovery);
+    text.into_text()
 }
 
-/// The lines that are written for events, in the run that is chosen.
-fn answers(alloc: Global, choice: Choice, events: Vec<Event<ItemQueue>>) -> Result<String, NoMemory>
+/// The lines that are written for the events of a script, in the run that is chosen.
+fn answers<E: Source<Event<ItemQueue>>>(
+    alloc: Global,
+    choice: Choice,
+    script: &mut E,
+) -> Result<String, NoMemory>
     ensures { IfOk result (λ text. Session (Runs choice)
-        (λ said. said ≡ events.items) (λ lines. string_bytes text ≡ lines)) }
+        (λ events. E.gives script.old events script.new) (λ lines. string_bytes text ≡ lines)) }
 {
     match choice.fixed {
-        Some(factory) => answers_over(alloc, factory, choice.seed, events),
-        None => answers_over(alloc, NewRenoConfig::default(), choice.seed, events),
+        Some(factory) => answers_over(alloc, factory, choice.seed, script),
+        None => answers_over(alloc, NewRenoConfig::default(), choice.seed, script),
     }
 }
 
@@ -220,25 +229,15 @@ pub fn play_bytes(
     let Some(choice) = choice_in(words) else {
         return Ok((Outcome::WrongArguments, String::new(alloc)));
     };
-    let (events, ending) = read_bytes(alloc, input)?;
-    Ok((Outcome::Ended(ending), answers(alloc, choice, events)?))
+    let mut script = ScriptBytes::new(alloc, input);
+    let text = answers(alloc, choice, &mut script)?;
+    match script.ending() {
+        Some(ending) => Ok((Outcome::Ended(ending), text)),
+        None => Err(NoMemory),
+    }
 }
 
-/// The answers to an input that is read as it comes, and how it ended.
-fn answer_all<R: Read>(
-    alloc: Global,
-    choice: Choice,
-    input: &mut R,
-) -> Result<(Ending, String), NoMemory>
-    ensures { IfOk result (λ all. Session (Runs choice)
-        (λ events. Hears (R.remaining input.old) (R.remaining input.new) events all.0)
-        (λ lines. string_bytes all.1 ≡ lines)) }
-{
-    let (events, ending) = read_script(alloc, input)?;
-    Ok((ending, answers(alloc, choice, events)?))
-}
-
-/// Reads events and writes their answers.
+/// Reads events and writes their answers, once the input was read.
 fn play<R: Read, W: Write>(
     alloc: Global,
     words: &[String],
@@ -251,7 +250,8 @@ fn play<R: Read, W: Write>(
     let Some(choice) = choice_in(words) else {
         return Outcome::WrongArguments;
     };
-    let Ok((ending, text)) = answer_all(alloc, choice, input) else {
+    let mut script = ScriptReader::new(alloc, input);
+    let (Ok(text), Some(ending)) = (answers(alloc, choice, &mut script), script.ending()) else {
         return Outcome::OutOfMemory;
     };
     match deliver(output, text.as_bytes()) {

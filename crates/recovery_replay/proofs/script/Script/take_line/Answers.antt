@@ -1,4 +1,4 @@
-use Rattle.std.proofs.Common.{[], ◌∷◌, append-nil, arith}
+use Rattle.std.proofs.Common.{[], ◌∷◌, append-nil, arith, refl}
 use Rattle.std.proofs.lemmas.Bool.Decides.{nat_tests}
 use Rattle.std.proofs.lemmas.List.Elements.{All-nil}
 use Rattle.std.proofs.lemmas.Result.{IfOk-weaker}
@@ -6,19 +6,33 @@ use Rattle.recovery_replay.proofs.ScriptLaws.{bad_whatever_follows, line_ended, 
 use Rattle.recovery_replay.proofs.script.Script.take_line.Goals as goal
 
 pub returns-then-is_empty : goal.returns-then-is_empty
-returns-then-is_empty c =
+returns-then-is_empty g c =
     let old = c.args.self.now in
-    IfOk-weaker c.end_whole.result _ _ (λ good. line_ended c.args.end.now _ old c.end_whole.new.self good c.requires
-    (nothing_kept old.line.items _ (grind (arith, nat_tests, old.line.ok.0)))) c.end_whole.ensures
+    let given = c.end_line.ensures in
+    record {
+      events = given.events;
+      taken = given.taken;
+      read = IfOk-weaker c.end_line.result _ _ (λ good. line_ended c.args.end.now _ old c.end_line.new.self given.events
+          good c.requires (nothing_kept old.line.items _ (grind (arith, nat_tests, old.line.ok.0)))) given.read;
+    }
 
 pub returns-then-not-branch : goal.returns-then-not-branch
-returns-then-not-branch c =
-    bad_whatever_follows c.args.self.now c.keep.new.self c.args.end.now (10 ∷ [])
-    (rw (c.if-not-branch.true) at c.in_ok-keep.ensures)
+returns-then-not-branch g c = record {
+  events = [];
+  taken = refl;
+  read = bad_whatever_follows c.args.self.now c.keep.new.self c.args.end.now (10 ∷ []) []
+      (rw (c.if-not-branch.true) at c.in_ok-keep.ensures);
+}
 
 pub returns : goal.returns
-returns c =
+returns g c =
     let mid = c.keep.new.self in
-    IfOk-weaker c.end_line.result _ _ (λ good ends. more_taken c.args.self.now mid c.end_line.new.self c.args.end.now
-    (10 ∷ []) good (rw (c.if-not-branch.false) at c.in_ok-keep.ensures)
-    (line_ended [] _ mid c.end_line.new.self good (All-nil _) (append-nil mid.line.items) ends)) c.end_line.ensures
+    let given = c.end_kept.ensures in
+    record {
+      events = given.events;
+      taken = given.taken;
+      read = IfOk-weaker c.end_kept.result _ _ (λ good ends. more_taken c.args.self.now mid c.end_kept.new.self
+          c.args.end.now (10 ∷ []) [] given.events good (rw (c.if-not-branch.false) at c.in_ok-keep.ensures)
+          (line_ended [] _ mid c.end_kept.new.self given.events good (All-nil _) (append-nil mid.line.items) ends))
+          given.read;
+    }

@@ -1,0 +1,33 @@
+-- What a run does with the events that a source gives, and with the sink of its replies.
+use Rattle.std.specs.Prelude.{List}
+use Rattle.quic_recovery.specs.declared.driver.Recovery.{Recovery}
+use Rattle.recovery_events.specs.declared.event.Event.{Event}
+use Rattle.quic_recovery.specs.History.{Beginning, Reply, history, Throughout}
+use Rattle.quic_recovery.specs.Parts.{Parts}
+use Rattle.recovery_paths.specs.PathLog.{paths_marks}
+use Rattle.quic_recovery.specs.Above.{AreFresh}
+use Rattle.quic_recovery.specs.Past.{Reached, Extends, Keeps}
+use Rattle.quic_recovery.specs.State.{Transition}
+
+-- an event was done, and its one reply was put into the sink
+pub record PassesOn {F Q R C K S M P T : Type 0} {f : _} {c : _} {q : _} {m : _} {r : _}
+    (takes : T → Reply Q → T → Type 0) (old : Recovery F Q R C K S M P f c q m r) (before : T) (event : Event Q S M P)
+    (new : Recovery F Q R C K S M P f c q m r) (behind : T) : Type 0 where
+  pub reply : Reply Q
+  pub changes : Transition event old reply new
+  pub extends : Extends old event reply new
+  pub taken : takes before reply behind
+
+-- these events were given and these replies taken, one each: all that is promised of an event and its reply holds at
+-- each, and the recovery came here by them
+pub record RunsFrom {F K Q S M P : Type 0} (beginning : Beginning F K Q S M P)
+    (AreGiven : List (Event Q S M P) → Type 0) (AreTaken : List (Reply Q) → Type 0) (recovery : Parts K P M) : Type 0
+  where
+    pub events : List (Event Q S M P)
+    pub replies : List (Reply Q)
+    pub given : AreGiven events
+    pub taken : AreTaken replies
+    pub keeps : Throughout (Keeps beginning) events replies
+    pub came : Reached beginning (history events replies) recovery
+    -- what the layer above keeps with each path is as a path is made with it
+    pub marks : AreFresh (paths_marks recovery.paths)

@@ -1,0 +1,85 @@
+//! A run over events that come, with replies that go.
+ghost use Rattle.std.specs.Prelude.{◌≤◌, ◌<◌, ◌^◌, IfOk, OnErr};
+ghost use Rattle.recovery_skips.specs.Skips.{IsSkips};
+ghost use Rattle.quic_recovery.specs.State.{begun, parts_of};
+ghost use Rattle.quic_recovery.specs.Feeding.{TakesAll};
+ghost use Rattle.quic_recovery.specs.Over.{PassesOn, RunsFrom};
+
+use crate::driver::{Recovery, RecoveryConfig};
+use crate::feeding::{Sink, Source};
+use rand_core::Rng;
+use recovery_base::below::NoMemory;
+use recovery_base::time::Instant;
+use recovery_congestion::congestion::ControllerFactory;
+use recovery_events::event::{Answer, Event, Refusal};
+use recovery_queue::queue::RetransmitQueue;
+use std::alloc::Global;
+
+/// A recovery that takes events, and the sink of its replies.
+#[derive(Drop)]
+struct Runner<F: ControllerFactory, Q: RetransmitQueue, R: Rng, S> {
+    recovery: Recovery<F, Q, R>,
+    replies: S,
+}
+
+impl<F, Q, R, S> Sink<Event<Q>> for Runner<F, Q, R, S>
+where
+    F: ControllerFactory + Drop,
+    F::Controller: Drop,
+    Q: RetransmitQueue + Drop,
+    Q::Meta: Drop,
+    Q::Streams: Drop,
+    R: Rng + Drop,
+    S: Sink<Result<Answer<Q>, Refusal>>,
+{
+    ghost takes = { λ old event new. PassesOn S.takes old.recovery old.replies event new.recovery new.replies };
+
+    #[inline(always)]
+    fn put(&mut self, event: Event<Q>) -> bool {
+        let reply = self.recovery.apply(event);
+        self.replies.put(reply)
+    }
+}
+
+impl<F, Q, R> Recovery<F, Q, R>
+where
+    F: ControllerFactory + Drop,
+    F::Controller: Drop,
+    Q: RetransmitQueue + Drop,
+    Q::Meta: Drop,
+    Q::Streams: Drop,
+    R: Rng + Drop,
+{
+    /// Every event that a source gives, in order, from a fresh start: the state that is left, and the sink that took the
+    /// replies, each before the next event is given. [`Recovery::run`] is this call over two lists.
+    ///
+    /// No event and no reply is kept. Whatever ended the source, all that is promised of a run holds of the events that it
+    /// gave. `NoMemory` where there is no room for the ids that are issued at the start, before the first event.
+    pub fn run_over<E, S>(
+        alloc: Global,
+        config: RecoveryConfig<F>,
+        rng: R,
+        start: Instant,
+        events: &mut E,
+        replies: S,
+    ) -> Result<(Recovery<F, Q, R>, S), NoMemory>
+    where
+        E: Source<Event<Q>>,
+        S: Sink<Result<Answer<Q>, Refusal>> + Drop,
+        requires issued { config.issued ≤ 2 ^ 62 }
+        requires skips { IsSkips config.skips }
+
+        // The events that were given and the replies that were taken are those of a run, and each promise holds at each event
+        // (`Keeps`).
+        ensures runs { IfOk result (λ run. RunsFrom (begun run.0 config start rng)
+            (λ all. E.gives events.old all events.new) (λ all. TakesAll S.takes replies all run.1)
+            (parts_of run.0)) }
+        ensures memory { OnErr result (0 < config.issued) }
+    {
+        let recovery = Recovery::new(alloc, config, rng, start)?;
+        let mut runner = Runner { recovery, replies };
+        events.feed(&mut runner);
+        let Runner { recovery, replies } = runner;
+        Ok((recovery, replies))
+    }
+}

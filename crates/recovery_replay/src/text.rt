@@ -1,0 +1,51 @@
+//! The lines that are written for replies, as they are given.
+ghost use Rattle.std.specs.Prelude.{◌≡◌, [], true, IfOk, string_bytes};
+ghost use Rattle.recovery_replay.specs.Text.{TakesLine};
+
+use quic_recovery::event::{Answer, Refusal};
+use quic_recovery::feeding::Sink;
+use recovery_answers::answers::write_reply;
+use recovery_base::below::NoMemory;
+use recovery_queue::items::ItemQueue;
+use std::alloc::Global;
+
+/// The lines of the replies so far. Once memory was refused for one it asks for no other.
+#[derive(Drop)]
+pub struct AnswerText {
+    text: String,
+    /// Whether there was memory for every line.
+    whole: bool,
+}
+
+impl AnswerText {
+    /// No line yet.
+    pub fn new(alloc: Global) -> Self
+        ensures text { string_bytes result.text ≡ [] }
+    {
+        AnswerText {
+            text: String::new(alloc),
+            whole: true,
+        }
+    }
+
+    /// The lines of all replies, or `NoMemory` where memory was refused for one.
+    pub fn into_text(self) -> Result<String, NoMemory>
+        ensures { IfOk result (λ text.
+            (self.whole ≡ true) × (string_bytes text ≡ string_bytes self.text)) }
+    {
+        if !self.whole {
+            return Err(NoMemory);
+        }
+        Ok(self.text)
+    }
+}
+
+impl Sink<Result<Answer<ItemQueue>, Refusal>> for AnswerText {
+    ghost takes = { λ old reply new. TakesLine old.text old.whole reply new.text new.whole };
+
+    fn put(&mut self, item: Result<Answer<ItemQueue>, Refusal>) -> bool {
+        let whole = self.whole && write_reply(&mut self.text, &item).is_ok();
+        self.whole = whole;
+        whole
+    }
+}
