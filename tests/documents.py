@@ -4,6 +4,7 @@ backquotes stands in a source of what is described, and `A::b` where A is declar
 docs/PROMISES.md, and a definition stands in the file that is named beside it; examples stand beside what they print, as in examples/; lines
 are no longer than others here, and all documents together are short. Names of others (the crate that this follows, the toolchain's own,
 patterns) are listed here, as long as a document has them."""
+import os
 import pathlib
 import re
 import sys
@@ -35,9 +36,12 @@ TYPES = {"Box", "Pcg32"}  # declared elsewhere, and named with what they have
 
 
 def files_here():
-    """All files but those that are built."""
-    found = (it.relative_to(ROOT) for it in ROOT.rglob("*") if it.is_file())
-    return sorted(it for it in found if not {"out", "target", ".git", "__pycache__"} & set(it.parts))
+    """All files but those that are built, which may come and go while this runs."""
+    found = []
+    for folder, inside, files in os.walk(ROOT):
+        inside[:] = [it for it in inside if it not in ("out", "target", ".git", "__pycache__")]
+        found += ((pathlib.Path(folder) / it).relative_to(ROOT) for it in files)
+    return sorted(found)
 
 
 def is_document(file):

@@ -21,7 +21,7 @@ use quic_recovery::feeding::Source;
 use rand_core::SeedableRng;
 use rand_pcg::Pcg32;
 use recovery_base::below::{ConnectionId, NoMemory};
-use recovery_base::time::{Duration, Instant};
+use recovery_base::time::Instant;
 use recovery_lines::lines::peer_at;
 use recovery_lines::number_in;
 use recovery_queue::items::ItemQueue;
@@ -101,23 +101,14 @@ struct Choice {
     fixed: Option<FixedWindowConfig>,
 }
 
-/// What a run over these controllers, with the peer at an address, starts with: a path that is not validated and whose
-/// MTU is searched for, one id of each end, of eight bytes, and ACKs delayed by at most 25 ms. Ids of this end last 10 s.
+/// What a run over these controllers, with the peer at an address, starts with: the default settings, but for the skips.
 pub fn config<F>(factory: F, remote: SocketAddr, skips: Skips) -> RecoveryConfig<F>
     ensures { result ≡ settings factory remote skips }
 {
-    RecoveryConfig {
-        transport: TransportConfig::with_factory(factory),
-        remote,
-        validated: false,
-        allow_mtud: true,
-        max_ack_delay: Duration::from_millis(25),
-        initial_cid: ConnectionId::new(&[0xFF; 8]),
-        cid_len: 8,
-        cid_lifetime: Some(Duration::from_secs(10)),
-        issued: 1,
-        skips,
-    }
+    let transport = TransportConfig::with_factory(factory);
+    let mut config = RecoveryConfig::new(transport, remote, ConnectionId::new(&[0xFF; 8]));
+    config.skips(skips);
+    config
 }
 
 /// How packet numbers are skipped: as they are drawn with a seed, and not at all without one.

@@ -45,7 +45,8 @@ loop-preserved g c =
     elim c.match-read.branch [
       | in-Ok+in_ok-take_all-in-Ok+else-not-branch w ↦
           rw (w.script-is, w.sink-is) (gives_more g.S.Sink.takes _ _ _ _ _ _ c.loop.invariant
-          w.in_ok-take_all-in-Ok.ensures (λ one two before t. more_read _ _ _ c.loop.script w.take_all.new.self _ one two
+          w.in_ok-take_all-in-Ok.ensures
+          (λ one two before t. more_read _ _ _ c.loop.script w.take_all.new.self _ one two
           w.in_ok-take_all-in-Ok.field-0 before w.in-Ok.ensures.bytes.0 t w.if-not-branch.false))
       | in-Err+else-ne w ↦
           rw (w.script-is, w.sink-is) (gives_so g.S.Sink.takes _ _ _ _ c.loop.invariant (λ events before. nothing_read _

@@ -6,4 +6,5 @@ use Rattle.recovery_ledger.proofs.sent_packets.SentPackets.has_ack_eliciting.Goa
 
 pub returns : goal.returns
 returns g c =
-    rw (← c.self.view_is) (grind (arith, nat_tests, c.self.invariant, eliciting_counted (entries_in c.self.inside.packets)))
+    rw (← c.self.view_is)
+    (grind (arith, nat_tests, c.self.invariant, eliciting_counted (entries_in c.self.inside.packets)))
