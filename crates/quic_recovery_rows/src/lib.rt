@@ -7,4 +7,5 @@ pub mod config;
 pub mod events;
 pub mod refusals;
 pub mod runs;
+pub mod shown;
 pub mod tally;

@@ -1,8 +1,8 @@
-//! The refusals that rows want, whose texts are told by name: rows are handed on by value, and hold no references.
+//! The refusals that rows want, by their numbers: rows are handed on by value, and hold no references.
 use crate::events::{Given, Reply};
 use quic_recovery::event::Refusal as Cause;
 
-/// A refusal, by its name.
+/// A refusal, in the order of the library's numbers; behind these one by ECN for each cause of its own.
 #[derive(Clone, Copy, PartialEq, Eq)]
 pub enum Refusal {
     /// The allocator refused memory.
@@ -37,19 +37,14 @@ pub enum Refusal {
     DelayTooSmall,
     /// A skipped number is acknowledged.
     SkippedAcked,
+    /// The counts of ECN cannot be right, for another cause than those below.
+    Ecn,
     /// The initial id is not active.
     NotInitialId,
     /// The numbers are no range that fits.
     BadRange,
     /// The connection id conflicts with the one that is held.
     Conflict,
-    /// The counts of ECN cannot be right.
-    Ecn(Fault),
-}
-
-/// Why counts of ECN are refused.
-#[derive(Clone, Copy, PartialEq, Eq)]
-pub enum Fault {
     /// The count of ECT(0) falls.
     Ect0Falls,
     /// The count of CE falls.
@@ -58,54 +53,40 @@ pub enum Fault {
     Bleached,
     /// Packets are counted that were not sent so.
     Corrupted,
-    /// Any other text.
-    Other,
 }
 
 /// Whether an event was replied what a row wants.
 pub fn is(reply: &Given, want: &Reply) -> bool {
     match (reply, want) {
         (Ok(answer), Ok(wanted)) => answer == wanted,
-        (Err(refusal), Err(wanted)) => name_of(refusal) == *wanted,
+        (Err(refusal), Err(wanted)) => number_given(refusal) == number_wanted(*wanted),
         _ => false,
     }
 }
 
-fn name_of(refusal: &Cause) -> Refusal {
+/// The number of a refusal that a row wants.
+pub fn number_wanted(refusal: Refusal) -> u64 {
+    u64::from(refusal as u8) + 1
+}
+
+/// The same of one that is given.
+pub fn number_given(refusal: &Cause) -> u64 {
     match refusal {
-        Cause::NoMemory => Refusal::NoMemory,
-        Cause::NumberTooLarge => Refusal::NumberTooLarge,
-        Cause::NumbersExhausted => Refusal::NumbersExhausted,
-        Cause::NotTracked => Refusal::NotTracked,
-        Cause::SpaceDiscarded => Refusal::SpaceDiscarded,
-        Cause::NoSuchPath => Refusal::NoSuchPath,
-        Cause::Searching => Refusal::Searching,
-        Cause::ZeroMtu => Refusal::ZeroMtu,
-        Cause::Overflow => Refusal::Overflow,
-        Cause::Retired => Refusal::Retired,
-        Cause::ExceedsLimit => Refusal::ExceedsLimit,
-        Cause::BadRetirePriorTo => Refusal::BadRetirePriorTo,
-        Cause::CidsNotInUse => Refusal::CidsNotInUse,
-        Cause::UnissuedCid => Refusal::UnissuedCid,
-        Cause::DelayTooSmall => Refusal::DelayTooSmall,
-        Cause::SkippedAcked => Refusal::SkippedAcked,
-        Cause::NotInitialId => Refusal::NotInitialId,
-        Cause::BadRange => Refusal::BadRange,
-        Cause::Conflict => Refusal::Conflict,
-        Cause::Ecn(text) => Refusal::Ecn(fault_of(text)),
+        Cause::Ecn(text) => number_wanted(fault_of(text)),
+        other => u64::from(other.number()),
     }
 }
 
-fn fault_of(text: &str) -> Fault {
+fn fault_of(text: &str) -> Refusal {
     if text == "peer ECT(0) count regression" {
-        Fault::Ect0Falls
+        Refusal::Ect0Falls
     } else if text == "peer CE count regression" {
-        Fault::CeFalls
+        Refusal::CeFalls
     } else if text == "ECN bleaching" {
-        Fault::Bleached
+        Refusal::Bleached
     } else if text == "ECN corruption" {
-        Fault::Corrupted
+        Refusal::Corrupted
     } else {
-        Fault::Other
+        Refusal::Ecn
     }
 }

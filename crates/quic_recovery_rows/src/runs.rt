@@ -3,8 +3,9 @@ ghost use Rattle.std.specs.Prelude.{◌≡◌, ◌<◌};
 ghost use Rattle.recovery_skips.specs.Skips.{IsSkips};
 
 use crate::config::{settings, words};
-use crate::events::{Event, Given, NO_MEMORY, Reno, Reply, at};
+use crate::events::{Event, Given, Reno, Reply, at};
 use crate::refusals::is;
+use crate::shown::{Shown, given, wanted};
 use crate::tally::Tally;
 use quic_recovery::congestion::{ControllerFactory, NewRenoConfig};
 use quic_recovery::driver::{Recovery, RecoveryConfig};
@@ -18,12 +19,16 @@ pub enum Wrong {
     /// A growth was refused by the allocator, outside of any event.
     #[error("NoMemory")]
     NoMemory,
-    /// An event was refused for want of memory, where this row wants something else.
-    #[error("row {0}: NoMemory")]
-    Refused(u64),
-    /// An event was replied something else than this row wants.
-    #[error("row {0}")]
-    Row(u64),
+    /// An event was replied something else than its row wants.
+    #[error("row {row}: {found}, and not {wanted}")]
+    Row {
+        /// The row, from 0 on.
+        row: u64,
+        /// What it was replied.
+        found: Shown,
+        /// What the row wants.
+        wanted: Shown,
+    },
     /// There are more replies than rows, or fewer.
     #[error("not one reply for each row")]
     Count,
@@ -40,12 +45,13 @@ pub fn fresh(alloc: Global) -> Result<Reno, Wrong> {
 /// Compares a reply with what its row wants.
 pub fn same(row: u64, reply: &Given, want: &Reply) -> Result<(), Wrong> {
     if is(reply, want) {
-        Ok(())
-    } else if is(reply, &NO_MEMORY) {
-        Err(Wrong::Refused(row))
-    } else {
-        Err(Wrong::Row(row))
+        return Ok(());
     }
+    Err(Wrong::Row {
+        row,
+        found: given(reply),
+        wanted: wanted(want),
+    })
 }
 
 /// Compares replies with what their rows want, from row 0 on.

@@ -1,7 +1,7 @@
 //! Acknowledgements. Rows are what happens, and what is seen after it.
 ghost use Rattle.std.specs.Prelude.{◌≡◌, ◌<◌, ◌≤◌, ◌^◌, None, unwrap_or};
 
-use crate::rows::{holds, same};
+use crate::rows::{finds, holds, same};
 use recovery_base::below::{AckFrequency, NoMemory, TransportParameters, VarInt};
 use recovery_base::config::AckFrequencyConfig;
 use recovery_base::dedup::Dedup;
@@ -235,7 +235,7 @@ fn takes_a_frame_once(rt: HostRuntime) {
         (6, 1000, Some(true)),
     ] {
         let answer = state.ack_frequency_received(&frame(sequence, micros), &mut acks);
-        holds(&rt, answer.ok() == taken, u64::from(sequence));
+        finds(&rt, u64::from(sequence), &answer.ok(), &taken);
     }
     holds(&rt, state.max_ack_delay == Duration::from_millis(1), 0);
 }

@@ -2,7 +2,7 @@
 ghost use Rattle.std.specs.Prelude.{◌<◌};
 
 use crate::halving::HalvingConfig;
-use crate::rows::holds;
+use crate::rows::{finds, holds};
 use recovery_base::below::NoMemory;
 use recovery_base::time::{Duration, Instant};
 use recovery_congestion::congestion::{
@@ -74,7 +74,7 @@ where
     let mut row = 1u64;
     for (call, window) in rows {
         tell(&mut controller, *call);
-        holds(rt, controller.window() == *window, row);
+        finds(rt, row, &controller.window(), window);
         row = row.saturating_add(1);
     }
     holds(rt, is_cloned(&controller), row);

@@ -1,5 +1,5 @@
 //! The pacer. Rows are what a path has and what is asked or sent at a moment, and the moment that is told, if one is.
-use crate::rows::holds;
+use crate::rows::{finds, holds};
 use recovery_base::time::{Duration, Instant};
 use recovery_congestion::pacing::Pacer;
 use std::process::Abort;
@@ -70,7 +70,7 @@ fn play(rt: &impl Abort, path: &Path, start: u64, rows: &[Row]) {
     let mut place = 0u64;
     for (path, now, call, wanted) in rows {
         let found = apply(rt, &mut pacer, path, *now, *call);
-        holds(rt, found == wanted.map(Instant::from_nanos), place);
+        finds(rt, place, &found, &wanted.map(Instant::from_nanos));
         place = place.saturating_add(1);
     }
 }
@@ -154,7 +154,7 @@ fn play_each(rt: &impl Abort, rows: &[Single]) {
     for (first, path, bytes, wanted) in rows {
         let mut pacer = made(rt, first, 0);
         let found = ask(rt, &mut pacer, path, 0, *bytes);
-        holds(rt, found == wanted.map(Instant::from_nanos), place);
+        finds(rt, place, &found, &wanted.map(Instant::from_nanos));
         place = place.saturating_add(1);
     }
 }

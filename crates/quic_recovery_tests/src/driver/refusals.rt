@@ -4,7 +4,7 @@ use quic_recovery::event::Refusal;
 use std::alloc::Global;
 
 /// Refusals with their numbers, names and texts.
-static TEXTS: [(Refusal, u8, &str, &str); 10] = [
+static TEXTS: [(Refusal, u8, &str, &str); 20] = [
     (Refusal::NoMemory, 1, "NoMemory", "out of memory"),
     (
         Refusal::NumberTooLarge,
@@ -36,11 +36,49 @@ static TEXTS: [(Refusal, u8, &str, &str); 10] = [
         "NoSuchPath",
         "there is no such path",
     ),
+    (Refusal::Searching, 7, "Searching", "the MTU is searched for"),
+    (Refusal::ZeroMtu, 8, "ZeroMtu", "the size is zero"),
     (
         Refusal::Overflow,
         9,
         "Overflow",
         "a counter passes 2^64 - 1",
+    ),
+    (
+        Refusal::Retired,
+        10,
+        "Retired",
+        "the connection id was already retired",
+    ),
+    (
+        Refusal::ExceedsLimit,
+        11,
+        "ExceedsLimit",
+        "the connection id exceeds the limit",
+    ),
+    (
+        Refusal::BadRetirePriorTo,
+        12,
+        "BadRetirePriorTo",
+        "retire-prior-to exceeds the number of the frame",
+    ),
+    (
+        Refusal::CidsNotInUse,
+        13,
+        "CidsNotInUse",
+        "connection ids are not in use",
+    ),
+    (
+        Refusal::UnissuedCid,
+        14,
+        "UnissuedCid",
+        "the connection id was not issued",
+    ),
+    (
+        Refusal::DelayTooSmall,
+        15,
+        "DelayTooSmall",
+        "the requested delay is too small",
     ),
     (
         Refusal::SkippedAcked,
@@ -49,6 +87,18 @@ static TEXTS: [(Refusal, u8, &str, &str); 10] = [
         "a skipped packet number is acknowledged",
     ),
     (Refusal::Ecn("ECN bleaching"), 17, "Ecn", "ECN bleaching"),
+    (
+        Refusal::NotInitialId,
+        18,
+        "NotInitialId",
+        "the initial id is not active",
+    ),
+    (
+        Refusal::BadRange,
+        19,
+        "BadRange",
+        "the range of numbers is wrong",
+    ),
     (
         Refusal::Conflict,
         20,

@@ -1,7 +1,6 @@
 //! What is sent again, probes, and the counts of ECN.
 use super::*;
 use quic_recovery::spaces::SendableFrames;
-use quic_recovery_rows::refusals::Fault;
 use quic_recovery_rows::tally::Tally;
 use recovery_base::below::EcnCounts;
 
@@ -14,13 +13,13 @@ const TAKE: Event = Event::TakePending {
     space: SpaceId::Data,
 };
 
-const ECT0_FALLS: Reply = Err(Refusal::Ecn(Fault::Ect0Falls));
+const ECT0_FALLS: Reply = Err(Refusal::Ect0Falls);
 
-const CE_FALLS: Reply = Err(Refusal::Ecn(Fault::CeFalls));
+const CE_FALLS: Reply = Err(Refusal::CeFalls);
 
-const BLEACHED: Reply = Err(Refusal::Ecn(Fault::Bleached));
+const BLEACHED: Reply = Err(Refusal::Bleached);
 
-const CORRUPTED: Reply = Err(Refusal::Ecn(Fault::Corrupted));
+const CORRUPTED: Reply = Err(Refusal::Corrupted);
 
 fn ecn(newly_acked: u64, ect0: u64, ect1: u64, ce: u64) -> Event {
     Event::Ecn {

@@ -1,7 +1,7 @@
 //! Which packet numbers are new: the worked rows, and the window beside the plain program over a set.
 ghost use Rattle.std.specs.Prelude.{◌<◌, ◌^◌, ◌≤◌};
 
-use crate::rows::holds;
+use crate::rows::{finds, holds};
 use recovery_base::below::NoMemory;
 use recovery_base::dedup::Dedup;
 use std::alloc::Global;
@@ -72,7 +72,7 @@ fn walk(rt: &impl Abort, rows: &[(u64, bool)]) -> Dedup {
     let mut dedup = Dedup::new();
     for (number, wanted) in rows {
         let is_duplicate = insert(rt, &mut dedup, *number);
-        holds(rt, is_duplicate == *wanted, *number);
+        finds(rt, *number, &is_duplicate, wanted);
     }
     dedup
 }
@@ -122,7 +122,7 @@ fn finds_the_least_missing(rt: HostRuntime) {
     let dedup = walk(&rt, &ROWS);
     for (low, high, missing) in [(0, 500, Some(372)), (0, 373, Some(372)), (0, 372, None)] {
         assert!(rt; low <= high && high <= 500);
-        holds(&rt, missing_after(dedup, 500, low, high) == missing, high);
+        finds(&rt, high, &missing_after(dedup, 500, low, high), &missing);
     }
 }
 
