@@ -14,8 +14,7 @@ takes_more takes old (item ∷ first) between second new is then =
 
 -- one item more
 pub takes_push : {S T : Type 0} (takes : S → T → S → Type 0) (old : S) (items : List T) (between : S) (item : T)
-    (new : S)
-    → TakesAll takes old items between → takes between item new → TakesAll takes old (items ++ item ∷ []) new
+    (new : S) → TakesAll takes old items between → takes between item new → TakesAll takes old (items ++ item ∷ []) new
 takes_push takes old items between item new is here =
     takes_more takes old items between (item ∷ []) new is (new, here, refl)
 

@@ -13,12 +13,13 @@ use quic_recovery::below::NoMemory;
 use quic_recovery::config::TransportConfig;
 use quic_recovery::congestion::{ControllerFactory, NewRenoConfig};
 use quic_recovery::event::Event;
+use quic_recovery::feeding::{Sink, Source};
 use quic_recovery::time::Instant;
 use rand_core::SeedableRng;
 use rand_pcg::Pcg32;
 use recovery_queue::items::ItemQueue;
 use recovery_replay::fixed_window::FixedWindowConfig;
-use recovery_replay::script::{Ending, read_script};
+use recovery_replay::script::{Ending, ScriptReader};
 use std::alloc::Global;
 use std::io::Read;
 
@@ -38,12 +39,32 @@ pub fn picture_of(alloc: Global, choice: Choice, input: &mut impl Read) -> Resul
     Ok(draw(alloc, name, &curves)?)
 }
 
+/// All events of a script. Where memory is refused it asks for no other.
+#[derive(Drop)]
+struct EventList {
+    events: Vec<Event<ItemQueue>>,
+}
+
+impl Sink<Event<ItemQueue>> for EventList {
+    ghost takes = { λ old event new. Unit {0} };
+
+    fn put(&mut self, event: Event<ItemQueue>) -> bool {
+        self.events.push(event).is_ok()
+    }
+}
+
 /// The events of the input.
 fn events(alloc: Global, input: &mut impl Read) -> Result<Vec<Event<ItemQueue>>, Failure> {
-    match read_script(alloc, input)? {
-        (events, Ending::Whole) => Ok(events),
-        (_, Ending::BadLine(number)) => Err(Failure::BadLine(number)),
-        (_, Ending::ReadFailed) => Err(Failure::Input),
+    let mut script = ScriptReader::new(alloc, input);
+    let mut list = EventList {
+        events: Vec::new(alloc),
+    };
+    script.feed(&mut list);
+    match script.ending() {
+        Some(Ending::Whole) => Ok(list.events),
+        Some(Ending::BadLine(number)) => Err(Failure::BadLine(number)),
+        Some(Ending::ReadFailed) => Err(Failure::Input),
+        None => Err(Failure::from(NoMemory)),
     }
 }
 

@@ -65,7 +65,6 @@ session_of built words factory seed config start random IsSaid recovery remote e
       remote = remote;
       at = at;
       told = told;
-      written =
-          is ∙ (all_lines empty new run.replies run.taken whole).1
+      written = is ∙ (all_lines empty new run.replies run.taken whole).1
           ∙ ap (λ front. front ++ answer_lines run.replies) none;
     }
