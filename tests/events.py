@@ -25,8 +25,9 @@ DO = ("what is the same for many events is a last line of a table (specs/Table.a
 # and what is to be written there
 WRITTEN = "it by tests/rust.py --write, once the library has its export"
 LISTS = [
+    ("crates/recovery_lines/specs/Lines.antt", r'codes "{line}"', "the form of its line, its place in forms, and its line of saying"),
     ("crates/recovery_lines/src/lines.rt", r'is_name\(name, "{line}"\)', "the reader of its line, and an arm of push_behind"),
-    ("crates/recovery_trace/src/faults.rt", r'"{line}[ "]', "an example of its line, with words that fit"),
+    ("crates/recovery_trace/src/faults.rt", r'"{line}{example}"', "an example of its line, a word for each field of its form (Lines.antt)"),
     ("crates/recovery_ffi/src/*.rt", r"fn recovery_ffi_{export}\(", "its export, with the clause `Answers`"),
     ("crates/recovery_embedding/src/*.rt", r"\bEvent::{name}\b", "a place of the program that hands it in, which hands in all"),
     ("rust/c/recovery_ffi.h", r"\brecovery_ffi_{export}\(", WRITTEN),
@@ -36,19 +37,32 @@ LISTS = [
     ("rust/quic-recovery/tests/common/mod.rs", r'format!\(\s*"{line} |"{line}( \w+)?"\.into\(\)', "an arm of the random lines"),
     ("tests/careful/lines.rs", r'^        b"{line}" =>', "the arm that reads its line, the variant, and the arm that answers it"),
     ("tests/alike.py", r'(return|lambda it:) f?"{line}[ "]', "its random line, an item of EVENTS"),
-    ("docs/PROGRAMS.md", r"^\| `{line}[ `]", "the row of its line, with all that it is answered"),
-    ("docs/EMBEDDING.md", r"^\|.*`{name}`", "its row: when it is handed in, and what the answer asks for"),
+    ("docs/PROGRAMS.md", r"^\| `{line}{row}( ITEM\.\.)?` ", "the row of its line, a word for each field of its form (Lines.antt), and all that it is answered"),
+    ("docs/EMBEDDING.md", r"^\|[^|]*\|[^|]*`{name}`[^|]*\|[^|]*\|$", "its row: when it is handed in, and what the answer asks for"),
 ]
+FORM = re.compile(r'form_of \(codes "([a-z-]+)"\) (?:\(([^)]*)\)|\[\])|name = codes "([a-z-]+)";\s+fields = ([^;]*);')
+# the word of a field by its kind: in an example, and in a row of docs/PROGRAMS.md
+WORDS = {"a_space": ("data", "SPACE"), "a_path": ("current", r"current\\\|previous"), "a_timer": ("idle", "TIMER"), "a_flag": ("[01]", r"0\\\|1"),
+         "a_largest": ("-", "LARGEST")}
+NUMBER = ("0", "[A-Z0-9]+")
 LINES = {"AckFrequencyIn": "ack-frequency", "DiscardSpace": "discard"}  # whose lines are not their names
+
+
+def fields():
+    """The kinds of the fields of each line."""
+    found = FORM.findall((ROOT / "crates" / "recovery_lines" / "specs" / "Lines.antt").read_text())
+    return {name or other: re.findall(r"\ba_\w+", some + more) for name, some, other, more in found}
 
 
 def missing(events):
     """The lists that an event is missing from."""
+    every = fields()
     for place, form, wanted in LISTS:
         text = "\n".join(it.read_text() for it in sorted(ROOT.glob(place)))
         for name in events:
             line = LINES.get(name) or re.sub(r"(?<!^)(?=[A-Z])", "-", name).lower()
-            if not re.search(form.format(name=name, line=line, export=line.replace("-", "_")), text, re.M):
+            example, row = ("".join(f" {WORDS.get(kind, NUMBER)[at]}" for kind in every.get(line, [])) for at in range(2))
+            if not re.search(form.format(name=name, line=line, export=line.replace("-", "_"), example=example, row=row), text, re.M):
                 yield f"{name} is not in {place}: write there {wanted}"
 
 
