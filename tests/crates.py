@@ -1,7 +1,7 @@
 #!/usr/bin/env python3
 """Reads crates.txt beside the crates: each crate stands there once, and below the crates that it names; each is named in docs/ARCHITECTURE.md; they are
-few for their code, since each costs the gate a reading of all that is below it; and no line of their code but an import is longer than 120 columns. With --table it prints
-what each crate has."""
+few for their code, since each costs the gate a reading of all that is below it; no line of their code but an import is longer than 120 columns; and what a
+wrong body turns stands once in its file, which else shows only where the gate tries it. With --table it prints what each crate has."""
 import argparse
 import re
 import sys
@@ -52,6 +52,23 @@ def too_long(name):
                 yield f"{file.relative_to(ROOT)}:{number} has {len(line)} columns, and not at most {COLUMNS}"
 
 
+def missed_edits():
+    """Edits that a change of the code has left behind."""
+    for edit in sorted(CRATES.glob("*/must-fail/*.edit")):
+        text = turned = ""
+        for word, _, rest in (line.partition(": ") for line in edit.read_text().splitlines()):
+            if word == "file":
+                file = edit.parent.parent / rest
+                text = file.read_text() if file.is_file() else ""
+            elif word == "old":
+                turned = rest
+                if text.count(turned) != 1:
+                    yield (f"{edit.relative_to(ROOT)}: {turned.strip()!r} stands {text.count(turned)} times in its file, and not once: turn a value of the code "
+                           "as it is now, and see which goal refuses it (rt must-fail)")
+            elif word == "new":
+                text = text.replace(turned, rest)
+
+
 def main():
     parser = argparse.ArgumentParser(description=__doc__)
     parser.add_argument("--table", action="store_true", help="what each crate has, as a table")
@@ -69,6 +86,7 @@ def main():
         list(out_of_place(crates)),
         [f"docs/ARCHITECTURE.md does not name {it}: say there what it is for" for it in names if f"`{it}`" not in architecture],
         [fault for it in names if it not in WIDE for fault in too_long(it)],
+        list(missed_edits()),
     ]
     for fault in [it for check in checks for it in check]:
         print(f"crates: {fault}", file=sys.stderr)

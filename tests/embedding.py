@@ -37,9 +37,11 @@ def main():
     page = PAGE.read_text()
     sources = [it.read_text() for it in sorted(PROGRAM.glob("*.rt"))]
     found = blocks(page)
-    faults = [f"no source has {block.splitlines()[0]!r}" for block in found if not any(stands_in(block, it) for it in sources)]
-    faults += [f"the program hands in no {it}" for it in events() if not any(re.search(rf"\bEvent::{it}\b", text) for text in sources)]
-    faults += [f"the page does not name {it}" for it in events() if f"`{it}`" not in page]
+    faults = [f"docs/EMBEDDING.md shows code from {block.splitlines()[0]!r} on that stands so in no source of crates/recovery_embedding: show it as it is now"
+              for block in found if not any(stands_in(block, it) for it in sources)]
+    faults += [f"crates/recovery_embedding/src hands in no Event::{it}: it is the example that hands in every event"
+               for it in events() if not any(re.search(rf"\bEvent::{it}\b", text) for text in sources)]
+    faults += [f"docs/EMBEDDING.md does not name `{it}`: it has a row in All events" for it in events() if f"`{it}`" not in page]
     faults += [] if found else ["the page has no block of code"]
     for fault in faults:
         print(f"embedding: {fault}", file=sys.stderr)

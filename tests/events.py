@@ -2,7 +2,9 @@
 """Counts in how many files of the library each event is named: in its code and definitions, in the promises that speak of it, and in its
 proofs. Tests, rows and the example are apart, and so is the file that declares it. What does not speak of an event should not name it:
 the means have a bound with room for a tenth more, and no event may be named in far more files than the others. And each event, each
-refusal and each timer stands in every list of them that is written by hand, by the name and the number that the library has."""
+refusal and each timer stands in every list of them that is written by hand, by the name and the number that the library has; what is
+missing from one, and what is to be written there, is told list by list."""
+import pathlib
 import re
 import sys
 
@@ -22,20 +24,30 @@ DO = ("what is the same for many events is a last line of a table (specs/Table.a
       "a promise names the events that it speaks of, and has a last line for the others",
       "a law by events has a last line by search, or goes by kinds of entries (EntryKinds)")
 
-# the lists of events that are written by hand, and how an event stands in one: by its variant, its line (set-timer) or its export (set_timer)
-LISTS = {
-    "crates/recovery_lines/src/lines.rt": r'"{line}"',
-    "crates/recovery_trace/src/faults.rt": r'"{line}[ "]',
-    "crates/recovery_ffi/src/*.rt": r"fn recovery_ffi_{export}\(",
-    "rust/quic-recovery/src/event.rs": r"^    {name}\b",
-    "rust/quic-recovery/src/recovery.rs": r"\bEvent::{name}\b",
-    "rust/quic-recovery/tests/common/mod.rs": r'"{line}" =>',
-    "rust/c/recovery_ffi.h": r"\brecovery_ffi_{export}\(",
-    "tests/careful/lines.rs": r'"{line}"',
-    "tests/alike.py": r"""['"]{line}[ "']""",
-    "docs/PROGRAMS.md": r"^\| `{line}[ `]",
-    "docs/EMBEDDING.md": r"`{name}`",
-}
+# the lists of events that are not read off event.rt, how an event stands in one (by its variant, its line (set-timer) or its export (set_timer)),
+# and what is to be written there
+WRITTEN = "it by tests/rust.py --write, once the library has its export"
+LISTS = [
+    ("crates/recovery_lines/specs/Lines.antt", r'codes "{line}"', "the form of its line, its place in forms_without_items, and its line of saying"),
+    ("crates/recovery_lines/src/lines.rt", r'is_name\(name, "{line}"\)', "the reader of its line, and an arm of push_behind"),
+    ("crates/recovery_trace/src/faults.rt", r'"{line}{example}"', "an example of its line, a word for each field of its form (Lines.antt)"),
+    ("crates/recovery_ffi/src/*.rt", r"fn recovery_ffi_{export}\(", "its export, with the clause `Answers`"),
+    ("crates/recovery_embedding/src/*.rt", r"\bEvent::{name}\b", "a place of the program that hands it in, which hands in all"),
+    ("rust/c/recovery_ffi.h", r"\brecovery_ffi_{export}\(", WRITTEN),
+    ("rust/quic-recovery/src/event.rs", r"^    {name}\b", WRITTEN),
+    ("rust/quic-recovery/src/recovery.rs", r"\bEvent::{name}\b", "its arm, a call of the export"),
+    ("rust/quic-recovery/tests/common/mod.rs", r'"{line}" =>', "the arm that reads its line"),
+    ("rust/quic-recovery/tests/common/mod.rs", r'format!\(\s*"{line} |"{line}( \w+)?"\.into\(\)', "an arm of the random lines"),
+    ("tests/careful/lines.rs", r'^        b"{line}" =>', "the arm that reads its line, the variant, and the arm that answers it"),
+    ("tests/alike.py", r'(return|lambda it:) f?"{line}[ "]', "its random line, an item of EVENTS"),
+    ("docs/PROGRAMS.md", r"^\| `{line}{row}( ITEM\.\.)?` ", "the row of its line, a word for each field of its form (Lines.antt), and all that it is answered"),
+    ("docs/EMBEDDING.md", r"^\|[^|]*\|[^|]*`{name}`[^|]*\|[^|]*\|$", "its row: when it is handed in, and what the answer asks for"),
+]
+FORM = re.compile(r'form_of \(codes "([a-z-]+)"\) (?:\(([^)]*)\)|\[\])|name = codes "([a-z-]+)";\s+fields = ([^;]*);')
+# the word of a field by its kind: in an example, and in a row of docs/PROGRAMS.md
+WORDS = {"a_space": ("data", "SPACE"), "a_path": ("current", r"current\\\|previous"), "a_timer": ("idle", "TIMER"), "a_flag": ("[01]", r"0\\\|1"),
+         "a_largest": ("-", "LARGEST")}
+NUMBER = ("0", "[A-Z0-9]+")
 # the same of refusals and of timers: what reads their table has no list of its own
 REFUSALS = {
     "docs/PROGRAMS.md": r"refused {number} {name}\b",
@@ -49,14 +61,22 @@ REFUSED = ["README.md", "docs/*.md", "tests/careful/*.rs", "tests/*.py"]  # wher
 LINES = {"AckFrequencyIn": "ack-frequency", "DiscardSpace": "discard"}  # whose lines are not their names
 
 
+def fields():
+    """The kinds of the fields of each line."""
+    found = FORM.findall((ROOT / "crates" / "recovery_lines" / "specs" / "Lines.antt").read_text())
+    return {name or other: re.findall(r"\ba_\w+", some + more) for name, some, other, more in found}
+
+
 def missing(events):
     """The lists that an event is missing from."""
-    for place, form in LISTS.items():
+    every = fields()
+    for place, form, wanted in LISTS:
         text = "\n".join(it.read_text() for it in sorted(ROOT.glob(place)))
         for name in events:
             line = LINES.get(name) or re.sub(r"(?<!^)(?=[A-Z])", "-", name).lower()
-            if not re.search(form.format(name=name, line=line, export=line.replace("-", "_")), text, re.M):
-                yield f"{name} is not in {place}, where each event has its place"
+            example, row = ("".join(f" {WORDS.get(kind, NUMBER)[at]}" for kind in every.get(line, [])) for at in range(2))
+            if not re.search(form.format(name=name, line=line, export=line.replace("-", "_"), example=example, row=row), text, re.M):
+                yield f"{name} is not in {place}: write there {wanted}"
 
 
 def names_missing():

@@ -439,7 +439,11 @@ def table():
     yield "| Event | From C | Answers |"
     yield "|---|---|---|"
     for event in variants(EVENTS, "Event"):
+        if event not in exported:
+            sys.exit(f"rust: {event} has no export in crates/recovery_ffi/src whose documentation says 'the event `{event}`'")
         line = exported[event].replace("recovery_ffi_", "").replace("_", "-")
+        if line not in told:
+            sys.exit(f"rust: docs/PROGRAMS.md has no row of the line {line}, which says what {event} is answered")
         yield f"| `{event}` | `{exported[event]}` | {', '.join(f'`{it}`' for it in told[line])} |"
 
 
