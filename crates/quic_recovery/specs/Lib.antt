@@ -1,6 +1,5 @@
 pub mod Above
 pub mod Entries
-pub mod Feeding
 pub mod History
 pub mod IdReplies
 pub mod Known

@@ -2,11 +2,11 @@
 ghost use Rattle.std.specs.Prelude.{◌≤◌, ◌<◌, ◌^◌, IfOk, OnErr};
 ghost use Rattle.recovery_skips.specs.Skips.{IsSkips};
 ghost use Rattle.quic_recovery.specs.State.{begun, parts_of};
-ghost use Rattle.quic_recovery.specs.Feeding.{TakesAll};
+ghost use Rattle.recovery_events.specs.Feeding.{TakesAll};
 ghost use Rattle.quic_recovery.specs.Over.{PassesOn, RunsFrom};
 
 use crate::driver::{Recovery, RecoveryConfig};
-use crate::feeding::{Sink, Source};
+use recovery_events::feeding::{Sink, Source};
 use rand_core::Rng;
 use recovery_base::below::NoMemory;
 use recovery_base::time::Instant;

@@ -3,7 +3,7 @@
 //! A source is of events where a run reads them, and a sink of replies where it hands them on; what stands between the two is
 //! a sink of events itself. So one pair of traits serves, and a list is both.
 ghost use Rattle.std.specs.Prelude.{◌≡◌, List};
-ghost use Rattle.quic_recovery.specs.Feeding.{Feeds, PushesInto};
+ghost use Rattle.recovery_events.specs.Feeding.{Feeds, PushesInto};
 
 use std::mem;
 
