@@ -87,8 +87,8 @@ module _ {F K Q S M P T A : Type 0} (built : F → ℕ → ℕ → K) (words : C
 
 -- ---- two lists
 
-module _ {F K Q S M P : Type 0} (beginning : Beginning F K Q S M P) (events : List (Event Q S M P)) (room : Vec (Reply Q))
-    (none : room.items ≡ []) (fits : length events ≤ vec_capacity room) where
+module _ {F K Q S M P : Type 0} (beginning : Beginning F K Q S M P) (events : List (Event Q S M P))
+    (room : Vec (Reply Q)) (none : room.items ≡ []) (fits : length events ≤ vec_capacity room) where
   abbrev IsOver : Parts K P M → Vec (Reply Q) → Type 0
   IsOver recovery new = RunsFrom beginning (λ all. all ≡ events) (λ all. TakesAll PushesInto room all new) recovery
 

@@ -13,8 +13,8 @@ takes_more takes old (item ∷ first) between second new is then =
     (is.0, is.1, takes_more takes is.0 first between second new is.2 then)
 
 -- one item more
-pub takes_push : {S T : Type 0} (takes : S → T → S → Type 0) (old : S) (items : List T) (between : S) (item : T) (new : S)
-    → TakesAll takes old items between → takes between item new → TakesAll takes old (items ++ item ∷ []) new
+pub takes_push : {S T : Type 0} (takes : S → T → S → Type 0) (old : S) (items : List T) (between : S) (item : T)
+    (new : S) → TakesAll takes old items between → takes between item new → TakesAll takes old (items ++ item ∷ []) new
 takes_push takes old items between item new is here =
     takes_more takes old items between (item ∷ []) new is (new, here, refl)
 

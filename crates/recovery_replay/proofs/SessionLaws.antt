@@ -32,7 +32,10 @@ TakesText old reply new = TakesLine old.text old.whole reply new.text new.whole
 
 pub all_lines : (old new : AnswerText) (replies : List Reply) → TakesAll TakesText old replies new → new.whole ≡ true
     → (old.whole ≡ true) × (string_bytes new.text ≡ string_bytes old.text ++ answer_lines replies)
-all_lines old new [] taken whole = (rw taken at whole, ap (λ (text : AnswerText). string_bytes text.text) taken ∙ sym (append-nil (string_bytes old.text)))
+all_lines old new [] taken whole = (
+  rw taken at whole,
+  ap (λ (text : AnswerText). string_bytes text.text) taken ∙ sym (append-nil (string_bytes old.text)),
+)
 all_lines old new (reply ∷ replies) taken whole =
     let rest = all_lines taken.0 new replies taken.2 whole in
     let here = taken.1 rest.0 in (
@@ -51,8 +54,8 @@ pub session_of : {F K : Type 0} (built : F → ℕ → ℕ → K) (words : Contr
     → RunsFrom (begins built words (queue_meaning (λ items. items) item_words tt) config start random) IsSaid
     (λ replies. TakesAll TakesText empty replies new) recovery
     → Session (RunsOver built words factory seed) IsSaid (λ lines. bytes ≡ lines)
-session_of built words factory seed config start random IsSaid recovery remote empty new bytes is_config is_start is_random at
-    none whole is run =
+session_of built words factory seed config start random IsSaid recovery remote empty new bytes is_config is_start
+    is_random at none whole is run =
     let told : Throughout (Told (begun_over built words factory seed remote)) run.events run.replies =
     (run.keeps.0, rw (is_config, is_start, is_random) at run.came.told) in
     record {
@@ -62,5 +65,6 @@ session_of built words factory seed config start random IsSaid recovery remote e
       remote = remote;
       at = at;
       told = told;
-      written = is ∙ (all_lines empty new run.replies run.taken whole).1 ∙ ap (λ front. front ++ answer_lines run.replies) none;
+      written = is ∙ (all_lines empty new run.replies run.taken whole).1
+          ∙ ap (λ front. front ++ answer_lines run.replies) none;
     }

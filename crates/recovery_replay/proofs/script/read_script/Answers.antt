@@ -13,8 +13,8 @@ loop-init g c = record {
 
 pub returns-in-Ok-eq0 : goal.returns-in-Ok-eq0
 returns-in-Ok-eq0 g c =
-    gives_more g.S.Sink.takes _ _ _ _ _ _ c.loop.invariant c.end.ensures (λ one two before u. IfOk-weaker c.end.result _ _
-    (λ ending. all_read (g.R.Read.remaining c.args.input.now) (g.R.Read.remaining c.loop.input)
+    gives_more g.S.Sink.takes _ _ _ _ _ _ c.loop.invariant c.end.ensures (λ one two before u. IfOk-weaker c.end.result _
+    _ (λ ending. all_read (g.R.Read.remaining c.args.input.now) (g.R.Read.remaining c.loop.input)
     (g.R.Read.remaining c.read.new.self) c.loop.script one two ending before (search rules) (search rules)) u)
 
 pub returns-in_err-take_all-in-Ok : goal.returns-in_err-take_all-in-Ok
@@ -24,8 +24,8 @@ returns-in_err-take_all-in-Ok g c =
 
 pub returns-then-not-branch : goal.returns-then-not-branch
 returns-then-not-branch g c =
-    gives_more g.S.Sink.takes _ _ _ _ _ _ c.loop.invariant c.in_ok-take_all-in-Ok.ensures (λ one two before t. bad_read _
-    _ _ c.loop.script c.take_all.new.self _ one two c.in_ok-take_all-in-Ok.field-0 before c.in-Ok.ensures.bytes.0 t
+    gives_more g.S.Sink.takes _ _ _ _ _ _ c.loop.invariant c.in_ok-take_all-in-Ok.ensures (λ one two before t. bad_read
+    _ _ _ c.loop.script c.take_all.new.self _ one two c.in_ok-take_all-in-Ok.field-0 before c.in-Ok.ensures.bytes.0 t
     c.if-not-branch.true)
 
 pub returns-then-ne : goal.returns-then-ne
@@ -45,8 +45,8 @@ loop-preserved g c =
     elim c.match-read.branch [
       | in-Ok+in_ok-take_all-in-Ok+else-not-branch w ↦
           rw (w.script-is, w.sink-is) (gives_more g.S.Sink.takes _ _ _ _ _ _ c.loop.invariant
-          w.in_ok-take_all-in-Ok.ensures (λ one two before t. more_read _ _ _ c.loop.script w.take_all.new.self _ one two
-          w.in_ok-take_all-in-Ok.field-0 before w.in-Ok.ensures.bytes.0 t w.if-not-branch.false))
+          w.in_ok-take_all-in-Ok.ensures (λ one two before t. more_read _ _ _ c.loop.script w.take_all.new.self _ one
+          two w.in_ok-take_all-in-Ok.field-0 before w.in-Ok.ensures.bytes.0 t w.if-not-branch.false))
       | in-Err+else-ne w ↦
           rw (w.script-is, w.sink-is) (gives_so g.S.Sink.takes _ _ _ _ c.loop.invariant (λ events before. nothing_read _
           _ _ c.loop.script events before w.in-Err.ensures.bytes))
