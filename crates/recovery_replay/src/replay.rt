@@ -17,7 +17,7 @@ use quic_recovery::config::TransportConfig;
 use quic_recovery::congestion::{ControllerFactory, NewRenoConfig};
 use quic_recovery::driver::{Recovery, RecoveryConfig};
 use quic_recovery::event::Event;
-use quic_recovery::feeding::Source;
+use recovery_events::feeding::Source;
 use rand_core::SeedableRng;
 use rand_pcg::Pcg32;
 use recovery_base::below::{ConnectionId, NoMemory};
