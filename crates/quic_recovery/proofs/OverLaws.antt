@@ -9,14 +9,14 @@ use Rattle.recovery_paths.specs.PathStates.{PathMarks}
 use Rattle.recovery_events.specs.declared.event.Event.{Event}
 use Rattle.quic_recovery.specs.declared.driver.RecoveryConfig.{RecoveryConfig}
 use Rattle.quic_recovery.specs.Above.{AreFresh}
-use Rattle.quic_recovery.specs.Feeding.{PushesInto, TakesAll}
+use Rattle.recovery_events.specs.Feeding.{PushesInto, TakesAll}
 use Rattle.quic_recovery.specs.History.{Beginning, QueueMeaning, Reply, begins, history, Throughout}
 use Rattle.quic_recovery.specs.Over.{RunsFrom}
 use Rattle.quic_recovery.specs.Parts.{Parts}
 use Rattle.quic_recovery.specs.Past.{Reached, ExtendsOn, ExtendsFrom, Keeps}
 use Rattle.quic_recovery.specs.State.{Changes, Left}
 use Rattle.quic_recovery.proofs.AboveLaws.{fresh_after}
-use Rattle.quic_recovery.proofs.FeedingLaws.{fills, takes_push}
+use Rattle.recovery_events.proofs.FeedingLaws.{fills, takes_push}
 use Rattle.quic_recovery.proofs.Runs.{after_push, throughout_more}
 
 -- a sink of events that goes on by each, and puts its reply into a sink of replies, went on by all of them

@@ -1,7 +1,6 @@
 pub mod Above
 pub mod Config
 pub mod Entries
-pub mod Feeding
 pub mod History
 pub mod IdReplies
 pub mod Known

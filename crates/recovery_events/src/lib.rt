@@ -3,3 +3,4 @@
 #![tactic(auto)]
 
 pub mod event;
+pub mod feeding;

@@ -1,11 +1,11 @@
--- What is put behind the events of a script: what a whole line spells. `push_event` rests on it.
+-- What is put into a sink: what a whole line spells. `put_event` rests on it.
 use Rattle.std.proofs.Common.{arith, ◌≡◌, ◌≤◌, ℕ, Bool, true, false, List, length, Option, Some, None, Result, Ok, Err, IfOk, OnErr, bytes_eq, refl, ap}
 use lib.Chars.{codes}
 use Rattle.std.proofs.lemmas.Slice.Eq.{bytes_eq-Decides}
 use Rattle.recovery_lines.specs.declared.lines.Line.{Line}
 use Rattle.recovery_lines.specs.Words.{words_of}
 use Rattle.recovery_lines.specs.Lines.{Form, ItemEvent, HoldsList, forms_without_items, send}
-use Rattle.recovery_lines.specs.Reading.{Reads, Pushes, PushesSpelled, all_of, first_word, form_named, line_at, line_behind, line_of, reading, whole}
+use Rattle.recovery_lines.specs.Reading.{Reads, Puts, PutsSpelled, all_of, first_word, form_named, line_at, line_behind, line_of, reading, whole}
 use Rattle.recovery_lines.proofs.LineLaws.{line_found, line_only, refused_whole}
 
 -- ---- what is read
@@ -19,24 +19,27 @@ whole_read (Some line) left read is = ap whole is
 
 -- what all words of a line say it spells, and where they say nothing, or nothing that an event means, it spells none;
 -- memory is refused to lines that hold a list alone
-pub pushes_said : {E : Type 0} (line : List ℕ) (said : Option Line) (before : List ItemEvent) (result : Result Bool E)
-    (after : List ItemEvent) → line_of line ≡ said → length line ≤ 4096 → Pushes said before result after
-    → IfOk result (λ spells. PushesSpelled line before spells after) × OnErr result (HoldsList line)
-pushes_said line (Some said) before (Ok true) after is short push =
-    ((push.0, line_found line said push.0 is short push.1, push.2), tt)
-pushes_said line (Some said) before (Ok false) after is short push = (
+pub puts_said : {S E : Type 0} (takes : S → ItemEvent → S → Type 0) (line : List ℕ) (said : Option Line) (before : S)
+    (result : Result (Option Bool) E)
+    (after : S) → line_of line ≡ said → length line ≤ 4096 → Puts takes said before result after
+    → IfOk result (λ more. PutsSpelled takes line before more after) × OnErr result (HoldsList line)
+    × OnErr result (after ≡ before)
+puts_said takes line (Some said) before (Ok (Some more)) after is short put =
+    ((put.0, line_found line said put.0 is short put.1, put.2), tt, tt)
+puts_said takes line (Some said) before (Ok None) after is short put = (
   (
     λ event spells. let says = line_only line event spells in
-        let same : said ≡ says.0 = grind (arith, says.1, is) in push.0 event (rw same says.2),
-    push.1,
+        let same : said ≡ says.0 = grind (arith, says.1, is) in put.0 event (rw same says.2),
+    put.1,
   ),
   tt,
+  tt,
 )
-pushes_said line (Some said) before (Err refused) after is short push =
-    (tt, refused_whole line said is short push.0)
-pushes_said line None before (Ok false) after is short push =
-    ((λ event spells. grind (arith, (line_only line event spells).1, is), push.1), tt)
-pushes_said line None before result after is short push = absurd (grind (arith, push))
+puts_said takes line (Some said) before (Err refused) after is short put =
+    (tt, refused_whole line said is short put.0, put.1)
+puts_said takes line None before (Ok None) after is short put =
+    ((λ event spells. grind (arith, (line_only line event spells).1, is), put.1), tt, tt)
+puts_said takes line None before result after is short put = absurd (grind (arith, put))
 
 -- a line, and its first word
 module _ (line : List ℕ) (words rest : List (List ℕ)) (name : List ℕ) (is : words ≡ words_of line)

@@ -201,17 +201,22 @@ TookAll read = TookMemory read.0 × (read.1 ≡ [])
 
 -- ---- events one behind the other
 
--- the event of what a line says was put behind the others, or it says none
-abbrev pub PushesMeant : Line → List ItemEvent → Bool → List ItemEvent → Type 0
-PushesMeant line before true after = (event : ItemEvent) × Means line event × (after ≡ before ++ event ∷ [])
-PushesMeant line before false after = ((event : ItemEvent) → ¬ Means line event) × (after ≡ before)
+-- the event that a line means was put into a sink, or it means none
+abbrev pub PutsMeant : {S : Type 0} → (S → ItemEvent → S → Type 0) → Line → S → Option Bool → S → Type 0
+PutsMeant takes line before (Some more) after = (event : ItemEvent) × Means line event × takes before event after
+PutsMeant takes line before None after = ((event : ItemEvent) → ¬ Means line event) × (after ≡ before)
 
--- so it was, or memory was refused for its ids
-abbrev pub Pushes : {E : Type 0} → Option Line → List ItemEvent → Result Bool E → List ItemEvent → Type 0
-Pushes (Some line) before (Ok meant) after = PushesMeant line before meant after
-Pushes (Some line) before (Err refused) after = TakesMemory line × (after ≡ before)
-Pushes None before (Ok meant) after = (meant ≡ false) × (after ≡ before)
-Pushes None before (Err refused) after = ⊥
+-- the same of what was read, if anything was; where memory is refused, nothing was put
+abbrev pub Puts : {S E : Type 0} → (S → ItemEvent → S → Type 0) → Option Line → S → Result (Option Bool) E → S → Type 0
+Puts takes (Some line) before (Ok more) after = PutsMeant takes line before more after
+Puts takes (Some line) before (Err refused) after = TakesMemory line × (after ≡ before)
+Puts takes None before (Ok more) after = (more ≡ None) × (after ≡ before)
+Puts takes None before (Err refused) after = ⊥
+
+-- the event that a line spells was put into a sink, or it spells none
+abbrev pub PutsSpelled : {S : Type 0} → (S → ItemEvent → S → Type 0) → List ℕ → S → Option Bool → S → Type 0
+PutsSpelled takes line before (Some more) after = (event : ItemEvent) × Spells line event × takes before event after
+PutsSpelled takes line before None after = ((event : ItemEvent) → ¬ Spells line event) × (after ≡ before)
 
 -- the event that a line spells was put behind the others, or it spells none
 abbrev pub PushesSpelled : List ℕ → List ItemEvent → Bool → List ItemEvent → Type 0

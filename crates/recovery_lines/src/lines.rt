@@ -11,7 +11,7 @@ ghost use Rattle.recovery_lines.specs.Lines.{congestion, end_acks, poll_mtu, pee
 ghost use Rattle.recovery_lines.specs.Lines.{ecn, check_ack, queue_probe, take_pending};
 ghost use Rattle.recovery_lines.specs.Lines.{new_path, reset_path};
 ghost use Rattle.recovery_lines.specs.Reading.{ReadsBy, reading, line_behind, words_left, TookAll};
-ghost use Rattle.recovery_lines.specs.Reading.{Pushes, PushesSpelled, all_of, whole};
+ghost use Rattle.recovery_lines.specs.Reading.{Puts, PutsSpelled, PushesSpelled, all_of, whole};
 
 use crate::words::{Words, is_name};
 use recovery_base::below::{
@@ -19,6 +19,7 @@ use recovery_base::below::{
 };
 use recovery_base::time::Instant;
 use recovery_events::event::Event;
+use recovery_events::feeding::Sink;
 use recovery_queue::items::ItemQueue;
 use std::alloc::Global;
 use std::net::{IpAddr, Ipv4Addr, SocketAddr};
@@ -459,136 +460,160 @@ fn zero_ids(alloc: Global, first: u64, count: u64) -> Result<Vec<IssuedCid>, NoM
     Ok(ids)
 }
 
-/// Puts the event of what a line says behind the events; false, and nothing, where a number of an id would pass
+/// Puts the event of what a line says into the sink; `None`, and nothing, where a number of an id would pass
 /// `u64::MAX`.
 #[inline(always)]
-fn push_meant(line: Line, events: &mut Vec<Event<ItemQueue>>) -> Result<bool, NoMemory>
-    requires { vec_len events.old < vec_capacity events.old }
-    ensures { Pushes (Some line) events.old.items result events.new.items }
+fn put_meant<S: Sink<Event<ItemQueue>>>(
+    alloc: Global,
+    line: Line,
+    sink: &mut S,
+) -> Result<Option<bool>, NoMemory>
+    ensures { Puts S.takes (Some line) sink.old result sink.new }
 {
     match line {
-        Line::Said(event) => events.push_reserved(event),
+        Line::Said(event) => Ok(Some(sink.put(event))),
         Line::Ids { now, first, count } => {
             if count.saturating_sub(1) > u64::MAX - first {
-                return Ok(false);
+                return Ok(None);
             }
-            let ids = zero_ids(*events.allocator(), first, count)?;
-            events.push_reserved(Event::IssueIds { now, ids });
+            let ids = zero_ids(alloc, first, count)?;
+            Ok(Some(sink.put(Event::IssueIds { now, ids })))
         }
-        Line::Path { now, port, fresh } => events.push_reserved(Event::NewPath {
-            now,
-            remote: peer_at(port),
-            fresh,
-        }),
+        Line::Path { now, port, fresh } => {
+            let remote = peer_at(port);
+            Ok(Some(sink.put(Event::NewPath { now, remote, fresh })))
+        }
     }
-    Ok(true)
 }
 
 /// The same, where what the line says was read and no word of it is left.
 #[inline(always)]
-fn push_read(
+fn put_read<S: Sink<Event<ItemQueue>>>(
+    alloc: Global,
     line: Option<Line>,
     words: &Words<'_>,
-    events: &mut Vec<Event<ItemQueue>>,
-) -> Result<bool, NoMemory>
-    requires { vec_len events.old < vec_capacity events.old }
-    ensures { Pushes (all_of line (words_left words.now)) events.old.items result events.new.items }
+    sink: &mut S,
+) -> Result<Option<bool>, NoMemory>
+    ensures { Puts S.takes (all_of line (words_left words.now)) sink.old result sink.new }
 {
     match line {
-        Some(line) if words.is_empty() => push_meant(line, events),
-        _ => Ok(false),
+        Some(line) if words.is_empty() => put_meant(alloc, line, sink),
+        _ => Ok(None),
     }
 }
 
-/// Puts the event of a line without items behind the events, by the line's name and the words behind it. Names of other
-/// lengths are not compared with it. Each form has a push of its own, so that no event is put together where forms
-/// meet.
+/// Puts the event of a line without items into the sink, by the line's name and the words behind it. Names of other
+/// lengths are not compared with it. Each form puts its own event, so that none is put together where forms meet.
 #[tactic(auto, unfolding(crate::specs::Reading::line_behind))]
-fn push_behind(
+fn put_behind<S: Sink<Event<ItemQueue>>>(
+    alloc: Global,
     name: &[u8],
     words: &mut Words<'_>,
-    events: &mut Vec<Event<ItemQueue>>,
-) -> Result<bool, NoMemory>
-    requires { vec_len events.old < vec_capacity events.old }
-    ensures { Pushes (whole (line_behind forms_without_items name.now (words_left words.old)))
-        events.old.items result events.new.items }
+    sink: &mut S,
+) -> Result<Option<bool>, NoMemory>
+    ensures { Puts S.takes (whole (line_behind forms_without_items name.now (words_left words.old)))
+        sink.old result sink.new }
 {
     match name.len() {
-        3 if is_name(name, "ecn") => push_read(ecn(words), words, events),
-        4 if is_name(name, "lost") => push_read(lost(words), words, events),
-        5 if is_name(name, "acked") => push_read(acked(words), words, events),
-        6 if is_name(name, "new-id") => push_read(new_id(words), words, events),
-        6 if is_name(name, "sample") => push_read(sample(words), words, events),
-        7 if is_name(name, "next-id") => push_read(Some(Line::Said(Event::NextId)), words, events),
-        7 if is_name(name, "discard") => push_read(discard(words), words, events),
-        8 if is_name(name, "received") => push_read(received(words), words, events),
-        8 if is_name(name, "transmit") => push_read(transmit(words), words, events),
-        8 if is_name(name, "end-acks") => push_read(end_acks(words), words, events),
-        8 if is_name(name, "poll-mtu") => push_read(poll_mtu(words), words, events),
-        8 if is_name(name, "new-path") => push_read(new_path(words), words, events),
-        9 if is_name(name, "issue-ids") => push_read(issue_ids(words), words, events),
-        9 if is_name(name, "acks-sent") => push_read(acks_sent(words), words, events),
-        9 if is_name(name, "set-timer") => push_read(set_timer(words), words, events),
-        9 if is_name(name, "in-flight") => push_read(in_flight(words), words, events),
-        9 if is_name(name, "validated") => push_read(validated(words), words, events),
-        9 if is_name(name, "check-ack") => push_read(check_ack(words), words, events),
-        10 if is_name(name, "initial-id") => push_read(initial_id(words), words, events),
-        10 if is_name(name, "id-timeout") => push_read(
+        3 if is_name(name, "ecn") => put_read(alloc, ecn(words), words, sink),
+        4 if is_name(name, "lost") => put_read(alloc, lost(words), words, sink),
+        5 if is_name(name, "acked") => put_read(alloc, acked(words), words, sink),
+        6 if is_name(name, "new-id") => put_read(alloc, new_id(words), words, sink),
+        6 if is_name(name, "sample") => put_read(alloc, sample(words), words, sink),
+        7 if is_name(name, "next-id") => put_read(
+            alloc,
+            Some(Line::Said(Event::NextId)),
+            words,
+            sink,
+        ),
+        7 if is_name(name, "discard") => put_read(alloc, discard(words), words, sink),
+        8 if is_name(name, "received") => put_read(alloc, received(words), words, sink),
+        8 if is_name(name, "transmit") => put_read(alloc, transmit(words), words, sink),
+        8 if is_name(name, "end-acks") => put_read(alloc, end_acks(words), words, sink),
+        8 if is_name(name, "poll-mtu") => put_read(alloc, poll_mtu(words), words, sink),
+        8 if is_name(name, "new-path") => put_read(alloc, new_path(words), words, sink),
+        9 if is_name(name, "issue-ids") => put_read(alloc, issue_ids(words), words, sink),
+        9 if is_name(name, "acks-sent") => put_read(alloc, acks_sent(words), words, sink),
+        9 if is_name(name, "set-timer") => put_read(alloc, set_timer(words), words, sink),
+        9 if is_name(name, "in-flight") => put_read(alloc, in_flight(words), words, sink),
+        9 if is_name(name, "validated") => put_read(alloc, validated(words), words, sink),
+        9 if is_name(name, "check-ack") => put_read(alloc, check_ack(words), words, sink),
+        10 if is_name(name, "initial-id") => put_read(alloc, initial_id(words), words, sink),
+        10 if is_name(name, "id-timeout") => put_read(
+            alloc,
             Some(Line::Said(Event::IdTimeout)),
             words,
-            events,
+            sink,
         ),
-        10 if is_name(name, "stop-timer") => push_read(stop_timer(words), words, events),
-        10 if is_name(name, "congestion") => push_read(congestion(words), words, events),
-        10 if is_name(name, "peer-limit") => push_read(peer_limit(words), words, events),
-        10 if is_name(name, "reset-path") => push_read(reset_path(words), words, events),
-        11 if is_name(name, "datagram-in") => push_read(datagram_in(words), words, events),
-        11 if is_name(name, "pacer-check") => push_read(pacer_check(words), words, events),
-        11 if is_name(name, "losses-done") => push_read(losses_done(words), words, events),
-        11 if is_name(name, "queue-probe") => push_read(queue_probe(words), words, events),
-        12 if is_name(name, "peer-retired") => push_read(peer_retired(words), words, events),
-        12 if is_name(name, "next-timeout") => push_read(
+        10 if is_name(name, "stop-timer") => put_read(alloc, stop_timer(words), words, sink),
+        10 if is_name(name, "congestion") => put_read(alloc, congestion(words), words, sink),
+        10 if is_name(name, "peer-limit") => put_read(alloc, peer_limit(words), words, sink),
+        10 if is_name(name, "reset-path") => put_read(alloc, reset_path(words), words, sink),
+        11 if is_name(name, "datagram-in") => put_read(alloc, datagram_in(words), words, sink),
+        11 if is_name(name, "pacer-check") => put_read(alloc, pacer_check(words), words, sink),
+        11 if is_name(name, "losses-done") => put_read(alloc, losses_done(words), words, sink),
+        11 if is_name(name, "queue-probe") => put_read(alloc, queue_probe(words), words, sink),
+        12 if is_name(name, "peer-retired") => put_read(alloc, peer_retired(words), words, sink),
+        12 if is_name(name, "next-timeout") => put_read(
+            alloc,
             Some(Line::Said(Event::NextTimeout)),
             words,
-            events,
+            sink,
         ),
-        12 if is_name(name, "take-pending") => push_read(take_pending(words), words, events),
-        13 if is_name(name, "ack-frequency") => push_read(ack_frequency(words), words, events),
-        13 if is_name(name, "drop-previous") => push_read(
+        12 if is_name(name, "take-pending") => put_read(alloc, take_pending(words), words, sink),
+        13 if is_name(name, "ack-frequency") => put_read(alloc, ack_frequency(words), words, sink),
+        13 if is_name(name, "drop-previous") => put_read(
+            alloc,
             Some(Line::Said(Event::DropPrevious)),
             words,
-            events,
+            sink,
         ),
-        17 if is_name(name, "ack-delay-timeout") => push_read(
+        17 if is_name(name, "ack-delay-timeout") => put_read(
+            alloc,
             ack_delay_timeout(words),
             words,
-            events,
+            sink,
         ),
-        _ => Ok(false),
+        _ => Ok(None),
     }
 }
 
-/// Puts the event that a line spells, given without its line feed, behind the events, which have room for one more:
-/// whether it spells one. Where it spells none, or memory is refused, they stay as they were; the one refusal is
-/// `NoMemory`.
-pub fn push_event(line: &[u8], events: &mut Vec<Event<ItemQueue>>) -> Result<bool, NoMemory>
-    requires { vec_len events.old < vec_capacity events.old }
+/// Puts the event that a line spells, given without its line feed, into the sink, and says whether that asks for
+/// another one; `None` where the line spells none. Then, and where memory is refused, nothing is put. The one refusal
+/// is `NoMemory`.
+pub fn put_event<S: Sink<Event<ItemQueue>>>(
+    alloc: Global,
+    line: &[u8],
+    sink: &mut S,
+) -> Result<Option<bool>, NoMemory>
     // What is read is spelled so, and what is spelled is read: a line spells at most one event.
-    ensures found { IfOk result (λ spells. PushesSpelled line.now events.old.items spells events.new.items) }
+    ensures found { IfOk result (λ more. PutsSpelled S.takes line.now sink.old more sink.new) }
     // Memory is refused to a line that issues ids or has items, and to no other.
     ensures memory { OnErr result (HoldsList line.now) }
-    ensures kept { OnErr result (events.new.items ≡ events.old.items) }
+    ensures kept { OnErr result (sink.new ≡ sink.old) }
 {
     if line.len() > LINE_LIMIT {
-        return Ok(false);
+        return Ok(None);
     }
     let mut words = Words::new(line);
     let Some(name) = words.next() else {
-        return Ok(false);
+        return Ok(None);
     };
     if is_name(name, "send") {
-        let line = send(*events.allocator(), &mut words)?;
-        return push_read(line, &words, events);
+        let line = send(alloc, &mut words)?;
+        return put_read(alloc, line, &words, sink);
     }
-    push_behind(name, &mut words, events)
+    put_behind(alloc, name, &mut words, sink)
+}
+
+/// Puts the event that a line spells behind the events, which have room for one more, as [`put_event`] does: whether it
+/// spells one.
+pub fn push_event(line: &[u8], events: &mut Vec<Event<ItemQueue>>) -> Result<bool, NoMemory>
+    requires { vec_len events.old < vec_capacity events.old }
+    ensures found { IfOk result (λ spells. PushesSpelled line.now events.old.items spells events.new.items) }
+    ensures memory { OnErr result (HoldsList line.now) }
+    ensures kept { OnErr result (events.new.items ≡ events.old.items) }
+{
+    let alloc = *events.allocator();
+    Ok(put_event(alloc, line, events)?.is_some())
 }

@@ -11,7 +11,7 @@ use Rattle.recovery_congestion.specs.Controllers.{ControllerWords}
 use Rattle.recovery_lines.specs.Lines.{ItemEvent, IsAt}
 use Rattle.recovery_queue.specs.Items.{item_words}
 use Rattle.quic_recovery.specs.declared.driver.RecoveryConfig.{RecoveryConfig}
-use Rattle.quic_recovery.specs.Feeding.{TakesAll}
+use Rattle.recovery_events.specs.Feeding.{TakesAll}
 use Rattle.quic_recovery.specs.History.{begins, queue_meaning, Throughout}
 use Rattle.quic_recovery.specs.Over.{RunsFrom}
 use Rattle.quic_recovery.specs.Parts.{Parts}

@@ -1,6 +1,6 @@
 -- What taking bytes does to a script that is being read, and which events it gives.
 use Rattle.std.specs.Prelude.{◌≡◌, ℕ, ◌+◌, Bool, true, false, List, [], ◌∷◌, ◌++◌, length}
-use Rattle.quic_recovery.specs.Feeding.{TakesAll}
+use Rattle.recovery_events.specs.Feeding.{TakesAll}
 use Rattle.recovery_replay.specs.declared.script.Ending.{Ending}
 use Rattle.recovery_replay.specs.declared.script.Ending.TheVariants.{BadLine}
 use Rattle.recovery_replay.specs.declared.script.Script.{Script}

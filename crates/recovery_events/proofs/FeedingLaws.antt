@@ -2,7 +2,7 @@
 use Rattle.std.proofs.Common.{◌≡◌, ◌≤◌, ◌+◌, arith, List, [], ◌∷◌, ◌++◌, length, vec_capacity, refl, ap, sym, ◌∙◌}
 use Rattle.std.specs.Global.{Vec}
 use Rattle.std.proofs.lemmas.List.{length-append, append-nil, append_assoc}
-use Rattle.quic_recovery.specs.Feeding.{PushesInto, TakesAll}
+use Rattle.recovery_events.specs.Feeding.{PushesInto, TakesAll}
 
 -- some items, and then others
 pub takes_more : {S T : Type 0} (takes : S → T → S → Type 0) (old : S) (first : List T) (between : S) (second : List T)

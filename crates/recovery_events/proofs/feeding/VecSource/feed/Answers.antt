@@ -2,8 +2,8 @@ use Rattle.std.proofs.Common.{◌≡◌, ap, refl, sym, ◌∙◌}
 use Rattle.std.proofs.lemmas.List.{map-id}
 use Rattle.std.proofs.lemmas.Iterator.Adapters.{YieldsList-from_vec}
 use Rattle.std.proofs.lemmas.Iterator.Consumers.{YieldsList-end}
-use Rattle.quic_recovery.proofs.FeedingLaws.{takes_push}
-use Rattle.quic_recovery.proofs.feeding.VecSource.feed.Goals as goal
+use Rattle.recovery_events.proofs.FeedingLaws.{takes_push}
+use Rattle.recovery_events.proofs.feeding.VecSource.feed.Goals as goal
 
 pub loop-item-init : goal.loop-item-init
 loop-item-init g c = refl
