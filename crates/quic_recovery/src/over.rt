@@ -50,11 +50,11 @@ where
     Q::Streams: Drop,
     R: Rng + Drop,
 {
-    /// Every event that a source gives, in order, from a fresh start: the state that is left, and the sink that took the
-    /// replies, each before the next event is given. [`Recovery::run`] is this call over two lists.
+    /// Every event that a source gives, in order, from a fresh start: the state that is left, and the sink that took
+    /// the replies, each before the next event is given. [`Recovery::run`] is this call over two lists.
     ///
-    /// No event and no reply is kept. Whatever ended the source, all that is promised of a run holds of the events that it
-    /// gave. `NoMemory` where there is no room for the ids that are issued at the start, before the first event.
+    /// No event and no reply is kept. Whatever ended the source, all that is promised of a run holds of the events that
+    /// it gave. `NoMemory` where there is no room for the ids that are issued at the start, before the first event.
     pub fn run_over<E, S>(
         alloc: Global,
         config: RecoveryConfig<F>,
@@ -69,8 +69,8 @@ where
         requires issued { config.issued ≤ 2 ^ 62 }
         requires skips { IsSkips config.skips }
 
-        // The events that were given and the replies that were taken are those of a run, and each promise holds at each event
-        // (`Keeps`).
+        // The events that were given and the replies that were taken are those of a run, and each promise holds at each
+        // event (`Keeps`).
         ensures runs { IfOk result (λ run. RunsFrom (begun run.0 config start rng)
             (λ all. E.gives events.old all events.new) (λ all. TakesAll S.takes replies all run.1)
             (parts_of run.0)) }

@@ -1,7 +1,7 @@
 //! What gives items and what takes them, one at a time: the two ends of a run of which no list is kept.
 //!
-//! A source is of events where a run reads them, and a sink of replies where it hands them on; what stands between the two is
-//! a sink of events itself. So one pair of traits serves, and a list is both.
+//! A source is of events where a run reads them, and a sink of replies where it hands them on; what stands between the
+//! two is a sink of events itself. So one pair of traits serves, and a list is both.
 ghost use Rattle.std.specs.Prelude.{◌≡◌, List};
 ghost use Rattle.recovery_events.specs.Feeding.{Feeds, PushesInto};
 
@@ -19,8 +19,8 @@ pub trait Sink<T> {
 
 /// What gives items, one at a time.
 pub trait Source<T> {
-    /// What the source was before, the items that it gives, in order, and what is left of it. How it ended stands in what is
-    /// left.
+    /// What the source was before, the items that it gives, in order, and what is left of it. How it ended stands in
+    /// what is left.
     ghost gives: { Self → List T → Self → Type 0 };
 
     /// Gives items to the sink, each before it makes the next one. Where the sink asks for no other one it may stop.
