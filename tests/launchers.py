@@ -79,8 +79,10 @@ class Place:
         return status, output.decode(), errors.decode()
 
     def begun(self, *words):
+        # a shell starts what runs in its background with interrupts ignored, and what that starts ignores them too
+        heeds = lambda: signal.signal(signal.SIGINT, signal.SIG_DFL)
         streams = {"stdin": subprocess.DEVNULL, "stdout": subprocess.PIPE, "stderr": subprocess.PIPE, "text": True}
-        return subprocess.Popen(words, start_new_session=True, **streams, **self.how())
+        return subprocess.Popen(words, start_new_session=True, preexec_fn=heeds, **streams, **self.how())
 
 
 def waited_for(happens):

@@ -121,7 +121,8 @@ pub fn skips(seed: Option<u64>) -> Skips
     }
 }
 
-/// The lines that are written for the events of a script, in a run over these controllers that begins with a seed or with none.
+/// The lines that are written for the events of a script, in a run over these controllers that begins with a seed or
+/// with none.
 fn answers_over<F, E>(
     alloc: Global,
     factory: F,
