@@ -4,5 +4,5 @@
 
 pub mod discarded;
 pub mod paths;
-mod sent_packets;
+pub mod sent_packets;
 pub mod spaces;

@@ -3,6 +3,7 @@
 use crate::rows::holds;
 use recovery_base::below::NoMemory;
 use recovery_base::time::Instant;
+use recovery_ledger::sent_packets::SentPackets;
 use recovery_ledger::spaces::{PacketSpace, SentPacket};
 use recovery_queue::items::ItemQueue;
 use recovery_queue::queue::RetransmitQueue;
@@ -43,15 +44,22 @@ pub(crate) fn packet(alloc: Global) -> SentPacket<ItemQueue> {
     }
 }
 
-/// A space in which this many packets were sent.
-fn sent(rt: &impl Abort, alloc: Global, count: u64) -> PacketSpace<ItemQueue> {
-    let mut space = PacketSpace::new(alloc, Instant::from_nanos(0));
+/// This many packets, tracked from number 0 on.
+fn tracked(rt: &impl Abort, alloc: Global, count: u64) -> SentPackets<ItemQueue> {
+    let mut packets = SentPackets::new(alloc);
     for number in 0..count {
-        match space.sent_packets.insert(number, packet(alloc)) {
+        match packets.insert(number, packet(alloc)) {
             Ok(_) => {}
             Err(NoMemory) => panic!(rt; "{number}"),
         }
     }
+    packets
+}
+
+/// A space in which this many packets were sent.
+fn sent(rt: &impl Abort, alloc: Global, count: u64) -> PacketSpace<ItemQueue> {
+    let mut space = PacketSpace::new(alloc, Instant::from_nanos(0));
+    space.sent_packets = tracked(rt, alloc, count);
     space
 }
 
@@ -88,4 +96,36 @@ fn acknowledged_in_descending_order(rt: HostRuntime) {
 fn acknowledged_from_both_ends_in_turn(rt: HostRuntime) {
     assert_closed_up(&rt, rt.alloc(), Order::Alternating, 1000);
     assert_closed_up(&rt, rt.alloc(), Order::Alternating, 100_000);
+}
+
+/// The number of the first packet at or above another.
+fn first_from(packets: &SentPackets<ItemQueue>, number: u64) -> Option<u64> {
+    match packets.tracked_from(number) {
+        Some((found, _)) => Some(found),
+        None => None,
+    }
+}
+
+/// Of packets 0 to 4, three are taken out: the others are gone over by number, and elicit ACKs until they are gone.
+#[test]
+fn packets_are_gone_over_upward(rt: HostRuntime) {
+    static FROM: [(u64, Option<u64>); 6] = [
+        (0, Some(1)),
+        (1, Some(1)),
+        (2, Some(4)),
+        (4, Some(4)),
+        (5, None),
+        (u64::MAX, None),
+    ];
+    let mut space = sent(&rt, rt.alloc(), 5);
+    for number in [0, 2, 3] {
+        holds(&rt, takes(&mut space, number), number);
+    }
+    for (number, first) in &FROM {
+        let found = first_from(&space.sent_packets, *number);
+        holds(&rt, found == *first, *number);
+    }
+    holds(&rt, space.sent_packets.has_ack_eliciting(), 1);
+    holds(&rt, takes(&mut space, 1) && takes(&mut space, 4), 4);
+    holds(&rt, !space.sent_packets.has_ack_eliciting(), 4);
 }

@@ -101,7 +101,8 @@ struct Choice {
     fixed: Option<FixedWindowConfig>,
 }
 
-/// What a run over these controllers, with the peer at an address, starts with: the default settings, but for the skips.
+/// What a run over these controllers, with the peer at an address, starts with: the default settings, but for the
+/// skips.
 pub fn config<F>(factory: F, remote: SocketAddr, skips: Skips) -> RecoveryConfig<F>
     ensures { result ≡ settings factory remote skips }
 {
@@ -202,13 +203,13 @@ fn choice_in(words: &[String]) -> Option<Choice>
     }
 }
 
-/// What the program comes to with an input that lies in memory: the outcome, whose text and status are the program's, and
-/// the answers. The one refusal is `NoMemory`.
+/// What the program comes to with an input that lies in memory: the outcome, whose text and status are the program's,
+/// and the answers. The one refusal is `NoMemory`.
 ///
 /// `words` are the arguments behind the program's name: nothing, or a seed (0 to `u64::MAX`, without sign or leading
-/// zeros, or `-` for none), and behind it a window in bytes or nothing (1 to `u64::MAX`, the same). With a seed numbers of
-/// 1-RTT packets are skipped, as `Pcg32::seed_from_u64` draws them; without one none is. With a window it is that of each
-/// path's controller for good; without one they are NewReno's.
+/// zeros, or `-` for none), and behind it a window in bytes or nothing (1 to `u64::MAX`, the same). With a seed numbers
+/// of 1-RTT packets are skipped, as `Pcg32::seed_from_u64` draws them; without one none is. With a window it is that of
+/// each path's controller for good; without one they are NewReno's.
 pub fn play_bytes(
     alloc: Global,
     words: &[String],

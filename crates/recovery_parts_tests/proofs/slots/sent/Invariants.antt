@@ -1,5 +1,0 @@
-use Rattle.recovery_parts_tests.proofs.Sending.{IsBelow}
-use Rattle.recovery_parts_tests.proofs.slots.sent.Given as goal
-
-abbrev pub invariant-loop-number : goal.invariant-loop-number
-invariant-loop-number g l = IsBelow l.space l.number-counter
