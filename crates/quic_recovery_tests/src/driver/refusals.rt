@@ -36,7 +36,12 @@ static TEXTS: [(Refusal, u8, &str, &str); 20] = [
         "NoSuchPath",
         "there is no such path",
     ),
-    (Refusal::Searching, 7, "Searching", "the MTU is searched for"),
+    (
+        Refusal::Searching,
+        7,
+        "Searching",
+        "the MTU is searched for",
+    ),
     (Refusal::ZeroMtu, 8, "ZeroMtu", "the size is zero"),
     (
         Refusal::Overflow,
