@@ -1,7 +1,8 @@
 #!/usr/bin/env python3
 """Reads crates.txt beside the crates: each crate stands there once, and below the crates that it names; each is named in docs/ARCHITECTURE.md; they are
-few for their code, since each costs the gate a reading of all that is below it; no line of their code but an import is longer than 120 columns; and what a
-wrong body turns stands once in its file, which else shows only where the gate tries it. With --table it prints what each crate has."""
+few for their code, since each costs the gate a reading of all that is below it; no line of their code but an import is longer than 120 columns, and none of
+a clause longer than 100; and what a wrong body turns stands once in its file, which else shows only where the gate tries it. With --table it prints what each
+crate has."""
 import argparse
 import re
 import sys
@@ -11,6 +12,8 @@ from tree import ROOT, rows
 CRATES = ROOT / "crates"
 LEAST_LINES = 700  # of code for each crate, on the mean
 COLUMNS = 120
+CLAUSE_COLUMNS = 100  # which rt fmt does not wrap
+CLAUSE = re.compile(r"\s*(requires|ensures)\b")
 IMPORT = re.compile(r"\s*(ghost )?(pub )?use ")  # which has a line of its own, however long
 
 
@@ -50,6 +53,23 @@ def too_long(name):
                 yield f"{file.relative_to(ROOT)}:{number} has {len(line)} columns, and not at most {COLUMNS}"
 
 
+def clauses(code):
+    """The numbered lines of all clauses: each goes on until its braces are closed."""
+    depth = 0
+    for number, line in enumerate(code, 1):
+        if depth or CLAUSE.match(line):
+            yield number, line
+            depth += line.count("{") - line.count("}")
+
+
+def long_clauses(name):
+    for file in sorted((CRATES / name / "src").rglob("*.rt")):
+        for number, line in clauses(file.read_text().splitlines()):
+            if len(line) > CLAUSE_COLUMNS:
+                yield (f"{file.relative_to(ROOT)}:{number} is a clause's and has {len(line)} columns, and not at most {CLAUSE_COLUMNS}: break it by hand, as in front of "
+                       "≡, →, × or an argument, and go on four columns further in (rt fmt keeps a clause's lines as they are)")
+
+
 def missed_edits():
     """Edits that a change of the code has left behind."""
     for edit in sorted(CRATES.glob("*/must-fail/*.edit")):
@@ -84,6 +104,7 @@ def main():
         list(out_of_place(crates)),
         [f"docs/ARCHITECTURE.md does not name {it}: say there what it is for" for it in names if f"`{it}`" not in architecture],
         [fault for it in names for fault in too_long(it)],
+        [fault for it in names for fault in long_clauses(it)],
         list(missed_edits()),
     ]
     for fault in [it for check in checks for it in check]:

@@ -1,7 +1,7 @@
 #!/usr/bin/env python3
-"""Reads the proofs as a reader would: no line of an .antt file but an import is longer than 120 columns, each file of lemmas begins with what it
-shows, no term counts fields (as `told.1.1.1.1`), and proofs are so many times code and definitions by characters, without imports, blanks,
-comments, tests and worked rows."""
+"""Reads the proofs as a reader would: no line of an .antt file but an import is longer than 120 columns, in any crate. Of the library and its
+program besides: each file of lemmas begins with what it shows, no term counts fields (as `told.1.1.1.1`), and proofs are so many times code and
+definitions by characters, without imports, blanks, comments, tests and worked rows."""
 import pathlib
 import re
 import sys
@@ -17,9 +17,9 @@ MOST_COUNTED = 0  # terms that count four fields or more
 MOST_TIMES = 1.4  # proofs to code and definitions
 
 
-def sources(room, kind):
+def sources(room, kind, everywhere=False):
     for path in sorted(ROOT.glob(f"crates/*/{room}/**/*.{kind}")):
-        if not APART.search(path.relative_to(ROOT / "crates").parts[0]):
+        if everywhere or not APART.search(path.relative_to(ROOT / "crates").parts[0]):
             yield path, path.read_text().split("\n")
 
 
@@ -34,7 +34,7 @@ def characters(found):
 
 def main():
     proofs = [(path, lines) for path, lines in sources("proofs", "antt") if not ROWS.search(path.stem)]
-    every = list(sources("specs", "antt")) + list(sources("proofs", "antt"))
+    every = [it for room in ("specs", "proofs") for it in sources(room, "antt", everywhere=True)]
     long = [f"{path.relative_to(ROOT)}:{number} has {len(line)} columns" for path, lines in every
             for number, line in enumerate(lines, 1) if len(line) > COLUMNS and not IMPORT.match(line.strip())]
     silent = [f"{path.relative_to(ROOT)} does not begin with what it shows" for path, lines in proofs

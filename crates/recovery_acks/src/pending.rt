@@ -91,7 +91,8 @@ impl PendingAcks {
     /// The longest delay is over (RFC 9000, 13.2.1): an ACK is required at once exactly where an ack-eliciting packet
     /// came since the last one.
     pub fn on_max_ack_delay_timeout(&mut self)
-        ensures requires_one { self.new ≡ with_required (nat_lt 0 self.old.counts.eliciting) self.old }
+        ensures requires_one { self.new
+            ≡ with_required (nat_lt 0 self.old.counts.eliciting) self.old }
         ensures sound { AreAcksSound self.new }
     {
         self.immediate_ack_required = self.ack_eliciting_since_last_ack_sent > 0;

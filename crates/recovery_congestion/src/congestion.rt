@@ -41,7 +41,8 @@ pub trait Controller: Sized {
 
     /// Packets went out: how many bytes, up to which number.
     fn on_sent(&mut self, now: Instant, bytes: u64, last_packet_number: u64)
-        ensures { content self.new ≡ words.after (sends now bytes last_packet_number) (content self.old) };
+        ensures { content self.new
+            ≡ words.after (sends now bytes last_packet_number) (content self.old) };
 
     /// A packet was acknowledged: when it was sent, its bytes, and whether the sender was limited by the application
     /// and not by the window (RFC 9002, 7.8).
@@ -65,7 +66,8 @@ pub trait Controller: Sized {
         largest_packet_num_acked: Option<u64>,
     )
         ensures { content self.new
-            ≡ words.after (ends_acks now in_flight app_limited largest_packet_num_acked) (content self.old) };
+            ≡ words.after (ends_acks now in_flight app_limited largest_packet_num_acked)
+            (content self.old) };
 
     /// Packets were lost, or marked by ECN: when the last of them was sent, whether the congestion is persistent
     /// (RFC 9002, 7.6), and the bytes lost, none for ECN.
@@ -77,7 +79,8 @@ pub trait Controller: Sized {
         lost_bytes: u64,
     )
         ensures { content self.new
-            ≡ words.after (congests now sent is_persistent_congestion lost_bytes) (content self.old) };
+            ≡ words.after (congests now sent is_persistent_congestion lost_bytes)
+            (content self.old) };
 
     /// The path's MTU changed, in bytes.
     fn on_mtu_update(&mut self, new_mtu: u16)
@@ -114,7 +117,8 @@ pub trait ControllerFactory {
     /// A controller for a path, made at this moment, with this MTU in bytes.
     fn build(&self, now: Instant, current_mtu: u16) -> Self::Controller
         ensures content { Self.Controller.content result ≡ built self.now now current_mtu }
-        ensures sound { 0 < current_mtu → Self.Controller.is_sound (Self.Controller.content result) };
+        ensures sound { 0 < current_mtu
+            → Self.Controller.is_sound (Self.Controller.content result) };
 
     /// The window is the initial one at first.
     ghost starts_at_initial: { (factory : Self) (now mtu : ℕ) →

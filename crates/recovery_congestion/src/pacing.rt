@@ -152,7 +152,8 @@ impl Pacer {
             ≡ paced (record { bytes = bytes; rtt = rtt; mtu = mtu; window = window; now = now })
             self.old }
         ensures delays { result
-            ≡ pacer_delay (record { bytes = bytes; rtt = rtt; mtu = mtu; window = window; now = now })
+            ≡ pacer_delay
+            (record { bytes = bytes; rtt = rtt; mtu = mtu; window = window; now = now })
             self.new }
         ensures sound { IsBucketSound self.new }
     {

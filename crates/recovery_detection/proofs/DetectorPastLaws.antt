@@ -27,7 +27,8 @@ past_on old call reply new step past = ∥∥₁_map past (one_more old call rep
 
 module _ (old : Detector) (past : ∥ IsReachable old ∥₁) where
   pub past_sent : (packet : Sent) (tracked : List Sent) → old.next ≤ packet.number
-      → tracked ≡ old.tracked ++ packet ∷ [] → ∥ IsReachable (record old { tracked = tracked; next = packet.number + 1 }) ∥₁
+      → tracked ≡ old.tracked ++ packet ∷ []
+      → ∥ IsReachable (record old { tracked = tracked; next = packet.number + 1 }) ∥₁
   past_sent packet tracked rises to = past_on old (Send packet) (Ok Done)
       (record old { tracked = tracked; next = packet.number + 1 })
       (rises, ap (λ (ps : List Sent). record old { tracked = ps; next = packet.number + 1 }) to) past

@@ -139,7 +139,8 @@ impl LossDetector {
         now: Instant,
         loss_delay: Duration,
     ) -> Result<Vec<Sent>, below::NoMemory>
-        ensures detects { IfOk result (λ lost. Detects self.old now loss_delay lost.items self.new) }
+        ensures detects { IfOk result
+            (λ lost. Detects self.old now loss_delay lost.items self.new) }
 
         // None of them was handed out before.
         ensures once { IfOk result (λ lost. ∥ LeaveOnce self.old lost.items ∥₁) }

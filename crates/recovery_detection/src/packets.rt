@@ -103,7 +103,8 @@ pub fn lost_among(
     now: Instant,
     loss_delay: Duration,
 ) -> Result<Vec<Sent>, AllocError>
-    ensures { IfOk result (λ lost. lost.items ≡ filter (is_lost largest now loss_delay) packets.now) }
+    ensures { IfOk result
+        (λ lost. lost.items ≡ filter (is_lost largest now loss_delay) packets.now) }
 {
     packets
         .iter()

@@ -78,6 +78,6 @@ pub record MovesTo (old : Option Stack) (now : ℕ) (given : Address) (fresh : B
   pub answers : Answers old (NewPath now remote fresh) spelling new
 
 -- a reading of what a handle holds, or of nothing where it holds none; it stays what it is
-abbrev pub Reads : Option Stack → Option Stack → (Stack → Type 0) → Type 0 → Type 0
+abbrev pub Reads : {T : Type 0} → Option T → Option T → (T → Type 0) → Type 0 → Type 0
 Reads None new Says Nothing = (new ≡ None) × Nothing
-Reads (Some stack) new Says Nothing = (new ≡ Some stack) × Says stack
+Reads (Some value) new Says Nothing = (new ≡ Some value) × Says value

@@ -50,11 +50,6 @@ DiscoveryAnswers (Some old) call reply new =
     (reply ≡ (if allowed then discovery_told call old else bad_argument))
     × (new ≡ Some (if allowed then told_to call old else old))
 
--- it is held where it was made, and else nothing
-abbrev pub HoldsDiscovery : Bool → Discovery → Option Discovery → Type 0
-HoldsDiscovery true discovery held = held ≡ Some discovery
-HoldsDiscovery false discovery held = held ≡ None
-
 -- a discovery as a path of these settings has it, for a peer that takes packets of at most so many bytes; 0 says that
 -- it did not tell
 abbrev pub discovery_by : Settings → ℕ → Discovery
@@ -83,7 +78,3 @@ mtu_shown discovery = record {
 
 abbrev pub no_mtu : MtuView
 no_mtu = record { probe = 0; mtu = 0; probes = false; searches = false; some = false }
-
-abbrev pub ReadsMtu : Option Discovery → MtuView → Option Discovery → Type 0
-ReadsMtu None view new = (view ≡ no_mtu) × (new ≡ None)
-ReadsMtu (Some discovery) view new = (view ≡ mtu_shown discovery) × (new ≡ Some discovery)

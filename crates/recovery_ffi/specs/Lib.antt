@@ -8,5 +8,4 @@ pub mod Views
 pub mod Controllers
 pub mod Marks
 pub mod Discoveries
-pub mod HeldDiscovery
 pub mod Buckets

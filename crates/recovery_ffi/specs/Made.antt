@@ -32,7 +32,8 @@ abbrev pub MadeOr : Bool → Settings → Address → List ℕ → ℕ → Optio
 MadeOr true settings given cid now held = Made settings given cid now held
 MadeOr false settings given cid now held = held ≡ None
 
--- what is wrong with what a recovery is to be made of, first of all with the id of the peer; `NEW_MADE` where nothing is
+-- what is wrong with what a recovery is to be made of, first of all with the id of the peer; `NEW_MADE` where
+-- nothing is
 abbrev pub new_fault : Settings → List ℕ → ℕ
 new_fault settings cid = if nat_lt 20 (length cid) then NEW_CID_TOO_LONG else settings_fault settings
 

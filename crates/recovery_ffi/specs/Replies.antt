@@ -19,7 +19,8 @@ sent_spelled number (Some forgotten) = record (plain ANSWER_SENT) { flag = true;
 sent_spelled number None = record (plain ANSWER_SENT) { first = number }
 
 abbrev pub retire_spelled : Option (Range ℕ × List ℕ) → Reply
-retire_spelled (Some retired) = record (plain ANSWER_RETIRE) { flag = true; first = retired.0.start; second = retired.0.end }
+retire_spelled (Some retired) =
+    record (plain ANSWER_RETIRE) { flag = true; first = retired.0.start; second = retired.0.end }
 retire_spelled None = plain ANSWER_RETIRE
 
 abbrev pub timeout_spelled : Option ℕ → Reply

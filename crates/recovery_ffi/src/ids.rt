@@ -105,7 +105,8 @@ pub extern "C" fn recovery_ffi_peer_retired(
     sequence: u64,
     limit: u64,
 ) -> Reply
-    ensures { Answers handle.old.slot.held (PeerRetired sequence limit) result handle.new.slot.held }
+    ensures { Answers handle.old.slot.held (PeerRetired sequence limit)
+        result handle.new.slot.held }
 {
     handle.apply(alloc, Event::PeerRetired { sequence, limit })
 }

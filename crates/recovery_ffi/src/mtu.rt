@@ -1,7 +1,8 @@
 //! MTU discovery alone, without a recovery: for a tunnel, or another datagram protocol (RFC 8899). Packets are numbered
 //! by the caller, upward, probes among them.
 ghost use Rattle.std.specs.Prelude.{◌≡◌, None};
-ghost use Rattle.recovery_ffi.specs.Discoveries.{DiscoveryAnswers, NewDiscovery, ReadsMtu, discovery_by, mtu_shown};
+ghost use Rattle.recovery_ffi.specs.Answers.{Reads};
+ghost use Rattle.recovery_ffi.specs.Discoveries.{DiscoveryAnswers, NewDiscovery, discovery_by, mtu_shown, no_mtu};
 ghost use Rattle.recovery_ffi.specs.Settings.{IsSound};
 ghost use Rattle.recovery_ffi.specs.declared.mtu_handle.Call.TheVariants.{Poll, Limit, Acked, ProbeLost, Lost, LossesDone, Reset};
 
@@ -83,7 +84,8 @@ pub extern "C" fn recovery_ffi_mtu_drop(alloc: Global, mtu: &mut MtuHandle)
 /// What is known.
 #[unsafe(no_mangle)]
 pub extern "C" fn recovery_ffi_mtu(alloc: Global, mtu: &mut MtuHandle) -> MtuView
-    ensures { ReadsMtu mtu.old.slot.held result mtu.new.slot.held }
+    ensures { Reads mtu.old.slot.held mtu.new.slot.held
+        (λ discovery. result ≡ mtu_shown discovery) (result ≡ no_mtu) }
 {
     let Some(discovery) = mtu.take(alloc) else {
         return MtuView {

@@ -1,6 +1,7 @@
 //! What C holds of an MTU discovery.
 ghost use Rattle.std.specs.Prelude.{◌≡◌, Some, None, is_some, MatchOption, true};
-ghost use Rattle.recovery_ffi.specs.Discoveries.{DiscoveryAnswers, discovery_told, is_allowed, told_to, probe_spelled, HoldsDiscovery};
+ghost use Rattle.recovery_ffi.specs.Discoveries.{DiscoveryAnswers, discovery_told, is_allowed, told_to, probe_spelled};
+ghost use Rattle.recovery_ffi.specs.Held.{Holds};
 
 use crate::mtu_slot::MtuSlot;
 use crate::numbers::{ANSWER_ACKED, ANSWER_BLACK_HOLE, ANSWER_DONE, ANSWER_NO_PROBE, ANSWER_PROBE};
@@ -73,7 +74,7 @@ impl MtuHandle {
     /// Holds a discovery; false where there is no memory.
     pub fn make(&mut self, alloc: Global, discovery: MtuDiscovery) -> bool
         requires { self.old.slot.held ≡ None }
-        ensures { HoldsDiscovery result discovery self.new.slot.held }
+        ensures { Holds result discovery self.new.slot.held }
     {
         match Box::new(alloc, discovery) {
             Ok(discovery) => {

@@ -2,7 +2,7 @@
 ghost use Rattle.std.specs.Prelude.{◌≡◌, Some, None};
 ghost use Rattle.std.specs.declared.option.Option.{Option};
 ghost use Rattle.recovery_mtud.specs.Discovery.{Discovery};
-ghost use Rattle.recovery_ffi.specs.HeldDiscovery.{discovery_owns, discovery_coded, IsDiscoveryHeld};
+ghost use Rattle.recovery_ffi.specs.Held.{discovery_owns, discovery_coded, IsHeld};
 
 use crate::parts::Parts;
 use recovery_mtud::mtud::MtuDiscovery;
@@ -54,7 +54,7 @@ impl MtuSlot {
 
     #[inline(always)]
     fn into_parts(self) -> Parts<MtuDiscovery, Global>
-        requires { IsDiscoveryHeld self.held }
+        requires { IsHeld self.held }
         ensures { self.held ≡ Some result.value }
     {
         let MtuSlot { ptr, alloc } = self;
@@ -75,7 +75,7 @@ impl MtuSlot {
 
     #[inline(always)]
     fn into_box(self) -> Box<MtuDiscovery>
-        requires { IsDiscoveryHeld self.held }
+        requires { IsHeld self.held }
         ensures { self.held ≡ Some result.value }
     {
         let parts = self.into_parts();
@@ -85,7 +85,7 @@ impl MtuSlot {
     /// Takes out the discovery that is held; the slot then holds none.
     #[inline(always)]
     pub fn take(&mut self, alloc: Global) -> Box<MtuDiscovery>
-        requires { IsDiscoveryHeld self.old.held }
+        requires { IsHeld self.old.held }
         ensures value { self.old.held ≡ Some result.value }
         ensures held { self.new.held ≡ None }
     {

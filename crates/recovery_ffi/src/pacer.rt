@@ -26,7 +26,8 @@ pub struct Bucket {
 }
 
 fn pacer_in(bucket: &Bucket) -> Option<Pacer>
-    ensures { MatchOption result (¬ IsBucketSound (bucket_in bucket.now)) (λ pacer. pacer ≡ bucket_in bucket.now) }
+    ensures { MatchOption result (¬ IsBucketSound (bucket_in bucket.now))
+        (λ pacer. pacer ≡ bucket_in bucket.now) }
 {
     Pacer::from_state(PacerState {
         capacity: bucket.capacity,

@@ -17,7 +17,8 @@ pub extern "C" fn recovery_ffi_in_flight(
     handle: &mut Handle,
     previous: bool,
 ) -> Reply
-    ensures { Answers handle.old.slot.held (InFlight (path_coded previous)) result handle.new.slot.held }
+    ensures { Answers handle.old.slot.held (InFlight (path_coded previous))
+        result handle.new.slot.held }
 {
     handle.apply(
         alloc,
@@ -73,7 +74,8 @@ pub extern "C" fn recovery_ffi_validated(
     handle: &mut Handle,
     previous: bool,
 ) -> Reply
-    ensures { Answers handle.old.slot.held (Validated (path_coded previous)) result handle.new.slot.held }
+    ensures { Answers handle.old.slot.held (Validated (path_coded previous))
+        result handle.new.slot.held }
 {
     handle.apply(
         alloc,
@@ -92,7 +94,8 @@ pub extern "C" fn recovery_ffi_transmit(
     bytes: u16,
     checked: bool,
 ) -> Reply
-    ensures { Answers handle.old.slot.held (Transmit now bytes checked) result handle.new.slot.held }
+    ensures { Answers handle.old.slot.held (Transmit now bytes checked)
+        result handle.new.slot.held }
 {
     handle.apply(
         alloc,

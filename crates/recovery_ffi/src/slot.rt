@@ -2,7 +2,7 @@
 ghost use Rattle.std.specs.Prelude.{◌≡◌, Some, None};
 ghost use Rattle.std.specs.declared.option.Option.{Option};
 ghost use Rattle.recovery_ffi.specs.declared.stack.Stack.{Stack};
-ghost use Rattle.recovery_ffi.specs.Held.{held_owns, stack_coded, IsHeld};
+ghost use Rattle.recovery_ffi.specs.Held.{stack_owns, stack_coded, IsHeld};
 
 use crate::parts::Parts;
 use crate::stack::Stack;
@@ -20,7 +20,7 @@ pub struct Slot {
 }
 
 impl Model for Slot {
-    ghost also_owns = { λ s. held_owns s.alloc s.ptr s.held };
+    ghost also_owns = { λ s. stack_owns s.alloc s.ptr s.held };
 }
 
 impl Slot {

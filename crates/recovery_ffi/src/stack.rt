@@ -123,7 +123,8 @@ impl Stack {
     ) -> Result<Stack, NoMemory>
         requires issued { config.issued ≤ 2 ^ 62 }
         requires skips { IsSkips config.skips }
-        ensures { IfOk result (λ stack. IsFresh config now (stream_of (steps_u32 pcg32) rng) stack) }
+        ensures { IfOk result
+            (λ stack. IsFresh config now (stream_of (steps_u32 pcg32) rng) stack) }
     {
         let recovery = LiveRecovery::new(alloc, config, rng, now)?;
         Ok(Stack {

@@ -99,7 +99,8 @@ impl CidState {
         issued: u64,
     ) -> Result<Self, NoMemory>
         requires { issued ≤ 2 ^ 62 }
-        ensures ids { IfOk result (λ ids. ids ≡ with_issued issued now (no_ids cid_len cid_lifetime)) }
+        ensures ids { IfOk result
+            (λ ids. ids ≡ with_issued issued now (no_ids cid_len cid_lifetime)) }
         ensures memory { OnErr result (0 < issued) }
         ensures sound { IfOk result AreSoundIds }
     {

@@ -256,7 +256,8 @@ where
         ensures reply { ReceiveReply
             (heard_of self.old) (acks_of self.old).counts number ack_eliciting result }
         ensures step { IfOk result
-            (λ receipt. SpaceStep Q.words (arrives now number ack_eliciting receipt) self.old self.new) }
+            (λ receipt. SpaceStep Q.words (arrives now number ack_eliciting receipt)
+            self.old self.new) }
         ensures refused { OnErr result (self.new ≡ self.old) }
     {
         if number >= NUMBER_LIMIT {
@@ -293,7 +294,8 @@ where
     pub fn take_first(&mut self) -> Option<(u64, SentPacket<Q>)>
         ensures first { MatchOption result (packets_of self.old ≡ [])
             (λ entry. packets_of self.old ≡ entry ∷ packets_of self.new) }
-        ensures last { (tracking_of self.new).last_eliciting ≡ (tracking_of self.old).last_eliciting }
+        ensures last { (tracking_of self.new).last_eliciting
+            ≡ (tracking_of self.old).last_eliciting }
         ensures others { self.new ≡ with_tracking (tracking_of self.new) self.old }
         ensures none { IfNone result (self.new ≡ self.old) }
     {
@@ -319,9 +321,11 @@ where
     /// more (RFC 9000, 13.2.4).
     pub fn on_acked(&mut self, number: u64, packet: &SentPacket<Q>)
         requires { ¬ IsTooLarge packet.now.largest_acked }
-        ensures subtracts { SubtractsLargest packet.now.largest_acked (acks_of self.old) (acks_of self.new) }
+        ensures subtracts { SubtractsLargest packet.now.largest_acked
+            (acks_of self.old) (acks_of self.new) }
         ensures others { self.new
-            ≡ with_acks (acks_of self.new) (after_acknowledging number packet.now.time_sent self.old) }
+            ≡ with_acks (acks_of self.new)
+            (after_acknowledging number packet.now.time_sent self.old) }
     {
         if let Some(largest) = packet.largest_acked {
             self.pending_acks.subtract_below(largest);
@@ -341,7 +345,8 @@ where
     /// that is not tracked is never refused, changes nothing. Cost: logarithmic in the packets tracked, and that of the
     /// queue's `append`.
     pub fn queue_lost(&mut self, number: u64) -> Result<bool, NoMemory>
-        ensures found { IfOk result (λ found. found ≡ is_some (packet_at (packets_of self.old) number)) }
+        ensures found { IfOk result
+            (λ found. found ≡ is_some (packet_at (packets_of self.old) number)) }
         ensures tracked { OnErr result (packet_at (packets_of self.old) number ≢ None) }
         ensures after { OnOk result (self.new ≡ space_moves Q.words number self.old) }
         ensures err { OnErr result (self.new ≡ self.old) }
@@ -396,8 +401,8 @@ where
         ensures some { OnOk result (0 < self.old.loss_probes → self.new
             ≡ space_probes Q.words request_immediate_ack
             (probe_found Q.words streams.now self.old.pending (packets_of self.old)) self.old) }
-        ensures moves { OnErr result
-            (IsSome (probe_found Q.words streams.now self.old.pending (packets_of self.old)).moved) }
+        ensures moves { OnErr result (IsSome
+            (probe_found Q.words streams.now self.old.pending (packets_of self.old)).moved) }
         ensures err { OnErr result (self.new ≡ self.old) }
     {
         if self.loss_probes == 0 {
@@ -425,13 +430,13 @@ where
         immediate: bool,
         streams: &Q::Streams,
     ) -> Result<SendableFrames, NoMemory>
-        ensures step { OnOk result (SpaceStep Q.words
-            (probes immediate (probe_found Q.words streams.now self.old.pending (packets_of self.old)))
+        ensures step { OnOk result (SpaceStep Q.words (probes immediate
+            (probe_found Q.words streams.now self.old.pending (packets_of self.old)))
             self.old self.new) }
         ensures frames { IfOk result (λ frames.
             IsSendable Q.words streams.now (heard_of self.new) (queued_of self.new) frames) }
-        ensures moves { OnErr result
-            (IsSome (probe_found Q.words streams.now self.old.pending (packets_of self.old)).moved) }
+        ensures moves { OnErr result (IsSome
+            (probe_found Q.words streams.now self.old.pending (packets_of self.old)).moved) }
         ensures err { OnErr result (self.new ≡ self.old) }
     {
         let before = self.loss_probes;

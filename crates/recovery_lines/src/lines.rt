@@ -610,7 +610,8 @@ pub fn put_event<S: Sink<Event<ItemQueue>>>(
 /// spells one.
 pub fn push_event(line: &[u8], events: &mut Vec<Event<ItemQueue>>) -> Result<bool, NoMemory>
     requires { vec_len events.old < vec_capacity events.old }
-    ensures found { IfOk result (λ spells. PushesSpelled line.now events.old.items spells events.new.items) }
+    ensures found { IfOk result
+        (λ spells. PushesSpelled line.now events.old.items spells events.new.items) }
     ensures memory { OnErr result (HoldsList line.now) }
     ensures kept { OnErr result (events.new.items ≡ events.old.items) }
 {

@@ -142,7 +142,8 @@ impl Detector {
     pub(crate) fn black_hole_detected(&mut self) -> bool
         ensures answer { result ≡ nat_le 4 (length (bursts_closed self.old).kept) }
         ensures after { self.new
-            ≡ (if result then record (bursts_closed self.old) { kept = [] } else bursts_closed self.old) }
+            ≡ (if result then record (bursts_closed self.old) { kept = [] }
+            else bursts_closed self.old) }
     {
         self.close();
         if self.bursts.len() < BLACK_HOLE_BURSTS {

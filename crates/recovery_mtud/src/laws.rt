@@ -10,15 +10,16 @@ ghost use Rattle.recovery_mtud.specs.declared.config.MtuDiscoveryConfig.{MtuDisc
 /// Whatever is told of sizes above zero, the MTU in use stays above zero, and at most four bursts are kept.
 #[tactic(auto, using(crate::proofs::DiscoveryLaws::discovery_by_sound))]
 pub fn discovery_stays_sound()
-    ensures { (made : Discovery) → IsDiscoverySound made
-        → (calls : List MtuCall) → ArePositiveMtuCalls calls → IsDiscoverySound (discovery_by made calls) }
+    ensures { (made : Discovery) → IsDiscoverySound made → (calls : List MtuCall)
+        → ArePositiveMtuCalls calls → IsDiscoverySound (discovery_by made calls) }
 {}
 
 /// The MTU in use changes to the size of an acknowledged probe, down to the peer's limit, to the least MTU by a report,
 /// or by a reset, and else never.
 #[tactic(auto, using(crate::proofs::DiscoveryLaws::discovery_after_mtu))]
 pub fn mtu_changes()
-    ensures { (call : MtuCall) (old : Discovery) → (discovery_after call old).mtu ≡ mtu_after call old }
+    ensures { (call : MtuCall) (old : Discovery)
+        → (discovery_after call old).mtu ≡ mtu_after call old }
 {}
 
 /// What [`MtuDiscovery::new`] and [`MtuDiscovery::disabled`] give was told nothing yet, and searches by the settings
@@ -38,8 +39,9 @@ pub fn discoveries_begin_untold()
 /// probes (RFC 8899, 5.3.2 leaves the search to us).
 pub fn searches_take_few()
     ensures { (made : Discovery) (settings : MtuDiscoveryConfig) → IsUntold made
-        → search_settings made ≡ Some settings → 3 ≤ settings.minimum_change → settings.upper_bound < 2 ^ 16
-        → (calls : List MtuCall) → TakesFew (entries_by made calls) }
+        → search_settings made ≡ Some settings → 3 ≤ settings.minimum_change
+        → settings.upper_bound < 2 ^ 16 → (calls : List MtuCall)
+        → TakesFew (entries_by made calls) }
 {}
 
 /// Of a link that carries exactly the packets up to some size: a search that a poll ends leaves an MTU that the link
@@ -47,8 +49,9 @@ pub fn searches_take_few()
 #[tactic(auto, using(crate::proofs::SearchRunLaws::search_ends_near))]
 pub fn searches_end_near_the_best()
     ensures { (made : Discovery) (settings : MtuDiscoveryConfig) → IsUntold made
-        → search_settings made ≡ Some settings → 3 ≤ settings.minimum_change → settings.upper_bound < 2 ^ 16
-        → (calls : List MtuCall) → AreLimitsOutside (entries_by made calls)
+        → search_settings made ≡ Some settings → 3 ≤ settings.minimum_change
+        → settings.upper_bound < 2 ^ 16 → (calls : List MtuCall)
+        → AreLimitsOutside (entries_by made calls)
         → EndsNearBest made settings (entries_by made calls) }
 {}
 
@@ -58,8 +61,8 @@ pub fn probes_come_in_searches()
     ensures searched { (made : Discovery) (settings : MtuDiscoveryConfig) → IsUntold made
         → search_settings made ≡ Some settings → (calls : List MtuCall)
         → ProbesInSearch settings (entries_by made calls) }
-    ensures disabled { (made : Discovery) → search_settings made ≡ None → (now : ℕ) (calls : List MtuCall)
-        → poll_of now (discovery_by made calls) ≡ None }
+    ensures disabled { (made : Discovery) → search_settings made ≡ None
+        → (now : ℕ) (calls : List MtuCall) → poll_of now (discovery_by made calls) ≡ None }
 {}
 
 /// A black hole is reported only where four bursts of losses stand, where no number is told as acknowledged and as
@@ -70,5 +73,6 @@ pub fn four_bursts_are_a_black_hole()
         → AreFatesApart (entries_by made calls) → reports (discovery_by made calls) ≡ true
         → AreFourStanding made (entries_by made calls) }
     ensures there { (made : Discovery) → IsUntold made → (calls : List MtuCall)
-        → AreFourUnanswered made (entries_by made calls) → reports (discovery_by made calls) ≡ true }
+        → AreFourUnanswered made (entries_by made calls)
+        → reports (discovery_by made calls) ≡ true }
 {}

@@ -57,7 +57,8 @@ impl MtuDiscovery {
         requires least { 0 < min_mtu }
         requires initial { min_mtu ≤ initial_plpmtu }
         requires limit { IfSome peer_max_udp_payload_size (λ limit. 0 < limit) }
-        ensures { result ≡ discovery_made initial_plpmtu min_mtu peer_max_udp_payload_size (Some config) }
+        ensures { result
+            ≡ discovery_made initial_plpmtu min_mtu peer_max_udp_payload_size (Some config) }
     {
         let (current_mtu, limit) = match peer_max_udp_payload_size {
             Some(limit) => (initial_plpmtu.min(limit), limit),
@@ -142,8 +143,8 @@ impl MtuDiscovery {
     pub fn on_acked(&mut self, space: SpaceId, packet_number: u64, packet_bytes: u16) -> bool
         ensures answer { result ≡ same_space space Data && is_probe packet_number self.old }
         ensures after { self.new
-            ≡ (if same_space space Data then discovery_after (acks packet_number packet_bytes) self.old
-            else self.old) }
+            ≡ (if same_space space Data
+            then discovery_after (acks packet_number packet_bytes) self.old else self.old) }
     {
         if space != SpaceId::Data {
             return false;

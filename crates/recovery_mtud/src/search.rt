@@ -88,7 +88,8 @@ impl Probing {
 impl Search {
     pub(crate) fn new(limit: u16, config: MtuDiscoveryConfig) -> Self
         requires { 0 < limit }
-        ensures { result ≡ record { limit = limit; probing = None; activation = 0; settings = config } }
+        ensures { result
+            ≡ record { limit = limit; probing = None; activation = 0; settings = config } }
     {
         Search {
             probing: None,
@@ -233,7 +234,10 @@ impl Search {
     /// A black hole was found at this moment. For a while nothing is probed: larger sizes were just seen to fail.
     pub(crate) fn on_black_hole(&mut self, now: Instant)
         ensures { self.new
-            ≡ record self.old { probing = None; activation = later now self.old.settings.black_hole_cooldown } }
+            ≡ record self.old {
+              probing = None;
+              activation = later now self.old.settings.black_hole_cooldown;
+            } }
     {
         self.probing = None;
         self.activation = now + self.config.black_hole_cooldown;

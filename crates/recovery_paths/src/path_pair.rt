@@ -96,7 +96,8 @@ impl<C: Controller + Drop> PathPair<C> {
     /// A datagram came in on a path, of so many bytes (RFC 9000, 8.1). Refused by `NoSuchPath`, then by `Overflow`; a
     /// refusal changes nothing.
     pub fn receive_datagram(&mut self, name: PathName, bytes: u64) -> Result<(), DatagramError>
-        ensures ok { OnOk result (self.new ≡ on_path_of name (on_state (after_receiving bytes)) self.old) }
+        ensures ok { OnOk result
+            (self.new ≡ on_path_of name (on_state (after_receiving bytes)) self.old) }
         ensures no_path { IsErrOf result DatagramError.NoSuchPath ↔ (path_of name self.old ≡ None) }
         ensures overflow { IsErrOf result DatagramError.Overflow
             ↔ IsSomeAnd (path_of name self.old) (λ path. 2 ^ 64 ≤ path.state.total_recvd + bytes) }
@@ -157,10 +158,11 @@ impl<C: Controller + Drop> PathPair<C> {
         Q: RetransmitQueue + Drop,
         Q::Meta: Drop,
         requires { CanTrackOn self.old number packet space.old }
-        ensures space { OnOk result
-            (space.new ≡ with_tracking (after_sending number packet (tracking_of space.old)) space.old) }
+        ensures space { OnOk result (space.new
+            ≡ with_tracking (after_sending number packet (tracking_of space.old)) space.old) }
         ensures paths { IfOk result (λ gone. self.new ≡ paths_after_sending packet gone self.old) }
-        ensures forgotten { IfOk result (λ gone. gone ≡ forgotten_entry packet (tracking_of space.old)) }
+        ensures forgotten { IfOk result
+            (λ gone. gone ≡ forgotten_entry packet (tracking_of space.old)) }
         ensures overflow { IsErrOf result LedgerError.Overflow
             ↔ Overflows (counters_of self.old.current.ledger) packet }
         ensures err_paths { OnErr result (self.new ≡ self.old) }
@@ -176,7 +178,8 @@ impl<C: Controller + Drop> PathPair<C> {
     /// The controller of the path in use is told of a packet of so many bytes that goes out there (RFC 9002, B.4).
     pub fn on_sent(&mut self, now: Instant, bytes: u64, number: u64)
         ensures { self.new
-            ≡ on_path_of Current (on_state (after_telling C.words (sends now bytes number))) self.old }
+            ≡ on_path_of Current
+            (on_state (after_telling C.words (sends now bytes number))) self.old }
     {
         self.current.on_sent(now, bytes, number);
     }
@@ -193,7 +196,8 @@ impl<C: Controller + Drop> PathPair<C> {
     ) -> bool
         requires { IsCountedOnEach self.old packet.now }
         ensures probe { result ≡ is_path_probe space number self.old.current.state }
-        ensures after { self.new ≡ paths_acking C.words space number now app_limited packet.now self.old }
+        ensures after { self.new
+            ≡ paths_acking C.words space number now app_limited packet.now self.old }
     {
         self.remove_from_previous(packet);
         self.current
@@ -262,8 +266,8 @@ impl<C: Controller + Drop> PathPair<C> {
     /// Counts a packet on the previous path no more, where it went by that.
     fn remove_from_previous<Q: RetransmitQueue>(&mut self, packet: &SentPacket<Q>)
         requires { ForSome self.old.previous (λ path. IsCountedOn path.ledger packet.now) }
-        ensures { self.new
-            ≡ record self.old { previous = option_map (path_left_by packet.now) self.old.previous } }
+        ensures { self.new ≡ record self.old
+            { previous = option_map (path_left_by packet.now) self.old.previous } }
     {
         if let Some(path) = &mut self.previous {
             path.remove_in_flight(packet);

@@ -212,7 +212,8 @@ impl<C: Controller + Drop> PathData<C> {
         now: Instant,
         config: &TransportConfig<F>,
     )
-        ensures { (allowed : Bool) → let settings = path_settings F.built C.words allowed config.now in
+        ensures { (allowed : Bool)
+            → let settings = path_settings F.built C.words allowed config.now in
             self.new ≡ on_state (state_reset settings now) self.old }
     {
         let mtu = config.get_initial_mtu();
@@ -273,11 +274,12 @@ impl<C: Controller + Drop> PathData<C> {
         Q: RetransmitQueue + Drop,
         Q::Meta: Drop,
         requires { CanTrack self.old.ledger number packet space.old }
-        ensures space { OnOk result
-            (space.new ≡ with_tracking (after_sending number packet (tracking_of space.old)) space.old) }
-        ensures path { IfOk result (λ gone.
-            self.new ≡ record self.old { ledger = path_after_sending self.old.ledger packet gone }) }
-        ensures forgotten { IfOk result (λ gone. gone ≡ forgotten_entry packet (tracking_of space.old)) }
+        ensures space { OnOk result (space.new
+            ≡ with_tracking (after_sending number packet (tracking_of space.old)) space.old) }
+        ensures path { IfOk result (λ gone. self.new
+            ≡ record self.old { ledger = path_after_sending self.old.ledger packet gone }) }
+        ensures forgotten { IfOk result
+            (λ gone. gone ≡ forgotten_entry packet (tracking_of space.old)) }
         ensures overflow { IsErrOf result LedgerError.Overflow
             ↔ Overflows (counters_of self.old.ledger) packet }
         ensures err_path { OnErr result (self.new ≡ self.old) }
@@ -301,7 +303,8 @@ impl<C: Controller + Drop> PathData<C> {
     pub fn remove_in_flight<Q: RetransmitQueue>(&mut self, packet: &SentPacket<Q>) -> bool
         requires { IsCountedOn self.old.ledger packet.now }
         ensures own { Decides result (packet.now.path_generation ≡ generation_of self.old.ledger) }
-        ensures after { self.new ≡ record self.old { ledger = after_leaving self.old.ledger packet.now } }
+        ensures after { self.new
+            ≡ record self.old { ledger = after_leaving self.old.ledger packet.now } }
     {
         if packet.path_generation != self.generation {
             return false;
@@ -360,7 +363,8 @@ impl<C: Controller + Drop> PathData<C> {
     ) -> bool
         requires { IsCountedOn self.old.ledger packet.now }
         ensures probe { result ≡ is_path_probe space number self.old.state }
-        ensures after { self.new ≡ path_acked C.words space number now app_limited packet.now self.old }
+        ensures after { self.new
+            ≡ path_acked C.words space number now app_limited packet.now self.old }
     {
         let is_probe = self.mtud.on_acked(space, number, packet.size);
         if is_probe {
@@ -395,7 +399,8 @@ impl<C: Controller + Drop> PathData<C> {
     /// little to send to fill its window (RFC 9002, 7.8), and the largest number that was acknowledged, if any.
     pub fn on_end_acks(&mut self, now: Instant, app_limited: bool, largest: Option<u64>)
         ensures { let bytes = (counters_of self.old.ledger).bytes in
-            self.new ≡ on_state (after_telling C.words (ends_acks now bytes app_limited largest)) self.old }
+            self.new
+            ≡ on_state (after_telling C.words (ends_acks now bytes app_limited largest)) self.old }
     {
         self.congestion
             .on_end_acks(now, self.in_flight.bytes, app_limited, largest);
@@ -410,8 +415,8 @@ impl<C: Controller + Drop> PathData<C> {
         is_persistent: bool,
         lost_bytes: u64,
     )
-        ensures { self.new
-            ≡ on_state (after_telling C.words (congests now sent is_persistent lost_bytes)) self.old }
+        ensures { self.new ≡ on_state
+            (after_telling C.words (congests now sent is_persistent lost_bytes)) self.old }
     {
         self.congestion
             .on_congestion_event(now, sent, is_persistent, lost_bytes);

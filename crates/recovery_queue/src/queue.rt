@@ -46,7 +46,8 @@ pub trait RetransmitQueue: Sized {
     ///
     /// `Err` hands the other queue back as it was, and leaves this one as it was: memory was refused.
     fn append(&mut self, other: Self) -> Result<(), Self>
-        ensures ok { OnOk result (contents self.new ≡ words.joined (contents self.old) (contents other)) }
+        ensures ok { OnOk result
+            (contents self.new ≡ words.joined (contents self.old) (contents other)) }
         ensures err { OnErr result (contents self.new ≡ contents self.old) }
         ensures back { IfErr result (λ queue. contents queue ≡ contents other) };
 

@@ -47,7 +47,8 @@ one_of now left kept Line (line, is_kept, consumed) = record {
   line = line;
   is_kept = is_kept;
   takes = λ unread lines taken.
-      takes_whole unread left left (line ∷ lines) (taken_more unread now left lines taken line is_kept.no_feed consumed);
+      takes_whole unread left left (line ∷ lines)
+      (taken_more unread now left lines taken line is_kept.no_feed consumed);
   more = line ++ 10 ∷ [];
   few = omega (arith, ap length (line_then line [] is_kept.no_feed));
   consumed = consumed;
@@ -128,15 +129,16 @@ module _ {F R C K : Type 0} {f : _} {c : _} {q : _} {m : _} {r : _} (choice : Ch
           let read = rw is at is_line in record {
             lines = read.0 ∷ g.lines;
             taken = taken_more unread now left g.lines g.taken read.0 read.1.no_feed read.2;
-            made = turn_done config start random choice old new before mid after unsaid now_said said g.lines read.0 kept
-                number g.made g.counted read.1 turn;
+            made = turn_done config start random choice old new before mid after unsaid now_said said g.lines read.0
+                kept number g.made g.counted read.1 turn;
             so_far = fine_more (origin first config start random) choice outcome read.0 g.lines
                 (done_fine config start random choice old new before mid after unsaid now_said said g.lines read.0 kept
                 number g.made g.counted read.1 turn) g.so_far;
             counted = omega (arith, g.counted);
           }
 
-      pub one_bad : next ≡ Line → choice.is_strict ≡ false → Turns choice.shows kept number old new mid after now_said said Bad
+      pub one_bad : next ≡ Line → choice.is_strict ≡ false
+          → Turns choice.shows kept number old new mid after now_said said Bad
           → Going (streams_of unread left before after unsaid said) new BadLine (number + 1)
       one_bad is lax turn config start random came =
           let g = going config start random came in
@@ -162,12 +164,12 @@ module _ {F R C K : Type 0} {f : _} {c : _} {q : _} {m : _} {r : _} (choice : Ch
           let read = rw is at is_line in
           ends_so (origin first config start random) choice unread left before after unsaid said (parts_of new)
           (one.line ∷ g.lines)
-          (turn_done config start random choice old new before mid after unsaid now_said said g.lines one.line kept number
-          g.made g.counted one.is_kept turn)
+          (turn_done config start random choice old new before mid after unsaid now_said said g.lines one.line kept
+          number g.made g.counted one.is_kept turn)
           outcome
           (fine_more (origin first config start random) choice outcome one.line g.lines
-          (done_fine config start random choice old new before mid after unsaid now_said said g.lines one.line kept number
-          g.made g.counted one.is_kept turn) g.so_far)
+          (done_fine config start random choice old new before mid after unsaid now_said said g.lines one.line kept
+          number g.made g.counted one.is_kept turn) g.so_far)
           (one.takes unread g.lines g.taken) read.4
 
       pub last_bad : next ≡ Last → choice.is_strict ≡ false
@@ -178,8 +180,8 @@ module _ {F R C K : Type 0} {f : _} {c : _} {q : _} {m : _} {r : _} (choice : Ch
           let read = rw is at is_line in
           ends_so (origin first config start random) choice unread left before after unsaid said (parts_of new)
           (one.line ∷ g.lines)
-          (turn_bad config start random choice old new before mid after unsaid now_said said g.lines one.line kept number
-          g.made g.counted one.is_kept turn)
+          (turn_bad config start random choice old new before mid after unsaid now_said said g.lines one.line kept
+          number g.made g.counted one.is_kept turn)
           BadLine (
             bad_one (origin first config start random) choice one.line g.lines
                 (bad_line config start random choice old new before mid after unsaid now_said said g.lines one.line kept
@@ -193,21 +195,21 @@ module _ {F R C K : Type 0} {f : _} {c : _} {q : _} {m : _} {r : _} (choice : Ch
           → TracesFrom first choice (streams_of unread left before after unsaid said) BadLine
       strict_bad strict turn config start random came =
           let g = going config start random came in
-          ends_bad (origin first config start random) choice unread left before after unsaid said (parts_of new) one.line
-          g.lines
-          (turn_bad config start random choice old new before mid after unsaid now_said said g.lines one.line kept number
-          g.made g.counted one.is_kept turn)
+          ends_bad (origin first config start random) choice unread left before after unsaid said (parts_of new)
+          one.line g.lines
+          (turn_bad config start random choice old new before mid after unsaid now_said said g.lines one.line kept
+          number g.made g.counted one.is_kept turn)
           outcome g.so_far strict
-          (bad_line config start random choice old new before mid after unsaid now_said said g.lines one.line kept number
-          g.made g.counted one.is_kept turn)
+          (bad_line config start random choice old new before mid after unsaid now_said said g.lines one.line kept
+          number g.made g.counted one.is_kept turn)
           (one.takes unread g.lines g.taken)
 
       pub over : (ends : Outcome) → Turns choice.shows kept number old new mid after now_said said (Over ends)
           → TracesFrom first choice (streams_of unread left before after unsaid said) ends
       over ends turn config start random came =
           let g = going config start random came in
-          turn_over config start random choice old new before mid after unsaid now_said said g.lines one.line kept number
-          g.made g.counted one.is_kept unread left outcome g.so_far ends turn (one.takes unread g.lines g.taken)
+          turn_over config start random choice old new before mid after unsaid now_said said g.lines one.line kept
+          number g.made g.counted one.is_kept unread left outcome g.so_far ends turn (one.takes unread g.lines g.taken)
           (one.more, one.few, also_taken unread now left g.lines g.taken one.more one.consumed)
 
     -- so many lines that none more is counted

@@ -96,7 +96,8 @@ kept_speaks line kept k speaks silent = speaks (subst IsSilent (sym k.is) ((sile
 
 kept_named : (line kept : List ℕ) (number : ℕ) (fault : Fault) (text : List ℕ) → Kept line kept → Names kept fault
     → TellsFault kept number fault [] text → Names line fault × TellsFault line number fault [] text
-kept_named line kept number TooLong text k long tells = (omega (arith, long, ap length k.is, length-take 4097 line), tells)
+kept_named line kept number TooLong text k long tells =
+    (omega (arith, long, ap length k.is, length-take 4097 line), tells)
 kept_named line kept number TooShort text k begins tells =
     let short : length kept ≤ 4096 = omega (arith, begins.2.short, length-append kept begins.0) in
     subst (λ l. Names l TooShort × TellsFault l number TooShort [] text) (same_line line kept k short) (begins, tells)

@@ -63,7 +63,8 @@ take_behind (byte ∷ front) bytes n =
     ∙ ap (λ (l : List ℕ). byte ∷ l) (take_behind front bytes n)
 
 module _ (unread now left : Option (List ℕ)) (lines : List (List ℕ)) (t : Taken unread now lines) where
-  pub taken_more : (line : List ℕ) → NoFeed line → Consumes now left (line ++ 10 ∷ []) → Taken unread left (line ∷ lines)
+  pub taken_more : (line : List ℕ) → NoFeed line → Consumes now left (line ++ 10 ∷ [])
+      → Taken unread left (line ∷ lines)
   taken_more line no_feed one = record {
     no_feeds = rw (turned line lines) (All-append NoFeed (reverse lines) (line ∷ []) t.no_feeds
         (All-cons NoFeed line [] no_feed (All-nil NoFeed)));
@@ -71,7 +72,8 @@ module _ (unread now left : Option (List ℕ)) (lines : List (List ℕ)) (t : Ta
         (Consumes-trans unread now left _ _ t.taken one);
   }
 
-  pub also_taken : (more : List ℕ) → Consumes now left more → Consumes unread left (flat_map ended (reverse lines) ++ more)
+  pub also_taken : (more : List ℕ) → Consumes now left more
+      → Consumes unread left (flat_map ended (reverse lines) ++ more)
   also_taken more one = Consumes-trans unread now left _ _ t.taken one
 
   pub takes_whole : (taken : List ℕ) × Consumes unread now taken × (lines_of taken ≡ reverse lines)
@@ -193,7 +195,8 @@ module _ {F K : Type 0} (beginning : ItemBeginning F K) (choice : Choice) where
     }
 
     -- a write of its answer breaks off
-    pub front_out : (unread left : Option (List ℕ)) (event : ItemEvent) (reply : Reply) (text : List ℕ) → Spells line event
+    pub front_out : (unread left : Option (List ℕ)) (event : ItemEvent) (reply : Reply) (text : List ℕ)
+        → Spells line event
         → ExtendsFrom beginning m.traced.past event reply new
         → text ≡ turn_text beginning.words choice.shows reply new
         → AppendsFront now after text → Keeps now_said said
@@ -215,16 +218,19 @@ module _ {F R C K : Type 0} {f : _} {c : _} {q : _} {m : _} {r : _} (config : Re
     (random : Stream) (choice : Choice)
     (old new : Recovery F (List ℕ) R C K (Unit {0}) (Unit {0}) (List ℕ) f c q m r) where
   module _ (before now after unsaid now_said said : Option (List ℕ)) (lines : List (List ℕ))
-      (line kept : List ℕ) (number : ℕ) (made : Made (origin old config start random) choice before now unsaid now_said (parts_of old) lines)
+      (line kept : List ℕ) (number : ℕ)
+      (made : Made (origin old config start random) choice before now unsaid now_said (parts_of old) lines)
       (is_number : number ≡ length lines + 1) (is_kept : Kept line kept) where
     pub turn_done : Turns choice.shows kept number old new now after now_said said Done
         → Made (origin old config start random) choice before after unsaid said (parts_of new) (line ∷ lines)
     turn_done (inl (text, does, writes), kept_said) =
-        made_done (origin old config start random) choice before now after unsaid now_said said (parts_of old) (parts_of new) lines line made
+        made_done (origin old config start random) choice before now after unsaid now_said said (parts_of old)
+        (parts_of new) lines line made
         does.event does.reply text (kept_spells line kept does.event is_kept does.spelled)
         (does.goes config start random made.traced.past made.came) does.written writes kept_said
     turn_done (inr (passes, silent, same, stays), kept_said) =
-        made_silent (origin old config start random) choice before now after unsaid now_said said (parts_of old) (parts_of new) lines line made
+        made_silent (origin old config start random) choice before now after unsaid now_said said (parts_of old)
+        (parts_of new) lines line made
         (kept_passes line kept is_kept passes) (kept_silent line kept is_kept silent) same stays kept_said
 
     pub done_fine : Turns choice.shows kept number old new now after now_said said Done → IsFine line
@@ -239,7 +245,8 @@ module _ {F R C K : Type 0} {f : _} {c : _} {q : _} {m : _} {r : _} (config : Re
     pub turn_bad : Turns choice.shows kept number old new now after now_said said Bad
         → Made (origin old config start random) choice before after unsaid said (parts_of new) (line ∷ lines)
     turn_bad turn =
-        made_bad (origin old config start random) choice before now after unsaid now_said said (parts_of old) (parts_of new) lines line made
+        made_bad (origin old config start random) choice before now after unsaid now_said said (parts_of old)
+        (parts_of new) lines line made
         turn.3.0 (bad_line turn) turn.1 turn.2
         (subst (λ n. Tells line n turn.3.0) is_number (kept_tells line kept number turn.3.0 is_kept turn.3.1)) turn.3.2
 
@@ -248,20 +255,25 @@ module _ {F R C K : Type 0} {f : _} {c : _} {q : _} {m : _} {r : _} (config : Re
       -- the write of its answer broke off
       broken : ((text : List ℕ) × DoesEvent choice.shows kept old new text × AppendsFront now after text)
           × Keeps now_said said
-          → AreAllowed choice (line ∷ lines) × FrontOut (origin old config start random) choice (streams_of unread left before after unsaid said) (line ∷ lines)
+          → AreAllowed choice (line ∷ lines)
+          × FrontOut (origin old config start random) choice (streams_of unread left before after unsaid said)
+          (line ∷ lines)
       broken ((text, does, front), kept_said) =
           let spells = kept_spells line kept does.event is_kept does.spelled in (
             allowed (origin old config start random) choice so_far (line ∷ lines)
-                (fine_more (origin old config start random) choice so_far line lines (inl (does.event, spells)) is_so_far),
-            front_out (origin old config start random) choice before now after unsaid now_said said (parts_of old) (parts_of new) lines line made
-                unread left does.event does.reply text spells
+                (fine_more (origin old config start random) choice so_far line lines (inl (does.event, spells))
+                is_so_far),
+            front_out (origin old config start random) choice before now after unsaid now_said said (parts_of old)
+                (parts_of new) lines line made unread left does.event does.reply text spells
                 (does.goes config start random made.traced.past made.came) does.written front kept_said,
           )
 
       -- it is over with this line, which was taken
-      pub turn_over : (outcome : Outcome) → Turns choice.shows kept number old new now after now_said said (Over outcome)
+      pub turn_over : (outcome : Outcome)
+          → Turns choice.shows kept number old new now after now_said said (Over outcome)
           → Takes (streams_of unread left before after unsaid said) (line ∷ lines)
-          → ((more : List ℕ) × (length (lines_of more) ≤ 1) × TakesAlso (streams_of unread left before after unsaid said) lines more)
+          → ((more : List ℕ) × (length (lines_of more) ≤ 1)
+          × TakesAlso (streams_of unread left before after unsaid said) lines more)
           → Traces (origin old config start random) choice (streams_of unread left before after unsaid said) outcome
       turn_over WriteFailed turn takes also =
           let over = broken turn in (line ∷ lines, takes, over.0, over.1)

@@ -15,6 +15,8 @@ module _ {F R C K : Type 0} {f : _} {c : _} {q : _} {m : _} {r : _} (shows : Boo
       → AppendsFront before after text → Keeps unsaid said
       → Turns shows line number old new before after unsaid said (Over outcome)
   broken_off outcome text (inl is) does front kept =
-      subst (λ o. Turns shows line number old new before after unsaid said (Over o)) (sym is) ((text, does, front), kept)
+      subst (λ o. Turns shows line number old new before after unsaid said (Over o)) (sym is)
+      ((text, does, front), kept)
   broken_off outcome text (inr is) does front kept =
-      subst (λ o. Turns shows line number old new before after unsaid said (Over o)) (sym is) ((text, does, front), kept)
+      subst (λ o. Turns shows line number old new before after unsaid said (Over o)) (sym is)
+      ((text, does, front), kept)

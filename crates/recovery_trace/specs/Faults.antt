@@ -16,8 +16,8 @@ pub record EndsWord (line : List ℕ) (start end : ℕ) : Type 0 where
   pub whole : (place : ℕ) → start ≤ place → place < end → slice_index line place ≢ 32
   pub ended : end < length line → slice_index line end ≡ 32
 
--- A word of a line: its number is the spaces before it and one. It is the first, or what stands before the space in front of
--- it begins a line that spells an event.
+-- A word of a line: its number is the spaces before it and one. It is the first, or what stands before the space in
+-- front of it begins a line that spells an event.
 pub record NamesWord (line : List ℕ) (number start end : ℕ) : Type 0 where
   pub short : length line ≤ 4096
   pub word : EndsWord line start end

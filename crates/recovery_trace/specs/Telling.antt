@@ -19,8 +19,8 @@ line_named number = codes "line " ++ (decimal number ++ codes ": ")
 abbrev pub word_named : ℕ → List ℕ
 word_named number = codes "cannot read word " ++ (decimal number ++ codes ", ")
 
--- Behind what stood before, the line that tells a fault of the line of this number; of a word that is not ASCII alone nothing is
--- said.
+-- Behind what stood before, the line that tells a fault of the line of this number; of a word that is not ASCII alone
+-- nothing is said.
 abbrev pub TellsFault : List ℕ → ℕ → Fault → List ℕ → List ℕ → Type 0
 TellsFault line number TooLong before text = text ≡ (before ++ line_named number) ++ codes "longer than 4096 bytes\n"
 TellsFault line number TooShort before text =

@@ -48,8 +48,8 @@ ToldOf (line ∷ lines) told =
     × Tells line (length lines + 1) text × (told ≡ front ++ take n text)))
 
 module _ {F K : Type 0} (beginning : ItemBeginning F K) (shows : Bool) where
-  -- what is written of a past: of each event the line of its reply, and behind it, where it is asked for, that of the state
-  -- to which the past came by then
+  -- what is written of a past: of each event the line of its reply, and behind it, where it is asked for, that of the
+  -- state to which the past came by then
   abbrev pub WrittenOf : ItemHistory → List ℕ → Type 0
   WrittenOf [] text = text ≡ []
   WrittenOf (happened ∷ past) text =
@@ -113,8 +113,8 @@ module _ {F K : Type 0} (beginning : ItemBeginning F K) (choice : Choice) (strea
       (text : List ℕ) × (told : List ℕ) × Traced beginning choice.shows lines text told
       × AppendsFront streams.before streams.after text × Appends streams.unsaid streams.said told
 
-  -- These lines were read, and all that they spell is out where the input is over or a read fails: of a line that this cuts
-  -- off nothing is. A write that breaks off is the last; where memory is refused, at most one line more was taken.
+  -- These lines were read, and all that they spell is out where the input is over or a read fails: of a line that this
+  -- cuts off nothing is. A write that breaks off is the last; where memory is refused, at most one line more was taken.
   abbrev pub Traces : Outcome → Type 0
   Traces Ended =
       (lines : List (List ℕ)) × Takes streams lines × IsAtEnd streams.left × All IsFine lines × AllOut lines

@@ -20,7 +20,8 @@ pub enum Next {
 /// The next byte; `None` at the end. A read that is interrupted is tried again.
 fn next_byte<R: Read>(input: &mut R) -> Result<Option<u8>, Outcome>
     ensures { MatchResult result (IsByte (R.remaining input.old) (R.remaining input.new))
-        (λ outcome. (outcome ≡ ReadFailed) × Keeps (R.remaining input.old) (R.remaining input.new)) }
+        (λ outcome. (outcome ≡ ReadFailed)
+        × Keeps (R.remaining input.old) (R.remaining input.new)) }
 {
     let mut byte = [0u8; 1];
     for _ in 0..u64::MAX {
@@ -55,7 +56,8 @@ fn keep(line: &mut Vec<u8>, byte: u8) -> Result<(), Outcome>
 /// Reads one line in place of what `line` held, without its line feed: of a line of more than 4096 bytes the first
 /// 4097, by which it is known to be too long. `None` where the input is over.
 pub fn next_line<R: Read>(input: &mut R, line: &mut Vec<u8>) -> Result<Option<Next>, Outcome>
-    ensures { MatchResult result (IsLine (R.remaining input.old) (R.remaining input.new) line.new.items)
+    ensures { MatchResult result
+        (IsLine (R.remaining input.old) (R.remaining input.new) line.new.items)
         (BreaksOff (R.remaining input.old) (R.remaining input.new)) }
 {
     line.clear();

@@ -43,8 +43,8 @@ fn write_spans(
     least: u128,
     latest: u128,
 ) -> Result<(), AllocError>
-    ensures { OnOk result
-        (string_bytes text.new ≡ string_bytes text.old ++ spans_text smoothed variance least latest) }
+    ensures { OnOk result (string_bytes text.new
+        ≡ string_bytes text.old ++ spans_text smoothed variance least latest) }
 {
     write!(
         text,

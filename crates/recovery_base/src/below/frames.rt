@@ -159,7 +159,8 @@ impl EcnCounts {
     /// `newly_acked` together ("ECN bleaching"), or ECT(0) and CE did so or ECT(1) rose ("ECN corruption").
     pub fn detect(&mut self, newly_acked: u64, counts: EcnCounts) -> Result<bool, &'static str>
         ensures result { MatchResult result
-            (λ marked. (ecn_fault self.old newly_acked counts ≡ None) × (marked ≡ nat_lt self.old.ce counts.ce))
+            (λ marked. (ecn_fault self.old newly_acked counts ≡ None)
+            × (marked ≡ nat_lt self.old.ce counts.ce))
             (λ text. ecn_fault self.old newly_acked counts ≡ Some text.now) }
         ensures taken { OnOk result (self.new ≡ counts) }
         ensures kept { OnErr result (self.new ≡ self.old) }

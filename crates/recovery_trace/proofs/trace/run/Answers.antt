@@ -46,13 +46,15 @@ returns-in-Last g c =
           rw w.ended-is (last_done c.args.choice c.args.live.now.recovery _ _
           (g.R.Read.remaining c.next_line.new.input) _ _ (g.W.Write.contents c.take_turn.new.output) _ _
           (g.E.Write.contents c.take_turn.new.errors) c.loop-number.live.recovery c.loop-number.ended
-          c.loop-number.number c.loop-number.invariant c.take_turn.new.live.recovery c.deref.result.now c.next_line.new.line.items c.deref.ensures.value
+          c.loop-number.number c.loop-number.invariant c.take_turn.new.live.recovery c.deref.result.now
+          c.next_line.new.line.items c.deref.ensures.value
           c.in-Ok-Some.next c.in-Ok-Some.field-0 (search rules) c.in-Ok-Some.ensures c.in-Last.is w.in-Done.ensures)
       | in-Bad-2 w ↦
           rw w.ended-is (last_bad c.args.choice c.args.live.now.recovery _ _
           (g.R.Read.remaining c.next_line.new.input) _ _ (g.W.Write.contents c.take_turn.new.output) _ _
           (g.E.Write.contents c.take_turn.new.errors) c.loop-number.live.recovery c.loop-number.ended
-          c.loop-number.number c.loop-number.invariant c.take_turn.new.live.recovery c.deref.result.now c.next_line.new.line.items c.deref.ensures.value
+          c.loop-number.number c.loop-number.invariant c.take_turn.new.live.recovery c.deref.result.now
+          c.next_line.new.line.items c.deref.ensures.value
           c.in-Ok-Some.next c.in-Ok-Some.field-0 (search rules) c.in-Ok-Some.ensures c.in-Last.is w.if-choice.false
           w.in-Bad.ensures)
     ]
@@ -64,14 +66,16 @@ loop-number-preserved g c =
           rw w.ended-is (one_done c.args.choice c.args.live.now.recovery _ _
           (g.R.Read.remaining c.next_line.new.input) _ _ (g.W.Write.contents c.take_turn.new.output) _ _
           (g.E.Write.contents c.take_turn.new.errors) c.loop-number.live.recovery c.loop-number.ended
-          c.loop-number.number c.loop-number.invariant c.take_turn.new.live.recovery c.deref.result.now c.next_line.new.line.items c.deref.ensures.value
+          c.loop-number.number c.loop-number.invariant c.take_turn.new.live.recovery c.deref.result.now
+          c.next_line.new.line.items c.deref.ensures.value
           c.in-Ok-Some.next c.in-Ok-Some.field-0 (search rules) c.in-Ok-Some.ensures (whole _ c.in_default.not-Last)
           w.in-Done.ensures)
       | in-Bad-2 w ↦
           rw w.ended-is (one_bad c.args.choice c.args.live.now.recovery _ _
           (g.R.Read.remaining c.next_line.new.input) _ _ (g.W.Write.contents c.take_turn.new.output) _ _
           (g.E.Write.contents c.take_turn.new.errors) c.loop-number.live.recovery c.loop-number.ended
-          c.loop-number.number c.loop-number.invariant c.take_turn.new.live.recovery c.deref.result.now c.next_line.new.line.items c.deref.ensures.value
+          c.loop-number.number c.loop-number.invariant c.take_turn.new.live.recovery c.deref.result.now
+          c.next_line.new.line.items c.deref.ensures.value
           c.in-Ok-Some.next c.in-Ok-Some.field-0 (search rules) c.in-Ok-Some.ensures (whole _ c.in_default.not-Last)
           w.if-choice.false w.in-Bad.ensures)
     ]

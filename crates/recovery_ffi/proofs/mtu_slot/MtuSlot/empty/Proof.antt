@@ -33,7 +33,7 @@ use denote.Triple.Table.{entered}
 use denote.Triple.Walked.{says, Stays, stay_dropped, walk_of, ends_at, Goes-dropped, walk_Meets}
 use Rattle.std.proofs.alloc.Calls.{handle_tells}
 use Rattle.std_heap.specs.contracts.Global as Heap
-use Rattle.recovery_ffi.proofs.AsDiscoveryBox.{E}
+use Rattle.recovery_ffi.proofs.AsBox.{Search as E}
 use Rattle.recovery_ffi.specs.contracts.mtu_slot.MtuSlot as Slot
 use Rattle.recovery_ffi.specs.contracts.mtu_slot.MtuSlot.empty as F
 use Rattle.recovery_ffi.specs.contracts.mtu_slot.MtuSlot.empty.Key.{name as #self}

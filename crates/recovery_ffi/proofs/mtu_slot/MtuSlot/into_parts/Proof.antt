@@ -26,8 +26,8 @@ use denote.Triple.Table.{entered}
 use denote.Triple.Walked.{says, Stays, stay_dropped, walk_of, ends_at, Goes-dropped, walk_Meets}
 use Rattle.std_alloc.proofs.BoxSteps.Form.{D, word, box_typed}
 use Rattle.std_alloc.proofs.BoxSteps.Steps.{box_out, box_in}
-use Rattle.recovery_ffi.specs.HeldDiscovery.{IsDiscoveryHeld}
-use Rattle.recovery_ffi.proofs.AsDiscoveryBox.{E, FromSlot as From}
+use Rattle.recovery_ffi.specs.Held.{IsHeld}
+use Rattle.recovery_ffi.proofs.AsBox.{Search as E, SearchSlot as From}
 use Rattle.recovery_mtud.specs.contracts.mtud.MtuDiscovery as Content
 use Rattle.recovery_ffi.specs.contracts.mtu_slot.MtuSlot as Slot
 use Rattle.recovery_ffi.specs.contracts.mtu_slot.MtuSlot.into_parts as F
@@ -47,8 +47,8 @@ module _ {M : Type 1} {𝓤 : Ura M} (𝓛 : Logic 𝓤) (at_mem : Memory → SP
       → ent 𝓤 ((walk_of 𝓛 F.ended stayed (F.clauses 𝓛 at_mem run)).pre z)
       (WpFn 𝓤 H 𝓣.C 𝓣.Λ code.function (z.0.4.0 ++ []) ((walk_of 𝓛 F.ended stayed (F.clauses 𝓛 at_mem run)).post z))
   walk_at z None none =
-      qed 𝓛 ((‵ ftrue ⊛ ‵ (fsep (Slot.the_row.own_val z.0.3.0 z.0.4.0) ftrue)) ∷ raw (fact 𝓤 (IsDiscoveryHeld z.0.3.0.held))
-      ∷ []) ∵ move ! (1 ∷ []) $ heard ! _ (λ held. absurd (subst IsDiscoveryHeld none held))
+      qed 𝓛 ((‵ ftrue ⊛ ‵ (fsep (Slot.the_row.own_val z.0.3.0 z.0.4.0) ftrue)) ∷ raw (fact 𝓤 (IsHeld z.0.3.0.held))
+      ∷ []) ∵ move ! (1 ∷ []) $ heard ! _ (λ held. absurd (subst IsHeld none held))
   walk_at z (Some x) full =
       let Post = (walk_of 𝓛 F.ended stayed (F.clauses 𝓛 at_mem run)).post z in
       let v : D E = record { ptr = z.0.3.0.ptr; alloc = z.0.3.0.alloc; value = x } in
@@ -56,7 +56,7 @@ module _ {M : Type 1} {𝓤 : Ura M} (𝓛 : Logic 𝓤) (at_mem : Memory → SP
       let made : To.Denot = record { ptr = v.ptr; alloc = v.alloc; value = v.value } in
       let Self = λ (held : Option Content.the_row.Denot). Slot.the_row.own_val (record z.0.3.0 { held = held })
       z.0.4.0 in
-      qed 𝓛 ((‵ ftrue ⊛ ‵ (fsep (Self z.0.3.0.held) ftrue)) ∷ raw (fact 𝓤 (IsDiscoveryHeld z.0.3.0.held)) ∷ [])
+      qed 𝓛 ((‵ ftrue ⊛ ‵ (fsep (Self z.0.3.0.held) ftrue)) ∷ raw (fact 𝓤 (IsHeld z.0.3.0.held)) ∷ [])
       ∵ move ! (1 ∷ []) $ heard ! _ (λ _. split ! $ drop ! $ fsplit ! $
       rewrite ! 0 (λ (held : Option Content.the_row.Denot). ‵ (Self held)) full refl $
       box_out E ! v z.0.4.0 (λ b o hv e ws fa. box_in E ! v b o v.value e refl $

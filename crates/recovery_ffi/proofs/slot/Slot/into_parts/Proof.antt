@@ -27,7 +27,7 @@ use denote.Triple.Walked.{says, Stays, stay_dropped, walk_of, ends_at, Goes-drop
 use Rattle.std_alloc.proofs.BoxSteps.Form.{D, word, box_typed}
 use Rattle.std_alloc.proofs.BoxSteps.Steps.{box_out, box_in}
 use Rattle.recovery_ffi.specs.Held.{IsHeld}
-use Rattle.recovery_ffi.proofs.AsBox.{E, FromSlot as From}
+use Rattle.recovery_ffi.proofs.AsBox.{Recovery as E, RecoverySlot as From}
 use Rattle.recovery_ffi.specs.contracts.stack.Stack as Stack
 use Rattle.recovery_ffi.specs.contracts.slot.Slot as Slot
 use Rattle.recovery_ffi.specs.contracts.slot.Slot.into_parts as F

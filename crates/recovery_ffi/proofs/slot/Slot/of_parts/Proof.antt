@@ -25,7 +25,7 @@ use denote.Triple.Table.{entered}
 use denote.Triple.Walked.{says, Stays, stay_dropped, walk_of, ends_at, Goes-dropped, walk_Meets}
 use Rattle.std_alloc.proofs.BoxSteps.Form.{D, B, word, box_typed}
 use Rattle.std_alloc.proofs.BoxSteps.Steps.{box_out, box_in}
-use Rattle.recovery_ffi.proofs.AsBox.{E, FromParts as From}
+use Rattle.recovery_ffi.proofs.AsBox.{Recovery as E, RecoveryParts as From}
 use Rattle.recovery_ffi.specs.contracts.slot.Slot.of_parts as F
 use Rattle.recovery_ffi.specs.contracts.slot.Slot.of_parts.Key.{name as #self}
 use Rattle.recovery_ffi.proofs.slot.Slot.of_parts.Statement as stated
