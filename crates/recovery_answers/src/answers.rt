@@ -1,19 +1,19 @@
 //! What is written for each reply: one line.
-ghost use Rattle.std.specs.Prelude.{◌≡◌, ◌<◌, ◌++◌, IfOk, OnOk, OnErr, length, string_bytes, decimal};
+ghost use Rattle.std.specs.Prelude.{◌≡◌, ◌++◌, OnOk, string_bytes, decimal};
 ghost use Rattle.recovery_answers.specs.Answers.{Writes, new_text, sent_text, done_with_text};
 ghost use Rattle.recovery_answers.specs.Answers.{retire_text, flag_text, timeout_text};
 ghost use Rattle.recovery_answers.specs.Answers.{in_flight_text, delayed_text, probe_text};
 ghost use Rattle.recovery_answers.specs.Answers.{black_hole_text, sendable_text, queue_text};
 ghost use Rattle.recovery_answers.specs.Answers.{refusal_text};
-ghost use Rattle.recovery_answers.specs.Answers.{answer_text, answer_lines};
+ghost use Rattle.recovery_answers.specs.Answers.{answer_text};
 
 use itoa::Buffer;
-use recovery_base::below::{NoMemory, ResetToken};
+use recovery_base::below::ResetToken;
 use recovery_base::time::Instant;
 use recovery_events::event::{Answer, Refusal};
 use recovery_ledger::spaces::SendableFrames;
 use recovery_queue::items::ItemQueue;
-use std::alloc::{AllocError, Global};
+use std::alloc::AllocError;
 use std::ops::Range;
 
 /// A text, and a number behind it.
@@ -209,19 +209,4 @@ pub fn write_reply(
         Ok(Answer::Done) => write_word(text, "done"),
         Err(refusal) => write_refusal(text, *refusal),
     }
-}
-
-/// The lines of all replies, in order. The one refusal is `NoMemory`, and of no reply memory is taken.
-pub fn render(
-    alloc: Global,
-    replies: &[Result<Answer<ItemQueue>, Refusal>],
-) -> Result<String, NoMemory>
-    ensures lines { IfOk result (λ text. string_bytes text ≡ answer_lines replies.now) }
-    ensures memory { OnErr result (0 < length replies.now) }
-{
-    let mut text = String::new(alloc);
-    for reply in replies {
-        write_reply(&mut text, reply)?;
-    }
-    Ok(text)
 }

@@ -5,7 +5,7 @@ use std::io;
 use thiserror::Error;
 
 /// Why the example ends early.
-#[derive(Debug, Drop, Error)]
+#[derive(Clone, Copy, Debug, Error)]
 pub enum Failure {
     #[error("refused: {0}")]
     Refused(#[from] Refusal),

@@ -8,7 +8,7 @@ use std::io;
 use thiserror::Error;
 
 /// Why no picture is written.
-#[derive(Debug, Drop, Error)]
+#[derive(Clone, Copy, Debug, Error)]
 pub enum Failure {
     #[error("usage: recovery-pictures connection [from=MOMENT] [to=MOMENT] [SEED [WINDOW]] | tunnel | burst")]
     Usage,
