@@ -2,17 +2,11 @@
 use crate::acks::Heard;
 use crate::at;
 use crate::connection::Connection;
-use crate::failure::Failure;
-use crate::lines::{
-    show, show_items, show_number, show_numbers, show_packet, show_refusal, show_value, show_wake,
-    show_window,
-};
-use crate::paths::Departure;
+use crate::report::Report;
 use quic_recovery::Refusal;
 use quic_recovery::below::{
-    AckFrequency, ConnectionId, EcnCounts, NewConnectionId, NoMemory, ResetToken, SpaceId, VarInt,
+    AckFrequency, ConnectionId, EcnCounts, NewConnectionId, ResetToken, SpaceId, VarInt,
 };
-use quic_recovery::congestion::Controller;
 use quic_recovery::event::PathName;
 use quic_recovery::time::Duration;
 use quic_recovery::timer::Timer;
@@ -20,41 +14,43 @@ use recovery_queue::items::ItemQueue;
 use std::alloc::Global;
 
 /// A queue of one item.
-pub fn item(alloc: Global, number: u64) -> Result<ItemQueue, NoMemory> {
+pub fn item(alloc: Global, number: u64) -> Result<ItemQueue, Refusal> {
     let mut items = Vec::new(alloc);
-    items.push(number)?;
-    Ok(ItemQueue::from_items(items))
+    match items.push(number) {
+        Ok(()) => Ok(ItemQueue::from_items(items)),
+        Err(_) => Err(Refusal::NoMemory),
+    }
 }
 
 /// All acts, in order.
-pub fn live(rt: &(impl Print + AllocGlobal), client: &mut Connection) -> Result<(), Failure> {
-    handshake(rt, client)?;
-    end_handshake(rt, client)?;
-    peer_ids(rt, client)?;
-    own_ids(rt, client)?;
-    acknowledge(rt, client)?;
-    if let Some(first) = fill_window(rt, client)? {
-        lose(rt, client, first)?;
+pub fn live(report: &mut Report, client: &mut Connection) -> Result<(), Refusal> {
+    handshake(report, client)?;
+    end_handshake(report, client)?;
+    peer_ids(report, client)?;
+    own_ids(report, client)?;
+    acknowledge(report, client)?;
+    if let Some(first) = fill_window(report, client)? {
+        lose(report, client, first)?;
     }
-    send_again(rt, client)?;
-    count_less(rt, client)?;
-    mistrust(rt, client)?;
-    probe(rt, client)?;
-    grow(rt, client)?;
-    vanish(rt, client)?;
-    close(rt, client)
+    send_again(report, client)?;
+    count_less(report, client)?;
+    mistrust(report, client)?;
+    probe(report, client)?;
+    grow(report, client)?;
+    vanish(report, client)?;
+    close(report, client)
 }
 
 /// The first packet goes out, and the server answers.
-fn handshake(rt: &(impl Print + AllocGlobal), client: &mut Connection) -> Result<(), Failure> {
+fn handshake(report: &mut Report, client: &mut Connection) -> Result<(), Refusal> {
     let gone = client.transmit(at(0), 1200)?;
-    let hello = client.send(SpaceId::Initial, at(0), 1200, item(rt.alloc(), 1)?)?;
-    show_packet(rt, "Initial", hello, "goes out", &gone)?;
-    show_wake(rt, client)?;
+    let hello = client.send(SpaceId::Initial, at(0), 1200, item(report.alloc(), 1)?)?;
+    report.packet("Initial", hello, "goes out", &gone);
+    report.wake(client)?;
     let heard = hear_server(client)?;
-    show_value(rt, "Initial 0 comes in", &heard)?;
+    report.value("Initial 0 comes in", &heard);
     arrive(client, SpaceId::Initial, 40, hello)?;
-    client.acknowledge(rt.alloc(), SpaceId::Initial, at(40))?;
+    client.acknowledge(report.alloc(), SpaceId::Initial, at(40))?;
     Ok(())
 }
 
@@ -78,10 +74,10 @@ fn arrive(
 }
 
 /// Handshake packets, the end of the Initial and Handshake keys, and the peer's transport parameters.
-fn end_handshake(rt: &(impl Print + AllocGlobal), client: &mut Connection) -> Result<(), Failure> {
-    confirm(client, item(rt.alloc(), 2)?)?;
+fn end_handshake(report: &mut Report, client: &mut Connection) -> Result<(), Refusal> {
+    confirm(client, item(report.alloc(), 2)?)?;
     if let Err(refusal) = client.hear(SpaceId::Handshake, at(82), 1) {
-        show_refusal(rt, "Handshake 1 comes late", &refusal)?;
+        report.refusal("Handshake 1 comes late", &refusal);
     }
     Ok(())
 }
@@ -107,74 +103,63 @@ fn new_id(sequence: u64) -> NewConnectionId {
 }
 
 /// The server issues an id, and the client uses it.
-fn peer_ids(rt: &impl Print, client: &mut Connection) -> Result<(), Failure> {
+fn peer_ids(report: &mut Report, client: &mut Connection) -> Result<(), Refusal> {
     if client.new_id(new_id(1))?.is_none() {
-        show(rt, "the server's id 1 is held")?;
+        report.line("the server's id 1 is held");
     }
     if let Some((first, end)) = client.next_id()? {
-        show_numbers(
-            rt,
-            "RETIRE_CONNECTION_ID from ",
-            first,
-            " to below ",
-            end,
-            "",
-        )?;
+        report.pair("RETIRE_CONNECTION_ID from ", &first, " to below ", &end, "");
     }
-    show_value(
-        rt,
+    report.value(
         "a datagram with its token resets",
         &client.is_reset([1; 16]),
-    )
-}
-
-/// The client issues an id; its first one lasts for ten seconds, and the server retires it.
-fn own_ids(rt: &(impl Print + AllocGlobal), client: &mut Connection) -> Result<(), Failure> {
-    let number = client.issue_id(rt.alloc(), at(9_000), 9)?;
-    show_number(rt, "id ", number, " is issued")?;
-    show_wake(rt, client)?;
-    if client.has_expired(Timer::PushNewCid, at(10_000)) && client.id_timer_expired()? {
-        let before = client.state().local_ids().retire_prior_to();
-        show_number(rt, "ids below ", before, " are to be retired")?;
-    }
-    let has_room = client.peer_retired(0, 2)?;
-    show_value(rt, "id 0 is retired; room for one more", &has_room)
-}
-
-/// Up to which number an ACK goes out.
-fn show_largest(rt: &impl Print, largest: Option<u64>) -> Result<(), Failure> {
-    println!(rt; "an ACK up to {largest:?} goes out")?;
+    );
     Ok(())
 }
 
-/// Whether the peer's ACK_FREQUENCY frame is taken, and what a packet behind it asks for.
-fn show_fewer_acks(rt: &impl Print, is_taken: bool, heard: Heard) -> Result<(), Failure> {
-    println!(rt; "fewer ACKs: {is_taken}; packet 3 comes in: {heard:?}")?;
+/// The client issues an id; its first one lasts for ten seconds, and the server retires it.
+fn own_ids(report: &mut Report, client: &mut Connection) -> Result<(), Refusal> {
+    let number = client.issue_id(report.alloc(), at(9_000), 9)?;
+    report.between("id ", &number, " is issued");
+    report.wake(client)?;
+    if client.has_expired(Timer::PushNewCid, at(10_000)) && client.id_timer_expired()? {
+        let before = client.state().local_ids().retire_prior_to();
+        report.between("ids below ", &before, " are to be retired");
+    }
+    let has_room = client.peer_retired(0, 2)?;
+    report.value("id 0 is retired; room for one more", &has_room);
     Ok(())
 }
 
 /// Packets come in: ACKs at once, and late ones.
-fn acknowledge(rt: &(impl Print + AllocGlobal), client: &mut Connection) -> Result<(), Failure> {
+fn acknowledge(report: &mut Report, client: &mut Connection) -> Result<(), Refusal> {
     for number in 0..3 {
         let heard = client.hear(SpaceId::Data, at(11_000), number / 2 * 2)?;
-        show_packet(rt, "packet", number / 2 * 2, "comes in", &heard)?;
+        report.packet("packet", number / 2 * 2, "comes in", &heard);
     }
-    let largest = client.acknowledge(rt.alloc(), SpaceId::Data, at(11_000))?;
-    show_largest(rt, largest)?;
+    let largest = client.acknowledge(report.alloc(), SpaceId::Data, at(11_000))?;
+    report.between("an ACK up to ", &largest, " goes out");
     let is_taken = client.ask_fewer_acks(fewer_acks())?;
     let heard = client.hear(SpaceId::Data, at(11_010), 3)?;
-    show_fewer_acks(rt, is_taken, heard)?;
-    wait_for_ack(rt, client)?;
-    client.acknowledge(rt.alloc(), SpaceId::Data, at(11_050))?;
+    report.pair(
+        "fewer ACKs: ",
+        &is_taken,
+        "; packet 3 comes in: ",
+        &heard,
+        "",
+    );
+    wait_for_ack(report, client)?;
+    client.acknowledge(report.alloc(), SpaceId::Data, at(11_050))?;
     Ok(())
 }
 
 /// The timer for a late ACK runs for 40 ms.
-fn wait_for_ack(rt: &impl Print, client: &mut Connection) -> Result<(), Failure> {
+fn wait_for_ack(report: &mut Report, client: &mut Connection) -> Result<(), Refusal> {
     let is_due = client.has_expired(Timer::MaxAckDelay, at(11_049));
-    show_value(rt, "an ACK after 39 ms", &is_due)?;
+    report.value("an ACK after 39 ms", &is_due);
     let is_sent = client.ack_timer_expired()?;
-    show_value(rt, "after 40 ms", &is_sent)
+    report.value("after 40 ms", &is_sent);
+    Ok(())
 }
 
 /// An ACK_FREQUENCY frame: an ACK for every tenth packet, 40 ms late at most.
@@ -189,25 +174,28 @@ fn fewer_acks() -> AckFrequency {
 
 /// Packets go out, marked with ECT(0), until the window is full: the number of the first. Then the pacer has no tokens
 /// left.
-fn fill_window(
-    rt: &(impl Print + AllocGlobal),
-    client: &mut Connection,
-) -> Result<Option<u64>, Failure> {
+fn fill_window(report: &mut Report, client: &mut Connection) -> Result<Option<u64>, Refusal> {
     client.mark_packets(true);
     client.app_limited = false;
     let burst = client.may_burst(at(11_100), 12_000)?;
-    show_value(rt, "ten packets in a burst", &burst)?;
-    let first = send_all(rt.alloc(), client)?;
+    report.value("ten packets in a burst", &burst);
+    let first = send_all(report.alloc(), client)?;
     let in_flight = client.in_flight(PathName::Current)?;
     let more = client.may_burst(at(11_100), 1200)?;
-    show_flight(rt, in_flight, more)?;
-    show_wake(rt, client)?;
+    report.pair(
+        "",
+        &in_flight,
+        " bytes are in flight; one more packet: ",
+        &more,
+        "",
+    );
+    report.wake(client)?;
     client.stop_timer(Timer::Pacing)?;
     Ok(first)
 }
 
 /// What the window has room for goes out: the number of the first packet.
-fn send_all(alloc: Global, client: &mut Connection) -> Result<Option<u64>, Failure> {
+fn send_all(alloc: Global, client: &mut Connection) -> Result<Option<u64>, Refusal> {
     let mut first = None;
     for number in 100..120 {
         if !client.has_room(1200) {
@@ -220,23 +208,14 @@ fn send_all(alloc: Global, client: &mut Connection) -> Result<Option<u64>, Failu
     Ok(first)
 }
 
-/// How much is in flight, and whether more may go out.
-fn show_flight(rt: &impl Print, bytes: u64, more: Departure) -> Result<(), Failure> {
-    println!(rt; "{bytes} bytes are in flight; one more packet: {more:?}")?;
-    Ok(())
-}
-
 /// One ACK comes in, of nine packets behind the first one, which is held for lost (RFC 9002, 6.1.1).
-fn lose(
-    rt: &(impl Print + AllocGlobal),
-    client: &mut Connection,
-    first: u64,
-) -> Result<(), Failure> {
+fn lose(report: &mut Report, client: &mut Connection, first: u64) -> Result<(), Refusal> {
     let ranges = [(first.saturating_add(1), first.saturating_add(9))];
     let heard = client.hear_ack(at(11_140), SpaceId::Data, &ranges, Duration::ZERO)?;
     client.hear_counts(at(11_140), &heard, counts(9, 0))?;
-    show_number(rt, "", heard.packets, " of ten packets arrive")?;
-    show_window(rt, client, "one is lost")
+    report.between("", &heard.packets, " of ten packets arrive");
+    report.window(client, "one is lost");
+    Ok(())
 }
 
 fn counts(ect0: u64, ce: u64) -> EcnCounts {
@@ -244,28 +223,29 @@ fn counts(ect0: u64, ce: u64) -> EcnCounts {
 }
 
 /// What was lost goes out again, and arrives with a mark.
-fn send_again(rt: &impl Print, client: &mut Connection) -> Result<(), Failure> {
+fn send_again(report: &mut Report, client: &mut Connection) -> Result<(), Refusal> {
     let items = client.pending(SpaceId::Data)?;
-    show_items(rt, "the items ", items.items(), " wait to be sent again")?;
+    report.between("the items ", &items.items(), " wait to be sent again");
     let again = client.send(SpaceId::Data, at(11_150), 1200, items)?;
     client.app_limited = true;
     let (_, is_marked) = count(client, 11_190, again, counts(9, 1))?;
-    show_value(rt, "packets are marked", &is_marked)?;
-    show_window(rt, client, "one is marked")?;
+    report.value("packets are marked", &is_marked);
+    report.window(client, "one is marked");
     let (packets, _) = count(client, 11_195, again, counts(9, 1))?;
-    show_number(rt, "the same ACK again: ", packets, " packets arrive")
+    report.between("the same ACK again: ", &packets, " packets arrive");
+    Ok(())
 }
 
 /// A packet arrives, and the server counts fewer than before.
-fn count_less(rt: &(impl Print + AllocGlobal), client: &mut Connection) -> Result<(), Failure> {
-    let sent = client.send(SpaceId::Data, at(11_156), 1200, item(rt.alloc(), 101)?)?;
+fn count_less(report: &mut Report, client: &mut Connection) -> Result<(), Refusal> {
+    let sent = client.send(SpaceId::Data, at(11_156), 1200, item(report.alloc(), 101)?)?;
     count(client, 11_196, sent, counts(8, 1))?;
     let sending_ecn = client.state().current().sending_ecn;
-    show_value(
-        rt,
+    report.value(
         "the server counts fewer; packets go out with ECT(0)",
         &sending_ecn,
-    )
+    );
+    Ok(())
 }
 
 /// An ACK of one packet comes in with counts of marks, `millis` after the beginning: how many packets arrive by it, and
@@ -283,44 +263,28 @@ fn count(
 }
 
 /// An ACK of a packet that was not sent: a stack closes the connection (RFC 9000, 13.1).
-fn mistrust(rt: &impl Print, client: &mut Connection) -> Result<(), Failure> {
+fn mistrust(report: &mut Report, client: &mut Connection) -> Result<(), Refusal> {
     if let Err(refusal) = arrive(client, SpaceId::Data, 11_198, 1_000) {
-        show_refusal(rt, "an ACK of number 1000: refused", &refusal)?;
+        report.refusal("an ACK of number 1000: refused", &refusal);
     }
     Ok(())
 }
 
-/// Whether the timer of the loss detection expired, and what a probe would have.
-fn show_expiry(
-    rt: &impl Print,
-    is_over: bool,
-    is_probe: bool,
-    items: &[u64],
-) -> Result<(), Failure> {
-    println!(rt;
-        "the timer expired: {is_over}; a probe is due: {is_probe}, with the items {items:?}"
-    )?;
-    Ok(())
-}
-
 /// No ACK comes for a packet: a probe goes out, with what is to be sent again. Its ACK shows that the packet is lost.
-fn probe(rt: &(impl Print + AllocGlobal), client: &mut Connection) -> Result<(), Failure> {
-    client.send(SpaceId::Data, at(11_200), 600, item(rt.alloc(), 200)?)?;
-    show_wake(rt, client)?;
+fn probe(report: &mut Report, client: &mut Connection) -> Result<(), Refusal> {
+    client.send(SpaceId::Data, at(11_200), 600, item(report.alloc(), 200)?)?;
+    report.wake(client)?;
     let is_over = client.has_expired(Timer::LossDetection, at(12_000));
     let is_probe = client.loss_timer_expired(at(12_000))?;
     let items = client.probe(SpaceId::Data)?;
-    show_expiry(rt, is_over, is_probe, items.items())?;
+    report.expiry(is_over, is_probe, items.items());
     let probe = send_probe(client, items)?;
-    show_wake(rt, client)?;
+    report.wake(client)?;
     arrive(client, SpaceId::Data, 12_040, probe)?;
-    show_window(
-        rt,
-        client,
-        "the probe arrives, and the other packet is lost",
-    )?;
+    report.window(client, "the probe arrives, and the other packet is lost");
     let items = client.probe(SpaceId::Data)?;
-    show_items(rt, "another probe would have the items ", items.items(), "")
+    report.between("another probe would have the items ", &items.items(), "");
+    Ok(())
 }
 
 /// A probe goes out at once: its number.
@@ -330,22 +294,22 @@ fn send_probe(client: &mut Connection, items: ItemQueue) -> Result<u64, Refusal>
 }
 
 /// The size of datagrams on the path in use.
-fn show_mtu(rt: &impl Print, client: &Connection, text: &str) -> Result<(), Failure> {
+fn show_mtu(report: &mut Report, client: &Connection, text: &str) {
     let size = client.state().current().current_mtu();
-    show_number(rt, text, u64::from(size), " bytes")
+    report.between(text, &size, " bytes");
 }
 
 /// A larger MTU is found; the probe of the next size is lost, which is no sign of congestion.
-fn grow(rt: &(impl Print + AllocGlobal), client: &mut Connection) -> Result<(), Failure> {
+fn grow(report: &mut Report, client: &mut Connection) -> Result<(), Refusal> {
     if let Some((size, is_probe)) = arrive_large(client)? {
-        let size = u64::from(size);
-        show_packet(rt, "a probe of", size, "bytes arrives", &is_probe)?;
+        report.packet("a probe of", u64::from(size), "bytes arrives", &is_probe);
     }
-    if let Some(size) = lose_large(client, item(rt.alloc(), 300)?)? {
-        show_number(rt, "a probe of ", u64::from(size), " bytes is lost")?;
-        show_window(rt, client, "the window stays")?;
+    if let Some(size) = lose_large(client, item(report.alloc(), 300)?)? {
+        report.between("a probe of ", &size, " bytes is lost");
+        report.window(client, "the window stays");
     }
-    show_mtu(rt, client, "datagrams have ")
+    show_mtu(report, client, "datagrams have ");
+    Ok(())
 }
 
 /// A probe of the MTU goes out, and arrives: its size, and whether it was tracked as a probe.
@@ -370,16 +334,16 @@ fn lose_large(client: &mut Connection, items: ItemQueue) -> Result<Option<u16>, 
 }
 
 /// Large packets vanish, and small ones arrive.
-fn vanish(rt: &(impl Print + AllocGlobal), client: &mut Connection) -> Result<(), Failure> {
+fn vanish(report: &mut Report, client: &mut Connection) -> Result<(), Refusal> {
     for round in 140..144 {
-        let large = item(rt.alloc(), round)?;
-        let small = item(rt.alloc(), round)?;
+        let large = item(report.alloc(), round)?;
+        let small = item(report.alloc(), round)?;
         send_both(client, round * 100, large, small)?;
         show_mtu(
-            rt,
+            report,
             client,
             "a packet of 1300 bytes is lost; datagrams have ",
-        )?;
+        );
     }
     Ok(())
 }
@@ -399,13 +363,13 @@ fn send_both(
 }
 
 /// The end.
-fn close(rt: &impl Print, client: &mut Connection) -> Result<(), Failure> {
+fn close(report: &mut Report, client: &mut Connection) -> Result<(), Refusal> {
     client.close(at(15_000))?;
     let ends = client.next_timeout()?;
-    show_value(rt, "closing, until a timer expires", &ends.is_some())?;
+    report.value("closing, until a timer expires", &ends.is_some());
     client.drop_keys(SpaceId::Data)?;
     if let Err(refusal) = client.probe(SpaceId::Data) {
-        show_refusal(rt, "a probe", &refusal)?;
+        report.refusal("a probe", &refusal);
     }
     Ok(())
 }

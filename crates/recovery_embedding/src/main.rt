@@ -9,21 +9,24 @@ mod connection;
 mod failure;
 mod flight;
 mod ids;
-mod lines;
 mod losses;
 mod mtu;
 mod packets;
 mod paths;
+mod report;
 mod rules;
 mod server;
 mod timers;
 
 use connection::{Connection, Side};
 use failure::Failure;
-use quic_recovery::LiveRecovery;
+use quic_recovery::below::NoMemory;
 use quic_recovery::time::{Duration, Instant};
+use quic_recovery::{LiveRecovery, Refusal};
 use rand_core::SeedableRng;
 use rand_pcg::Pcg32;
+use report::Report;
+use std::alloc::Global;
 use std::net::{IpAddr, Ipv4Addr, SocketAddr};
 
 /// So many milliseconds after the beginning.
@@ -37,34 +40,42 @@ fn address(host: u8, port: u16) -> SocketAddr {
 }
 
 /// One end of a connection to which nothing has happened yet.
-fn begin(rt: &impl AllocGlobal, side: Side) -> Result<Connection, Failure> {
+fn begin(alloc: Global, side: Side) -> Result<Connection, Refusal> {
     let config = connection::config(side, address(1, 4433));
     // A program that prints the same each time: a stack seeds a generator that its peers cannot guess.
     let rng = Pcg32::seed_from_u64(0);
-    let recovery = LiveRecovery::new(rt.alloc(), config, rng, at(0))?;
-    Ok(Connection::new(rt.alloc(), recovery))
+    match LiveRecovery::new(alloc, config, rng, at(0)) {
+        Ok(recovery) => Ok(Connection::new(alloc, recovery)),
+        Err(NoMemory) => Err(Refusal::NoMemory),
+    }
 }
 
-fn run_client(rt: &HostRuntime) -> Result<(), Failure> {
-    let mut client = begin(rt, Side::Client)?;
-    let lived = client::live(rt, &mut client);
+fn live_as_client(report: &mut Report) -> Result<(), Refusal> {
+    let mut client = begin(report.alloc(), Side::Client)?;
+    let lived = client::live(report, &mut client);
     drop(client);
     lived
 }
 
-fn run_server(rt: &HostRuntime) -> Result<(), Failure> {
-    let mut server = begin(rt, Side::Server)?;
-    let lived = server::live(rt, &mut server);
+fn live_as_server(report: &mut Report) -> Result<(), Refusal> {
+    let mut server = begin(report.alloc(), Side::Server)?;
+    let lived = server::live(report, &mut server);
     drop(server);
     lived
 }
 
-fn run(rt: &HostRuntime) -> Result<(), Failure> {
-    run_client(rt)?;
-    run_server(rt)?;
-    rules::show_all(rt)
+/// Both ends, and the rules: what they show, as far as they come.
+fn live(report: &mut Report) -> Result<(), Refusal> {
+    live_as_client(report)?;
+    live_as_server(report)?;
+    rules::show_all(report)
 }
 
 fn main(rt: HostRuntime) -> Result<(), Failure> {
-    run(&rt)
+    let mut report = Report::new(rt.alloc());
+    let lived = live(&mut report);
+    let text = report.finish()?;
+    print!(rt; "{text}")?;
+    lived?;
+    Ok(())
 }

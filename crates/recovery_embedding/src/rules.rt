@@ -2,10 +2,9 @@
 //! new.
 use crate::client::item;
 use crate::connection::{Connection, Side};
-use crate::failure::Failure;
 use crate::flight::Flight;
-use crate::lines::{show_number, show_refusal, show_value, show_wake, show_window};
 use crate::packets::Outgoing;
+use crate::report::Report;
 use crate::{address, at, begin};
 use quic_recovery::Refusal;
 use quic_recovery::below::{EcnCounts, NoMemory, SpaceId};
@@ -41,35 +40,31 @@ const RULES: [Rule; 9] = [
 ];
 
 /// All rules, in order, each on a connection of its own.
-pub fn show_all(rt: &(impl Print + AllocGlobal)) -> Result<(), Failure> {
+pub fn show_all(report: &mut Report) -> Result<(), Refusal> {
     for rule in RULES {
-        show_rule(rt, rule)?;
+        show_rule(report, rule)?;
     }
-    keep_what_is_refused(rt)
+    keep_what_is_refused(report)
 }
 
-fn show_rule(rt: &(impl Print + AllocGlobal), rule: Rule) -> Result<(), Failure> {
-    let mut client = begin(rt, Side::Client)?;
-    let shown = show(rt, rule, &mut client);
+fn show_rule(report: &mut Report, rule: Rule) -> Result<(), Refusal> {
+    let mut client = begin(report.alloc(), Side::Client)?;
+    let shown = show(report, rule, &mut client);
     drop(client);
     shown
 }
 
-fn show(
-    rt: &(impl Print + AllocGlobal),
-    rule: Rule,
-    client: &mut Connection,
-) -> Result<(), Failure> {
+fn show(report: &mut Report, rule: Rule, client: &mut Connection) -> Result<(), Refusal> {
     match rule {
-        Rule::AcksAloneAreNoCongestion => lose_acks_alone(rt, client),
-        Rule::OlderCountsAreLeftOut => leave_out_older_counts(rt, client),
-        Rule::AckDelayIsCapped => cap_ack_delay(rt, client),
-        Rule::LargestAloneIsSampled => sample_largest_alone(rt, client),
-        Rule::NextNumberIsRefused => refuse_next_number(rt, client),
-        Rule::ProbeCountIsReset => reset_probe_count(rt, client),
-        Rule::ForgottenIsNotLost => forget_silent_packets(rt, client),
-        Rule::KeysTakeFlight => drop_keys_of_flight(rt, client),
-        Rule::PortKeepsPath => follow_to_port_and_address(rt, client),
+        Rule::AcksAloneAreNoCongestion => lose_acks_alone(report, client),
+        Rule::OlderCountsAreLeftOut => leave_out_older_counts(report, client),
+        Rule::AckDelayIsCapped => cap_ack_delay(report, client),
+        Rule::LargestAloneIsSampled => sample_largest_alone(report, client),
+        Rule::NextNumberIsRefused => refuse_next_number(report, client),
+        Rule::ProbeCountIsReset => reset_probe_count(report, client),
+        Rule::ForgottenIsNotLost => forget_silent_packets(report, client),
+        Rule::KeysTakeFlight => drop_keys_of_flight(report, client),
+        Rule::PortKeepsPath => follow_to_port_and_address(report, client),
     }
 }
 
@@ -83,11 +78,7 @@ fn confirm(client: &mut Connection) -> Result<(), Refusal> {
 
 /// A packet of 1,200 bytes goes out, `millis` after the beginning: its number.
 fn send(alloc: Global, client: &mut Connection, millis: u64) -> Result<u64, Refusal> {
-    let items = match item(alloc, millis) {
-        Ok(items) => items,
-        Err(_) => return Err(Refusal::NoMemory),
-    };
-    client.send(SpaceId::Data, at(millis), 1200, items)
+    client.send(SpaceId::Data, at(millis), 1200, item(alloc, millis)?)
 }
 
 /// An ACK of the numbers from `first` to `last` comes in.
@@ -102,49 +93,42 @@ fn first_sample(alloc: Global, client: &mut Connection) -> Result<(), Refusal> {
     ack(client, 40, number, number)
 }
 
-fn show_rtt(rt: &impl Print, client: &Connection, text: &str) -> Result<(), Failure> {
+fn show_rtt(report: &mut Report, client: &Connection, text: &str) {
     let micros = client.state().current().rtt.get().as_nanos() / 1000;
-    println!(rt; "{text}{micros} us")?;
-    Ok(())
+    report.between(text, &micros, " us");
 }
 
 /// A packet that holds ACKs alone is not in flight, and its loss no sign of congestion (RFC 9002, 2, 7 and B.8).
-fn lose_acks_alone(
-    rt: &(impl Print + AllocGlobal),
-    client: &mut Connection,
-) -> Result<(), Failure> {
+fn lose_acks_alone(report: &mut Report, client: &mut Connection) -> Result<(), Refusal> {
     confirm(client)?;
-    client.acknowledge(rt.alloc(), SpaceId::Data, at(1))?;
-    let first = send(rt.alloc(), client, 1)?;
-    send(rt.alloc(), client, 1)?;
-    let last = send(rt.alloc(), client, 1)?;
+    client.acknowledge(report.alloc(), SpaceId::Data, at(1))?;
+    let first = send(report.alloc(), client, 1)?;
+    send(report.alloc(), client, 1)?;
+    let last = send(report.alloc(), client, 1)?;
     ack(client, 41, first, last)?;
-    show_window(
-        rt,
+    report.window(
         client,
         "three packets arrive, and one of ACKs alone is lost",
-    )
+    );
+    Ok(())
 }
 
 /// Counts of an ACK that does not raise the largest number acknowledged may be older than the last ones (RFC 9000,
 /// 13.4.2.1).
-fn leave_out_older_counts(
-    rt: &(impl Print + AllocGlobal),
-    client: &mut Connection,
-) -> Result<(), Failure> {
+fn leave_out_older_counts(report: &mut Report, client: &mut Connection) -> Result<(), Refusal> {
     confirm(client)?;
     client.mark_packets(true);
-    let first = send(rt.alloc(), client, 0)?;
-    let second = send(rt.alloc(), client, 0)?;
-    let third = send(rt.alloc(), client, 0)?;
+    let first = send(report.alloc(), client, 0)?;
+    let second = send(report.alloc(), client, 0)?;
+    let third = send(report.alloc(), client, 0)?;
     count(client, 40, (second, third), 3)?;
     count(client, 41, (first, first), 1)?;
     let sending_ecn = client.state().current().sending_ecn;
-    show_value(
-        rt,
+    report.value(
         "an older ACK counts fewer packets; they go out with ECT(0)",
         &sending_ecn,
-    )
+    );
+    Ok(())
 }
 
 /// An ACK of these numbers comes in, and says how many packets came with ECT(0).
@@ -165,12 +149,12 @@ fn count(
 }
 
 /// The peer may say that it waited for no longer than its max_ack_delay (RFC 9002, 5.3).
-fn cap_ack_delay(rt: &(impl Print + AllocGlobal), client: &mut Connection) -> Result<(), Failure> {
-    arrive_late(rt.alloc(), client)?;
+fn cap_ack_delay(report: &mut Report, client: &mut Connection) -> Result<(), Refusal> {
+    arrive_late(report.alloc(), client)?;
     let text = "an RTT of 400 ms, of which the peer waited 350, it says: smoothed ";
-    show_rtt(rt, client, text)?;
-    lose_by_age(rt.alloc(), client)?;
-    show_wake(rt, client)
+    show_rtt(report, client, text);
+    lose_by_age(report.alloc(), client)?;
+    report.wake(client)
 }
 
 /// A packet arrives after 400 ms, for 350 of which the peer waited, it says.
@@ -192,46 +176,39 @@ fn lose_by_age(alloc: Global, client: &mut Connection) -> Result<(), Refusal> {
 }
 
 /// An ACK whose largest number was acknowledged before is no sample of the RTT (RFC 9002, 5.1).
-fn sample_largest_alone(
-    rt: &(impl Print + AllocGlobal),
-    client: &mut Connection,
-) -> Result<(), Failure> {
+fn sample_largest_alone(report: &mut Report, client: &mut Connection) -> Result<(), Refusal> {
     confirm(client)?;
-    let first = send(rt.alloc(), client, 0)?;
-    let second = send(rt.alloc(), client, 1)?;
+    let first = send(report.alloc(), client, 0)?;
+    let second = send(report.alloc(), client, 1)?;
     ack(client, 41, second, second)?;
     ack(client, 42, first, second)?;
     show_rtt(
-        rt,
+        report,
         client,
         "the first of two packets is acknowledged last: smoothed ",
-    )
+    );
+    Ok(())
 }
 
 /// A number that was not sent yet is none to acknowledge, though it is the next one (RFC 9000, 13.1).
-fn refuse_next_number(
-    rt: &(impl Print + AllocGlobal),
-    client: &mut Connection,
-) -> Result<(), Failure> {
+fn refuse_next_number(report: &mut Report, client: &mut Connection) -> Result<(), Refusal> {
     confirm(client)?;
-    let number = send(rt.alloc(), client, 0)?;
+    let number = send(report.alloc(), client, 0)?;
     match ack(client, 40, number, number.saturating_add(1)) {
-        Ok(()) => show_number(rt, "an ACK of the next number is taken for ", number, ""),
-        Err(refusal) => show_refusal(rt, "an ACK of the next number", &refusal),
+        Ok(()) => report.between("an ACK of the next number is taken for ", &number, ""),
+        Err(refusal) => report.refusal("an ACK of the next number", &refusal),
     }
+    Ok(())
 }
 
 /// Each probe doubles the time until the next one, and an ACK sets it back (RFC 9002, 6.2.1).
-fn reset_probe_count(
-    rt: &(impl Print + AllocGlobal),
-    client: &mut Connection,
-) -> Result<(), Failure> {
-    expire_twice(rt.alloc(), client)?;
-    show_wake(rt, client)?;
-    let probe = send(rt.alloc(), client, 660)?;
+fn reset_probe_count(report: &mut Report, client: &mut Connection) -> Result<(), Refusal> {
+    expire_twice(report.alloc(), client)?;
+    report.wake(client)?;
+    let probe = send(report.alloc(), client, 660)?;
     ack(client, 700, probe, probe)?;
-    send(rt.alloc(), client, 800)?;
-    show_wake(rt, client)
+    send(report.alloc(), client, 800)?;
+    report.wake(client)
 }
 
 fn expire_twice(alloc: Global, client: &mut Connection) -> Result<(), Refusal> {
@@ -244,16 +221,14 @@ fn expire_twice(alloc: Global, client: &mut Connection) -> Result<(), Refusal> {
 }
 
 /// What the recovery forgot is not handed in as lost: of 1,002 packets with ACKs alone it tracks 1,001.
-fn forget_silent_packets(
-    rt: &(impl Print + AllocGlobal),
-    client: &mut Connection,
-) -> Result<(), Failure> {
+fn forget_silent_packets(report: &mut Report, client: &mut Connection) -> Result<(), Refusal> {
     confirm(client)?;
     for _ in 0..1_002 {
-        send_silent(rt.alloc(), client)?;
+        send_silent(report.alloc(), client)?;
     }
-    arrive_third(rt.alloc(), client)?;
-    show_window(rt, client, "1,001 packets with ACKs alone are lost")
+    arrive_third(report.alloc(), client)?;
+    report.window(client, "1,001 packets with ACKs alone are lost");
+    Ok(())
 }
 
 /// The last of three packets arrives.
@@ -277,25 +252,24 @@ fn send_silent(alloc: Global, client: &mut Connection) -> Result<(), Refusal> {
 
 /// With the keys of a space its packets and the count of probes go (RFC 9002, 6.4 and A.11), and none is probed for in
 /// 1-RTT packets before the handshake is confirmed (RFC 9002, 6.2.1).
-fn drop_keys_of_flight(
-    rt: &(impl Print + AllocGlobal),
-    client: &mut Connection,
-) -> Result<(), Failure> {
-    send_in(client, SpaceId::Initial, at(0), item(rt.alloc(), 1)?)?;
+fn drop_keys_of_flight(report: &mut Report, client: &mut Connection) -> Result<(), Refusal> {
+    send_in(client, SpaceId::Initial, at(0), item(report.alloc(), 1)?)?;
     client.loss_timer_expired(at(999))?;
     client.drop_keys(SpaceId::Initial)?;
-    show_wake(rt, client)?;
-    probe_before_confirmed(rt, client)
+    report.wake(client)?;
+    probe_before_confirmed(report, client)
 }
 
-fn probe_before_confirmed(
-    rt: &(impl Print + AllocGlobal),
-    client: &mut Connection,
-) -> Result<(), Failure> {
-    send(rt.alloc(), client, 1_000)?;
-    show_wake(rt, client)?;
-    send_in(client, SpaceId::Handshake, at(1_000), item(rt.alloc(), 2)?)?;
-    show_wake(rt, client)
+fn probe_before_confirmed(report: &mut Report, client: &mut Connection) -> Result<(), Refusal> {
+    send(report.alloc(), client, 1_000)?;
+    report.wake(client)?;
+    send_in(
+        client,
+        SpaceId::Handshake,
+        at(1_000),
+        item(report.alloc(), 2)?,
+    )?;
+    report.wake(client)
 }
 
 fn send_in(
@@ -309,43 +283,44 @@ fn send_in(
 }
 
 /// What is known of a path is kept where a port alone changed (RFC 9000, 9.4); its marks are, where another one is set.
-fn follow_to_port_and_address(
-    rt: &(impl Print + AllocGlobal),
-    client: &mut Connection,
-) -> Result<(), Failure> {
+fn follow_to_port_and_address(report: &mut Report, client: &mut Connection) -> Result<(), Refusal> {
     confirm(client)?;
-    first_sample(rt.alloc(), client)?;
+    first_sample(report.alloc(), client)?;
     client.peer_moved(at(1_000), address(1, 4434), 55)?;
-    show_rtt(rt, client, "another port: smoothed ")?;
-    mark_challenged(rt, client)?;
+    show_rtt(report, client, "another port: smoothed ");
+    mark_challenged(report, client)?;
     client.peer_moved(at(2_000), address(2, 4434), 56)?;
-    show_rtt(rt, client, "another address: smoothed ")
+    show_rtt(report, client, "another address: smoothed ");
+    Ok(())
 }
 
-fn mark_challenged(rt: &impl Print, client: &mut Connection) -> Result<(), Failure> {
+fn mark_challenged(report: &mut Report, client: &mut Connection) -> Result<(), Refusal> {
     client.mark_packets(true);
     let is_right = client.path_response(55)?;
-    show_value(rt, "a response that is right", &is_right)?;
+    report.value("a response that is right", &is_right);
     let sending_ecn = client.state().current().sending_ecn;
-    show_value(rt, "packets go out with ECT(0)", &sending_ecn)
+    report.value("packets go out with ECT(0)", &sending_ecn);
+    Ok(())
 }
 
 /// Where memory is refused to one of the packets that were found lost, it and those behind it wait to be handed in, and
 /// nothing is looked for before they are.
-fn keep_what_is_refused(rt: &(impl Print + AllocGlobal)) -> Result<(), Failure> {
-    let mut flight = Flight::new(rt.alloc());
-    let waiting = lose_two(&mut flight)?;
-    show_number(
-        rt,
+fn keep_what_is_refused(report: &mut Report) -> Result<(), Refusal> {
+    let mut flight = Flight::new(report.alloc());
+    let Ok(waiting) = lose_two(&mut flight) else {
+        return Err(Refusal::NoMemory);
+    };
+    report.between(
         "found lost, and one of them handed in: ",
-        waiting,
+        &waiting,
         " waits",
-    )
+    );
+    Ok(())
 }
 
 /// Of five packets the last arrives, so that the first two are lost; one of them is handed in. How many wait once
 /// losses are looked for again.
-fn lose_two(flight: &mut Flight) -> Result<u64, Failure> {
+fn lose_two(flight: &mut Flight) -> Result<u64, NoMemory> {
     for number in 0..5 {
         let packet = Sent {
             number,

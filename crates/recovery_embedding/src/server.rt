@@ -1,7 +1,6 @@
 //! A server whose client is validated, and moves.
 use crate::connection::Connection;
-use crate::failure::Failure;
-use crate::lines::{show_numbers, show_value};
+use crate::report::Report;
 use crate::{address, at};
 use quic_recovery::Refusal;
 use quic_recovery::below::SpaceId;
@@ -9,40 +8,40 @@ use quic_recovery::event::PathName;
 use recovery_queue::items::ItemQueue;
 
 /// All acts, in order.
-pub fn live(rt: &(impl Print + AllocGlobal), server: &mut Connection) -> Result<(), Failure> {
-    validate(rt, server)?;
-    follow(rt, server)
+pub fn live(report: &mut Report, server: &mut Connection) -> Result<(), Refusal> {
+    validate(report, server)?;
+    follow(report, server)
 }
 
 /// Until the client's address is validated, three times what came from it goes out at most (RFC 9000, 8.1).
-fn validate(rt: &impl Print, server: &mut Connection) -> Result<(), Failure> {
+fn validate(report: &mut Report, server: &mut Connection) -> Result<(), Refusal> {
     server.datagram_in(PathName::Current, 1200)?;
     for _ in 0..4 {
         let departure = server.transmit(at(0), 1200)?;
-        show_value(rt, "the server's datagram", &departure)?;
+        report.value("the server's datagram", &departure);
     }
     server.address_validated()?;
     let departure = server.transmit(at(0), 1200)?;
-    show_value(rt, "with the address validated", &departure)
+    report.value("with the address validated", &departure);
+    Ok(())
 }
 
 /// The client's port changes, and then its address (RFC 9000, 9.3 and 9.4).
-fn follow(rt: &(impl Print + AllocGlobal), server: &mut Connection) -> Result<(), Failure> {
-    let empty = ItemQueue::from_items(Vec::new(rt.alloc()));
+fn follow(report: &mut Report, server: &mut Connection) -> Result<(), Refusal> {
+    let empty = ItemQueue::from_items(Vec::new(report.alloc()));
     let (before, after) = change_port(server, empty)?;
-    show_numbers(
-        rt,
+    report.pair(
         "another port: ",
-        before,
+        &before,
         " bytes in flight on the previous path, ",
-        after,
+        &after,
         " here",
-    )?;
+    );
     server.datagram_in(PathName::Current, 100)?;
     let is_right = server.path_response(55)?;
-    show_value(rt, "a response that is right", &is_right)?;
+    report.value("a response that is right", &is_right);
     let is_right = change_address(server)?;
-    show_value(rt, "another address; the old response", &is_right)?;
+    report.value("another address; the old response", &is_right);
     server.network_changed(at(3_000))?;
     Ok(())
 }
