@@ -10,6 +10,7 @@ C++.
     tests/rust.py --write    writes the declarations, by the library's sources: rust/c/recovery_ffi.h, ffi.rs, event.rs and
                              timer.rs of rust/quic-recovery/src, the table of docs/RUST.md and the library's layout.rt
 """
+import argparse
 import hashlib
 import os
 import pathlib
@@ -649,20 +650,29 @@ def programs_in_c(folder, made):
                 ran(f"no leak in {source}, and no access that is not its own", words)
 
 
+def choice():
+    """What of it is asked for; nothing else is taken for a wish to prove the library."""
+    parser = argparse.ArgumentParser(description=__doc__, formatter_class=argparse.RawDescriptionHelpFormatter)
+    for it in "declared", "library", "write":
+        parser.add_argument(f"--{it}", dest="choice", action="store_const", const=it, help=argparse.SUPPRESS)
+    return tree.arguments(parser).choice
+
+
 def main():
+    chosen = choice()
     written = declarations()
-    if sys.argv[1:] == ["--write"]:
+    if chosen == "write":
         for which, path in DECLARED.items():
             path.write_text(written[which])
         return 0
-    if sys.argv[1:] == ["--library"]:
+    if chosen == "library":
         return 0 if built() else 1
     for which, path in DECLARED.items():
         expect(f"{path.relative_to(ROOT)} is what the library declares", path.read_text() == written[which], "tests/rust.py --write writes it")
     version()
     layout()
     without_library()
-    if sys.argv[1:] != ["--declared"] and expect("the library", built()):
+    if chosen != "declared" and expect("the library", built()):
         with tempfile.TemporaryDirectory() as libraries, tempfile.TemporaryDirectory() as programs:
             folder, made = pathlib.Path(libraries), pathlib.Path(programs)
             shutil.copy(LIBRARY, folder)
