@@ -1,11 +1,10 @@
 -- What is put into a sink: what a whole line spells. `put_event` rests on it.
 use Rattle.std.proofs.Common.{arith, ◌≡◌, ◌≤◌, ℕ, Bool, true, false, List, length, Option, Some, None, Result, Ok, Err, IfOk, OnErr, bytes_eq, refl, ap}
 use lib.Chars.{codes}
-use Rattle.std.proofs.lemmas.Slice.Eq.{bytes_eq-Decides}
 use Rattle.recovery_lines.specs.declared.lines.Line.{Line}
 use Rattle.recovery_lines.specs.Words.{words_of}
-use Rattle.recovery_lines.specs.Lines.{Form, ItemEvent, HoldsList, forms_without_items, send}
-use Rattle.recovery_lines.specs.Reading.{Reads, Puts, PutsSpelled, all_of, first_word, form_named, line_at, line_behind, line_of, reading, whole}
+use Rattle.recovery_lines.specs.Lines.{ItemEvent, HoldsList, forms_without_items, send}
+use Rattle.recovery_lines.specs.Reading.{Reads, Puts, PutsSpelled, all_of, first_word, line_at, line_behind, line_of, reading, whole}
 use Rattle.recovery_lines.proofs.LineLaws.{line_found, line_only, refused_whole}
 
 -- ---- what is read

@@ -1,6 +1,6 @@
 -- How the parser goes over the words of a line. What a line means is said by the grammar in Lines.antt alone.
 use Rattle.std.specs.Prelude.{◌≡◌, ℕ, ◌+◌, ◌*◌, ◌<◌, ◌≤◌, ◌^◌, ◌==◌, nat_lt, ◌&&◌, Bool, true}
-use Rattle.std.specs.Prelude.{false, List, [], ◌∷◌, ◌++◌, length, Option, Some, None, option_and_then, Result, Ok, Err}
+use Rattle.std.specs.Prelude.{false, List, [], ◌∷◌, ◌++◌, length, Option, Some, None, IfSome, option_and_then, Result, Ok, Err}
 use Rattle.std.specs.Prelude.{if◌then◌else◌, bytes_eq, decimal, slice_index}
 use Rattle.std.specs.Global.{Vec}
 use Rattle.std.specs.Int.{IsInRange}
@@ -83,6 +83,15 @@ field read words = do
   first ← first_word words
   value ← read first.0
   Some (value, first.1)
+
+-- a name that is one word
+abbrev pub IsPlainName : List ℕ → Type 0
+IsPlainName name = position_or_len (λ b. b == 32) name ≡ length name
+
+-- the next word was taken if it is this name, and else none was
+abbrev pub TakesName : List ℕ → Bool → List (List ℕ) → List (List ℕ) → Type 0
+TakesName name true old new = first_word old ≡ Some (name, new)
+TakesName name false old new = (new ≡ old) × IfSome (first_word old) (λ first. bytes_eq first.0 name ≡ false)
 
 -- What a function returned, seen by view, with the words that it left, is what reading gives.
 abbrev pub Reads : {X Y : Type 0} → (X → Y) → Option X → List (List ℕ) → Option (Y × List (List ℕ)) → Type 0

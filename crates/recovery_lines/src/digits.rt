@@ -1,5 +1,5 @@
 //! Digits that bytes begin with, eight at a time.
-ghost use Rattle.std.specs.Prelude.{◌≡◌, ℕ, ◌*◌, ◌%◌, ◌-◌, ◌+◌, ◌<◌, ◌≤◌, ◌^◌, List, length, take, nat_le};
+ghost use Rattle.std.specs.Prelude.{◌≡◌, ℕ, ◌*◌, ◌%◌, ◌-◌, ◌+◌, ◌<◌, ◌≤◌, ◌^◌, List, length, take, nat_le, slice_index};
 ghost use Rattle.std.specs.Str.Parse.{digits_value};
 ghost use lib.Lanes.{number_l};
 ghost use Rattle.core.specs.Slice.Scan.{digits_from, flag_word, little_endian};
@@ -14,7 +14,8 @@ use core::dec2flt::ten_to;
 #[inline(always)]
 pub fn word_at(bytes: &[u8], at: usize) -> u64
     requires { at + 8 ≤ length bytes.now }
-    ensures { result ≡ little_endian bytes.now at }
+    ensures word { result ≡ little_endian bytes.now at }
+    ensures bytes { (k : ℕ) → slice_index bytes.now k < 256 }
 {
     u64::from_le_bytes([
         bytes[at],

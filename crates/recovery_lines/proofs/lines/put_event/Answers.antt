@@ -1,4 +1,3 @@
-use Rattle.std.proofs.Common.{rules}
 use Rattle.recovery_lines.proofs.ItemLaws.{on_err}
 use Rattle.recovery_lines.proofs.LineLaws.{items_refused}
 use Rattle.recovery_lines.proofs.PushLaws.{other_said, puts_said, send_line, send_said}
