@@ -1,11 +1,12 @@
 //! What is written for each reply: one line.
-ghost use Rattle.std.specs.Prelude.{◌≡◌, ◌<◌, ◌++◌, IfOk, OnOk, OnErr, length, string_bytes, decimal};
+ghost use Rattle.std.specs.Prelude.{◌≡◌, ◌<◌, ◌++◌, ◌∷◌, [], ℕ, List, IfOk, OnOk, OnErr, length, string_bytes, decimal};
 ghost use Rattle.recovery_answers.specs.Answers.{Writes, new_text, sent_text, done_with_text};
 ghost use Rattle.recovery_answers.specs.Answers.{retire_text, flag_text, timeout_text};
 ghost use Rattle.recovery_answers.specs.Answers.{in_flight_text, delayed_text, probe_text};
 ghost use Rattle.recovery_answers.specs.Answers.{black_hole_text, sendable_text, queue_text};
 ghost use Rattle.recovery_answers.specs.Answers.{refusal_text};
 ghost use Rattle.recovery_answers.specs.Answers.{answer_text, answer_lines};
+ghost use lib.Chars.{codes};
 
 use itoa::Buffer;
 use recovery_base::below::{NoMemory, ResetToken};
@@ -33,7 +34,15 @@ fn write_number(text: &mut String, before: &str, number: u64) -> Result<(), Allo
     text.push_str("\n")
 }
 
-/// A line that is always the same.
+/// A line that is always the same, given with its line feed.
+#[inline(always)]
+fn write_line(text: &mut String, line: &str) -> Result<(), AllocError>
+    ensures { (word : List ℕ) → line.now ≡ word ++ 10 ∷ [] → OnOk result (Writes text.old word text.new) }
+{
+    text.push_str(line)
+}
+
+/// A line of a word.
 fn write_word(text: &mut String, word: &str) -> Result<(), AllocError>
     ensures { OnOk result (Writes text.old word.now text.new) }
 {
@@ -45,9 +54,9 @@ fn write_new(text: &mut String, arm: bool) -> Result<(), AllocError>
     ensures { OnOk result (Writes text.old (new_text arm) text.new) }
 {
     if arm {
-        write_word(text, "new arm")
+        write_line(text, "new arm\n")
     } else {
-        write_word(text, "new")
+        write_line(text, "new\n")
     }
 }
 
@@ -63,15 +72,25 @@ fn write_sent(text: &mut String, number: u64, forgotten: Option<u64>) -> Result<
     }
 }
 
-/// Of a packet that is tracked no longer: what became of it, and whether it was a probe.
-fn write_done_with(text: &mut String, fate: &str, probe: bool) -> Result<(), AllocError>
-    ensures { OnOk result (Writes text.old (done_with_text fate.now probe) text.new) }
+/// Of a packet that was acknowledged: whether it was a probe.
+fn write_acked(text: &mut String, probe: bool) -> Result<(), AllocError>
+    ensures { OnOk result (Writes text.old (done_with_text (codes "acked") probe) text.new) }
 {
     if probe {
-        text.push_str(fate)?;
-        write_word(text, " probe")
+        write_line(text, "acked probe\n")
     } else {
-        write_word(text, fate)
+        write_line(text, "acked\n")
+    }
+}
+
+/// Of a packet that was lost: whether it was a probe.
+fn write_lost(text: &mut String, probe: bool) -> Result<(), AllocError>
+    ensures { OnOk result (Writes text.old (done_with_text (codes "lost") probe) text.new) }
+{
+    if probe {
+        write_line(text, "lost probe\n")
+    } else {
+        write_line(text, "lost\n")
     }
 }
 
@@ -86,7 +105,7 @@ fn write_retire(
             push_number(text, "retire ", numbers.start)?;
             write_number(text, " ", numbers.end)
         }
-        None => write_word(text, "retire none"),
+        None => write_line(text, "retire none\n"),
     }
 }
 
@@ -99,7 +118,11 @@ fn flag_word(flag: bool) -> &'static str
 fn write_flag(text: &mut String, flag: bool) -> Result<(), AllocError>
     ensures { OnOk result (Writes text.old (flag_text flag) text.new) }
 {
-    write_word(text, flag_word(flag))
+    if flag {
+        write_line(text, "yes\n")
+    } else {
+        write_line(text, "no\n")
+    }
 }
 
 fn write_timeout(text: &mut String, time: Option<Instant>) -> Result<(), AllocError>
@@ -107,7 +130,7 @@ fn write_timeout(text: &mut String, time: Option<Instant>) -> Result<(), AllocEr
 {
     match time {
         Some(time) => write_number(text, "timeout ", time.as_nanos()),
-        None => write_word(text, "timeout none"),
+        None => write_line(text, "timeout none\n"),
     }
 }
 
@@ -135,9 +158,9 @@ fn write_black_hole(text: &mut String, reported: bool) -> Result<(), AllocError>
     ensures { OnOk result (Writes text.old (black_hole_text reported) text.new) }
 {
     if reported {
-        write_word(text, "black-hole yes")
+        write_line(text, "black-hole yes\n")
     } else {
-        write_word(text, "black-hole no")
+        write_line(text, "black-hole no\n")
     }
 }
 
@@ -176,6 +199,9 @@ fn write_refusal(text: &mut String, refusal: Refusal) -> Result<(), AllocError>
 }
 
 /// Appends the line of what an event came to. The one refusal is want of memory; nothing is then promised of the text.
+///
+/// It is compiled into its callers: one that knows which event it was keeps the answers that this one can have.
+#[inline(always)]
 pub fn write_reply(
     text: &mut String,
     reply: &Result<Answer<ItemQueue>, Refusal>,
@@ -184,10 +210,10 @@ pub fn write_reply(
 {
     match reply {
         Ok(Answer::New { arm }) => write_new(text, *arm),
-        Ok(Answer::Duplicate) => write_word(text, "duplicate"),
+        Ok(Answer::Duplicate) => write_line(text, "duplicate\n"),
         Ok(Answer::Sent { number, forgotten }) => write_sent(text, *number, *forgotten),
-        Ok(Answer::Acked { probe }) => write_done_with(text, "acked", *probe),
-        Ok(Answer::Lost { probe }) => write_done_with(text, "lost", *probe),
+        Ok(Answer::Acked { probe }) => write_acked(text, *probe),
+        Ok(Answer::Lost { probe }) => write_lost(text, *probe),
         Ok(Answer::Retire(retired)) => write_retire(text, retired),
         Ok(Answer::Flag(flag)) => write_flag(text, *flag),
         Ok(Answer::Timeout(time)) => write_timeout(text, *time),
@@ -197,16 +223,16 @@ pub fn write_reply(
                 ack_eliciting,
             },
         ) => write_in_flight(text, *bytes, *ack_eliciting),
-        Ok(Answer::Transmitted) => write_word(text, "transmitted"),
-        Ok(Answer::Blocked) => write_word(text, "blocked"),
+        Ok(Answer::Transmitted) => write_line(text, "transmitted\n"),
+        Ok(Answer::Blocked) => write_line(text, "blocked\n"),
         Ok(Answer::Delayed(until)) => write_delayed(text, *until),
-        Ok(Answer::Ready) => write_word(text, "ready"),
+        Ok(Answer::Ready) => write_line(text, "ready\n"),
         Ok(Answer::Probe { number, size }) => write_probe(text, *number, *size),
-        Ok(Answer::NoProbe) => write_word(text, "no probe"),
+        Ok(Answer::NoProbe) => write_line(text, "no probe\n"),
         Ok(Answer::BlackHole(reported)) => write_black_hole(text, *reported),
         Ok(Answer::Sendable(frames)) => write_sendable(text, *frames),
         Ok(Answer::Queue(queue)) => write_queue(text, queue),
-        Ok(Answer::Done) => write_word(text, "done"),
+        Ok(Answer::Done) => write_line(text, "done\n"),
         Err(refusal) => write_refusal(text, *refusal),
     }
 }
