@@ -1,6 +1,6 @@
 -- How the parser goes over the words of a line. What a line means is said by the grammar in Lines.antt alone.
 use Rattle.std.specs.Prelude.{◌≡◌, ℕ, ◌+◌, ◌*◌, ◌<◌, ◌≤◌, ◌^◌, ◌==◌, nat_lt, ◌&&◌, Bool, true}
-use Rattle.std.specs.Prelude.{false, List, [], ◌∷◌, ◌++◌, length, Option, Some, None, IfSome, option_and_then, Result, Ok, Err}
+use Rattle.std.specs.Prelude.{false, List, [], ◌∷◌, ◌++◌, length, Option, Some, None, IfSome, IsSomeAnd, option_and_then, Result, Ok, Err}
 use Rattle.std.specs.Prelude.{if◌then◌else◌, bytes_eq, decimal, slice_index}
 use Rattle.std.specs.Global.{Vec}
 use Rattle.std.specs.Int.{IsInRange}
@@ -59,6 +59,12 @@ number_of limit word = let n =
 -- bytes begin with so many digits
 abbrev pub AreDigits : List ℕ → ℕ → Type 0
 AreDigits bytes n = (i : ℕ) → i < n → IsInRange 48 57 (slice_index bytes i)
+
+-- the number that the four bytes from a place on spell, the least first
+abbrev pub four_at : List ℕ → ℕ → ℕ
+four_at bytes at =
+    slice_index bytes at + slice_index bytes (at + 1) * 256 + slice_index bytes (at + 2) * 65536
+    + slice_index bytes (at + 3) * 16777216
 
 -- the number below a limit that the first word of bytes is, with the length of that word
 abbrev pub IsFirstNumber : ℕ → List ℕ → Option (ℕ × ℕ) → Type 0
@@ -221,6 +227,12 @@ Puts takes (Some line) before (Ok more) after = PutsMeant takes line before more
 Puts takes (Some line) before (Err refused) after = TakesMemory line × (after ≡ before)
 Puts takes None before (Ok more) after = (more ≡ None) × (after ≡ before)
 Puts takes None before (Err refused) after = ⊥
+
+-- the same of what was read of a line with items, for which memory may be refused
+abbrev pub PutsRead : {S E : Type 0} → (S → ItemEvent → S → Type 0) → Option (Line × List (List ℕ)) → S
+    → Result (Option Bool) E → S → Type 0
+PutsRead {E = E} takes read before (Ok more) after = Puts {E = E} takes (whole read) before (Ok more) after
+PutsRead takes read before (Err refused) after = IsSomeAnd read TookAll × (after ≡ before)
 
 -- the event that a line spells was put into a sink, or it spells none
 abbrev pub PutsSpelled : {S : Type 0} → (S → ItemEvent → S → Type 0) → List ℕ → S → Option Bool → S → Type 0

@@ -1,5 +1,5 @@
 //! The words of a line, read one after the other.
-ghost use Rattle.std.specs.Prelude.{◌≡◌, ◌*◌, ◌<◌, ◌^◌, ◌==◌, [], Some, length, take, slice_index};
+ghost use Rattle.std.specs.Prelude.{◌≡◌, ◌*◌, ◌<◌, ◌≤◌, ◌^◌, ◌==◌, [], Some, length, take, slice_index};
 ghost use Rattle.std.specs.Prelude.{bytes_eq, Decides, IfOk, IfSome, OnErr, IsSome, IsSomeAnd};
 ghost use Rattle.std.specs.List.{position_or_len, before_first};
 ghost use Rattle.recovery_base.specs.Timers.{timer_named};
@@ -8,7 +8,7 @@ ghost use Rattle.recovery_lines.specs.Reading.{IsFirstNumber, Reads, ReadsBy, wo
 ghost use Rattle.recovery_lines.specs.Reading.{items_read, AreItemsRead, IsPlainName, TakesName};
 
 use crate::blanks::word_len;
-use crate::digits::{leading_digits, word_at};
+use crate::digits::{half_at, leading_digits, word_at};
 use recovery_base::below::{NoMemory, SpaceId, VarInt};
 use recovery_base::time::{Duration, Instant};
 use recovery_base::timer::Timer;
@@ -26,16 +26,42 @@ pub fn is_name(word: &[u8], name: &str) -> bool
     are_same(word, name.as_bytes())
 }
 
-/// Are these the same bytes? Eight to sixteen are compared as two words, which may overlap.
+/// Are these the same bytes? Four to sixteen are compared as two words, which may overlap: where the others are known
+/// as this is compiled, two numbers.
 #[inline(always)]
 fn are_same(bytes: &[u8], others: &[u8]) -> bool
     ensures { result ≡ bytes_eq bytes.now others.now }
 {
-    let count = others.len();
-    if count < 8 || count > 16 || bytes.len() != count {
-        return bytes == others;
+    if bytes.len() != others.len() {
+        return false;
     }
-    let end = count - 8;
+    match others.len() {
+        1 => bytes[0] == others[0],
+        4..=7 => are_same_halves(bytes, others),
+        8..=16 => are_same_words(bytes, others),
+        _ => bytes == others,
+    }
+}
+
+/// The same of four to eight bytes.
+#[inline(always)]
+fn are_same_halves(bytes: &[u8], others: &[u8]) -> bool
+    requires few { (4 ≤ length others.now) × (length others.now ≤ 8) }
+    requires alike { length bytes.now ≡ length others.now }
+    ensures { result ≡ bytes_eq bytes.now others.now }
+{
+    let end = others.len() - 4;
+    half_at(bytes, 0) == half_at(others, 0) && half_at(bytes, end) == half_at(others, end)
+}
+
+/// The same of eight to sixteen bytes.
+#[inline(always)]
+fn are_same_words(bytes: &[u8], others: &[u8]) -> bool
+    requires few { (8 ≤ length others.now) × (length others.now ≤ 16) }
+    requires alike { length bytes.now ≡ length others.now }
+    ensures { result ≡ bytes_eq bytes.now others.now }
+{
+    let end = others.len() - 8;
     word_at(bytes, 0) == word_at(others, 0) && word_at(bytes, end) == word_at(others, end)
 }
 
@@ -103,17 +129,8 @@ fn span_in(word: &[u8]) -> Option<Duration>
     }
 }
 
-/// The number that the first word of bytes spells, 0 to `u64::MAX`, and the length of that word.
-#[cold]
-#[inline(never)]
-fn first_number_of_any_length(bytes: &[u8]) -> Option<(u64, usize)>
-    ensures { IsFirstNumber (2 ^ 64) bytes.now result }
-{
-    let end = word_len(bytes);
-    Some((number_in(&bytes[..end])?, end))
-}
-
-/// The same in one pass, where the word has no more than 19 digits; else `None`, whatever it spells.
+/// The number that the first word of bytes spells, 0 to `u64::MAX`, and the length of that word, in one pass, where it
+/// has no more than 19 digits; else `None`, whatever it spells.
 #[inline(always)]
 fn first_short_number(bytes: &[u8]) -> Option<(u64, usize)>
     ensures { IfSome result (λ found. IsFirstNumber (2 ^ 64) bytes.now (Some found)) }
@@ -126,29 +143,6 @@ fn first_short_number(bytes: &[u8]) -> Option<(u64, usize)>
         return None;
     }
     Some((value, end))
-}
-
-/// The same, in one pass for a short word.
-#[inline(always)]
-fn first_number(bytes: &[u8]) -> Option<(u64, usize)>
-    ensures { IsFirstNumber (2 ^ 64) bytes.now result }
-{
-    match first_short_number(bytes) {
-        Some(found) => Some(found),
-        None => first_number_of_any_length(bytes),
-    }
-}
-
-/// The span that the first word of bytes spells, and the length of that word. Few spans are longer than a number.
-#[tactic(auto, unfolding(crate::specs::Reading::number_of))]
-fn first_span(bytes: &[u8]) -> Option<(Duration, usize)>
-    ensures { IsFirstNumber (2 ^ 64 * 10 ^ 9) bytes.now result }
-{
-    if let Some((nanos, end)) = first_short_number(bytes) {
-        return Some((Duration::from_nanos(nanos), end));
-    }
-    let end = word_len(bytes);
-    Some((span_in(&bytes[..end])?, end))
 }
 
 /// The words of a line that are left to read.
@@ -211,9 +205,21 @@ impl<'a> Words<'a> {
         ensures { ReadsBy (field (number_of (2 ^ 64))) self.old self.new result }
     {
         let rest = self.rest?;
-        let (number, end) = first_number(rest)?;
+        let Some((number, end)) = first_short_number(rest) else {
+            return self.number_of_any_length();
+        };
         self.pass(rest, end);
         Some(number)
+    }
+
+    /// The same, where the word has more than 19 digits, or spells no number.
+    #[cold]
+    #[inline(never)]
+    #[tactic(auto, unfolding(crate::specs::Reading::field))]
+    fn number_of_any_length(&mut self) -> Option<u64>
+        ensures { ReadsBy (field (number_of (2 ^ 64))) self.old self.new result }
+    {
+        number_in(self.next()?)
     }
 
     /// The next word as a moment: nanoseconds, 0 to `u64::MAX`.
@@ -225,14 +231,26 @@ impl<'a> Words<'a> {
     }
 
     /// The next word as a span: nanoseconds, 0 to 2^64 · 10^9 - 1.
-    #[tactic(auto, unfolding(crate::specs::Reading::field))]
+    #[inline(never)]
+    #[tactic(auto, unfolding(crate::specs::Reading::field, crate::specs::Reading::number_of))]
     pub fn span(&mut self) -> Option<Duration>
         ensures { ReadsBy (field (number_of (2 ^ 64 * 10 ^ 9))) self.old self.new result }
     {
         let rest = self.rest?;
-        let (span, end) = first_span(rest)?;
+        let Some((nanos, end)) = first_short_number(rest) else {
+            return self.span_of_any_length();
+        };
         self.pass(rest, end);
-        Some(span)
+        Some(Duration::from_nanos(nanos))
+    }
+
+    /// The same, where the word has more than 19 digits, or spells no span.
+    #[inline(never)]
+    #[tactic(auto, unfolding(crate::specs::Reading::field))]
+    fn span_of_any_length(&mut self) -> Option<Duration>
+        ensures { ReadsBy (field (number_of (2 ^ 64 * 10 ^ 9))) self.old self.new result }
+    {
+        span_in(self.next()?)
     }
 
     /// The next word as a number, 0 to `u16::MAX`: a size in bytes, or a port.
