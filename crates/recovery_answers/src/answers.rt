@@ -1,5 +1,5 @@
 //! What is written for each reply: one line.
-ghost use Rattle.std.specs.Prelude.{◌≡◌, ◌<◌, ◌++◌, ◌∷◌, [], ℕ, List, IfOk, OnOk, OnErr, length, string_bytes, decimal};
+ghost use Rattle.std.specs.Prelude.{◌≡◌, ◌+◌, ◌<◌, ◌≤◌, ◌++◌, ◌∷◌, [], ℕ, List, IfOk, OnOk, OnErr, length, string_bytes, decimal};
 ghost use Rattle.recovery_answers.specs.Answers.{Writes, new_text, sent_text, done_with_text};
 ghost use Rattle.recovery_answers.specs.Answers.{retire_text, flag_text, timeout_text};
 ghost use Rattle.recovery_answers.specs.Answers.{in_flight_text, delayed_text, probe_text};
@@ -8,6 +8,7 @@ ghost use Rattle.recovery_answers.specs.Answers.{refusal_text};
 ghost use Rattle.recovery_answers.specs.Answers.{answer_text, answer_lines};
 ghost use lib.Chars.{codes};
 
+use arrayvec::ArrayString;
 use itoa::Buffer;
 use recovery_base::below::{NoMemory, ResetToken};
 use recovery_base::time::Instant;
@@ -17,27 +18,34 @@ use recovery_queue::items::ItemQueue;
 use std::alloc::{AllocError, Global};
 use std::ops::Range;
 
-/// A text, and a number behind it.
-fn push_number(text: &mut String, before: &str, number: u64) -> Result<(), AllocError>
+/// A number between two short texts. They are put together first, so that the text grows once.
+#[inline(always)]
+fn push_number(text: &mut String, before: &str, number: u64, behind: &str) -> Result<(), AllocError>
+    requires { length before.now + length behind.now ≤ 28 }
     ensures { OnOk result
-        (string_bytes text.new ≡ string_bytes text.old ++ before.now ++ decimal number) }
+        (string_bytes text.new ≡ string_bytes text.old ++ before.now ++ decimal number ++ behind.now) }
 {
-    text.push_str(before)?;
-    text.push_str(Buffer::new().format(number))
+    let mut part = ArrayString::<48>::new();
+    part.push_str(before);
+    part.push_str(Buffer::new().format(number));
+    part.push_str(behind);
+    text.push_str(part.as_str())
 }
 
 /// A line of a text and a number.
+#[inline(always)]
 fn write_number(text: &mut String, before: &str, number: u64) -> Result<(), AllocError>
+    requires { length before.now ≤ 27 }
     ensures { OnOk result (Writes text.old (before.now ++ decimal number) text.new) }
 {
-    push_number(text, before, number)?;
-    text.push_str("\n")
+    push_number(text, before, number, "\n")
 }
 
 /// A line that is always the same, given with its line feed.
 #[inline(always)]
 fn write_line(text: &mut String, line: &str) -> Result<(), AllocError>
-    ensures { (word : List ℕ) → line.now ≡ word ++ 10 ∷ [] → OnOk result (Writes text.old word text.new) }
+    ensures { (word : List ℕ) → line.now ≡ word ++ 10 ∷ []
+        → OnOk result (Writes text.old word text.new) }
 {
     text.push_str(line)
 }
@@ -66,7 +74,7 @@ fn write_sent(text: &mut String, number: u64, forgotten: Option<u64>) -> Result<
     match forgotten {
         None => write_number(text, "sent ", number),
         Some(forgotten) => {
-            push_number(text, "sent ", number)?;
+            push_number(text, "sent ", number, "")?;
             write_number(text, " forgot ", forgotten)
         }
     }
@@ -102,7 +110,7 @@ fn write_retire(
 {
     match retired {
         Some((numbers, _)) => {
-            push_number(text, "retire ", numbers.start)?;
+            push_number(text, "retire ", numbers.start, "")?;
             write_number(text, " ", numbers.end)
         }
         None => write_line(text, "retire none\n"),
@@ -137,8 +145,8 @@ fn write_timeout(text: &mut String, time: Option<Instant>) -> Result<(), AllocEr
 fn write_in_flight(text: &mut String, bytes: u64, ack_eliciting: u64) -> Result<(), AllocError>
     ensures { OnOk result (Writes text.old (in_flight_text bytes ack_eliciting) text.new) }
 {
-    push_number(text, "in-flight ", bytes)?;
-    write_number(text, " ", ack_eliciting)
+    push_number(text, "in-flight ", bytes, " ")?;
+    write_number(text, "", ack_eliciting)
 }
 
 fn write_delayed(text: &mut String, until: Instant) -> Result<(), AllocError>
@@ -150,7 +158,7 @@ fn write_delayed(text: &mut String, until: Instant) -> Result<(), AllocError>
 fn write_probe(text: &mut String, number: u64, size: u16) -> Result<(), AllocError>
     ensures { OnOk result (Writes text.old (probe_text number size) text.new) }
 {
-    push_number(text, "probe ", number)?;
+    push_number(text, "probe ", number, "")?;
     write_number(text, " ", u64::from(size))
 }
 
@@ -178,7 +186,7 @@ fn write_queue(text: &mut String, queue: &ItemQueue) -> Result<(), AllocError>
 {
     text.push_str("queue")?;
     for item in queue.items() {
-        push_number(text, " ", *item)?;
+        push_number(text, " ", *item, "")?;
     }
     text.push_str("\n")
 }
@@ -186,8 +194,7 @@ fn write_queue(text: &mut String, queue: &ItemQueue) -> Result<(), AllocError>
 fn write_refusal(text: &mut String, refusal: Refusal) -> Result<(), AllocError>
     ensures { OnOk result (Writes text.old (refusal_text refusal) text.new) }
 {
-    push_number(text, "refused ", u64::from(refusal.number()))?;
-    text.push_str(" ")?;
+    push_number(text, "refused ", u64::from(refusal.number()), " ")?;
     match refusal {
         Refusal::Ecn(reason) => {
             text.push_str(refusal.name())?;
