@@ -1,13 +1,13 @@
 -- Names at the front of bytes, and equal bytes by two words of eight. The readers of words rest on it.
-use Rattle.std.proofs.Common.{◌≡◌, ◌-◌, ◌<◌, ◌≤◌, ◌^◌, ◌==◌, ℕ, Bool, true, false, not, Option, None, Some, IfSome, List, [], ◌∷◌, length, take, get_or, length-take-le, bytes_eq, refl, sym, ap, subst, zero, suc, inl, inr, ◌+◌, ◌∙◌, arith}
+use Rattle.std.proofs.Common.{◌≡◌, ◌-◌, ◌<◌, ◌≤◌, ◌^◌, ◌==◌, ℕ, true, false, not, Option, None, Some, IfSome, List, [], ◌∷◌, length, take, get_or, drop, take_all, length-drop, length-take-le, bytes_eq, refl, sym, ap, inl, inr, ◌∙◌, arith}
 use Rattle.std.specs.List.{AllByRecursion, position_or_len, before_first}
 use Rattle.std.proofs.lemmas.Bool.Decides.{nat_tests}
-use Rattle.std.proofs.lemmas.List.{get_or-take}
+use Rattle.std.proofs.lemmas.List.{get_or-take, get_or-drop}
 use Rattle.std.proofs.lemmas.List.Sums.{position_or_len_is, prefix_len-le-length, passes_at_first, fails_before_first}
 use Rattle.std.proofs.lemmas.Slice.Eq.{bytes_eq-Decides}
-use Rattle.core.specs.Slice.Scan.{HoldsNowhere, differ, little_endian}
-use Rattle.core.proofs.cmp.Settled.{same_word, equal_if}
-use Rattle.recovery_lines.specs.Reading.{four_at, ◌>>=◌, first_word, field, named, largest_of, number_of}
+use Rattle.core.specs.Slice.Scan.{little_endian}
+use Rattle.core.proofs.cmp.Settled.{same_word}
+use Rattle.recovery_lines.specs.Reading.{◌>>=◌, first_word, field, named, largest_of, number_of}
 use Rattle.std.proofs.lemmas.Bool.{cases_lt}
 use lib.Chars.{codes}
 use lib.Seq.{ext_get_or}
@@ -16,66 +16,39 @@ use mir.Val.{Fits}
 
 -- ---- equal bytes
 
-module _ (xs ys : List ℕ) (bx : (k : ℕ) → get_or xs k 0 < 256) (by-bytes : (k : ℕ) → get_or ys k 0 < 256)
-    (also : length xs ≡ length ys) where
-  -- four bytes that are one number
-  abbrev Same : ℕ → Type 0
-  Same k = get_or xs k 0 ≡ get_or ys k 0
+-- bytes are the same where the first are, and the rest is
+module _ (xs ys : List ℕ) (also : length xs ≡ length ys) (n : ℕ)
+    (first : (k : ℕ) → k < n → get_or xs k 0 ≡ get_or ys k 0) where
+  whole : drop n xs ≡ drop n ys → xs ≡ ys
+  whole rest =
+      ext_get_or 0 xs ys also (λ k less. elim (cases_lt k n) [
+        | inl near ↦ first k near
+        | inr far ↦ grind (arith, rest, get_or-drop n xs (k - n) 0, get_or-drop n ys (k - n) 0)
+      ])
 
-  four_same : (i : ℕ) → four_at xs i ≡ four_at ys i → Same i × Same (i + 1) × Same (i + 2) × Same (i + 3)
-  four_same i e =
-      omega (
+  pub by_rest : (left : ℕ) → left ≡ length xs - n
+      → bytes_eq (take left (drop n xs)) (take left (drop n ys)) ≡ bytes_eq xs ys
+  by_rest left is =
+      rw (
+        take_all left (drop n xs) (omega (arith, length-drop n xs)),
+        take_all left (drop n ys) (omega (arith, also, length-drop n ys)),
+      ) (grind (
         arith,
-        e,
-        bx i,
-        bx (i + 1),
-        bx (i + 2),
-        bx (i + 3),
-        by-bytes i,
-        by-bytes (i + 1),
-        by-bytes (i + 2),
-        by-bytes (i + 3),
-      )
+        nat_tests,
+        bytes_eq-Decides xs ys,
+        bytes_eq-Decides (drop n xs) (drop n ys),
+        whole,
+      ))
 
-  among_four : (i k : ℕ) → Same i × Same (i + 1) × Same (i + 2) × Same (i + 3) → i ≤ k → k < i + 4 → Same k
-  among_four i k same low high = by (k - i) (omega arith)
-    where
-      by : (j : ℕ) → i + j ≡ k → Same k
-      by zero e = subst Same (omega (arith, e)) (same.0)
-      by (suc zero) e = subst Same (omega (arith, e)) (same.1)
-      by (suc (suc zero)) e = subst Same (omega (arith, e)) (same.2)
-      by (suc (suc (suc zero))) e = subst Same (omega (arith, e)) (same.3)
-      by (suc (suc (suc (suc j)))) e = absurd (omega (arith, e))
+fits : {n : ℕ} → n < 256 → Fits w8 n
+fits lt = record { fits = lt }
 
-  pub by_halves : 4 ≤ length ys → length ys ≤ 8 → four_at xs 0 ≡ four_at ys 0
-      → (four_at xs (length ys - 4) == four_at ys (length ys - 4)) ≡ bytes_eq xs ys
-  by_halves low high first =
-      let end : ℕ = length ys - 4 in
-      let whole : four_at xs end ≡ four_at ys end → xs ≡ ys = λ last.
-      ext_get_or 0 xs ys also (λ k less. elim (cases_lt k 4) [
-        | inl near ↦ among_four 0 k (four_same 0 first) (omega arith) near
-        | inr far ↦ among_four end k (four_same end last) (omega arith) (omega arith)
-      ]) in
-      grind (arith, nat_tests, bytes_eq-Decides xs ys, whole)
-
-  pub by_words : 8 ≤ length ys → length ys ≤ 16 → little_endian xs 0 ≡ little_endian ys 0
-      → (little_endian xs (length ys - 8) == little_endian ys (length ys - 8)) ≡ bytes_eq xs ys
-  by_words low high first = by (little_endian xs (length ys - 8) == little_endian ys (length ys - 8)) refl
-    where
-      fits : {n : ℕ} → n < 256 → Fits w8 n
-      fits lt = record { fits = lt }
-
-      alike : HoldsNowhere (differ xs ys) 0 8
-      alike = same_word xs ys (λ k. fits (bx k)) (λ k. fits (by-bytes k)) 0 true (grind (arith, nat_tests, first))
-
-      by : (last : Bool) → last ≡ (little_endian xs (length ys - 8) == little_endian ys (length ys - 8))
-          → last ≡ bytes_eq xs ys
-      by false e =
-          let some = same_word xs ys (λ k. fits (bx k)) (λ k. fits (by-bytes k)) (length ys - 8) false e in
-          equal_if xs ys false also (some.0, omega arith, omega (arith, some.2), some.3)
-      by true e =
-          equal_if xs ys true also (λ k below less.
-          grind (arith, alike k, same_word xs ys (λ k. fits (bx k)) (λ k. fits (by-bytes k)) (length ys - 8) true e k))
+module _ (xs ys : List ℕ) (bx : (k : ℕ) → get_or xs k 0 < 256) (by-bytes : (k : ℕ) → get_or ys k 0 < 256) where
+  -- eight bytes that are one number
+  pub eight_same : little_endian xs 0 ≡ little_endian ys 0 → (k : ℕ) → k < 8 → get_or xs k 0 ≡ get_or ys k 0
+  eight_same e k lt =
+      let alike = same_word xs ys (λ k. fits (bx k)) (λ k. fits (by-bytes k)) 0 true (grind (arith, nat_tests, e)) in
+      grind (arith, nat_tests, alike k)
 
 -- ---- names
 

@@ -65,7 +65,8 @@ pub send_read : {S E : Type 0} (takes : S → ItemEvent → S → Type 0) (words
     → PutsRead takes (reading send words) before result after
 send_read takes words line left before (Ok more) after reads put = rw (whole_read line left _ reads) put
 send_read takes words (Some line) [] before (Err refused) after reads put = absurd (send_says words line reads put.0)
-send_read takes words (Some line) (word ∷ left) before (Err refused) after reads put = absurd (grind (arith, nat_tests, put))
+send_read takes words (Some line) (word ∷ left) before (Err refused) after reads put =
+    absurd (grind (arith, nat_tests, put))
 send_read takes words None left before (Err refused) after reads put = absurd put
 
 -- and what was put is what the line spells

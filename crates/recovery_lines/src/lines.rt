@@ -95,6 +95,7 @@ impl LineForm for ReceivedLine {
 }
 
 /// The one line whose fields have items behind them. Memory is refused to a line that has one at least.
+#[inline(always)]
 #[tactic(auto, unfolding(crate::specs::Reading::fields_read))]
 fn send(alloc: Global, words: &mut Words<'_>) -> Result<Option<Line>, NoMemory>
     ensures found { IfOk result (ReadsBy (reading send) words.old words.new) }
@@ -115,6 +116,17 @@ fn send(alloc: Global, words: &mut Words<'_>) -> Result<Option<Line>, NoMemory>
     let Some(largest_acked) = words.largest() else {
         return Ok(None);
     };
+    if words.is_empty() {
+        return Ok(Some(Line::Said(Event::Send {
+            space,
+            now,
+            size,
+            ack_eliciting,
+            largest_acked,
+            queue: ItemQueue::from_items(Vec::new(alloc)),
+            stream_frames: (),
+        })));
+    }
     let Some(items) = words.items(alloc)? else {
         return Ok(None);
     };
@@ -680,8 +692,8 @@ fn put_read<S: Sink<Event<ItemQueue>>>(
     }
 }
 
-/// Puts the event of a line of this form into the sink. Each form has its own code, out of line: only its own places are
-/// cleared, and the sink knows which event it takes.
+/// Puts the event of a line of this form into the sink. Each form has its own code, out of line: only its own places
+/// are cleared, and the sink knows which event it takes.
 #[inline(never)]
 fn put_form<F: LineForm, S: Sink<Event<ItemQueue>>>(
     alloc: Global,

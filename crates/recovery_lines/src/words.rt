@@ -26,43 +26,48 @@ pub fn is_name(word: &[u8], name: &str) -> bool
     are_same(word, name.as_bytes())
 }
 
-/// Are these the same bytes? Four to sixteen are compared as two words, which may overlap: where the others are known
-/// as this is compiled, two numbers.
+/// Are these the same bytes? Eight are compared as one word, then four, so that no byte is read twice: where the others
+/// are known as this is compiled, they are numbers.
 #[inline(always)]
 fn are_same(bytes: &[u8], others: &[u8]) -> bool
     ensures { result ≡ bytes_eq bytes.now others.now }
 {
-    if bytes.len() != others.len() {
+    let count = others.len();
+    if bytes.len() != count {
         return false;
     }
+    if count < 8 {
+        return are_short_same(bytes, others);
+    }
+    word_at(bytes, 0) == word_at(others, 0) && are_short_same(&bytes[8..], &others[8..])
+}
+
+/// The same of few bytes, by words of four.
+#[inline(always)]
+fn are_short_same(bytes: &[u8], others: &[u8]) -> bool
+    requires { length bytes.now ≡ length others.now }
+    ensures { result ≡ bytes_eq bytes.now others.now }
+{
+    let count = others.len();
+    if count < 4 {
+        return are_few_same(bytes, others);
+    }
+    half_at(bytes, 0) == half_at(others, 0) && are_few_same(&bytes[4..], &others[4..])
+}
+
+/// The same of up to three bytes, one by one.
+#[inline(always)]
+fn are_few_same(bytes: &[u8], others: &[u8]) -> bool
+    requires { length bytes.now ≡ length others.now }
+    ensures { result ≡ bytes_eq bytes.now others.now }
+{
     match others.len() {
+        0 => true,
         1 => bytes[0] == others[0],
-        4..=7 => are_same_halves(bytes, others),
-        8..=16 => are_same_words(bytes, others),
+        2 => bytes[0] == others[0] && bytes[1] == others[1],
+        3 => bytes[0] == others[0] && bytes[1] == others[1] && bytes[2] == others[2],
         _ => bytes == others,
     }
-}
-
-/// The same of four to eight bytes.
-#[inline(always)]
-fn are_same_halves(bytes: &[u8], others: &[u8]) -> bool
-    requires few { (4 ≤ length others.now) × (length others.now ≤ 8) }
-    requires alike { length bytes.now ≡ length others.now }
-    ensures { result ≡ bytes_eq bytes.now others.now }
-{
-    let end = others.len() - 4;
-    half_at(bytes, 0) == half_at(others, 0) && half_at(bytes, end) == half_at(others, end)
-}
-
-/// The same of eight to sixteen bytes.
-#[inline(always)]
-fn are_same_words(bytes: &[u8], others: &[u8]) -> bool
-    requires few { (8 ≤ length others.now) × (length others.now ≤ 16) }
-    requires alike { length bytes.now ≡ length others.now }
-    ensures { result ≡ bytes_eq bytes.now others.now }
-{
-    let end = others.len() - 8;
-    word_at(bytes, 0) == word_at(others, 0) && word_at(bytes, end) == word_at(others, end)
 }
 
 /// Does a word of bytes end at a place, that is, does nothing or a space stand there?
@@ -378,6 +383,7 @@ impl<'a> Words<'a> {
 
     /// All words that are left as items, 0 to `u64::MAX` each. No memory is taken unless they all are, and there is
     /// one.
+    #[inline(never)]
     pub fn items(&mut self, alloc: Global) -> Result<Option<Vec<u64>>, NoMemory>
         ensures found { IfOk result (AreItemsRead self.old self.new) }
         ensures memory { OnErr result

@@ -8,8 +8,15 @@ returns-then-end-bytes c =
 
 pub returns-then-not-ends_at : goal.returns-then-not-ends_at
 returns-then-not-ends_at c =
-    is_other c.args.bytes.now c.args.name.now c.requires (λ fits ends. grind (arith, ends, c.ends_at.ensures, c.if-not-ends_at.true))
+    is_other c.args.bytes.now c.args.name.now c.requires
+    (λ fits ends. grind (arith, ends, c.ends_at.ensures, c.if-not-ends_at.true))
 
 pub returns : goal.returns
 returns c =
-    grind (arith, c.is_name.ensures, is_first c.args.bytes.now c.args.name.now c.requires (omega (arith, c.if-end-bytes.false)), c.ends_at.ensures, c.if-not-ends_at.false)
+    grind (
+      arith,
+      c.is_name.ensures,
+      is_first c.args.bytes.now c.args.name.now c.requires (omega (arith, c.if-end-bytes.false)),
+      c.ends_at.ensures,
+      c.if-not-ends_at.false,
+    )

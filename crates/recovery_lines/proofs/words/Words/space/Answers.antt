@@ -22,5 +22,8 @@ unfolding space_of
 returns c =
     field_unnamed space_names _ (
       rw (c.if-take_name.ensures.0) at c.if-take_name-2.ensures.1,
-      (rw (c.if-take_name-2.ensures.0, c.if-take_name.ensures.0) at c.if-take_name-3.ensures.1, (c.if-take_name.ensures.1, tt)),
+      (
+        rw (c.if-take_name-2.ensures.0, c.if-take_name.ensures.0) at c.if-take_name-3.ensures.1,
+        (c.if-take_name.ensures.1, tt),
+      ),
     )

@@ -11,6 +11,11 @@ returns-then-not-begins_with c =
 
 pub returns : goal.returns
 returns c =
-    let named = taken c.in-Some.rest.now c.args.name.now c.requires
-    (grind (arith, bytes_eq-Decides (before_first (λ b. b == 32) c.in-Some.rest.now) c.args.name.now, c.begins_with.ensures, c.if-not-begins_with.false)) in
+    let rest = c.in-Some.rest.now in
+    let named = taken rest c.args.name.now c.requires (grind (
+      arith,
+      bytes_eq-Decides (before_first (λ b. b == 32) rest) c.args.name.now,
+      c.begins_with.ensures,
+      c.if-not-begins_with.false,
+    )) in
     grind (arith, c.pass.ensures, named.1, c.in-Some.is)
