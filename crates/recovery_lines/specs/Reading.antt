@@ -216,6 +216,12 @@ TookAll read = TookMemory read.0 × (read.1 ≡ [])
 
 -- ---- events one behind the other
 
+-- the event that a line means, or it means none, or memory for its ids is refused
+abbrev pub Makes : {E : Type 0} → Line → Result (Option ItemEvent) E → Type 0
+Makes line (Ok (Some event)) = Means line event
+Makes line (Ok None) = (event : ItemEvent) → ¬ Means line event
+Makes line (Err refused) = TakesMemory line
+
 -- the event that a line means was put into a sink, or it means none
 abbrev pub PutsMeant : {S : Type 0} → (S → ItemEvent → S → Type 0) → Line → S → Option Bool → S → Type 0
 PutsMeant takes line before (Some more) after = (event : ItemEvent) × Means line event × takes before event after

@@ -12,7 +12,7 @@ ghost use Rattle.recovery_lines.specs.Lines.{congestion, end_acks, poll_mtu, pee
 ghost use Rattle.recovery_lines.specs.Lines.{ecn, check_ack, queue_probe, take_pending};
 ghost use Rattle.recovery_lines.specs.Lines.{new_path, reset_path};
 ghost use Rattle.recovery_lines.specs.Reading.{ReadsBy, reading, line_behind, words_left, TookAll};
-ghost use Rattle.recovery_lines.specs.Reading.{Puts, PutsRead, PutsSpelled, PushesSpelled, all_of, whole};
+ghost use Rattle.recovery_lines.specs.Reading.{Makes, Puts, PutsRead, PutsSpelled, PushesSpelled, all_of, whole};
 
 use crate::words::{Words, is_name};
 use recovery_base::below::{
@@ -650,8 +650,29 @@ fn zero_ids(alloc: Global, first: u64, count: u64) -> Result<Vec<IssuedCid>, NoM
     Ok(ids)
 }
 
+/// The event of what a line says; `None` where a number of an id would pass `u64::MAX`.
+#[inline(always)]
+fn event_of(alloc: Global, line: Line) -> Result<Option<Event<ItemQueue>>, NoMemory>
+    ensures { Makes line result }
+{
+    match line {
+        Line::Said(event) => Ok(Some(event)),
+        Line::Ids { now, first, count } => {
+            if count.saturating_sub(1) > u64::MAX - first {
+                return Ok(None);
+            }
+            let ids = zero_ids(alloc, first, count)?;
+            Ok(Some(Event::IssueIds { now, ids }))
+        }
+        Line::Path { now, port, fresh } => {
+            let remote = peer_at(port);
+            Ok(Some(Event::NewPath { now, remote, fresh }))
+        }
+    }
+}
+
 /// Puts the event of what a line says into the sink; `None`, and nothing, where a number of an id would pass
-/// `u64::MAX`.
+/// `u64::MAX`. The sink's code stands here once, so that it can be compiled in.
 #[inline(always)]
 fn put_meant<S: Sink<Event<ItemQueue>>>(
     alloc: Global,
@@ -660,20 +681,10 @@ fn put_meant<S: Sink<Event<ItemQueue>>>(
 ) -> Result<Option<bool>, NoMemory>
     ensures { Puts S.takes (Some line) sink.old result sink.new }
 {
-    match line {
-        Line::Said(event) => Ok(Some(sink.put(event))),
-        Line::Ids { now, first, count } => {
-            if count.saturating_sub(1) > u64::MAX - first {
-                return Ok(None);
-            }
-            let ids = zero_ids(alloc, first, count)?;
-            Ok(Some(sink.put(Event::IssueIds { now, ids })))
-        }
-        Line::Path { now, port, fresh } => {
-            let remote = peer_at(port);
-            Ok(Some(sink.put(Event::NewPath { now, remote, fresh })))
-        }
-    }
+    let Some(event) = event_of(alloc, line)? else {
+        return Ok(None);
+    };
+    Ok(Some(sink.put(event)))
 }
 
 /// The same, where what the line says was read and no word of it is left.
