@@ -1,12 +1,14 @@
 //! What is written for each reply: one line.
-ghost use Rattle.std.specs.Prelude.{◌≡◌, ◌++◌, OnOk, string_bytes, decimal};
+ghost use Rattle.std.specs.Prelude.{◌≡◌, ◌+◌, ◌<◌, ◌≤◌, ◌++◌, ◌∷◌, [], ℕ, List, OnOk, length, string_bytes, decimal};
 ghost use Rattle.recovery_answers.specs.Answers.{Writes, new_text, sent_text, done_with_text};
 ghost use Rattle.recovery_answers.specs.Answers.{retire_text, flag_text, timeout_text};
 ghost use Rattle.recovery_answers.specs.Answers.{in_flight_text, delayed_text, probe_text};
 ghost use Rattle.recovery_answers.specs.Answers.{black_hole_text, sendable_text, queue_text};
 ghost use Rattle.recovery_answers.specs.Answers.{refusal_text};
 ghost use Rattle.recovery_answers.specs.Answers.{answer_text};
+ghost use lib.Chars.{codes};
 
+use arrayvec::ArrayString;
 use itoa::Buffer;
 use recovery_base::below::ResetToken;
 use recovery_base::time::Instant;
@@ -16,24 +18,39 @@ use recovery_queue::items::ItemQueue;
 use std::alloc::AllocError;
 use std::ops::Range;
 
-/// A text, and a number behind it.
-fn push_number(text: &mut String, before: &str, number: u64) -> Result<(), AllocError>
+/// A number between two short texts. They are put together first, so that the text grows once.
+#[inline(always)]
+fn push_number(text: &mut String, before: &str, number: u64, behind: &str) -> Result<(), AllocError>
+    requires { length before.now + length behind.now ≤ 28 }
     ensures { OnOk result
-        (string_bytes text.new ≡ string_bytes text.old ++ before.now ++ decimal number) }
+        (string_bytes text.new ≡ string_bytes text.old ++ before.now ++ decimal number ++ behind.now) }
 {
-    text.push_str(before)?;
-    text.push_str(Buffer::new().format(number))
+    let mut part = ArrayString::<48>::new();
+    part.push_str(before);
+    part.push_str(Buffer::new().format(number));
+    part.push_str(behind);
+    text.push_str(part.as_str())
 }
 
 /// A line of a text and a number.
+#[inline(always)]
 fn write_number(text: &mut String, before: &str, number: u64) -> Result<(), AllocError>
+    requires { length before.now ≤ 27 }
     ensures { OnOk result (Writes text.old (before.now ++ decimal number) text.new) }
 {
-    push_number(text, before, number)?;
-    text.push_str("\n")
+    push_number(text, before, number, "\n")
 }
 
-/// A line that is always the same.
+/// A line that is always the same, given with its line feed.
+#[inline(always)]
+fn write_line(text: &mut String, line: &str) -> Result<(), AllocError>
+    ensures { (word : List ℕ) → line.now ≡ word ++ 10 ∷ []
+        → OnOk result (Writes text.old word text.new) }
+{
+    text.push_str(line)
+}
+
+/// A line of a word.
 fn write_word(text: &mut String, word: &str) -> Result<(), AllocError>
     ensures { OnOk result (Writes text.old word.now text.new) }
 {
@@ -45,9 +62,9 @@ fn write_new(text: &mut String, arm: bool) -> Result<(), AllocError>
     ensures { OnOk result (Writes text.old (new_text arm) text.new) }
 {
     if arm {
-        write_word(text, "new arm")
+        write_line(text, "new arm\n")
     } else {
-        write_word(text, "new")
+        write_line(text, "new\n")
     }
 }
 
@@ -57,21 +74,31 @@ fn write_sent(text: &mut String, number: u64, forgotten: Option<u64>) -> Result<
     match forgotten {
         None => write_number(text, "sent ", number),
         Some(forgotten) => {
-            push_number(text, "sent ", number)?;
+            push_number(text, "sent ", number, "")?;
             write_number(text, " forgot ", forgotten)
         }
     }
 }
 
-/// Of a packet that is tracked no longer: what became of it, and whether it was a probe.
-fn write_done_with(text: &mut String, fate: &str, probe: bool) -> Result<(), AllocError>
-    ensures { OnOk result (Writes text.old (done_with_text fate.now probe) text.new) }
+/// Of a packet that was acknowledged: whether it was a probe.
+fn write_acked(text: &mut String, probe: bool) -> Result<(), AllocError>
+    ensures { OnOk result (Writes text.old (done_with_text (codes "acked") probe) text.new) }
 {
     if probe {
-        text.push_str(fate)?;
-        write_word(text, " probe")
+        write_line(text, "acked probe\n")
     } else {
-        write_word(text, fate)
+        write_line(text, "acked\n")
+    }
+}
+
+/// Of a packet that was lost: whether it was a probe.
+fn write_lost(text: &mut String, probe: bool) -> Result<(), AllocError>
+    ensures { OnOk result (Writes text.old (done_with_text (codes "lost") probe) text.new) }
+{
+    if probe {
+        write_line(text, "lost probe\n")
+    } else {
+        write_line(text, "lost\n")
     }
 }
 
@@ -83,10 +110,10 @@ fn write_retire(
 {
     match retired {
         Some((numbers, _)) => {
-            push_number(text, "retire ", numbers.start)?;
+            push_number(text, "retire ", numbers.start, "")?;
             write_number(text, " ", numbers.end)
         }
-        None => write_word(text, "retire none"),
+        None => write_line(text, "retire none\n"),
     }
 }
 
@@ -99,7 +126,11 @@ fn flag_word(flag: bool) -> &'static str
 fn write_flag(text: &mut String, flag: bool) -> Result<(), AllocError>
     ensures { OnOk result (Writes text.old (flag_text flag) text.new) }
 {
-    write_word(text, flag_word(flag))
+    if flag {
+        write_line(text, "yes\n")
+    } else {
+        write_line(text, "no\n")
+    }
 }
 
 fn write_timeout(text: &mut String, time: Option<Instant>) -> Result<(), AllocError>
@@ -107,15 +138,15 @@ fn write_timeout(text: &mut String, time: Option<Instant>) -> Result<(), AllocEr
 {
     match time {
         Some(time) => write_number(text, "timeout ", time.as_nanos()),
-        None => write_word(text, "timeout none"),
+        None => write_line(text, "timeout none\n"),
     }
 }
 
 fn write_in_flight(text: &mut String, bytes: u64, ack_eliciting: u64) -> Result<(), AllocError>
     ensures { OnOk result (Writes text.old (in_flight_text bytes ack_eliciting) text.new) }
 {
-    push_number(text, "in-flight ", bytes)?;
-    write_number(text, " ", ack_eliciting)
+    push_number(text, "in-flight ", bytes, " ")?;
+    write_number(text, "", ack_eliciting)
 }
 
 fn write_delayed(text: &mut String, until: Instant) -> Result<(), AllocError>
@@ -127,7 +158,7 @@ fn write_delayed(text: &mut String, until: Instant) -> Result<(), AllocError>
 fn write_probe(text: &mut String, number: u64, size: u16) -> Result<(), AllocError>
     ensures { OnOk result (Writes text.old (probe_text number size) text.new) }
 {
-    push_number(text, "probe ", number)?;
+    push_number(text, "probe ", number, "")?;
     write_number(text, " ", u64::from(size))
 }
 
@@ -135,9 +166,9 @@ fn write_black_hole(text: &mut String, reported: bool) -> Result<(), AllocError>
     ensures { OnOk result (Writes text.old (black_hole_text reported) text.new) }
 {
     if reported {
-        write_word(text, "black-hole yes")
+        write_line(text, "black-hole yes\n")
     } else {
-        write_word(text, "black-hole no")
+        write_line(text, "black-hole no\n")
     }
 }
 
@@ -155,7 +186,7 @@ fn write_queue(text: &mut String, queue: &ItemQueue) -> Result<(), AllocError>
 {
     text.push_str("queue")?;
     for item in queue.items() {
-        push_number(text, " ", *item)?;
+        push_number(text, " ", *item, "")?;
     }
     text.push_str("\n")
 }
@@ -163,8 +194,7 @@ fn write_queue(text: &mut String, queue: &ItemQueue) -> Result<(), AllocError>
 fn write_refusal(text: &mut String, refusal: Refusal) -> Result<(), AllocError>
     ensures { OnOk result (Writes text.old (refusal_text refusal) text.new) }
 {
-    push_number(text, "refused ", u64::from(refusal.number()))?;
-    text.push_str(" ")?;
+    push_number(text, "refused ", u64::from(refusal.number()), " ")?;
     match refusal {
         Refusal::Ecn(reason) => {
             text.push_str(refusal.name())?;
@@ -176,6 +206,9 @@ fn write_refusal(text: &mut String, refusal: Refusal) -> Result<(), AllocError>
 }
 
 /// Appends the line of what an event came to. The one refusal is want of memory; nothing is then promised of the text.
+///
+/// It is compiled into its callers: one that knows which event it was keeps the answers that this one can have.
+#[inline(always)]
 pub fn write_reply(
     text: &mut String,
     reply: &Result<Answer<ItemQueue>, Refusal>,
@@ -184,10 +217,10 @@ pub fn write_reply(
 {
     match reply {
         Ok(Answer::New { arm }) => write_new(text, *arm),
-        Ok(Answer::Duplicate) => write_word(text, "duplicate"),
+        Ok(Answer::Duplicate) => write_line(text, "duplicate\n"),
         Ok(Answer::Sent { number, forgotten }) => write_sent(text, *number, *forgotten),
-        Ok(Answer::Acked { probe }) => write_done_with(text, "acked", *probe),
-        Ok(Answer::Lost { probe }) => write_done_with(text, "lost", *probe),
+        Ok(Answer::Acked { probe }) => write_acked(text, *probe),
+        Ok(Answer::Lost { probe }) => write_lost(text, *probe),
         Ok(Answer::Retire(retired)) => write_retire(text, retired),
         Ok(Answer::Flag(flag)) => write_flag(text, *flag),
         Ok(Answer::Timeout(time)) => write_timeout(text, *time),
@@ -197,16 +230,16 @@ pub fn write_reply(
                 ack_eliciting,
             },
         ) => write_in_flight(text, *bytes, *ack_eliciting),
-        Ok(Answer::Transmitted) => write_word(text, "transmitted"),
-        Ok(Answer::Blocked) => write_word(text, "blocked"),
+        Ok(Answer::Transmitted) => write_line(text, "transmitted\n"),
+        Ok(Answer::Blocked) => write_line(text, "blocked\n"),
         Ok(Answer::Delayed(until)) => write_delayed(text, *until),
-        Ok(Answer::Ready) => write_word(text, "ready"),
+        Ok(Answer::Ready) => write_line(text, "ready\n"),
         Ok(Answer::Probe { number, size }) => write_probe(text, *number, *size),
-        Ok(Answer::NoProbe) => write_word(text, "no probe"),
+        Ok(Answer::NoProbe) => write_line(text, "no probe\n"),
         Ok(Answer::BlackHole(reported)) => write_black_hole(text, *reported),
         Ok(Answer::Sendable(frames)) => write_sendable(text, *frames),
         Ok(Answer::Queue(queue)) => write_queue(text, queue),
-        Ok(Answer::Done) => write_word(text, "done"),
+        Ok(Answer::Done) => write_line(text, "done\n"),
         Err(refusal) => write_refusal(text, *refusal),
     }
 }

@@ -74,6 +74,7 @@ impl CidQueue {
     ///
     /// A refusal changes nothing: `Retired` below the active number, `ExceedsLimit` past the window, `Conflict` where
     /// the number is held with another id or another token.
+    #[inline(always)]
     pub fn insert(
         &mut self,
         cid: NewConnectionId,
@@ -120,6 +121,7 @@ impl CidQueue {
 
     /// Drops the active id and moves to the next one that is held: answers its token, and the numbers to be retired.
     /// `None`, where nothing else is held, changes nothing.
+    #[inline(always)]
     pub fn next(&mut self) -> Option<(ResetToken, Range<u64>)>
         ensures moves { MatchOption result
             ((n : ℕ) → active_of self.old < n → held self.old n ≡ None)

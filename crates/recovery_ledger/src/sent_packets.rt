@@ -112,6 +112,7 @@ where
     /// least of 1001 silent packets be forgotten that are tracked above the last one that elicits an ACK: that one is
     /// handed back with its number. `NoMemory`, which comes only where a slot was refused, drops the packet and changes
     /// nothing else. Cost: constant over all calls, but for a forgotten packet that of `remove`.
+    #[inline(always)]
     pub fn insert(
         &mut self,
         number: u64,
@@ -155,6 +156,7 @@ where
     /// Cost: that of `find`, and constant beside it over all calls: empty slots are closed up once there are more than
     /// 64 beside as many as there are packets, so that at least half as many packets were taken since the last time as
     /// slots are gone over.
+    #[inline(always)]
     pub fn remove(&mut self, number: u64) -> Option<SentPacket<Q>>
         ensures value { result ≡ packet_at self.old.packets number }
         ensures after { self.new ≡ after_taking number self.old }

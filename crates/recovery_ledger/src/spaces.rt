@@ -282,6 +282,7 @@ where
     }
 
     /// Takes out the packet of a number, as [`SentPackets::remove`] does.
+    #[inline(always)]
     pub fn take(&mut self, number: u64) -> Option<SentPacket<Q>>
         ensures packet { result ≡ packet_at (packets_of self.old) number }
         ensures after { self.new ≡ space_takes number self.old }
@@ -305,6 +306,7 @@ where
     /// A packet was tracked under a number, and sent at this moment: the number is given out, and those from the next
     /// one up to it are skipped (RFC 9000, 21.4). One that elicits an ACK is the last of its kind, and takes one from
     /// the probes that are still to be sent.
+    #[inline(always)]
     pub fn on_sent(&mut self, number: u64, ack_eliciting: bool, now: Instant)
         requires above { next_number_of self.old ≤ number }
         requires small { number < 2 ^ 62 }
@@ -319,6 +321,7 @@ where
 
     /// A packet is acknowledged: the largest number is kept, and what the packet acknowledged itself needs no ACK any
     /// more (RFC 9000, 13.2.4).
+    #[inline(always)]
     pub fn on_acked(&mut self, number: u64, packet: &SentPacket<Q>)
         requires { ¬ IsTooLarge packet.now.largest_acked }
         ensures subtracts { SubtractsLargest packet.now.largest_acked
@@ -344,6 +347,7 @@ where
     /// left with an empty queue. False, and nothing changed, where it is not tracked. `NoMemory`, of which a packet
     /// that is not tracked is never refused, changes nothing. Cost: logarithmic in the packets tracked, and that of the
     /// queue's `append`.
+    #[inline(always)]
     pub fn queue_lost(&mut self, number: u64) -> Result<bool, NoMemory>
         ensures found { IfOk result
             (λ found. found ≡ is_some (packet_at (packets_of self.old) number)) }
@@ -367,6 +371,7 @@ where
     /// A packet is lost (RFC 9002, A.10): its contents are moved behind the pending ones, and it is tracked no more. It
     /// is handed back with an empty queue. `None`, and nothing changed, where it is not tracked; then memory is never
     /// refused. `NoMemory` changes nothing. Cost as of `queue_lost`.
+    #[inline(always)]
     pub fn lose(&mut self, number: u64) -> Result<Option<SentPacket<Q>>, NoMemory>
         ensures packet { IfOk result (λ packet. packet
             ≡ option_map (with_contents Q.words.empty) (packet_at (packets_of self.old) number)) }

@@ -8,8 +8,8 @@ use Rattle.recovery_events.specs.declared.event.Event.TheVariants.{Received}
 use Rattle.recovery_lines.specs.declared.lines.Line.{Line}
 use Rattle.recovery_lines.specs.declared.lines.Line.TheVariants.{Said, Ids, Path}
 use Rattle.recovery_lines.specs.Fields.{Field, Tail, no_tail, an_item_tail, Values, words_for, AllFit}
-use Rattle.recovery_lines.specs.Lines.{ItemEvent, Means, Form, FormValues, issue_ids, new_path, forms, saying, words_said, spelling, IsWithinTypes}
-use Rattle.recovery_lines.specs.Reading.{◌>>=◌, field, value_of, items_read, fields_read, all_read, reading, form_named, line_at, line_behind}
+use Rattle.recovery_lines.specs.Lines.{ItemEvent, Means, Form, FormValues, send, issue_ids, new_path, forms, saying, words_said, spelling, IsWithinTypes}
+use Rattle.recovery_lines.specs.Reading.{◌>>=◌, field, value_of, items_read, fields_read, all_read, reading, form_named, line_at, line_behind, TakesMemory}
 use Rattle.recovery_lines.proofs.LineFieldLaws.{bind_some, again, field_takes}
 use Rattle.recovery_lines.proofs.IdLaws.{ids_count, ids_first}
 use Rattle.recovery_lines.proofs.ItemLaws.{items_take, items_again}
@@ -30,6 +30,11 @@ fields_take tail (f ∷ fields) make words made e =
     let b = bind_some (field (value_of f) words) (λ x. fields_read tail fields (λ y. make (x.0, y)) x.1) (made, []) e in
     let r = fields_take tail fields (λ y. make (b.0.0, y)) b.0.1 made b.2 in
     ((b.0.0, r.0), grind (arith, field_takes f words b.0.0 b.0.1 b.1, r))
+
+-- a line with items is an event itself, for which no memory is taken once it was read
+pub send_says : (words : List (List ℕ)) (said : Line) → reading send words ≡ Some (said, []) → TakesMemory said → ⊥
+send_says words said e memory =
+    let r = fields_take an_item_tail send.fields send.line words said e in rw (← r.1.2) at memory
 
 fields_again : {A : Type 0} (tail : Tail) (fields : List Field) (make : Values tail fields → A) (x : Values tail fields)
     → AllFit tail fields x → (fields_read tail fields make (words_for tail fields x) ≡ Some (make x, []))

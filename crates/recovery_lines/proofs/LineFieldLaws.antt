@@ -5,7 +5,7 @@ use Rattle.std.proofs.lemmas.Slice.Eq.{bytes_eq-Decides}
 use lib.Chars.{codes}
 use Rattle.recovery_base.specs.Timers.{timer_named}
 use Rattle.recovery_lines.specs.Fields.{Field, Value, word_for, Fits, a_largest}
-use Rattle.recovery_lines.specs.Reading.{◌>>=◌, field, value_of, flag_of, space_of, path_of, largest_of, number_of}
+use Rattle.recovery_lines.specs.Reading.{◌>>=◌, field, value_of, flag_of, space_of, path_of, largest_of}
 use Rattle.std.proofs.lemmas.Fmt.{decimal_is_IsNumeral}
 use Rattle.recovery_lines.proofs.NumberWordLaws.{number_takes, number_again}
 use Rattle.recovery_lines.proofs.PlainWordLaws.{IsPlain, decimal_plain}
@@ -28,10 +28,6 @@ again a_largest (Some n) h = (
   grind (arith, decimal_plain),
 )
 again f x h = (grind (arith, number_again), grind (arith, decimal_plain))
-
--- where a word is a number, it is none of the words for no number
-pub largest_is : (word : List ℕ) (n : ℕ) → number_of (2 ^ 64) word ≡ Some n → largest_of word ≡ Some (Some n)
-largest_is word n is = let t = number_takes (2 ^ 64) word n is in rw (t.0) ((again a_largest (Some n) t.1).0)
 
 -- a field at the front of the words
 pub field_takes : (f : Field) (words : List (List ℕ)) (x : Value f) (rest : List (List ℕ))

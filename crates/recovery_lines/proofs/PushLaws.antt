@@ -1,12 +1,13 @@
 -- What is put into a sink: what a whole line spells. `put_event` rests on it.
-use Rattle.std.proofs.Common.{arith, ◌≡◌, ◌≤◌, ℕ, Bool, true, false, List, length, Option, Some, None, Result, Ok, Err, IfOk, OnErr, bytes_eq, refl, ap}
+use Rattle.std.proofs.Common.{arith, ◌≡◌, ◌≤◌, ℕ, Bool, true, false, List, [], ◌∷◌, length, Option, Some, None, Result, Ok, Err, IfOk, OnErr, bytes_eq, refl, ap}
 use lib.Chars.{codes}
-use Rattle.std.proofs.lemmas.Slice.Eq.{bytes_eq-Decides}
+use Rattle.std.proofs.lemmas.Bool.Decides.{nat_tests}
 use Rattle.recovery_lines.specs.declared.lines.Line.{Line}
 use Rattle.recovery_lines.specs.Words.{words_of}
-use Rattle.recovery_lines.specs.Lines.{Form, ItemEvent, HoldsList, forms_without_items, send}
-use Rattle.recovery_lines.specs.Reading.{Reads, Puts, PutsSpelled, all_of, first_word, form_named, line_at, line_behind, line_of, reading, whole}
-use Rattle.recovery_lines.proofs.LineLaws.{line_found, line_only, refused_whole}
+use Rattle.recovery_lines.specs.Lines.{ItemEvent, HoldsList, forms_without_items, send}
+use Rattle.recovery_lines.specs.Reading.{Reads, Puts, PutsRead, PutsSpelled, all_of, first_word, line_at, line_behind, line_of, reading, whole}
+use Rattle.recovery_lines.proofs.FormLaws.{send_says}
+use Rattle.recovery_lines.proofs.LineLaws.{line_found, line_only, items_refused, refused_whole}
 
 -- ---- what is read
 
@@ -55,7 +56,27 @@ module _ (line : List ℕ) (words rest : List (List ℕ)) (name : List ℕ) (is 
   unfolding line_at line_behind
   send_line same = rw (← is, first, ← same) refl
 
-  pub send_said : true ≡ bytes_eq name (codes "send") → (said : Option Line) (left : List (List ℕ))
-      → Reads (λ x. x) said left (reading send rest) → line_of line ≡ all_of said left
-  unfolding line_of
-  send_said same said left reads = rw (send_line same) (whole_read said left _ reads)
+-- ---- a line with items
+
+-- what was read of it was put, where no word is left
+pub send_read : {S E : Type 0} (takes : S → ItemEvent → S → Type 0) (words : List (List ℕ)) (line : Option Line)
+    (left : List (List ℕ)) (before : S) (result : Result (Option Bool) E)
+    (after : S) → Reads (λ x. x) line left (reading send words) → Puts takes (all_of line left) before result after
+    → PutsRead takes (reading send words) before result after
+send_read takes words line left before (Ok more) after reads put = rw (whole_read line left _ reads) put
+send_read takes words (Some line) [] before (Err refused) after reads put = absurd (send_says words line reads put.0)
+send_read takes words (Some line) (word ∷ left) before (Err refused) after reads put =
+    absurd (grind (arith, nat_tests, put))
+send_read takes words None left before (Err refused) after reads put = absurd put
+
+-- and what was put is what the line spells
+pub send_puts : {S E : Type 0} (takes : S → ItemEvent → S → Type 0) (line : List ℕ)
+    (read : Option (Line × List (List ℕ))) (before : S) (result : Result (Option Bool) E)
+    (after : S) → line_at (words_of line) ≡ read → length line ≤ 4096 → PutsRead takes read before result after
+    → IfOk result (λ more. PutsSpelled takes line before more after) × OnErr result (HoldsList line)
+    × OnErr result (after ≡ before)
+unfolding line_of
+send_puts {E = E} takes line read before (Ok more) after is short put =
+    puts_said {E = E} takes line (whole read) before (Ok more) after (ap whole is) short put
+send_puts takes line read before (Err refused) after is short put =
+    (tt, items_refused line read is short put.0, put.1)

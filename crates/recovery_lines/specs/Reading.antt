@@ -1,6 +1,6 @@
 -- How the parser goes over the words of a line. What a line means is said by the grammar in Lines.antt alone.
 use Rattle.std.specs.Prelude.{◌≡◌, ℕ, ◌+◌, ◌*◌, ◌<◌, ◌≤◌, ◌^◌, ◌==◌, nat_lt, ◌&&◌, Bool, true}
-use Rattle.std.specs.Prelude.{false, List, [], ◌∷◌, ◌++◌, length, Option, Some, None, option_and_then, Result, Ok, Err}
+use Rattle.std.specs.Prelude.{false, List, [], ◌∷◌, ◌++◌, length, Option, Some, None, IfSome, IsSomeAnd, option_and_then, Result, Ok, Err}
 use Rattle.std.specs.Prelude.{if◌then◌else◌, bytes_eq, decimal, slice_index}
 use Rattle.std.specs.Global.{Vec}
 use Rattle.std.specs.Int.{IsInRange}
@@ -60,6 +60,12 @@ number_of limit word = let n =
 abbrev pub AreDigits : List ℕ → ℕ → Type 0
 AreDigits bytes n = (i : ℕ) → i < n → IsInRange 48 57 (slice_index bytes i)
 
+-- the number that the four bytes from a place on spell, the least first
+abbrev pub four_at : List ℕ → ℕ → ℕ
+four_at bytes at =
+    slice_index bytes at + slice_index bytes (at + 1) * 256 + slice_index bytes (at + 2) * 65536
+    + slice_index bytes (at + 3) * 16777216
+
 -- the number below a limit that the first word of bytes is, with the length of that word
 abbrev pub IsFirstNumber : ℕ → List ℕ → Option (ℕ × ℕ) → Type 0
 IsFirstNumber limit bytes None = number_of limit (before_first (λ b. b == 32) bytes) ≡ None
@@ -83,6 +89,15 @@ field read words = do
   first ← first_word words
   value ← read first.0
   Some (value, first.1)
+
+-- a name that is one word
+abbrev pub IsPlainName : List ℕ → Type 0
+IsPlainName name = position_or_len (λ b. b == 32) name ≡ length name
+
+-- the next word was taken if it is this name, and else none was
+abbrev pub TakesName : List ℕ → Bool → List (List ℕ) → List (List ℕ) → Type 0
+TakesName name true old new = first_word old ≡ Some (name, new)
+TakesName name false old new = (new ≡ old) × IfSome (first_word old) (λ first. bytes_eq first.0 name ≡ false)
 
 -- What a function returned, seen by view, with the words that it left, is what reading gives.
 abbrev pub Reads : {X Y : Type 0} → (X → Y) → Option X → List (List ℕ) → Option (Y × List (List ℕ)) → Type 0
@@ -201,6 +216,12 @@ TookAll read = TookMemory read.0 × (read.1 ≡ [])
 
 -- ---- events one behind the other
 
+-- the event that a line means, or it means none, or memory for its ids is refused
+abbrev pub Makes : {E : Type 0} → Line → Result (Option ItemEvent) E → Type 0
+Makes line (Ok (Some event)) = Means line event
+Makes line (Ok None) = (event : ItemEvent) → ¬ Means line event
+Makes line (Err refused) = TakesMemory line
+
 -- the event that a line means was put into a sink, or it means none
 abbrev pub PutsMeant : {S : Type 0} → (S → ItemEvent → S → Type 0) → Line → S → Option Bool → S → Type 0
 PutsMeant takes line before (Some more) after = (event : ItemEvent) × Means line event × takes before event after
@@ -212,6 +233,12 @@ Puts takes (Some line) before (Ok more) after = PutsMeant takes line before more
 Puts takes (Some line) before (Err refused) after = TakesMemory line × (after ≡ before)
 Puts takes None before (Ok more) after = (more ≡ None) × (after ≡ before)
 Puts takes None before (Err refused) after = ⊥
+
+-- the same of what was read of a line with items, for which memory may be refused
+abbrev pub PutsRead : {S E : Type 0} → (S → ItemEvent → S → Type 0) → Option (Line × List (List ℕ)) → S
+    → Result (Option Bool) E → S → Type 0
+PutsRead {E = E} takes read before (Ok more) after = Puts {E = E} takes (whole read) before (Ok more) after
+PutsRead takes read before (Err refused) after = IsSomeAnd read TookAll × (after ≡ before)
 
 -- the event that a line spells was put into a sink, or it spells none
 abbrev pub PutsSpelled : {S : Type 0} → (S → ItemEvent → S → Type 0) → List ℕ → S → Option Bool → S → Type 0

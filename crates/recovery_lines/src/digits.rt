@@ -1,12 +1,12 @@
 //! Digits that bytes begin with, eight at a time.
-ghost use Rattle.std.specs.Prelude.{◌≡◌, ℕ, ◌*◌, ◌%◌, ◌-◌, ◌+◌, ◌<◌, ◌≤◌, ◌^◌, List, length, take, nat_le};
+ghost use Rattle.std.specs.Prelude.{◌≡◌, ℕ, ◌*◌, ◌%◌, ◌-◌, ◌+◌, ◌<◌, ◌≤◌, ◌^◌, List, length, take, nat_le, slice_index};
 ghost use Rattle.std.specs.Str.Parse.{digits_value};
 ghost use lib.Lanes.{number_l};
 ghost use Rattle.core.specs.Slice.Scan.{digits_from, flag_word, little_endian};
 ghost use Rattle.core.specs.Dec2flt.Digits.{IsEightBytes, IsEightDigits};
 ghost use Rattle.core.specs.Float.Numeral.{digits_len};
 ghost use Rattle.core.specs.Int.Digits.{number_from_digits};
-ghost use Rattle.recovery_lines.specs.Reading.{AreDigits};
+ghost use Rattle.recovery_lines.specs.Reading.{AreDigits, four_at};
 
 use core::dec2flt::ten_to;
 
@@ -14,7 +14,8 @@ use core::dec2flt::ten_to;
 #[inline(always)]
 pub fn word_at(bytes: &[u8], at: usize) -> u64
     requires { at + 8 ≤ length bytes.now }
-    ensures { result ≡ little_endian bytes.now at }
+    ensures word { result ≡ little_endian bytes.now at }
+    ensures bytes { (k : ℕ) → slice_index bytes.now k < 256 }
 {
     u64::from_le_bytes([
         bytes[at],
@@ -26,6 +27,16 @@ pub fn word_at(bytes: &[u8], at: usize) -> u64
         bytes[at + 6],
         bytes[at + 7],
     ])
+}
+
+/// Four bytes as a word, the first of them the lowest.
+#[inline(always)]
+pub fn half_at(bytes: &[u8], at: usize) -> u32
+    requires { at + 4 ≤ length bytes.now }
+    ensures word { result ≡ four_at bytes.now at }
+    ensures bytes { (k : ℕ) → slice_index bytes.now k < 256 }
+{
+    u32::from_le_bytes([bytes[at], bytes[at + 1], bytes[at + 2], bytes[at + 3]])
 }
 
 /// The number that eight digits write, the first of them in the lowest byte.

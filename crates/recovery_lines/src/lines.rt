@@ -1,7 +1,8 @@
 //! The event that a line of a script spells.
 ghost use Rattle.std.specs.Prelude.{◌≡◌, ◌+◌, ◌<◌, ◌≤◌, ◌^◌, Some, IfOk, OnErr, IsSomeAnd, vec_len, vec_capacity};
 ghost use Rattle.recovery_lines.specs.Lines.{id_of, token_of, zero_ids, IsAt};
-ghost use Rattle.recovery_lines.specs.Lines.{HoldsList, forms_without_items};
+ghost use Rattle.recovery_lines.specs.Lines.{Form, HoldsList, forms_without_items};
+ghost use Rattle.recovery_lines.specs.Lines.{next_id, id_timeout, next_timeout, drop_previous};
 ghost use Rattle.recovery_lines.specs.Lines.{received, send, acked, lost};
 ghost use Rattle.recovery_lines.specs.Lines.{new_id, initial_id, issue_ids, peer_retired};
 ghost use Rattle.recovery_lines.specs.Lines.{ack_frequency, acks_sent, ack_delay_timeout};
@@ -11,7 +12,7 @@ ghost use Rattle.recovery_lines.specs.Lines.{congestion, end_acks, poll_mtu, pee
 ghost use Rattle.recovery_lines.specs.Lines.{ecn, check_ack, queue_probe, take_pending};
 ghost use Rattle.recovery_lines.specs.Lines.{new_path, reset_path};
 ghost use Rattle.recovery_lines.specs.Reading.{ReadsBy, reading, line_behind, words_left, TookAll};
-ghost use Rattle.recovery_lines.specs.Reading.{Puts, PutsSpelled, PushesSpelled, all_of, whole};
+ghost use Rattle.recovery_lines.specs.Reading.{Makes, Puts, PutsRead, PutsSpelled, PushesSpelled, all_of, whole};
 
 use crate::words::{Words, is_name};
 use recovery_base::below::{
@@ -67,20 +68,34 @@ pub fn peer_at(port: u16) -> SocketAddr
     SocketAddr::new(IpAddr::V4(Ipv4Addr::new(192, 0, 2, 1)), port)
 }
 
-#[inline(always)]
-#[tactic(auto, unfolding(crate::specs::Reading::fields_read))]
-fn received(words: &mut Words<'_>) -> Option<Line>
-    ensures { ReadsBy (reading received) words.old words.new result }
-{
-    Some(Line::Said(Event::Received {
-        space: words.space()?,
-        now: words.moment()?,
-        number: words.number()?,
-        ack_eliciting: words.flag()?,
-    }))
+/// A form of a line without items: what stands behind its name, and what it says.
+trait LineForm {
+    ghost form: { Form };
+
+    /// What the words say, read from the left; `None` where they are none of this form's fields.
+    fn read(words: &mut Words<'_>) -> Option<Line>
+        ensures { ReadsBy (reading form) words.old words.new result };
+}
+
+struct ReceivedLine;
+
+impl LineForm for ReceivedLine {
+    ghost form = { received };
+
+    #[inline(always)]
+    #[tactic(auto, unfolding(crate::specs::Reading::fields_read))]
+    fn read(words: &mut Words<'_>) -> Option<Line> {
+        Some(Line::Said(Event::Received {
+            space: words.space()?,
+            now: words.moment()?,
+            number: words.number()?,
+            ack_eliciting: words.flag()?,
+        }))
+    }
 }
 
 /// The one line whose fields have items behind them. Memory is refused to a line that has one at least.
+#[inline(always)]
 #[tactic(auto, unfolding(crate::specs::Reading::fields_read))]
 fn send(alloc: Global, words: &mut Words<'_>) -> Result<Option<Line>, NoMemory>
     ensures found { IfOk result (ReadsBy (reading send) words.old words.new) }
@@ -101,6 +116,17 @@ fn send(alloc: Global, words: &mut Words<'_>) -> Result<Option<Line>, NoMemory>
     let Some(largest_acked) = words.largest() else {
         return Ok(None);
     };
+    if words.is_empty() {
+        return Ok(Some(Line::Said(Event::Send {
+            space,
+            now,
+            size,
+            ack_eliciting,
+            largest_acked,
+            queue: ItemQueue::from_items(Vec::new(alloc)),
+            stream_frames: (),
+        })));
+    }
     let Some(items) = words.items(alloc)? else {
         return Ok(None);
     };
@@ -115,331 +141,495 @@ fn send(alloc: Global, words: &mut Words<'_>) -> Result<Option<Line>, NoMemory>
     })))
 }
 
-#[inline(always)]
-#[tactic(auto, unfolding(crate::specs::Reading::fields_read))]
-fn acked(words: &mut Words<'_>) -> Option<Line>
-    ensures { ReadsBy (reading acked) words.old words.new result }
-{
-    Some(Line::Said(Event::Acked {
-        space: words.space()?,
-        now: words.moment()?,
-        number: words.number()?,
-        app_limited: words.flag()?,
-    }))
+struct AckedLine;
+
+impl LineForm for AckedLine {
+    ghost form = { acked };
+
+    #[inline(always)]
+    #[tactic(auto, unfolding(crate::specs::Reading::fields_read))]
+    fn read(words: &mut Words<'_>) -> Option<Line> {
+        Some(Line::Said(Event::Acked {
+            space: words.space()?,
+            now: words.moment()?,
+            number: words.number()?,
+            app_limited: words.flag()?,
+        }))
+    }
 }
 
-#[inline(always)]
-#[tactic(auto, unfolding(crate::specs::Reading::fields_read))]
-fn lost(words: &mut Words<'_>) -> Option<Line>
-    ensures { ReadsBy (reading lost) words.old words.new result }
-{
-    Some(Line::Said(Event::Lost {
-        space: words.space()?,
-        number: words.number()?,
-    }))
+struct LostLine;
+
+impl LineForm for LostLine {
+    ghost form = { lost };
+
+    #[inline(always)]
+    #[tactic(auto, unfolding(crate::specs::Reading::fields_read))]
+    fn read(words: &mut Words<'_>) -> Option<Line> {
+        Some(Line::Said(Event::Lost {
+            space: words.space()?,
+            number: words.number()?,
+        }))
+    }
 }
 
-#[inline(always)]
-#[tactic(auto, unfolding(crate::specs::Reading::fields_read))]
-fn new_id(words: &mut Words<'_>) -> Option<Line>
-    ensures { ReadsBy (reading new_id) words.old words.new result }
-{
-    let sequence = words.number()?;
-    let retire_prior_to = words.number()?;
-    let byte = words.byte()?;
-    Some(Line::Said(Event::NewId(NewConnectionId {
-        sequence,
-        retire_prior_to,
-        id: id_of(byte),
-        reset_token: token_of(byte),
-    })))
+struct NewIdLine;
+
+impl LineForm for NewIdLine {
+    ghost form = { new_id };
+
+    #[inline(always)]
+    #[tactic(auto, unfolding(crate::specs::Reading::fields_read))]
+    fn read(words: &mut Words<'_>) -> Option<Line> {
+        let sequence = words.number()?;
+        let retire_prior_to = words.number()?;
+        let byte = words.byte()?;
+        Some(Line::Said(Event::NewId(NewConnectionId {
+            sequence,
+            retire_prior_to,
+            id: id_of(byte),
+            reset_token: token_of(byte),
+        })))
+    }
 }
 
-#[inline(always)]
-#[tactic(auto, unfolding(crate::specs::Reading::fields_read))]
-fn initial_id(words: &mut Words<'_>) -> Option<Line>
-    ensures { ReadsBy (reading initial_id) words.old words.new result }
-{
-    Some(Line::Said(Event::InitialId(id_of(words.byte()?))))
+struct InitialIdLine;
+
+impl LineForm for InitialIdLine {
+    ghost form = { initial_id };
+
+    #[inline(always)]
+    #[tactic(auto, unfolding(crate::specs::Reading::fields_read))]
+    fn read(words: &mut Words<'_>) -> Option<Line> {
+        Some(Line::Said(Event::InitialId(id_of(words.byte()?))))
+    }
 }
 
-#[inline(always)]
-#[tactic(auto, unfolding(crate::specs::Reading::fields_read))]
-fn peer_retired(words: &mut Words<'_>) -> Option<Line>
-    ensures { ReadsBy (reading peer_retired) words.old words.new result }
-{
-    Some(Line::Said(Event::PeerRetired {
-        sequence: words.number()?,
-        limit: words.number()?,
-    }))
+struct PeerRetiredLine;
+
+impl LineForm for PeerRetiredLine {
+    ghost form = { peer_retired };
+
+    #[inline(always)]
+    #[tactic(auto, unfolding(crate::specs::Reading::fields_read))]
+    fn read(words: &mut Words<'_>) -> Option<Line> {
+        Some(Line::Said(Event::PeerRetired {
+            sequence: words.number()?,
+            limit: words.number()?,
+        }))
+    }
 }
 
-#[inline(always)]
-#[tactic(auto, unfolding(crate::specs::Reading::fields_read))]
-fn ack_frequency(words: &mut Words<'_>) -> Option<Line>
-    ensures { ReadsBy (reading ack_frequency) words.old words.new result }
-{
-    Some(Line::Said(Event::AckFrequencyIn(AckFrequency {
-        sequence: words.var_int()?,
-        ack_eliciting_threshold: words.var_int()?,
-        request_max_ack_delay: words.var_int()?,
-        reordering_threshold: words.var_int()?,
-    })))
+struct AckFrequencyLine;
+
+impl LineForm for AckFrequencyLine {
+    ghost form = { ack_frequency };
+
+    #[inline(always)]
+    #[tactic(auto, unfolding(crate::specs::Reading::fields_read))]
+    fn read(words: &mut Words<'_>) -> Option<Line> {
+        Some(Line::Said(Event::AckFrequencyIn(AckFrequency {
+            sequence: words.var_int()?,
+            ack_eliciting_threshold: words.var_int()?,
+            request_max_ack_delay: words.var_int()?,
+            reordering_threshold: words.var_int()?,
+        })))
+    }
 }
 
-#[inline(always)]
-#[tactic(auto, unfolding(crate::specs::Reading::fields_read))]
-fn acks_sent(words: &mut Words<'_>) -> Option<Line>
-    ensures { ReadsBy (reading acks_sent) words.old words.new result }
-{
-    Some(Line::Said(Event::AcksSent {
-        space: words.space()?,
-    }))
+struct AcksSentLine;
+
+impl LineForm for AcksSentLine {
+    ghost form = { acks_sent };
+
+    #[inline(always)]
+    #[tactic(auto, unfolding(crate::specs::Reading::fields_read))]
+    fn read(words: &mut Words<'_>) -> Option<Line> {
+        Some(Line::Said(Event::AcksSent {
+            space: words.space()?,
+        }))
+    }
 }
 
-#[inline(always)]
-#[tactic(auto, unfolding(crate::specs::Reading::fields_read))]
-fn ack_delay_timeout(words: &mut Words<'_>) -> Option<Line>
-    ensures { ReadsBy (reading ack_delay_timeout) words.old words.new result }
-{
-    Some(Line::Said(Event::AckDelayTimeout {
-        space: words.space()?,
-    }))
+struct AckDelayTimeoutLine;
+
+impl LineForm for AckDelayTimeoutLine {
+    ghost form = { ack_delay_timeout };
+
+    #[inline(always)]
+    #[tactic(auto, unfolding(crate::specs::Reading::fields_read))]
+    fn read(words: &mut Words<'_>) -> Option<Line> {
+        Some(Line::Said(Event::AckDelayTimeout {
+            space: words.space()?,
+        }))
+    }
 }
 
-#[inline(always)]
-#[tactic(auto, unfolding(crate::specs::Reading::fields_read))]
-fn set_timer(words: &mut Words<'_>) -> Option<Line>
-    ensures { ReadsBy (reading set_timer) words.old words.new result }
-{
-    Some(Line::Said(Event::SetTimer {
-        timer: words.timer()?,
-        time: words.moment()?,
-    }))
+struct SetTimerLine;
+
+impl LineForm for SetTimerLine {
+    ghost form = { set_timer };
+
+    #[inline(always)]
+    #[tactic(auto, unfolding(crate::specs::Reading::fields_read))]
+    fn read(words: &mut Words<'_>) -> Option<Line> {
+        Some(Line::Said(Event::SetTimer {
+            timer: words.timer()?,
+            time: words.moment()?,
+        }))
+    }
 }
 
-#[inline(always)]
-#[tactic(auto, unfolding(crate::specs::Reading::fields_read))]
-fn stop_timer(words: &mut Words<'_>) -> Option<Line>
-    ensures { ReadsBy (reading stop_timer) words.old words.new result }
-{
-    Some(Line::Said(Event::StopTimer {
-        timer: words.timer()?,
-    }))
+struct StopTimerLine;
+
+impl LineForm for StopTimerLine {
+    ghost form = { stop_timer };
+
+    #[inline(always)]
+    #[tactic(auto, unfolding(crate::specs::Reading::fields_read))]
+    fn read(words: &mut Words<'_>) -> Option<Line> {
+        Some(Line::Said(Event::StopTimer {
+            timer: words.timer()?,
+        }))
+    }
 }
 
-#[inline(always)]
-#[tactic(auto, unfolding(crate::specs::Reading::fields_read))]
-fn discard(words: &mut Words<'_>) -> Option<Line>
-    ensures { ReadsBy (reading discard) words.old words.new result }
-{
-    Some(Line::Said(Event::DiscardSpace {
-        space: words.space()?,
-    }))
+struct DiscardLine;
+
+impl LineForm for DiscardLine {
+    ghost form = { discard };
+
+    #[inline(always)]
+    #[tactic(auto, unfolding(crate::specs::Reading::fields_read))]
+    fn read(words: &mut Words<'_>) -> Option<Line> {
+        Some(Line::Said(Event::DiscardSpace {
+            space: words.space()?,
+        }))
+    }
 }
 
-#[inline(always)]
-#[tactic(auto, unfolding(crate::specs::Reading::fields_read))]
-fn in_flight(words: &mut Words<'_>) -> Option<Line>
-    ensures { ReadsBy (reading in_flight) words.old words.new result }
-{
-    Some(Line::Said(Event::InFlight {
-        path: words.path()?,
-    }))
+struct InFlightLine;
+
+impl LineForm for InFlightLine {
+    ghost form = { in_flight };
+
+    #[inline(always)]
+    #[tactic(auto, unfolding(crate::specs::Reading::fields_read))]
+    fn read(words: &mut Words<'_>) -> Option<Line> {
+        Some(Line::Said(Event::InFlight {
+            path: words.path()?,
+        }))
+    }
 }
 
-#[inline(always)]
-#[tactic(auto, unfolding(crate::specs::Reading::fields_read))]
-fn sample(words: &mut Words<'_>) -> Option<Line>
-    ensures { ReadsBy (reading sample) words.old words.new result }
-{
-    Some(Line::Said(Event::Sample {
-        delay: words.span()?,
-        rtt: words.span()?,
-    }))
+struct SampleLine;
+
+impl LineForm for SampleLine {
+    ghost form = { sample };
+
+    #[inline(always)]
+    #[tactic(auto, unfolding(crate::specs::Reading::fields_read))]
+    fn read(words: &mut Words<'_>) -> Option<Line> {
+        Some(Line::Said(Event::Sample {
+            delay: words.span()?,
+            rtt: words.span()?,
+        }))
+    }
 }
 
-#[inline(always)]
-#[tactic(auto, unfolding(crate::specs::Reading::fields_read))]
-fn datagram_in(words: &mut Words<'_>) -> Option<Line>
-    ensures { ReadsBy (reading datagram_in) words.old words.new result }
-{
-    Some(Line::Said(Event::DatagramIn {
-        path: words.path()?,
-        bytes: words.number()?,
-    }))
+struct DatagramInLine;
+
+impl LineForm for DatagramInLine {
+    ghost form = { datagram_in };
+
+    #[inline(always)]
+    #[tactic(auto, unfolding(crate::specs::Reading::fields_read))]
+    fn read(words: &mut Words<'_>) -> Option<Line> {
+        Some(Line::Said(Event::DatagramIn {
+            path: words.path()?,
+            bytes: words.number()?,
+        }))
+    }
 }
 
-#[inline(always)]
-#[tactic(auto, unfolding(crate::specs::Reading::fields_read))]
-fn validated(words: &mut Words<'_>) -> Option<Line>
-    ensures { ReadsBy (reading validated) words.old words.new result }
-{
-    Some(Line::Said(Event::Validated {
-        path: words.path()?,
-    }))
+struct ValidatedLine;
+
+impl LineForm for ValidatedLine {
+    ghost form = { validated };
+
+    #[inline(always)]
+    #[tactic(auto, unfolding(crate::specs::Reading::fields_read))]
+    fn read(words: &mut Words<'_>) -> Option<Line> {
+        Some(Line::Said(Event::Validated {
+            path: words.path()?,
+        }))
+    }
 }
 
-#[inline(always)]
-#[tactic(auto, unfolding(crate::specs::Reading::fields_read))]
-fn transmit(words: &mut Words<'_>) -> Option<Line>
-    ensures { ReadsBy (reading transmit) words.old words.new result }
-{
-    Some(Line::Said(Event::Transmit {
-        now: words.moment()?,
-        bytes: words.short()?,
-        checked: words.flag()?,
-    }))
+struct TransmitLine;
+
+impl LineForm for TransmitLine {
+    ghost form = { transmit };
+
+    #[inline(always)]
+    #[tactic(auto, unfolding(crate::specs::Reading::fields_read))]
+    fn read(words: &mut Words<'_>) -> Option<Line> {
+        Some(Line::Said(Event::Transmit {
+            now: words.moment()?,
+            bytes: words.short()?,
+            checked: words.flag()?,
+        }))
+    }
 }
 
-#[inline(always)]
-#[tactic(auto, unfolding(crate::specs::Reading::fields_read))]
-fn pacer_check(words: &mut Words<'_>) -> Option<Line>
-    ensures { ReadsBy (reading pacer_check) words.old words.new result }
-{
-    Some(Line::Said(Event::PacerCheck {
-        now: words.moment()?,
-        bytes: words.number()?,
-    }))
+struct PacerCheckLine;
+
+impl LineForm for PacerCheckLine {
+    ghost form = { pacer_check };
+
+    #[inline(always)]
+    #[tactic(auto, unfolding(crate::specs::Reading::fields_read))]
+    fn read(words: &mut Words<'_>) -> Option<Line> {
+        Some(Line::Said(Event::PacerCheck {
+            now: words.moment()?,
+            bytes: words.number()?,
+        }))
+    }
 }
 
-#[inline(always)]
-#[tactic(auto, unfolding(crate::specs::Reading::fields_read))]
-fn congestion(words: &mut Words<'_>) -> Option<Line>
-    ensures { ReadsBy (reading congestion) words.old words.new result }
-{
-    Some(Line::Said(Event::Congestion {
-        now: words.moment()?,
-        sent: words.moment()?,
-        persistent: words.flag()?,
-        bytes: words.number()?,
-    }))
+struct CongestionLine;
+
+impl LineForm for CongestionLine {
+    ghost form = { congestion };
+
+    #[inline(always)]
+    #[tactic(auto, unfolding(crate::specs::Reading::fields_read))]
+    fn read(words: &mut Words<'_>) -> Option<Line> {
+        Some(Line::Said(Event::Congestion {
+            now: words.moment()?,
+            sent: words.moment()?,
+            persistent: words.flag()?,
+            bytes: words.number()?,
+        }))
+    }
 }
 
-#[inline(always)]
-#[tactic(auto, unfolding(crate::specs::Reading::fields_read))]
-fn end_acks(words: &mut Words<'_>) -> Option<Line>
-    ensures { ReadsBy (reading end_acks) words.old words.new result }
-{
-    Some(Line::Said(Event::EndAcks {
-        now: words.moment()?,
-        app_limited: words.flag()?,
-        largest: words.largest()?,
-    }))
+struct EndAcksLine;
+
+impl LineForm for EndAcksLine {
+    ghost form = { end_acks };
+
+    #[inline(always)]
+    #[tactic(auto, unfolding(crate::specs::Reading::fields_read))]
+    fn read(words: &mut Words<'_>) -> Option<Line> {
+        Some(Line::Said(Event::EndAcks {
+            now: words.moment()?,
+            app_limited: words.flag()?,
+            largest: words.largest()?,
+        }))
+    }
 }
 
-#[inline(always)]
-#[tactic(auto, unfolding(crate::specs::Reading::fields_read))]
-fn poll_mtu(words: &mut Words<'_>) -> Option<Line>
-    ensures { ReadsBy (reading poll_mtu) words.old words.new result }
-{
-    Some(Line::Said(Event::PollMtu {
-        now: words.moment()?,
-    }))
+struct PollMtuLine;
+
+impl LineForm for PollMtuLine {
+    ghost form = { poll_mtu };
+
+    #[inline(always)]
+    #[tactic(auto, unfolding(crate::specs::Reading::fields_read))]
+    fn read(words: &mut Words<'_>) -> Option<Line> {
+        Some(Line::Said(Event::PollMtu {
+            now: words.moment()?,
+        }))
+    }
 }
 
-#[inline(always)]
-#[tactic(auto, unfolding(crate::specs::Reading::fields_read))]
-fn peer_limit(words: &mut Words<'_>) -> Option<Line>
-    ensures { ReadsBy (reading peer_limit) words.old words.new result }
-{
-    Some(Line::Said(Event::PeerLimit {
-        size: words.short()?,
-    }))
+struct PeerLimitLine;
+
+impl LineForm for PeerLimitLine {
+    ghost form = { peer_limit };
+
+    #[inline(always)]
+    #[tactic(auto, unfolding(crate::specs::Reading::fields_read))]
+    fn read(words: &mut Words<'_>) -> Option<Line> {
+        Some(Line::Said(Event::PeerLimit {
+            size: words.short()?,
+        }))
+    }
 }
 
-#[inline(always)]
-#[tactic(auto, unfolding(crate::specs::Reading::fields_read))]
-fn losses_done(words: &mut Words<'_>) -> Option<Line>
-    ensures { ReadsBy (reading losses_done) words.old words.new result }
-{
-    Some(Line::Said(Event::LossesDone {
-        now: words.moment()?,
-    }))
+struct LossesDoneLine;
+
+impl LineForm for LossesDoneLine {
+    ghost form = { losses_done };
+
+    #[inline(always)]
+    #[tactic(auto, unfolding(crate::specs::Reading::fields_read))]
+    fn read(words: &mut Words<'_>) -> Option<Line> {
+        Some(Line::Said(Event::LossesDone {
+            now: words.moment()?,
+        }))
+    }
 }
 
-#[inline(always)]
-#[tactic(auto, unfolding(crate::specs::Reading::fields_read))]
-fn ecn(words: &mut Words<'_>) -> Option<Line>
-    ensures { ReadsBy (reading ecn) words.old words.new result }
-{
-    Some(Line::Said(Event::Ecn {
-        space: words.space()?,
-        newly_acked: words.number()?,
-        counts: EcnCounts {
-            ect0: words.number()?,
-            ect1: words.number()?,
-            ce: words.number()?,
-        },
-    }))
+struct EcnLine;
+
+impl LineForm for EcnLine {
+    ghost form = { ecn };
+
+    #[inline(always)]
+    #[tactic(auto, unfolding(crate::specs::Reading::fields_read))]
+    fn read(words: &mut Words<'_>) -> Option<Line> {
+        Some(Line::Said(Event::Ecn {
+            space: words.space()?,
+            newly_acked: words.number()?,
+            counts: EcnCounts {
+                ect0: words.number()?,
+                ect1: words.number()?,
+                ce: words.number()?,
+            },
+        }))
+    }
 }
 
-#[inline(always)]
-#[tactic(auto, unfolding(crate::specs::Reading::fields_read))]
-fn check_ack(words: &mut Words<'_>) -> Option<Line>
-    ensures { ReadsBy (reading check_ack) words.old words.new result }
-{
-    Some(Line::Said(Event::CheckAck {
-        space: words.space()?,
-        low: words.number()?,
-        high: words.number()?,
-    }))
+struct CheckAckLine;
+
+impl LineForm for CheckAckLine {
+    ghost form = { check_ack };
+
+    #[inline(always)]
+    #[tactic(auto, unfolding(crate::specs::Reading::fields_read))]
+    fn read(words: &mut Words<'_>) -> Option<Line> {
+        Some(Line::Said(Event::CheckAck {
+            space: words.space()?,
+            low: words.number()?,
+            high: words.number()?,
+        }))
+    }
 }
 
-#[inline(always)]
-#[tactic(auto, unfolding(crate::specs::Reading::fields_read))]
-fn queue_probe(words: &mut Words<'_>) -> Option<Line>
-    ensures { ReadsBy (reading queue_probe) words.old words.new result }
-{
-    Some(Line::Said(Event::QueueProbe {
-        space: words.space()?,
-        immediate_ack: words.flag()?,
-        streams: (),
-    }))
+struct QueueProbeLine;
+
+impl LineForm for QueueProbeLine {
+    ghost form = { queue_probe };
+
+    #[inline(always)]
+    #[tactic(auto, unfolding(crate::specs::Reading::fields_read))]
+    fn read(words: &mut Words<'_>) -> Option<Line> {
+        Some(Line::Said(Event::QueueProbe {
+            space: words.space()?,
+            immediate_ack: words.flag()?,
+            streams: (),
+        }))
+    }
 }
 
-#[inline(always)]
-#[tactic(auto, unfolding(crate::specs::Reading::fields_read))]
-fn take_pending(words: &mut Words<'_>) -> Option<Line>
-    ensures { ReadsBy (reading take_pending) words.old words.new result }
-{
-    Some(Line::Said(Event::TakePending {
-        space: words.space()?,
-    }))
+struct TakePendingLine;
+
+impl LineForm for TakePendingLine {
+    ghost form = { take_pending };
+
+    #[inline(always)]
+    #[tactic(auto, unfolding(crate::specs::Reading::fields_read))]
+    fn read(words: &mut Words<'_>) -> Option<Line> {
+        Some(Line::Said(Event::TakePending {
+            space: words.space()?,
+        }))
+    }
 }
 
-#[inline(always)]
-#[tactic(auto, unfolding(crate::specs::Reading::fields_read))]
-fn new_path(words: &mut Words<'_>) -> Option<Line>
-    ensures { ReadsBy (reading new_path) words.old words.new result }
-{
-    Some(Line::Path {
-        now: words.moment()?,
-        port: words.short()?,
-        fresh: words.flag()?,
-    })
+struct NewPathLine;
+
+impl LineForm for NewPathLine {
+    ghost form = { new_path };
+
+    #[inline(always)]
+    #[tactic(auto, unfolding(crate::specs::Reading::fields_read))]
+    fn read(words: &mut Words<'_>) -> Option<Line> {
+        Some(Line::Path {
+            now: words.moment()?,
+            port: words.short()?,
+            fresh: words.flag()?,
+        })
+    }
 }
 
-#[inline(always)]
-#[tactic(auto, unfolding(crate::specs::Reading::fields_read))]
-fn reset_path(words: &mut Words<'_>) -> Option<Line>
-    ensures { ReadsBy (reading reset_path) words.old words.new result }
-{
-    Some(Line::Said(Event::ResetPath {
-        now: words.moment()?,
-    }))
+struct ResetPathLine;
+
+impl LineForm for ResetPathLine {
+    ghost form = { reset_path };
+
+    #[inline(always)]
+    #[tactic(auto, unfolding(crate::specs::Reading::fields_read))]
+    fn read(words: &mut Words<'_>) -> Option<Line> {
+        Some(Line::Said(Event::ResetPath {
+            now: words.moment()?,
+        }))
+    }
 }
 
-#[inline(always)]
-#[tactic(auto, unfolding(crate::specs::Reading::fields_read))]
-fn issue_ids(words: &mut Words<'_>) -> Option<Line>
-    ensures { ReadsBy (reading issue_ids) words.old words.new result }
-{
-    Some(Line::Ids {
-        now: words.moment()?,
-        first: words.number()?,
-        count: words.count()?,
-    })
+struct IssueIdsLine;
+
+impl LineForm for IssueIdsLine {
+    ghost form = { issue_ids };
+
+    #[inline(always)]
+    #[tactic(auto, unfolding(crate::specs::Reading::fields_read))]
+    fn read(words: &mut Words<'_>) -> Option<Line> {
+        Some(Line::Ids {
+            now: words.moment()?,
+            first: words.number()?,
+            count: words.count()?,
+        })
+    }
+}
+
+struct NextIdLine;
+
+impl LineForm for NextIdLine {
+    ghost form = { next_id };
+
+    #[inline(always)]
+    #[tactic(auto, unfolding(crate::specs::Reading::fields_read))]
+    fn read(_words: &mut Words<'_>) -> Option<Line> {
+        Some(Line::Said(Event::NextId))
+    }
+}
+
+struct IdTimeoutLine;
+
+impl LineForm for IdTimeoutLine {
+    ghost form = { id_timeout };
+
+    #[inline(always)]
+    #[tactic(auto, unfolding(crate::specs::Reading::fields_read))]
+    fn read(_words: &mut Words<'_>) -> Option<Line> {
+        Some(Line::Said(Event::IdTimeout))
+    }
+}
+
+struct NextTimeoutLine;
+
+impl LineForm for NextTimeoutLine {
+    ghost form = { next_timeout };
+
+    #[inline(always)]
+    #[tactic(auto, unfolding(crate::specs::Reading::fields_read))]
+    fn read(_words: &mut Words<'_>) -> Option<Line> {
+        Some(Line::Said(Event::NextTimeout))
+    }
+}
+
+struct DropPreviousLine;
+
+impl LineForm for DropPreviousLine {
+    ghost form = { drop_previous };
+
+    #[inline(always)]
+    #[tactic(auto, unfolding(crate::specs::Reading::fields_read))]
+    fn read(_words: &mut Words<'_>) -> Option<Line> {
+        Some(Line::Said(Event::DropPrevious))
+    }
 }
 
 /// The ids of a line that issues them, each of zero bytes.
@@ -460,8 +650,29 @@ fn zero_ids(alloc: Global, first: u64, count: u64) -> Result<Vec<IssuedCid>, NoM
     Ok(ids)
 }
 
+/// The event of what a line says; `None` where a number of an id would pass `u64::MAX`.
+#[inline(always)]
+fn event_of(alloc: Global, line: Line) -> Result<Option<Event<ItemQueue>>, NoMemory>
+    ensures { Makes line result }
+{
+    match line {
+        Line::Said(event) => Ok(Some(event)),
+        Line::Ids { now, first, count } => {
+            if count.saturating_sub(1) > u64::MAX - first {
+                return Ok(None);
+            }
+            let ids = zero_ids(alloc, first, count)?;
+            Ok(Some(Event::IssueIds { now, ids }))
+        }
+        Line::Path { now, port, fresh } => {
+            let remote = peer_at(port);
+            Ok(Some(Event::NewPath { now, remote, fresh }))
+        }
+    }
+}
+
 /// Puts the event of what a line says into the sink; `None`, and nothing, where a number of an id would pass
-/// `u64::MAX`.
+/// `u64::MAX`. The sink's code stands here once, so that it can be compiled in.
 #[inline(always)]
 fn put_meant<S: Sink<Event<ItemQueue>>>(
     alloc: Global,
@@ -470,20 +681,10 @@ fn put_meant<S: Sink<Event<ItemQueue>>>(
 ) -> Result<Option<bool>, NoMemory>
     ensures { Puts S.takes (Some line) sink.old result sink.new }
 {
-    match line {
-        Line::Said(event) => Ok(Some(sink.put(event))),
-        Line::Ids { now, first, count } => {
-            if count.saturating_sub(1) > u64::MAX - first {
-                return Ok(None);
-            }
-            let ids = zero_ids(alloc, first, count)?;
-            Ok(Some(sink.put(Event::IssueIds { now, ids })))
-        }
-        Line::Path { now, port, fresh } => {
-            let remote = peer_at(port);
-            Ok(Some(sink.put(Event::NewPath { now, remote, fresh })))
-        }
-    }
+    let Some(event) = event_of(alloc, line)? else {
+        return Ok(None);
+    };
+    Ok(Some(sink.put(event)))
 }
 
 /// The same, where what the line says was read and no word of it is left.
@@ -502,8 +703,35 @@ fn put_read<S: Sink<Event<ItemQueue>>>(
     }
 }
 
+/// Puts the event of a line of this form into the sink. Each form has its own code, out of line: only its own places
+/// are cleared, and the sink knows which event it takes.
+#[inline(never)]
+fn put_form<F: LineForm, S: Sink<Event<ItemQueue>>>(
+    alloc: Global,
+    words: &mut Words<'_>,
+    sink: &mut S,
+) -> Result<Option<bool>, NoMemory>
+    ensures { Puts S.takes (whole (reading F.form (words_left words.old))) sink.old result sink.new }
+{
+    let line = F::read(words);
+    put_read(alloc, line, words, sink)
+}
+
+/// Puts the event of the one line with items into the sink.
+#[inline(never)]
+fn put_send<S: Sink<Event<ItemQueue>>>(
+    alloc: Global,
+    words: &mut Words<'_>,
+    sink: &mut S,
+) -> Result<Option<bool>, NoMemory>
+    ensures { PutsRead S.takes (reading send (words_left words.old)) sink.old result sink.new }
+{
+    let line = send(alloc, words)?;
+    put_read(alloc, line, words, sink)
+}
+
 /// Puts the event of a line without items into the sink, by the line's name and the words behind it. Names of other
-/// lengths are not compared with it. Each form puts its own event, so that none is put together where forms meet.
+/// lengths are not compared with it.
 #[tactic(auto, unfolding(crate::specs::Reading::line_behind))]
 fn put_behind<S: Sink<Event<ItemQueue>>>(
     alloc: Global,
@@ -515,64 +743,41 @@ fn put_behind<S: Sink<Event<ItemQueue>>>(
         sink.old result sink.new }
 {
     match name.len() {
-        3 if is_name(name, "ecn") => put_read(alloc, ecn(words), words, sink),
-        4 if is_name(name, "lost") => put_read(alloc, lost(words), words, sink),
-        5 if is_name(name, "acked") => put_read(alloc, acked(words), words, sink),
-        6 if is_name(name, "new-id") => put_read(alloc, new_id(words), words, sink),
-        6 if is_name(name, "sample") => put_read(alloc, sample(words), words, sink),
-        7 if is_name(name, "next-id") => put_read(
-            alloc,
-            Some(Line::Said(Event::NextId)),
-            words,
-            sink,
-        ),
-        7 if is_name(name, "discard") => put_read(alloc, discard(words), words, sink),
-        8 if is_name(name, "received") => put_read(alloc, received(words), words, sink),
-        8 if is_name(name, "transmit") => put_read(alloc, transmit(words), words, sink),
-        8 if is_name(name, "end-acks") => put_read(alloc, end_acks(words), words, sink),
-        8 if is_name(name, "poll-mtu") => put_read(alloc, poll_mtu(words), words, sink),
-        8 if is_name(name, "new-path") => put_read(alloc, new_path(words), words, sink),
-        9 if is_name(name, "issue-ids") => put_read(alloc, issue_ids(words), words, sink),
-        9 if is_name(name, "acks-sent") => put_read(alloc, acks_sent(words), words, sink),
-        9 if is_name(name, "set-timer") => put_read(alloc, set_timer(words), words, sink),
-        9 if is_name(name, "in-flight") => put_read(alloc, in_flight(words), words, sink),
-        9 if is_name(name, "validated") => put_read(alloc, validated(words), words, sink),
-        9 if is_name(name, "check-ack") => put_read(alloc, check_ack(words), words, sink),
-        10 if is_name(name, "initial-id") => put_read(alloc, initial_id(words), words, sink),
-        10 if is_name(name, "id-timeout") => put_read(
-            alloc,
-            Some(Line::Said(Event::IdTimeout)),
-            words,
-            sink,
-        ),
-        10 if is_name(name, "stop-timer") => put_read(alloc, stop_timer(words), words, sink),
-        10 if is_name(name, "congestion") => put_read(alloc, congestion(words), words, sink),
-        10 if is_name(name, "peer-limit") => put_read(alloc, peer_limit(words), words, sink),
-        10 if is_name(name, "reset-path") => put_read(alloc, reset_path(words), words, sink),
-        11 if is_name(name, "datagram-in") => put_read(alloc, datagram_in(words), words, sink),
-        11 if is_name(name, "pacer-check") => put_read(alloc, pacer_check(words), words, sink),
-        11 if is_name(name, "losses-done") => put_read(alloc, losses_done(words), words, sink),
-        11 if is_name(name, "queue-probe") => put_read(alloc, queue_probe(words), words, sink),
-        12 if is_name(name, "peer-retired") => put_read(alloc, peer_retired(words), words, sink),
-        12 if is_name(name, "next-timeout") => put_read(
-            alloc,
-            Some(Line::Said(Event::NextTimeout)),
-            words,
-            sink,
-        ),
-        12 if is_name(name, "take-pending") => put_read(alloc, take_pending(words), words, sink),
-        13 if is_name(name, "ack-frequency") => put_read(alloc, ack_frequency(words), words, sink),
-        13 if is_name(name, "drop-previous") => put_read(
-            alloc,
-            Some(Line::Said(Event::DropPrevious)),
-            words,
-            sink,
-        ),
-        17 if is_name(name, "ack-delay-timeout") => put_read(
-            alloc,
-            ack_delay_timeout(words),
-            words,
-            sink,
+        3 if is_name(name, "ecn") => put_form::<EcnLine, S>(alloc, words, sink),
+        4 if is_name(name, "lost") => put_form::<LostLine, S>(alloc, words, sink),
+        5 if is_name(name, "acked") => put_form::<AckedLine, S>(alloc, words, sink),
+        6 if is_name(name, "new-id") => put_form::<NewIdLine, S>(alloc, words, sink),
+        6 if is_name(name, "sample") => put_form::<SampleLine, S>(alloc, words, sink),
+        7 if is_name(name, "next-id") => put_form::<NextIdLine, S>(alloc, words, sink),
+        7 if is_name(name, "discard") => put_form::<DiscardLine, S>(alloc, words, sink),
+        8 if is_name(name, "received") => put_form::<ReceivedLine, S>(alloc, words, sink),
+        8 if is_name(name, "transmit") => put_form::<TransmitLine, S>(alloc, words, sink),
+        8 if is_name(name, "end-acks") => put_form::<EndAcksLine, S>(alloc, words, sink),
+        8 if is_name(name, "poll-mtu") => put_form::<PollMtuLine, S>(alloc, words, sink),
+        8 if is_name(name, "new-path") => put_form::<NewPathLine, S>(alloc, words, sink),
+        9 if is_name(name, "issue-ids") => put_form::<IssueIdsLine, S>(alloc, words, sink),
+        9 if is_name(name, "acks-sent") => put_form::<AcksSentLine, S>(alloc, words, sink),
+        9 if is_name(name, "set-timer") => put_form::<SetTimerLine, S>(alloc, words, sink),
+        9 if is_name(name, "in-flight") => put_form::<InFlightLine, S>(alloc, words, sink),
+        9 if is_name(name, "validated") => put_form::<ValidatedLine, S>(alloc, words, sink),
+        9 if is_name(name, "check-ack") => put_form::<CheckAckLine, S>(alloc, words, sink),
+        10 if is_name(name, "initial-id") => put_form::<InitialIdLine, S>(alloc, words, sink),
+        10 if is_name(name, "id-timeout") => put_form::<IdTimeoutLine, S>(alloc, words, sink),
+        10 if is_name(name, "stop-timer") => put_form::<StopTimerLine, S>(alloc, words, sink),
+        10 if is_name(name, "congestion") => put_form::<CongestionLine, S>(alloc, words, sink),
+        10 if is_name(name, "peer-limit") => put_form::<PeerLimitLine, S>(alloc, words, sink),
+        10 if is_name(name, "reset-path") => put_form::<ResetPathLine, S>(alloc, words, sink),
+        11 if is_name(name, "datagram-in") => put_form::<DatagramInLine, S>(alloc, words, sink),
+        11 if is_name(name, "pacer-check") => put_form::<PacerCheckLine, S>(alloc, words, sink),
+        11 if is_name(name, "losses-done") => put_form::<LossesDoneLine, S>(alloc, words, sink),
+        11 if is_name(name, "queue-probe") => put_form::<QueueProbeLine, S>(alloc, words, sink),
+        12 if is_name(name, "peer-retired") => put_form::<PeerRetiredLine, S>(alloc, words, sink),
+        12 if is_name(name, "next-timeout") => put_form::<NextTimeoutLine, S>(alloc, words, sink),
+        12 if is_name(name, "take-pending") => put_form::<TakePendingLine, S>(alloc, words, sink),
+        13 if is_name(name, "ack-frequency") => put_form::<AckFrequencyLine, S>(alloc, words, sink),
+        13 if is_name(name, "drop-previous") => put_form::<DropPreviousLine, S>(alloc, words, sink),
+        17 if is_name(name, "ack-delay-timeout") => put_form::<AckDelayTimeoutLine, S>(
+            alloc, words, sink,
         ),
         _ => Ok(None),
     }
@@ -600,8 +805,7 @@ pub fn put_event<S: Sink<Event<ItemQueue>>>(
         return Ok(None);
     };
     if is_name(name, "send") {
-        let line = send(alloc, &mut words)?;
-        return put_read(alloc, line, &words, sink);
+        return put_send(alloc, &mut words, sink);
     }
     put_behind(alloc, name, &mut words, sink)
 }

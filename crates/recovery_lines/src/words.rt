@@ -1,14 +1,14 @@
 //! The words of a line, read one after the other.
-ghost use Rattle.std.specs.Prelude.{◌≡◌, ◌*◌, ◌<◌, ◌^◌, ◌==◌, [], Some, length, take};
+ghost use Rattle.std.specs.Prelude.{◌≡◌, ◌*◌, ◌<◌, ◌≤◌, ◌^◌, ◌==◌, [], Some, length, take, slice_index};
 ghost use Rattle.std.specs.Prelude.{bytes_eq, Decides, IfOk, IfSome, OnErr, IsSome, IsSomeAnd};
-ghost use Rattle.std.specs.List.{position_or_len};
+ghost use Rattle.std.specs.List.{position_or_len, before_first};
 ghost use Rattle.recovery_base.specs.Timers.{timer_named};
 ghost use Rattle.recovery_lines.specs.Words.{words_of};
 ghost use Rattle.recovery_lines.specs.Reading.{IsFirstNumber, Reads, ReadsBy, words_left, first_word, field, flag_of, space_of, path_of, largest_of, number_of};
-ghost use Rattle.recovery_lines.specs.Reading.{items_read, AreItemsRead};
+ghost use Rattle.recovery_lines.specs.Reading.{items_read, AreItemsRead, IsPlainName, TakesName};
 
 use crate::blanks::word_len;
-use crate::digits::leading_digits;
+use crate::digits::{half_at, leading_digits, word_at};
 use recovery_base::below::{NoMemory, SpaceId, VarInt};
 use recovery_base::time::{Duration, Instant};
 use recovery_base::timer::Timer;
@@ -19,10 +19,79 @@ use std::alloc::Global;
 const MOST_IDS: u64 = 64;
 
 /// Is a word this name?
+#[inline(always)]
 pub fn is_name(word: &[u8], name: &str) -> bool
     ensures { result ≡ bytes_eq word.now name.now }
 {
-    word == name.as_bytes()
+    are_same(word, name.as_bytes())
+}
+
+/// Are these the same bytes? Eight are compared as one word, then four, so that no byte is read twice: where the others
+/// are known as this is compiled, they are numbers.
+#[inline(always)]
+fn are_same(bytes: &[u8], others: &[u8]) -> bool
+    ensures { result ≡ bytes_eq bytes.now others.now }
+{
+    let count = others.len();
+    if bytes.len() != count {
+        return false;
+    }
+    if count < 8 {
+        return are_short_same(bytes, others);
+    }
+    word_at(bytes, 0) == word_at(others, 0) && are_short_same(&bytes[8..], &others[8..])
+}
+
+/// The same of few bytes, by words of four.
+#[inline(always)]
+fn are_short_same(bytes: &[u8], others: &[u8]) -> bool
+    requires { length bytes.now ≡ length others.now }
+    ensures { result ≡ bytes_eq bytes.now others.now }
+{
+    let count = others.len();
+    if count < 4 {
+        return are_few_same(bytes, others);
+    }
+    half_at(bytes, 0) == half_at(others, 0) && are_few_same(&bytes[4..], &others[4..])
+}
+
+/// The same of up to three bytes, one by one.
+#[inline(always)]
+fn are_few_same(bytes: &[u8], others: &[u8]) -> bool
+    requires { length bytes.now ≡ length others.now }
+    ensures { result ≡ bytes_eq bytes.now others.now }
+{
+    match others.len() {
+        0 => true,
+        1 => bytes[0] == others[0],
+        2 => bytes[0] == others[0] && bytes[1] == others[1],
+        3 => bytes[0] == others[0] && bytes[1] == others[1] && bytes[2] == others[2],
+        _ => bytes == others,
+    }
+}
+
+/// Does a word of bytes end at a place, that is, does nothing or a space stand there?
+#[inline(always)]
+fn ends_at(bytes: &[u8], end: usize) -> bool
+    ensures { Decides result (end < length bytes.now → slice_index bytes.now end ≡ 32) }
+{
+    end >= bytes.len() || bytes[end] == b' '
+}
+
+/// Do bytes begin with this name, as their first word?
+#[inline(always)]
+fn begins_with(bytes: &[u8], name: &str) -> bool
+    requires { IsPlainName name.now }
+    ensures { result ≡ bytes_eq (before_first (λ b. b == 32) bytes.now) name.now }
+{
+    let end = name.len();
+    if end > bytes.len() {
+        return false;
+    }
+    if !ends_at(bytes, end) {
+        return false;
+    }
+    is_name(&bytes[..end], name)
 }
 
 /// The number that digits spell, 0 to `u128::MAX`: without a sign and without leading zeros.
@@ -65,62 +134,8 @@ fn span_in(word: &[u8]) -> Option<Duration>
     }
 }
 
-/// The number that a word spells, or `Some(None)` for the word that spells none.
-#[tactic(auto, unfolding(crate::specs::Reading::largest_of))]
-fn largest_in(word: &[u8]) -> Option<Option<u64>>
-    ensures { result ≡ largest_of word.now }
-{
-    match word {
-        b"-" => Some(None),
-        _ => Some(Some(number_in(word)?)),
-    }
-}
-
-#[tactic(auto, unfolding(crate::specs::Reading::flag_of))]
-fn flag_in(word: &[u8]) -> Option<bool>
-    ensures { result ≡ flag_of word.now }
-{
-    match word {
-        b"0" => Some(false),
-        b"1" => Some(true),
-        _ => None,
-    }
-}
-
-#[tactic(auto, unfolding(crate::specs::Reading::space_of))]
-fn space_in(word: &[u8]) -> Option<SpaceId>
-    ensures { result ≡ space_of word.now }
-{
-    match word {
-        name if is_name(name, "initial") => Some(SpaceId::Initial),
-        name if is_name(name, "handshake") => Some(SpaceId::Handshake),
-        name if is_name(name, "data") => Some(SpaceId::Data),
-        _ => None,
-    }
-}
-
-#[tactic(auto, unfolding(crate::specs::Reading::path_of))]
-fn path_in(word: &[u8]) -> Option<PathName>
-    ensures { result ≡ path_of word.now }
-{
-    match word {
-        name if is_name(name, "current") => Some(PathName::Current),
-        name if is_name(name, "previous") => Some(PathName::Previous),
-        _ => None,
-    }
-}
-
-/// The number that the first word of bytes spells, 0 to `u64::MAX`, and the length of that word.
-#[cold]
-#[inline(never)]
-fn first_number_of_any_length(bytes: &[u8]) -> Option<(u64, usize)>
-    ensures { IsFirstNumber (2 ^ 64) bytes.now result }
-{
-    let end = word_len(bytes);
-    Some((number_in(&bytes[..end])?, end))
-}
-
-/// The same in one pass, where the word has no more than 19 digits; else `None`, whatever it spells.
+/// The number that the first word of bytes spells, 0 to `u64::MAX`, and the length of that word, in one pass, where it
+/// has no more than 19 digits; else `None`, whatever it spells.
 #[inline(always)]
 fn first_short_number(bytes: &[u8]) -> Option<(u64, usize)>
     ensures { IfSome result (λ found. IsFirstNumber (2 ^ 64) bytes.now (Some found)) }
@@ -133,29 +148,6 @@ fn first_short_number(bytes: &[u8]) -> Option<(u64, usize)>
         return None;
     }
     Some((value, end))
-}
-
-/// The same, in one pass for a short word.
-#[inline(always)]
-fn first_number(bytes: &[u8]) -> Option<(u64, usize)>
-    ensures { IsFirstNumber (2 ^ 64) bytes.now result }
-{
-    match first_short_number(bytes) {
-        Some(found) => Some(found),
-        None => first_number_of_any_length(bytes),
-    }
-}
-
-/// The span that the first word of bytes spells, and the length of that word. Few spans are longer than a number.
-#[tactic(auto, unfolding(crate::specs::Reading::number_of))]
-fn first_span(bytes: &[u8]) -> Option<(Duration, usize)>
-    ensures { IsFirstNumber (2 ^ 64 * 10 ^ 9) bytes.now result }
-{
-    if let Some((nanos, end)) = first_short_number(bytes) {
-        return Some((Duration::from_nanos(nanos), end));
-    }
-    let end = word_len(bytes);
-    Some((span_in(&bytes[..end])?, end))
 }
 
 /// The words of a line that are left to read.
@@ -195,6 +187,22 @@ impl<'a> Words<'a> {
         Some(&rest[..end])
     }
 
+    /// Takes the next word if it is this name, and else none: whether it is.
+    #[inline(always)]
+    fn take_name(&mut self, name: &str) -> bool
+        requires { IsPlainName name.now }
+        ensures { TakesName name.now result (words_left self.old) (words_left self.new) }
+    {
+        let Some(rest) = self.rest else {
+            return false;
+        };
+        if !begins_with(rest, name) {
+            return false;
+        }
+        self.pass(rest, name.len());
+        true
+    }
+
     /// The next word as a number, 0 to `u64::MAX`.
     #[inline(never)]
     #[tactic(auto, unfolding(crate::specs::Reading::field))]
@@ -202,9 +210,21 @@ impl<'a> Words<'a> {
         ensures { ReadsBy (field (number_of (2 ^ 64))) self.old self.new result }
     {
         let rest = self.rest?;
-        let (number, end) = first_number(rest)?;
+        let Some((number, end)) = first_short_number(rest) else {
+            return self.number_of_any_length();
+        };
         self.pass(rest, end);
         Some(number)
+    }
+
+    /// The same, where the word has more than 19 digits, or spells no number.
+    #[cold]
+    #[inline(never)]
+    #[tactic(auto, unfolding(crate::specs::Reading::field))]
+    fn number_of_any_length(&mut self) -> Option<u64>
+        ensures { ReadsBy (field (number_of (2 ^ 64))) self.old self.new result }
+    {
+        number_in(self.next()?)
     }
 
     /// The next word as a moment: nanoseconds, 0 to `u64::MAX`.
@@ -216,14 +236,26 @@ impl<'a> Words<'a> {
     }
 
     /// The next word as a span: nanoseconds, 0 to 2^64 · 10^9 - 1.
-    #[tactic(auto, unfolding(crate::specs::Reading::field))]
+    #[inline(never)]
+    #[tactic(auto, unfolding(crate::specs::Reading::field, crate::specs::Reading::number_of))]
     pub fn span(&mut self) -> Option<Duration>
         ensures { ReadsBy (field (number_of (2 ^ 64 * 10 ^ 9))) self.old self.new result }
     {
         let rest = self.rest?;
-        let (span, end) = first_span(rest)?;
+        let Some((nanos, end)) = first_short_number(rest) else {
+            return self.span_of_any_length();
+        };
         self.pass(rest, end);
-        Some(span)
+        Some(Duration::from_nanos(nanos))
+    }
+
+    /// The same, where the word has more than 19 digits, or spells no span.
+    #[inline(never)]
+    #[tactic(auto, unfolding(crate::specs::Reading::field))]
+    fn span_of_any_length(&mut self) -> Option<Duration>
+        ensures { ReadsBy (field (number_of (2 ^ 64 * 10 ^ 9))) self.old self.new result }
+    {
+        span_in(self.next()?)
     }
 
     /// The next word as a number, 0 to `u16::MAX`: a size in bytes, or a port.
@@ -266,16 +298,14 @@ impl<'a> Words<'a> {
     }
 
     /// The next word as a packet number, 0 to `u64::MAX`, or as none, which is spelled `-`.
-    #[tactic(auto, using(crate::proofs::LineFieldLaws::largest_is), unfolding(crate::specs::Reading::field))]
+    #[tactic(auto, unfolding(crate::specs::Reading::field))]
     pub fn largest(&mut self) -> Option<Option<u64>>
         ensures { ReadsBy (field largest_of) self.old self.new result }
     {
-        let rest = self.rest?;
-        if let Some((number, end)) = first_short_number(rest) {
-            self.pass(rest, end);
-            return Some(Some(number));
+        if self.take_name("-") {
+            return Some(None);
         }
-        largest_in(self.next()?)
+        Some(Some(self.number()?))
     }
 
     /// The next word as a path: `current` or `previous`.
@@ -283,7 +313,13 @@ impl<'a> Words<'a> {
     pub fn path(&mut self) -> Option<PathName>
         ensures { ReadsBy (field path_of) self.old self.new result }
     {
-        path_in(self.next()?)
+        if self.take_name("current") {
+            return Some(PathName::Current);
+        }
+        if self.take_name("previous") {
+            return Some(PathName::Previous);
+        }
+        None
     }
 
     /// The next word as a flag: 0 or 1.
@@ -291,7 +327,13 @@ impl<'a> Words<'a> {
     pub fn flag(&mut self) -> Option<bool>
         ensures { ReadsBy (field flag_of) self.old self.new result }
     {
-        flag_in(self.next()?)
+        if self.take_name("0") {
+            return Some(false);
+        }
+        if self.take_name("1") {
+            return Some(true);
+        }
+        None
     }
 
     /// The next word as a packet number space: `initial`, `handshake` or `data`.
@@ -299,7 +341,16 @@ impl<'a> Words<'a> {
     pub fn space(&mut self) -> Option<SpaceId>
         ensures { ReadsBy (field space_of) self.old self.new result }
     {
-        space_in(self.next()?)
+        if self.take_name("data") {
+            return Some(SpaceId::Data);
+        }
+        if self.take_name("initial") {
+            return Some(SpaceId::Initial);
+        }
+        if self.take_name("handshake") {
+            return Some(SpaceId::Handshake);
+        }
+        None
     }
 
     /// The next word as a timer, by its name in small letters with hyphens.
@@ -332,6 +383,7 @@ impl<'a> Words<'a> {
 
     /// All words that are left as items, 0 to `u64::MAX` each. No memory is taken unless they all are, and there is
     /// one.
+    #[inline(never)]
     pub fn items(&mut self, alloc: Global) -> Result<Option<Vec<u64>>, NoMemory>
         ensures found { IfOk result (AreItemsRead self.old self.new) }
         ensures memory { OnErr result

@@ -43,6 +43,7 @@ impl AnswerText {
 impl Sink<Result<Answer<ItemQueue>, Refusal>> for AnswerText {
     ghost takes = { λ old reply new. TakesLine old.text old.whole reply new.text new.whole };
 
+    #[inline(always)]
     fn put(&mut self, item: Result<Answer<ItemQueue>, Refusal>) -> bool {
         let whole = self.whole && write_reply(&mut self.text, &item).is_ok();
         self.whole = whole;

@@ -12,7 +12,7 @@ returns c =
     let small = λ (k : ℕ).
     xor_lt 8 (get_or bs (at + k) 0) 32 (c.type_inv.bytes (at + k)).fits (omega arith) in
     let word : bit_xor c.word_at-others.result 0x2020_2020_2020_2020 ≡ digits_from apart 0 8 =
-    ap (λ w. bit_xor w 0x2020_2020_2020_2020) c.word_at-others.ensures
+    ap (λ w. bit_xor w 0x2020_2020_2020_2020) c.word_at-others.ensures.word
     ∙ differences bs c.type_inv.bytes at 32 (omega arith) in
     flags (λ k. get_or bs k 0 == 32) at _
     (zero_flags _ apart small word ∙ same_flags _ _ (λ k. no_difference (get_or bs (at + k) 0) 32))

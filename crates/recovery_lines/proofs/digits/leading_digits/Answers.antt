@@ -7,7 +7,7 @@ pub returns-then-front-lt8 : goal.returns-then-front-lt8
 returns-then-front-lt8 c =
     let u = c.up_to_eight-front in
     let r = eight_first c.args.bytes.now c.type_inv.bytes _ u.result.0 u.result.0 u.result.1 refl (omega arith)
-    c.word_at.ensures u.ensures.most (omega arith) u.ensures.read in
+    c.word_at.ensures.word u.ensures.most (omega arith) u.ensures.read in
     record { value = value_read _ _ _ r; digits = are_digits _ _ _ r; within = r.within; fits = search rules }
 
 pub returns-then-more-lt8 : goal.returns-then-more-lt8
@@ -15,8 +15,8 @@ returns-then-more-lt8 c =
     let u = c.up_to_eight-front in
     let v = c.up_to_eight-more in
     let r = eight_more c.args.bytes.now c.type_inv.bytes 8 u.result.1 _ v.result.0 v.result.1
-    (eight_first _ c.type_inv.bytes _ u.result.0 _ _ (omega arith) (omega arith) c.word_at.ensures u.ensures.most
-    (omega arith) u.ensures.read) (omega arith) c.word_at-then-bytes-ge16.ensures v.ensures.most v.ensures.read in
+    (eight_first _ c.type_inv.bytes _ u.result.0 _ _ (omega arith) (omega arith) c.word_at.ensures.word u.ensures.most
+    (omega arith) u.ensures.read) (omega arith) c.word_at-then-bytes-ge16.ensures.word v.ensures.most v.ensures.read in
     record {
       value = rw c.ten_to.ensures (value_read _ _ _ r);
       digits = are_digits _ _ _ r;
@@ -31,13 +31,13 @@ loop-count-init c =
           let u = w.up_to_eight-front in
           let v = w.up_to_eight-more in
           rw (w.value-is, w.count-is, w.ten_to.ensures) (eight_more _ c.type_inv.bytes 8 u.result.1 _ _ _
-          (eight_first _ c.type_inv.bytes _ u.result.0 _ _ (omega arith) w.if-bytes-ge8.true w.word_at.ensures
-          u.ensures.most (omega arith) u.ensures.read) w.if-bytes-ge16.true w.word_at-then-bytes-ge16.ensures
+          (eight_first _ c.type_inv.bytes _ u.result.0 _ _ (omega arith) w.if-bytes-ge8.true w.word_at.ensures.word
+          u.ensures.most (omega arith) u.ensures.read) w.if-bytes-ge16.true w.word_at-then-bytes-ge16.ensures.word
           v.ensures.most v.ensures.read)
       | then-bytes-ge8+else-front-lt8+else-bytes-ge16 w ↦
           let u = w.up_to_eight-front in
           rw (w.value-is, w.count-is) (eight_first _ c.type_inv.bytes _ u.result.0 _ _ (omega arith)
-          w.if-bytes-ge8.true w.word_at.ensures u.ensures.most (omega arith) u.ensures.read)
+          w.if-bytes-ge8.true w.word_at.ensures.word u.ensures.most (omega arith) u.ensures.read)
       | else-bytes-ge8 w ↦ rw (w.value-is, w.count-is) (none_read _)
     ]
 

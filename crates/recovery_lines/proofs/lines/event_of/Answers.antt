@@ -1,0 +1,10 @@
+use Rattle.std.proofs.Common.{refl, subst, sym, rules}
+use Rattle.recovery_events.specs.declared.event.Event.TheVariants.{IssueIds}
+use Rattle.recovery_lines.specs.declared.lines.Line.{Line}
+use Rattle.recovery_lines.specs.Lines.{Means}
+use Rattle.recovery_lines.proofs.lines.event_of.Goals as goal
+
+pub returns-in_ok-ids-in-Ids : goal.returns-in_ok-ids-in-Ids
+returns-in_ok-ids-in-Ids c =
+    subst (λ (line : Line). Means line (IssueIds c.in-Ids.now c.in_ok-ids-in-Ids.ids)) (sym c.in-Ids.is)
+    (c.in_ok-ids-in-Ids.ids, refl, c.in_ok-ids-in-Ids.ensures.made, search rules)

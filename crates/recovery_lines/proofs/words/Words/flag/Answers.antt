@@ -1,0 +1,19 @@
+use Rattle.std.proofs.Common.{refl}
+use Rattle.recovery_lines.specs.Reading.{flag_of, flag_names}
+use Rattle.recovery_lines.proofs.NameLaws.{field_named, field_unnamed}
+use Rattle.recovery_lines.proofs.words.Words.flag.Goals as goal
+
+pub returns-then-take_name : goal.returns-then-take_name
+unfolding flag_of
+returns-then-take_name c = field_named _ _ _ _ _ c.if-take_name.ensures refl
+
+pub returns-then-take_name-2 : goal.returns-then-take_name-2
+unfolding flag_of
+returns-then-take_name-2 c =
+    rw (← c.if-take_name.ensures.0) (field_named _ _ _ _ _ c.if-take_name-2.ensures refl)
+
+pub returns : goal.returns
+unfolding flag_of
+returns c =
+    field_unnamed flag_names _
+    (c.if-take_name.ensures.1, (rw (c.if-take_name.ensures.0) at c.if-take_name-2.ensures.1, tt))
