@@ -1,5 +1,5 @@
 -- What the layer above keeps with paths and spaces stays as events go by. `LeftLaws` and the steps of calls rest on it.
-use Rattle.std.proofs.Common.{◌≡◌, ℕ, true, false, Option, None, Some, option_map, Ok, Err, refl, ap, arith}
+use Rattle.std.proofs.Common.{◌≡◌, ℕ, true, false, Option, None, Some, option_map, Ok, Err, refl, ap, ◌∙◌, arith}
 use Rattle.recovery_base.specs.declared.below.frames.EcnCounts.{EcnCounts}
 use Rattle.recovery_ledger.specs.SpaceLog.{SpaceEntry}
 use Rattle.recovery_ledger.specs.Spaces.{Space, SpaceStep}
@@ -10,10 +10,13 @@ use Rattle.recovery_queue.specs.Queues.{QueueWords}
 use Rattle.recovery_events.specs.declared.event.Event.{Event}
 use Rattle.recovery_events.specs.declared.event.Event.TheVariants.{NewPath, DropPrevious}
 use Rattle.recovery_events.specs.declared.event.Refusal.{Refusal}
-use Rattle.quic_recovery.specs.Above.{AreFresh, beside_of}
-use Rattle.quic_recovery.specs.Table.{marks_after}
-use Rattle.quic_recovery.specs.History.{Reply}
+use Rattle.quic_recovery.specs.Above.{AreFresh, beside_of, untouched_of, HasNoLossTime}
+use Rattle.quic_recovery.specs.Table.{marks_after, entries_of}
+use Rattle.quic_recovery.specs.History.{QueueMeaning, Reply}
+use Rattle.quic_recovery.specs.Known.{Known}
 use Rattle.quic_recovery.specs.Logs.{StepBy}
+use Rattle.quic_recovery.specs.Parts.{Parts}
+use Rattle.quic_recovery.specs.State.{Steps}
 
 -- ---- paths
 
@@ -50,13 +53,30 @@ module _ {K : Type 0} (change : Path K → Path K) (keeps : (path : Path K) → 
 -- ---- spaces
 
 -- a space as it is made
-pub beside_made : (ecn : EcnCounts) (loss_time : Option ℕ) (offset : ℕ) → ecn ≡ no_ecn → loss_time ≡ None → offset ≡ 0
-    → (let found : EcnCounts × Option ℕ × ℕ = (ecn, loss_time, offset) in found) ≡ (no_ecn, None, 0)
-beside_made ecn loss_time offset no_counts no_loss none = cc
+pub untouched_made : (ecn : EcnCounts) (offset : ℕ) → ecn ≡ no_ecn → offset ≡ 0
+    → (let found : EcnCounts × ℕ = (ecn, offset) in found) ≡ (no_ecn, 0)
+untouched_made ecn offset no_counts none = cc
 
 module _ {P M S : Type 0} (words : QueueWords P S) where
   -- no entry touches what is kept beside
-  pub beside_stays : (entry : Option (SpaceEntry P M)) (old new : Space P M) → StepBy (SpaceStep words) entry old new
+  beside_stays : (entry : Option (SpaceEntry P M)) (old new : Space P M) → StepBy (SpaceStep words) entry old new
       → beside_of new ≡ beside_of old
   beside_stays None old new step = ap beside_of step
   beside_stays (Some entry) old new step = grind (arith, step)
+
+  pub untouched_stays : (entry : Option (SpaceEntry P M)) (old new : Space P M) → StepBy (SpaceStep words) entry old new
+      → untouched_of new ≡ untouched_of old
+  untouched_stays entry old new step =
+      ap (λ (all : EcnCounts × Option ℕ × ℕ). let two : EcnCounts × ℕ = (all.0, all.2) in two)
+      (beside_stays entry old new step)
+
+  pub loss_time_stays : (entry : Option (SpaceEntry P M)) (old new : Space P M) → StepBy (SpaceStep words) entry old new
+      → new.loss_time ≡ old.loss_time
+  loss_time_stays entry old new step = ap (λ (all : EcnCounts × Option ℕ × ℕ). all.1) (beside_stays entry old new step)
+
+-- so no loss time is set by an event
+module _ {K Q S M P : Type 0} (q : QueueMeaning Q S M P) where
+  pub loss_times_after : (known : Known K P M) (event : Event Q S M P) (reply : Reply Q) (old new : Parts K P M)
+      → Steps q.words (entries_of q known event reply) old new → HasNoLossTime old.spaces → HasNoLossTime new.spaces
+  loss_times_after known event reply old new steps none = λ space.
+      loss_time_stays q.words ((entries_of q known event reply).spaces space) _ _ (steps.spaces space) ∙ none space

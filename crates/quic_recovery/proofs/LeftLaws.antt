@@ -28,8 +28,8 @@ use Rattle.quic_recovery.specs.History.{Beginning, History, Reply}
 use Rattle.quic_recovery.specs.Known.{tracked_known}
 use Rattle.quic_recovery.specs.Logs.{onto}
 use Rattle.quic_recovery.specs.Parts.{Parts}
-use Rattle.quic_recovery.specs.State.{InFlightLeft, Left, acks_to, SkippingStep, ChangesBy, Changes, known_to}
-use Rattle.quic_recovery.proofs.AboveLaws.{beside_stays}
+use Rattle.quic_recovery.specs.State.{InFlightLeft, PartsLeft, acks_to, SkippingStep, ChangesBy, Changes, known_to}
+use Rattle.quic_recovery.proofs.AboveLaws.{untouched_stays}
 use Rattle.quic_recovery.proofs.LogLaws.{left_by_entry}
 use Rattle.quic_recovery.proofs.PeerIdsLaws.{held_same}
 use Rattle.quic_recovery.proofs.PlainLaws.{plain_after}
@@ -50,7 +50,7 @@ module _ {F K Q S M P : Type 0} (beginning : Beginning F K Q S M P) where
 
   -- ---- what is known
 
-  pub known_same : (history : History Q S M P) (state : Parts K P M) → Left beginning history state
+  pub known_same : (history : History Q S M P) (state : Parts K P M) → PartsLeft beginning history state
       → known_to state ≡ known_by beginning history
   known_same history state left =
       let n = ((known_by beginning history).spaces Data).sent.next in
@@ -77,7 +77,7 @@ module _ {F K Q S M P : Type 0} (beginning : Beginning F K Q S M P) where
 module _ {F K Q S M P : Type 0} (beginning : Beginning F K Q S M P) where
   -- the steps, by what the history knows
   pub changes_by_logs : (history : History Q S M P) (old : Parts K P M) (event : Event Q S M P) (reply : Reply Q)
-      (new : Parts K P M) → Left beginning history old → Changes beginning.queue old event reply new
+      (new : Parts K P M) → PartsLeft beginning history old → Changes beginning.queue old event reply new
       → ChangesBy beginning.queue (known_by beginning history) old event reply new
   changes_by_logs history old event reply new left changes = rw (← known_same beginning history old left) changes
 
@@ -95,8 +95,8 @@ module _ {F K Q S M P : Type 0} (beginning : Beginning F K Q S M P) where
   skipping_law entry log n old new next left step = step ∙ left
 
   pub left_after : (history : History Q S M P) (event : Event Q S M P) (reply : Reply Q) (old new : Parts K P M)
-      → Left beginning history old → ChangesBy beginning.queue (known_by beginning history) old event reply new
-      → AreBalanced new.spaces new.paths → Left beginning ((event, reply) ∷ history) new
+      → PartsLeft beginning history old → ChangesBy beginning.queue (known_by beginning history) old event reply new
+      → AreBalanced new.spaces new.paths → PartsLeft beginning ((event, reply) ∷ history) new
   left_after history event reply old new left changes balanced =
       let entries = entries_of beginning.queue (known_by beginning history) event reply in
       let steps = changes.steps in
@@ -114,7 +114,7 @@ module _ {F K Q S M P : Type 0} (beginning : Beginning F K Q S M P) where
       record {
         settings = steps.settings ∙ left.settings;
         spaces = spaces;
-        beside = λ space. beside_stays beginning.queue.words (entries.spaces space) _ _ (steps.spaces space)
+        beside = λ space. untouched_stays beginning.queue.words (entries.spaces space) _ _ (steps.spaces space)
             ∙ left.beside space;
         discarded = plain.0;
         skipping = skipping_law (entries.spaces Data) ((logs_of beginning history).spaces Data) _ _ _

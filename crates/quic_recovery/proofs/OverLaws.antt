@@ -8,14 +8,14 @@ use Rattle.recovery_paths.specs.PathLog.{OfPaths, paths_marks}
 use Rattle.recovery_paths.specs.PathStates.{PathMarks}
 use Rattle.recovery_events.specs.declared.event.Event.{Event}
 use Rattle.quic_recovery.specs.declared.driver.RecoveryConfig.{RecoveryConfig}
-use Rattle.quic_recovery.specs.Above.{AreFresh}
+use Rattle.quic_recovery.specs.Above.{AreFresh, HasNoLossTime}
 use Rattle.recovery_events.specs.Feeding.{PushesInto, TakesAll}
 use Rattle.quic_recovery.specs.History.{Beginning, QueueMeaning, Reply, begins, history, Throughout}
 use Rattle.quic_recovery.specs.Over.{RunsFrom}
 use Rattle.quic_recovery.specs.Parts.{Parts}
 use Rattle.quic_recovery.specs.Past.{Reached, ExtendsOn, ExtendsFrom, Keeps}
-use Rattle.quic_recovery.specs.State.{Changes, Left}
-use Rattle.quic_recovery.proofs.AboveLaws.{fresh_after}
+use Rattle.quic_recovery.specs.State.{Changes, Left, known_to}
+use Rattle.quic_recovery.proofs.AboveLaws.{fresh_after, loss_times_after}
 use Rattle.recovery_events.proofs.FeedingLaws.{fills, takes_push}
 use Rattle.quic_recovery.proofs.Runs.{after_push, throughout_more}
 
@@ -35,9 +35,9 @@ module _ {F K Q S M P T A : Type 0} (built : F → ℕ → ℕ → K) (words : C
   goes_over : (todo done : List (Event Q S M P)) (replies : List (Reply Q)) (old new : A)
       → TakesAll took old todo new → Throughout (Keeps by) done replies
       → Reached by (history done replies) (recovery_of old) → TakesAll takes first replies (sink_of old)
-      → AreFresh (paths_marks (recovery_of old).paths)
+      → AreFresh (paths_marks (recovery_of old).paths) → HasNoLossTime (recovery_of old).spaces
       → RunsFrom by (λ all. all ≡ done ++ todo) (λ all. TakesAll takes first all (sink_of new)) (recovery_of new)
-  goes_over [] done replies old new is keeps came given marks = rw is (record {
+  goes_over [] done replies old new is keeps came given marks times = rw is (record {
     events = done;
     replies = replies;
     given = sym (append-nil done);
@@ -45,8 +45,9 @@ module _ {F K Q S M P T A : Type 0} (built : F → ℕ → ℕ → K) (words : C
     keeps = keeps;
     came = came;
     marks = marks;
+    loss_times = times;
   })
-  goes_over (event ∷ todo) done replies old new is keeps came given marks =
+  goes_over (event ∷ todo) done replies old new is keeps came given marks times =
       let between = is.0 in
       let one = each old event between is.1 in
       let reply = one.0 in
@@ -58,7 +59,8 @@ module _ {F K Q S M P T A : Type 0} (built : F → ℕ → ℕ → K) (words : C
       on.came)
       (takes_push takes first replies (sink_of old) reply (sink_of between) given one.3)
       (let Fresh : OfPaths PathMarks → Type 0 = AreFresh in subst Fresh (sym one.1.marks)
-      (fresh_after event reply _ marks)) in
+      (fresh_after event reply _ marks))
+      (loss_times_after queue (known_to (recovery_of old)) event reply _ _ one.1.steps times) in
       record {
         events = rest.events;
         replies = rest.replies;
@@ -67,14 +69,16 @@ module _ {F K Q S M P T A : Type 0} (built : F → ℕ → ℕ → K) (words : C
         keeps = rest.keeps;
         came = rest.came;
         marks = rest.marks;
+        loss_times = rest.loss_times;
       }
 
   pub runs_from : (events : List (Event Q S M P)) (old new : A) → TakesAll took old events new
-      → Reached by [] (recovery_of old) → AreFresh (paths_marks (recovery_of old).paths) → first ≡ sink_of old
+      → Reached by [] (recovery_of old) → AreFresh (paths_marks (recovery_of old).paths)
+      → HasNoLossTime (recovery_of old).spaces → first ≡ sink_of old
       → (AreGiven : List (Event Q S M P) → Type 0) → AreGiven events
       → RunsFrom by AreGiven (λ all. TakesAll takes first all (sink_of new)) (recovery_of new)
-  runs_from events old new is came marks begins AreGiven given =
-      let over = goes_over events [] [] old new is (refl, tt) came (sym begins) marks in
+  runs_from events old new is came marks times begins AreGiven given =
+      let over = goes_over events [] [] old new is (refl, tt) came (sym begins) marks times in
       record {
         events = over.events;
         replies = over.replies;
@@ -83,6 +87,7 @@ module _ {F K Q S M P T A : Type 0} (built : F → ℕ → ℕ → K) (words : C
         keeps = over.keeps;
         came = over.came;
         marks = over.marks;
+        loss_times = over.loss_times;
       }
 
 -- ---- two lists
@@ -116,7 +121,7 @@ module _ {F K Q S M P : Type 0} (beginning : Beginning F K Q S M P) (events : Li
   over_lists recovery_of (Ok run) over = (
     of_lists (recovery_of run.0) run.1 (Throughout (Keeps beginning)) over over.keeps,
     of_lists (recovery_of run.0) run.1 (λ given taken. Left beginning (history given taken) (recovery_of run.0)) over
-        over.came.left,
+        (record { parts = over.came.left; loss_times = over.loss_times }),
     over.marks,
   )
   over_lists recovery_of (Err error) over = (tt, tt, tt)

@@ -228,14 +228,15 @@ module _ {F K Q S M P : Type 0} (beginning : Beginning F K Q S M P) (history : H
 
   pub one_state_left : (one other : Parts K P M) → Left beginning history one → Left beginning history other
       → LooksAlike one other
-  one_state_left one other left too = record {
+  one_state_left one other first second = let left = first.parts in let too = second.parts in record {
     settings = left.settings ∙ sym too.settings;
     spaces = λ space. (
         let here = left.spaces space in
         let there = too.spaces space in
         let acks = acks_alike _ _ _ _ here.acks there.acks in
-        let beside = left.beside space ∙ sym (too.beside space) in
-        grind (arith, acks, here.numbers, there.numbers, here, there, beside)
+        let untouched = left.beside space ∙ sym (too.beside space) in
+        let loss_time = first.loss_times space ∙ sym (second.loss_times space) in
+        grind (arith, acks, here.numbers, there.numbers, here, there, untouched, loss_time)
         );
     discarded = λ space. left.discarded space ∙ sym (too.discarded space);
     paths = left.paths ∙ sym too.paths;

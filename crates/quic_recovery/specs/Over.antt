@@ -5,7 +5,7 @@ use Rattle.recovery_events.specs.declared.event.Event.{Event}
 use Rattle.quic_recovery.specs.History.{Beginning, Reply, history, Throughout}
 use Rattle.quic_recovery.specs.Parts.{Parts}
 use Rattle.recovery_paths.specs.PathLog.{paths_marks}
-use Rattle.quic_recovery.specs.Above.{AreFresh}
+use Rattle.quic_recovery.specs.Above.{AreFresh, HasNoLossTime}
 use Rattle.quic_recovery.specs.Past.{Reached, Extends, Keeps}
 use Rattle.quic_recovery.specs.State.{Transition}
 
@@ -29,5 +29,6 @@ pub record RunsFrom {F K Q S M P : Type 0} (beginning : Beginning F K Q S M P)
     pub taken : AreTaken replies
     pub keeps : Throughout (Keeps beginning) events replies
     pub came : Reached beginning (history events replies) recovery
-    -- what the layer above keeps with each path is as a path is made with it
+    -- what the layer above keeps with each path and each space is as it was made
     pub marks : AreFresh (paths_marks recovery.paths)
+    pub loss_times : HasNoLossTime recovery.spaces

@@ -29,15 +29,15 @@ use Rattle.quic_recovery.specs.Promises.Sizes.{ProbesWithin}
 use Rattle.quic_recovery.specs.Promises.Threefold.{KeepsThreefold}
 use Rattle.quic_recovery.specs.Promises.Timeouts.{TellsTimers}
 use Rattle.quic_recovery.specs.Promises.Turns.{SearchesInTurn}
-use Rattle.quic_recovery.specs.State.{Left, parts_of}
+use Rattle.quic_recovery.specs.State.{PartsLeft, parts_of}
 use Rattle.quic_recovery.specs.Told.{Told}
 
 module _ {F K Q S M P : Type 0} (beginning : Beginning F K Q S M P) where
   -- by these events a recovery came here, from that beginning: each was told what the history before it says, and the
-  -- recovery is what the whole history leaves
+  -- recovery is what the whole history leaves, but for loss times and marks that the layer above set
   pub record Reached (past : History Q S M P) (recovery : Parts K P M) : Type 0 where
     pub told : AtEach (Told beginning) past
-    pub left : Left beginning past recovery
+    pub left : PartsLeft beginning past recovery
     -- the bound of a search is a `u16`
     pub small : ForSome (if beginning.config.allow_mtud then beginning.config.transport.mtu_discovery_config else None)
         (λ settings. settings.upper_bound < 2 ^ 16)

@@ -2,13 +2,13 @@
 ghost use Rattle.std.specs.Prelude.{◌≡◌, ◌<◌, ◌≤◌, ◌^◌, IfOk, OnErr, []};
 ghost use Rattle.recovery_skips.specs.Skips.{IsSkips};
 ghost use Rattle.recovery_paths.specs.PathLog.{paths_marks};
-ghost use Rattle.quic_recovery.specs.Above.{AreFresh, marks_at, with_marks_at};
+ghost use Rattle.quic_recovery.specs.Above.{AreFresh, HasNoLossTime, marks_at, with_marks_at, with_loss_time_at};
 ghost use Rattle.quic_recovery.specs.Past.{Reached, Extends, IsReachable, KeepsPasts, Extended};
 ghost use Rattle.quic_recovery.specs.State.{parts_of, begun, known_to, Transition, InFlightLeft};
 
 use crate::driver::{Recovery, RecoveryConfig};
 use rand_core::Rng;
-use recovery_base::below::NoMemory;
+use recovery_base::below::{NoMemory, SpaceId};
 use recovery_base::time::Instant;
 use recovery_congestion::congestion::ControllerFactory;
 use recovery_events::event::{Answer, Event, PathName, Refusal};
@@ -50,6 +50,7 @@ where
             [] (parts_of live.recovery)) }
         ensures marks { IfOk result (λ live.
             AreFresh (paths_marks (parts_of live.recovery).paths)) }
+        ensures loss_times { IfOk result (λ live. HasNoLossTime (parts_of live.recovery).spaces) }
         ensures memory { OnErr result (0 < config.issued) }
     {
         let recovery = Recovery::new(alloc, config, rng, now)?;
@@ -92,5 +93,15 @@ where
         ensures came { KeepsPasts self.old.recovery self.new.recovery }
     {
         self.recovery.set_marks(path, marks)
+    }
+
+    /// The layer above keeps this with a space from now on, as [`Recovery::set_loss_time`] says. No event is told of
+    /// it.
+    pub fn set_loss_time(&mut self, space: SpaceId, time: Option<Instant>)
+        ensures after { parts_of self.new.recovery
+            ≡ with_loss_time_at space time (parts_of self.old.recovery) }
+        ensures came { KeepsPasts self.old.recovery self.new.recovery }
+    {
+        self.recovery.set_loss_time(space, time);
     }
 }

@@ -22,8 +22,8 @@ use std::ops::Range;
 #[inline(always)]
 fn push_number(text: &mut String, before: &str, number: u64, behind: &str) -> Result<(), AllocError>
     requires { length before.now + length behind.now ≤ 28 }
-    ensures { OnOk result
-        (string_bytes text.new ≡ string_bytes text.old ++ before.now ++ decimal number ++ behind.now) }
+    ensures { OnOk result (string_bytes text.new
+        ≡ string_bytes text.old ++ before.now ++ decimal number ++ behind.now) }
 {
     let mut part = ArrayString::<48>::new();
     part.push_str(before);

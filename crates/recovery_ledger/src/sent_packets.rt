@@ -3,7 +3,7 @@ ghost use Rattle.std.specs.Prelude.{◌≡◌, Decides, ◌^◌, ◌<◌, ◌≤
 ghost use Rattle.std.specs.Option.{is_some};
 ghost use Rattle.recovery_ledger.specs.Packets.{Tracking, no_packets, packet_at, AreBelow, IsAboveLast, HasSize, HasEliciting, first_from, most_silent, is_above, least_number, silent_in, forgotten_number, forgotten_entry, after_sending, after_taking, after_carrying, contents_or};
 ghost use Rattle.recovery_queue.specs.Queues.{IsVoid};
-ghost use Rattle.recovery_queue.specs.Slots.{entries_in};
+ghost use Rattle.recovery_queue.specs.Slots.{entries_in, is_from, AreFrom};
 ghost use Rattle.recovery_ledger.specs.Places.{HasSlots, FindsPacket};
 ghost use Rattle.recovery_ledger.specs.Probes.{first_filled};
 ghost use Rattle.recovery_ledger.specs.Counts.{silent_count, size_count, elicits_count, AreAboveFrom, AreVoidBelow};
@@ -217,8 +217,10 @@ where
     /// The first tracked packet at or above a number, with its number: so that the packets can be gone over by number,
     /// upward (RFC 9002, 6.1). Cost: that of `find`, beside the empty slots that are passed over.
     pub fn tracked_from(&self, number: u64) -> Option<(u64, &SentPacket<Q>)>
-        ensures { MatchOption result (first_from number self.now.packets ≡ None)
+        ensures first { MatchOption result (first_from number self.now.packets ≡ None)
             (λ found. first_from number self.now.packets ≡ Some (found.0, found.1.now)) }
+        ensures lowest { IfSome result
+            (λ found. AreFrom found.0 (filter (is_from number) self.now.packets)) }
     {
         self.packets.entry_from(number)
     }

@@ -711,7 +711,8 @@ fn put_form<F: LineForm, S: Sink<Event<ItemQueue>>>(
     words: &mut Words<'_>,
     sink: &mut S,
 ) -> Result<Option<bool>, NoMemory>
-    ensures { Puts S.takes (whole (reading F.form (words_left words.old))) sink.old result sink.new }
+    ensures { Puts S.takes (whole (reading F.form (words_left words.old)))
+        sink.old result sink.new }
 {
     let line = F::read(words);
     put_read(alloc, line, words, sink)

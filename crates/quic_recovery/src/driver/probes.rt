@@ -38,13 +38,10 @@ where
         }
     }
 
-    /// A range of numbers is acknowledged (RFC 9000, 13.1 and 21.4).
-    pub(super) fn check_ack(
-        &self,
-        space: SpaceId,
-        low: u64,
-        high: u64,
-    ) -> Result<Answer<Q>, Refusal>
+    /// Whether a range of numbers may be acknowledged, as [`Event::CheckAck`](crate::Event::CheckAck) is answered (RFC
+    /// 9000, 13.1 and 21.4). Refused by `SpaceDiscarded`, `NumberTooLarge`, `BadRange` or `SkippedAcked`, in this
+    /// order. Nothing changes.
+    pub fn check_ack(&self, space: SpaceId, low: u64, high: u64) -> Result<Answer<Q>, Refusal>
         ensures { OnlyTells (CheckAck space low high) self.now result }
     {
         if self.discarded.contains(space) {

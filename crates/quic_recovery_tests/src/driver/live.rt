@@ -3,6 +3,7 @@ use super::*;
 use quic_recovery::LiveRecovery;
 use quic_recovery::event::PathName;
 use quic_recovery::paths::{PathMarks, PathResponses};
+use quic_recovery::time::Instant;
 
 type Live = LiveRecovery<NewRenoConfig, Tally, Pcg32>;
 
@@ -28,9 +29,20 @@ fn marked(rt: &impl Abort, live: &mut Live) {
     holds(rt, is_fresh, 3);
 }
 
+/// A packet of 1-RTT keys is to be called lost then.
+fn timed(live: &mut Live) {
+    live.set_loss_time(SpaceId::Data, Some(at(9)));
+}
+
+fn loss_time(left: &Reno, space: SpaceId) -> Option<Instant> {
+    left.space(space)?.loss_time
+}
+
 fn leaves_marks(left: &Reno) -> bool {
     let path = left.current();
-    path.in_flight().bytes == 500
+    loss_time(left, SpaceId::Data) == Some(at(9))
+        && loss_time(left, SpaceId::Initial) == None
+        && path.in_flight().bytes == 500
         && !path.sending_ecn
         && path.challenge == Some(7)
         && path.challenge_pending
@@ -42,6 +54,7 @@ fn play(rt: &impl Abort, live: &mut Live) {
     told(rt, live, 1, received(SpaceId::Data, 0, true), DUPLICATE);
     told(rt, live, 2, send(SpaceId::Data, 500, true), sent(0, None));
     marked(rt, live);
+    timed(live);
     holds(rt, leaves_marks(live.recovery()), 4);
 }
 

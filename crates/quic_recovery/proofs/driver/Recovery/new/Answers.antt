@@ -4,7 +4,7 @@ use Rattle.recovery_base.specs.declared.below.SpaceId.{SpaceId}
 use Rattle.recovery_ledger.specs.Spaces.{space_of, SpaceLeft}
 use Rattle.recovery_ledger.proofs.SpaceLaws.{fresh_space}
 use Rattle.quic_recovery.specs.History.{begins, queue_meaning}
-use Rattle.quic_recovery.proofs.AboveLaws.{beside_made}
+use Rattle.quic_recovery.proofs.AboveLaws.{untouched_made}
 use Rattle.quic_recovery.proofs.LeftLaws.{balanced_first, in_flight_law, paths_first}
 use Rattle.quic_recovery.proofs.SearchLaws.{where_allowed}
 use Rattle.quic_recovery.proofs.driver.Recovery.new.Goals as goal
@@ -29,26 +29,29 @@ returns-clause-left g c =
     let spaces : (space : SpaceId) → SpaceLeft words c.args.now [] (space_of space c.new-2.result) = λ space.
     fresh_space words c.args.now _ (made space) in
     record {
-      settings = refl;
-      spaces = spaces;
-      beside = λ space. beside_made _ _ _ (made space).ecn (made space).loss_time (made space).crypto_offset;
-      discarded = search rules;
-      skipping = c.with_skips-filter.ensures;
-      paths = paths_first beginning _ _ c.new-4.ensures c.first_path.ensures.ledger
-          (c.first_path.ensures.state random);
-      peer_limit = refl;
-      in_flight = in_flight_law beginning [] _ _ spaces balanced;
-      frequency = c.new-5.ensures;
-      timers = search rules;
-      remote_ids = search rules;
-      local_ids = c.in_ok-local_cid_state.ensures.ids;
+      parts = record {
+        settings = refl;
+        spaces = spaces;
+        beside = λ space. untouched_made _ _ (made space).ecn (made space).crypto_offset;
+        discarded = search rules;
+        skipping = c.with_skips-filter.ensures;
+        paths = paths_first beginning _ _ c.new-4.ensures c.first_path.ensures.ledger
+            (c.first_path.ensures.state random);
+        peer_limit = refl;
+        in_flight = in_flight_law beginning [] _ _ spaces balanced;
+        frequency = c.new-5.ensures;
+        timers = search rules;
+        remote_ids = search rules;
+        local_ids = c.in_ok-local_cid_state.ensures.ids;
+      };
+      loss_times = λ space. (made space).loss_time;
     }
 
 -- by no event
 pub returns-clause-came : goal.returns-clause-came
 returns-clause-came g c = record {
   told = tt;
-  left = returns-clause-left g c;
+  left = (returns-clause-left g c).parts;
   small = where_allowed (λ settings. settings.upper_bound < 2 ^ 16) c.args.config.allow_mtud _
       c.upper_bound_fits.ensures;
 }

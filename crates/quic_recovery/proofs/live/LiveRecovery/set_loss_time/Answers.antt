@@ -1,0 +1,5 @@
+use Rattle.quic_recovery.proofs.PastLaws.{stays_come}
+use Rattle.quic_recovery.proofs.live.LiveRecovery.set_loss_time.Goals as goal
+
+pub invariant_of-self : goal.invariant_of-self
+invariant_of-self g c = record { came = stays_come c.set_loss_time.ensures.came c.args.self.now.came }
