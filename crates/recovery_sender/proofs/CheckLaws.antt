@@ -1,0 +1,28 @@
+-- No range holds a number that was skipped.
+use Rattle.std.proofs.Common.{ℕ, ◌+◌, ◌<◌, List, get_or, Ok, subst, inl, inr, arith}
+use Rattle.std.proofs.lemmas.Bool.Decides.{leb_tells}
+use Rattle.recovery_base.specs.declared.below.SpaceId.{SpaceId}
+use Rattle.recovery_events.specs.declared.event.Answer.{Answer}
+use Rattle.recovery_events.specs.declared.event.Answer.TheVariants.{Done}
+use Rattle.recovery_events.specs.declared.event.Event.TheVariants.{CheckAck}
+use Rattle.quic_recovery.specs.declared.driver.Recovery.{Recovery}
+use Rattle.quic_recovery.specs.State.{OnlyTells}
+
+module _ {F Q R C K S M P : Type 0} {f : _} {c : _} {q : _} {m : _} {r : _} (space : SpaceId) (ranges : List (ℕ × ℕ))
+    (recovery : Recovery F Q R C K S M P f c q m r) where
+  abbrev IsAllowed : ℕ → Type 0
+  IsAllowed at = let range = get_or ranges at (0, 0) in OnlyTells (CheckAck space range.0 range.1) recovery (Ok Done)
+
+  allowed : (low high : ℕ) (answer : Answer Q) → OnlyTells (CheckAck space low high) recovery (Ok answer)
+      → OnlyTells (CheckAck space low high) recovery (Ok Done)
+  allowed low high answer (kept, (small, (whole, (none, is)))) =
+      subst (λ (given : Answer Q). OnlyTells (CheckAck space low high) recovery (Ok given)) is
+      (kept, (small, (whole, (none, is))))
+
+  pub allowed_on : (at : ℕ) (answer : Answer Q) → ((i : ℕ) → i < at → IsAllowed i)
+      → (let range = get_or ranges at (0, 0) in OnlyTells (CheckAck space range.0 range.1) recovery (Ok answer))
+      → (i : ℕ) → i < at + 1 → IsAllowed i
+  allowed_on at answer before here i below = elim (leb_tells at i) [
+    | inl same ↦ subst IsAllowed (omega (arith, same.1, below)) (allowed _ _ answer here)
+    | inr under ↦ before i under.1
+  ]

@@ -1,0 +1,166 @@
+-- A look for losses as a whole: its parts, one after another.
+use Rattle.std.proofs.Common.{◌≡◌, ◌≢◌, ℕ, ◌-◌, ◌^◌, min, Bool, false, true≢false, Decides, List, [], ◌∷◌, ◌++◌, Option, None, Some, option_map, IfSome, IfNone, ◌⊎◌, inl, inr, refl, sym, subst, ◌∙◌, arith}
+use Rattle.std.proofs.lemmas.Option.{none-some, same_Some}
+use Rattle.std.specs.Option.{ForSome}
+use Rattle.recovery_base.specs.declared.below.SpaceId.{SpaceId}
+use Rattle.recovery_ledger.specs.Packets.{Packets}
+use Rattle.quic_recovery.specs.Above.{with_loss_time_at}
+use Rattle.quic_recovery.specs.History.{queue_meaning}
+use Rattle.recovery_sender.specs.declared.sender.losses.Look.{Look}
+use Rattle.recovery_sender.specs.declared.sender.losses.Losses.{Losses}
+use Rattle.recovery_sender.specs.declared.sender.losses.Tally.{Tally}
+use Rattle.recovery_sender.specs.declared.sender.Sender.{Sender}
+use Rattle.recovery_sender.specs.Judging.{Detects, Finds, HasNoGap, LossesAre, congested, detecting, ended, losing, one_of}
+use Rattle.recovery_sender.specs.Looking.{Looked}
+use Rattle.recovery_sender.specs.Losses.{IsEarliest, IsLostBelow, IsTold, bytes_counted, largest_in, last_counted, look_of, waiting}
+use Rattle.recovery_sender.specs.Persisting.{IsEndAt, Persists}
+use Rattle.recovery_sender.specs.Senders.{parts_in, packets_in}
+use Rattle.recovery_sender.specs.Steps.{Step, Goes, Leads, loss_time}
+use Rattle.recovery_sender.proofs.LeadLaws.{leads_on}
+use Rattle.recovery_sender.proofs.LookLaws.{probe_waits}
+
+-- what became of the probe
+module _ {P M : Type 0} (look : Look) (packets : Packets P M) (numbers : List ℕ) (tally : Tally) (now : Packets P M)
+    (looked : Looked look packets look.largest numbers tally now) where
+  pub earliest_behind : (probe : Option ℕ) (after : Tally)
+      → IfSome probe (λ number. (tally.probe ≡ Some number) × (after ≡ tally))
+      → IfNone probe ((tally.probe ≡ None) × (after ≡ tally) ⊎ (tally.probe ≢ None) × (after ≡ waiting look.at tally))
+      → IsEarliest look packets look.largest (IsTold numbers probe) after.loss_time
+  earliest_behind (Some number) after told waits =
+      let same : IsEarliest look packets look.largest (IsTold numbers (Some number)) tally.loss_time =
+      subst (λ probe. IsEarliest look packets look.largest (IsTold numbers probe) tally.loss_time) told.0
+      looked.earliest in
+      rw told.1 same
+  earliest_behind None after told (inl none) =
+      let same : IsEarliest look packets look.largest (IsTold numbers None) tally.loss_time =
+      subst (λ probe. IsEarliest look packets look.largest (IsTold numbers probe) tally.loss_time) none.0
+      looked.earliest in
+      rw none.1 same
+  earliest_behind None after told (inr some) = rw some.1 (one_waits tally.probe refl)
+    where
+      one_waits : (probe : Option ℕ) → tally.probe ≡ probe
+          → IsEarliest look packets look.largest (IsTold numbers None) (waiting look.at tally).loss_time
+      one_waits None none = absurd (some.0 none)
+      one_waits (Some probe) is = probe_waits look packets look.largest numbers tally now looked probe is
+
+  pub probe_behind : (probe : Option ℕ) (after : Tally)
+      → IfSome probe (λ number. (tally.probe ≡ Some number) × (after ≡ tally))
+      → ForSome probe (λ number. (look.probe ≡ Some number) × IsLostBelow look packets number)
+  probe_behind None after told number none = absurd (none-some number none)
+  probe_behind (Some probe) after told number is =
+      let was = looked.probe number (told.0 ∙ is) in (was.0, was.2)
+
+-- all that happened, one after another
+module _ {F Q R C K S M P : Type 0} {f : _} {c : _} {q : _} {m : _} {r : _} (look : Look)
+    (start found told shown probed new : Sender F Q R C K S M P f c q m r) (numbers : List ℕ) (persistent : Bool)
+    (bytes : ℕ) (sent probe time : Option ℕ) where
+  on : (steps more : List (Step Q S M P)) (old between new : Sender F Q R C K S M P f c q m r)
+      → Leads f.built c.words (queue_meaning q.contents q.words q.blank) steps (parts_in old) (parts_in between)
+      → Leads f.built c.words (queue_meaning q.contents q.words q.blank) more (parts_in between) (parts_in new)
+      → Leads f.built c.words (queue_meaning q.contents q.words q.blank) (steps ++ more) (parts_in old) (parts_in new)
+  on steps more old between new = leads_on f.built c.words (queue_meaning q.contents q.words q.blank) steps more
+      (parts_in old) (parts_in between) (parts_in new)
+
+  pub goes_all : Goes (losing look.space numbers) start found → Goes (ended look.at numbers) found told
+      → Goes (congested look.at persistent bytes sent) told shown → Goes (losing look.space (one_of probe)) shown probed
+      → parts_in new ≡ with_loss_time_at look.space time (parts_in probed) → new.variables ≡ probed.variables
+      → Goes (losing look.space numbers ++ (ended look.at numbers ++ (congested look.at persistent bytes sent
+      ++ (losing look.space (one_of probe) ++ loss_time look.space time ∷ [])))) start new
+  goes_all finds ends congests probes times same = record {
+    leads = on (losing look.space numbers) _ start found new finds.leads
+        (on (ended look.at numbers) _ found told new ends.leads
+        (on (congested look.at persistent bytes sent) _ told shown new congests.leads
+        (on (losing look.space (one_of probe)) (loss_time look.space time ∷ []) shown probed new probes.leads times)));
+    variables = same ∙ probes.variables ∙ congests.variables ∙ ends.variables ∙ finds.variables;
+  }
+
+-- where nothing is lost, no congestion persists
+no_persistence : {P M : Type 0} (look : Look) (packets : Packets P M)
+    → Decides false (Persists (IsTold [] None) (IsEndAt look packets []) look.period)
+no_persistence look packets = ((λ never. absurd (true≢false (sym never))), λ persists. absurd persists.begins.told)
+
+-- ---- the look, by the state before and after
+
+module _ {F Q R C K S M P : Type 0} {f : _} {c : _} {q : _} {m : _} {r : _} (space : SpaceId) (now : ℕ) (due : Bool)
+    (old : Sender F Q R C K S M P f c q m r) (losses : Losses) (new : Sender F Q R C K S M P f c q m r) where
+  abbrev look_for : ℕ → Look
+  look_for largest = look_of (parts_in old) old.variables space now due largest
+
+  abbrev IsLook : ℕ → Type 0
+  IsLook largest = let look = look_for largest in let packets = packets_in (parts_in old) space in
+      (time : Option ℕ) × LossesAre look packets losses time × Goes (detecting look losses losses.is_persistent
+      (min (bytes_counted look packets losses.numbers.items) (2 ^ 64 - 1))
+      (last_counted look packets losses.numbers.items) time) old new
+
+  -- nothing is tracked below what was acknowledged
+  pub detects_none : HasNoGap (parts_in old) space → losses.numbers.items ≡ [] → losses.probe ≡ None
+      → losses.congestion ≡ None → losses.is_persistent ≡ false
+      → parts_in new ≡ with_loss_time_at space None (parts_in old)
+      → new.variables ≡ old.variables → Detects space now due old losses new
+  detects_none none numbers probe congestion persistent times same = record {
+    looks = λ largest is. (
+      None,
+      record {
+        found = None;
+        is_found = λ number never. absurd (none-some number never);
+        persistent = rw (numbers, persistent) (no_persistence _ _);
+        lost = rw numbers (record { rising = omega arith; lost = λ number never. absurd never });
+        probe = λ number is. absurd (none-some number (sym probe ∙ is));
+        earliest = record {
+          one = λ least never. absurd (none-some least never);
+          least = λ number packet at below small untold is_due. absurd (none largest is number packet below.0 below.1);
+        };
+        congestion = rw numbers congestion;
+      },
+      rw (numbers, probe) goes,
+    );
+    none = λ is. (numbers, probe, congestion, goes);
+  }
+    where
+      goes : Goes (loss_time space None ∷ []) old new
+      goes = record { leads = times; variables = same }
+
+  -- all was gone over
+  pub detects_all : (largest : ℕ) → largest_in (parts_in old) space ≡ Some largest → IsLook largest
+      → Detects space now due old losses new
+  detects_all largest known look = record {
+    looks = λ other is. subst IsLook (same_Some largest other (sym known ∙ is)) look;
+    none = λ is. absurd (none-some largest (sym is ∙ known));
+  }
+
+  pub found_all : (largest : ℕ) (tally : Tally) (found told shown probed : Sender F Q R C K S M P f c q m r)
+      (after : Tally) → Finds (look_for largest) old largest losses.numbers.items tally found
+      → Goes (ended now losses.numbers.items) found told
+      → Goes (congested now losses.is_persistent tally.bytes tally.last_sent) told shown
+      → IfSome losses.probe (λ number. (tally.probe ≡ Some number) × (after ≡ tally))
+      → IfNone losses.probe ((tally.probe ≡ None) × (after ≡ tally)
+      ⊎ (tally.probe ≢ None) × (after ≡ waiting now tally))
+      → Goes (losing space (one_of losses.probe)) shown probed
+      → parts_in new ≡ with_loss_time_at space after.loss_time (parts_in probed) → new.variables ≡ probed.variables
+      → losses.congestion ≡ option_map (λ sent. tally.bytes) tally.last_sent
+      → losses.is_persistent ≡ tally.run.is_persistent → IsLook largest
+  found_all largest tally found told shown probed after finds ends congests is_told waits probes times same congestion
+      persistent =
+      let look = look_for largest in let looked = finds.looked in (
+        after.loss_time,
+        record {
+          found = tally.probe;
+          is_found = λ number told. (let was = looked.probe number told in (was.0, was.2));
+          persistent = rw persistent looked.run.persists;
+          lost = looked.lost;
+          probe = probe_behind look _ losses.numbers.items tally _ looked losses.probe after is_told;
+          earliest = earliest_behind look _ losses.numbers.items tally _ looked losses.probe after is_told waits;
+          congestion = rw (← looked.bytes, ← looked.last_sent) congestion;
+        },
+        rw (← looked.bytes, ← looked.last_sent) (goes_all look old found told shown probed new losses.numbers.items
+            losses.is_persistent tally.bytes tally.last_sent losses.probe after.loss_time finds.goes ends congests
+            probes times same),
+      )
+
+  -- what is kept beside the recovery stays
+  pub variables_kept : Detects space now due old losses new → new.variables ≡ old.variables
+  variables_kept detects = by_largest (largest_in (parts_in old) space) refl
+    where
+      by_largest : (largest : Option ℕ) → largest_in (parts_in old) space ≡ largest → new.variables ≡ old.variables
+      by_largest None none = (detects.none none).3.variables
+      by_largest (Some largest) is = (detects.looks largest is).2.variables

@@ -1,0 +1,97 @@
+-- What is due is due in a space that is not discarded.
+use Rattle.std.proofs.Common.{◌≡◌, ℕ, true, false, Bool, ◌||◌, Option, None, Some, option_map, refl}
+use Rattle.std.specs.Prelude.{if◌then◌else◌, nat_lt}
+use Rattle.std.specs.Option.{option_and_then, option_or}
+use Rattle.recovery_base.specs.declared.below.SpaceId.{SpaceId}
+use Rattle.recovery_base.specs.declared.below.SpaceId.TheVariants.{Initial, Handshake, Data}
+use Rattle.recovery_ledger.specs.declared.discarded.DiscardedSpaces.{DiscardedSpaces}
+use Rattle.recovery_ledger.specs.Discarded.{is_discarded}
+use Rattle.recovery_ledger.specs.Spaces.{Space, space_of}
+use Rattle.recovery_paths.specs.PathStates.{is_blocked}
+use Rattle.quic_recovery.specs.Parts.{Parts}
+use Rattle.recovery_sender.specs.declared.sender.timer.Due.{Due}
+use Rattle.recovery_sender.specs.declared.sender.timer.Due.TheVariants.{Losses, Probes, AntiDeadlock}
+use Rattle.recovery_sender.specs.declared.sender.Variables.{Variables}
+use Rattle.recovery_sender.specs.Calls.{space_due}
+use Rattle.recovery_sender.specs.Timer.{sooner, soonest, loss_due, probe_in, probe_due, waits, deadlock_space, due_of, is_address_validated, behind, pto_of}
+
+module _ (discarded : DiscardedSpaces) where
+  -- in a space that is not discarded, where something is due
+  abbrev IsThere : Option (ℕ × Due) → Type 0
+  IsThere None = Unit {0}
+  IsThere (Some due) = is_discarded (space_due due.1) discarded ≡ false
+
+  one_there : (is_first : Bool) (first second : Option (ℕ × Due)) → IsThere first → IsThere second
+      → IsThere (if is_first then first else second)
+  one_there true first second there later = there
+  one_there false first second there later = later
+
+  sooner_there : (first second : Option (ℕ × Due)) → IsThere first → IsThere second → IsThere (sooner first second)
+  sooner_there None second there later = later
+  sooner_there (Some one) None there later = there
+  sooner_there (Some one) (Some other) there later =
+      one_there (nat_lt other.0 one.0) (Some other) (Some one) later there
+
+  soonest_there : (due : SpaceId → Option (ℕ × Due)) → ((space : SpaceId) → IsThere (due space))
+      → IsThere (soonest due)
+  soonest_there due there =
+      sooner_there _ _ (sooner_there _ _ (there Initial) (there Handshake)) (there Data)
+
+  or_there : (first second : Option (ℕ × Due)) → IsThere first → IsThere second → IsThere (option_or first second)
+  or_there None second there later = later
+  or_there (Some one) second there later = there
+
+  -- what is due in a space by what is kept for it, where it is not discarded
+  within : {P M : Type 0} (gone : Bool) (here : Space P M) (due : Space P M → Option (ℕ × Due))
+      → (gone ≡ false → IsThere (due here)) → IsThere (option_and_then due (if gone then None else Some here))
+  within true here due there = tt {0}
+  within false here due there = there refl
+
+  mapped : (space : SpaceId) (time : Option ℕ) → is_discarded space discarded ≡ false
+      → IsThere (option_map (λ time. (time, Losses space)) time)
+  mapped space None kept = tt {0}
+  mapped space (Some time) kept = kept
+
+  probed : (space : SpaceId) (elicits : Bool) (due : ℕ → ℕ) (time : Option ℕ)
+      → is_discarded space discarded ≡ false
+      → IsThere (if elicits then option_map (λ sent. (due sent, Probes space)) time else None)
+  probed space false due time kept = tt {0}
+  probed space true due None kept = tt {0}
+  probed space true due (Some time) kept = kept
+
+  lost : {P M : Type 0} (space : SpaceId) (gone : Bool) (here : Space P M) → is_discarded space discarded ≡ gone
+      → IsThere (option_map (λ time. (time, Losses space))
+      (option_and_then (λ (here : Space P M). here.loss_time) (if gone then None else Some here)))
+  lost space true here is = tt {0}
+  lost space false here is = mapped space here.loss_time is
+
+  waiting : (waits : Bool) (due : Option (ℕ × Due)) → IsThere due → IsThere (if waits then None else due)
+  waiting true due there = tt {0}
+  waiting false due there = there
+
+  ended : (space : SpaceId) (validated gone : Bool) (time : ℕ) → is_discarded space discarded ≡ gone
+      → IsThere (if validated || gone then None else Some (time, AntiDeadlock space))
+  ended space true gone time is = tt {0}
+  ended space false true time is = tt {0}
+  ended space false false time is = is
+
+module _ {K P M : Type 0} (recovery : Parts K P M) (variables : Variables) where
+  probe_there : (space : SpaceId) → IsThere recovery.discarded (probe_due recovery variables space)
+  probe_there space =
+      let here = space_of space recovery.spaces in
+      waiting recovery.discarded (waits recovery variables space) _
+      (within recovery.discarded (is_discarded space recovery.discarded) here (probe_in recovery variables space)
+      (λ kept. probed recovery.discarded space _ (λ sent. behind sent (pto_of recovery variables space)) _ kept))
+
+  due_there_or_none : IsThere recovery.discarded (due_of recovery variables)
+  due_there_or_none =
+      let gone = recovery.discarded in let last = deadlock_space recovery variables in
+      or_there gone _ _ (soonest_there gone (loss_due recovery)
+      (λ space. lost gone space (is_discarded space gone) (space_of space recovery.spaces) refl))
+      (waiting gone (is_blocked recovery.paths.current.state 1) _
+      (or_there gone _ _ (soonest_there gone (probe_due recovery variables) probe_there)
+      (ended gone last (is_address_validated variables) (is_discarded last gone) _ refl)))
+
+  pub due_there : (due : ℕ × Due) → due_of recovery variables ≡ Some due
+      → is_discarded (space_due due.1) recovery.discarded ≡ false
+  due_there due is = rw is at due_there_or_none

@@ -1,0 +1,106 @@
+-- Steps of a sender, one after another, and what a loss leaves of what is tracked.
+use Rattle.std.proofs.Common.{◌≡◌, ◌≢◌, ℕ, true, false, Bool, List, [], ◌∷◌, ◌++◌, length, ◌==◌, Option, None, Some, Ok, refl, ap, subst, ◌∙◌, arith}
+use Rattle.recovery_base.specs.declared.below.SpaceId.{SpaceId}
+use Rattle.recovery_base.specs.declared.below.SpaceId.TheVariants.{Initial, Handshake, Data}
+use Rattle.recovery_congestion.specs.Controllers.{ControllerWords}
+use Rattle.recovery_events.specs.declared.event.Answer.{Answer}
+use Rattle.recovery_events.specs.declared.event.Event.{Event}
+use Rattle.recovery_events.specs.declared.event.Event.TheVariants.{Lost, LossesDone, Congestion}
+use Rattle.recovery_ledger.specs.Discarded.{is_discarded}
+use Rattle.recovery_ledger.specs.Packets.{Packets, packet_at, without}
+use Rattle.recovery_ledger.specs.Spaces.{space_of, packets_of}
+use Rattle.quic_recovery.specs.History.{QueueMeaning, queue_meaning}
+use Rattle.quic_recovery.specs.Parts.{Parts}
+use Rattle.quic_recovery.specs.Plain.{Plain, plain_of}
+use Rattle.quic_recovery.specs.State.{Changes}
+use Rattle.recovery_sender.specs.Senders.{packets_in, parts_in}
+use Rattle.recovery_sender.specs.declared.sender.Sender.{Sender}
+use Rattle.recovery_sender.specs.Judging.{ended, congested}
+use Rattle.recovery_sender.specs.Steps.{Step, Leads, Goes, told, occurs, loss_time, marked}
+
+module _ {F K Q S M P : Type 0} (built : F → ℕ → ℕ → K) (words : ControllerWords K) (queue : QueueMeaning Q S M P) where
+  -- steps behind steps
+  pub leads_on : (steps more : List (Step Q S M P)) (old between new : Parts K P M)
+      → Leads built words queue steps old between → Leads built words queue more between new
+      → Leads built words queue (steps ++ more) old new
+  leads_on [] more old between new first second = subst (λ at. Leads built words queue more at new) first second
+  leads_on (told event reply ∷ steps) more old between new first second =
+      (first.0, first.1, first.2, leads_on steps more first.0 between new first.3 second)
+  leads_on (occurs event ∷ steps) more old between new first second =
+      (first.0, first.1, first.2, first.3, leads_on steps more first.1 between new first.4 second)
+  leads_on (loss_time space time ∷ steps) more old between new first second =
+      leads_on steps more _ between new first second
+  leads_on (marked marks ∷ steps) more old between new first second =
+      leads_on steps more _ between new first second
+
+  -- a packet was told lost: it is tracked no more
+  taken_in : (space : SpaceId) (number : ℕ) (answer : Answer Q) (old new : Parts K P M)
+      → Changes queue old (Lost space number) (Ok answer) new
+      → packets_of (space_of space new.spaces) ≡ without (packets_of (space_of space old.spaces)) number
+  taken_in Initial number answer old new changes = ap packets_of (changes.steps.spaces Initial)
+  taken_in Handshake number answer old new changes = ap packets_of (changes.steps.spaces Handshake)
+  taken_in Data number answer old new changes = ap packets_of (changes.steps.spaces Data)
+
+  pub packets_lost : (space : SpaceId) (number : ℕ) (answer : Answer Q) (old new : Parts K P M)
+      → Changes queue old (Lost space number) (Ok answer) new → packet_at (packets_in old space) number ≢ None
+      → packets_in new space ≡ without (packets_in old space) number
+  packets_lost space number answer old new changes tracked = by_test (is_discarded space old.discarded) refl
+    where
+      same : is_discarded space new.discarded ≡ is_discarded space old.discarded
+      same = ap (λ (plain : Plain). is_discarded space plain.discarded) changes.plain
+
+      by_test : (test : Bool) → is_discarded space old.discarded ≡ test
+          → packets_in new space ≡ without (packets_in old space) number
+      by_test true gone = absurd (tracked (grind (arith, gone)))
+      by_test false kept = rw (same, kept) (taken_in space number answer old new changes)
+
+-- an event that was answered so occurred
+module _ {F Q R C K S M P : Type 0} {f : _} {c : _} {q : _} {m : _} {r : _} where
+  pub occurred : (event : Event Q S M P) (answer : Answer Q) (old new : Sender F Q R C K S M P f c q m r)
+      → Goes (told event (Ok answer) ∷ []) old new → Goes (occurs event ∷ []) old new
+  occurred event answer old new goes = let leads = goes.leads in record {
+    leads = (answer, leads.0, leads.1, leads.2, leads.3);
+    variables = goes.variables;
+  }
+
+  pub some_ended : (now : ℕ) (numbers : List ℕ) (old new : Sender F Q R C K S M P f c q m r)
+      → false ≡ (length numbers == 0) → Goes (occurs (LossesDone now) ∷ []) old new → Goes (ended now numbers) old new
+  some_ended now [] old new some goes = absurd cc
+  some_ended now (number ∷ numbers) old new some goes = goes
+
+-- ---- what leaves the packets of the spaces as they are
+
+module _ {K Q S M P : Type 0} (queue : QueueMeaning Q S M P) (space : SpaceId) (answer : Answer Q)
+    (old new : Parts K P M) where
+  packets_same : ((at : SpaceId) → space_of at new.spaces ≡ space_of at old.spaces) → plain_of new ≡ plain_of old
+      → packets_in new space ≡ packets_in old space
+  packets_same spaces plain =
+      let here = spaces space in let there = ap (λ (p : Plain). is_discarded space p.discarded) plain in
+      grind (arith, here, there)
+
+  done_same : (now : ℕ) → Changes queue old (LossesDone now) (Ok answer) new
+      → packets_in new space ≡ packets_in old space
+  done_same now changes = packets_same changes.steps.spaces changes.plain
+
+  congestion_same : (now sent : ℕ) (persistent : Bool) (bytes : ℕ)
+      → Changes queue old (Congestion now sent persistent bytes) (Ok answer) new
+      → packets_in new space ≡ packets_in old space
+  congestion_same now sent persistent bytes changes = packets_same changes.steps.spaces changes.plain
+
+module _ {F Q R C K S M P : Type 0} {f : _} {c : _} {q : _} {m : _} {r : _} (space : SpaceId)
+    (old new : Sender F Q R C K S M P f c q m r) where
+  abbrev tracked : Parts K P M → Packets P M
+  tracked recovery = packets_in recovery space
+
+  pub packets_ended : (now : ℕ) (numbers : List ℕ) → Goes (ended now numbers) old new
+      → tracked (parts_in new) ≡ tracked (parts_in old)
+  packets_ended now [] goes = ap tracked goes.leads
+  packets_ended now (number ∷ numbers) goes = let leads = goes.leads in ap tracked leads.4
+      ∙ done_same (queue_meaning q.contents q.words q.blank) space leads.0 (parts_in old) leads.1 now leads.2
+
+  pub packets_congested : (now : ℕ) (persistent : Bool) (bytes : ℕ) (sent : Option ℕ)
+      → Goes (congested now persistent bytes sent) old new → tracked (parts_in new) ≡ tracked (parts_in old)
+  packets_congested now persistent bytes None goes = ap tracked goes.leads
+  packets_congested now persistent bytes (Some sent) goes = let leads = goes.leads in ap tracked leads.4
+      ∙ congestion_same (queue_meaning q.contents q.words q.blank) space leads.0 (parts_in old) leads.1 now sent
+      persistent bytes leads.2

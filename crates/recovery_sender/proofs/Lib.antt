@@ -1,0 +1,15 @@
+pub mod AckLaws
+pub mod AckedLaws
+pub mod CallLaws
+pub mod CheckLaws
+pub mod DetectLaws
+pub mod DueLaws
+pub mod FindLaws
+pub mod FrameLaws
+pub mod KeptLaws
+pub mod LeadLaws
+pub mod LookLaws
+pub mod LossLaws
+pub mod RunLaws
+pub mod StepLaws
+pub mod TimerLaws

@@ -1,0 +1,325 @@
+-- The run of numbers that are lost goes on from number to number (RFC 9002, 7.6).
+use Rattle.std.proofs.Common.{◌≡◌, ℕ, ◌+◌, ◌-◌, ◌<◌, ◌≤◌, ◌⊎◌, ◌||◌, min, nat_lt, true, false, Bool, Decides, true≢false, ltb-true, lt-ltb, Option, None, Some, if◌then◌else◌, refl, sym, ap, subst, ◌∙◌, inl, inr, arith}
+use Rattle.std.specs.Option.{option_map_or}
+use Rattle.std.proofs.lemmas.Bool.Decides.{eqb_tells, leb_tells}
+use Rattle.std.proofs.lemmas.Option.{none-some, same_Some}
+use Rattle.recovery_sender.specs.declared.sender.losses.Look.{Look}
+use Rattle.recovery_sender.specs.declared.sender.losses.Run.{Run}
+use Rattle.recovery_sender.specs.Losses.{ending, follows, going_on, no_run}
+use Rattle.recovery_sender.specs.Persisting.{IsInRun, Persists, RunIs}
+
+-- nothing is lost yet
+pub run_first : (IsLostNow : ℕ → Type 0) (IsEnd : ℕ → ℕ → Type 0) (period end : ℕ)
+    → ((number : ℕ) → IsLostNow number → ⊥) → ((number sent : ℕ) → IsEnd number sent → ⊥)
+    → RunIs IsLostNow IsEnd period end no_run
+run_first IsLostNow IsEnd period end none no_end = record {
+  previous = λ last is. absurd (none-some last is);
+  last = λ number lost. absurd (none number lost);
+  told = λ number sent ends. absurd (no_end number sent ends);
+  one = λ time is. absurd (none-some time is);
+  oldest = λ number sent ends in_run. absurd (no_end number sent ends);
+  persists = ((λ never. absurd (true≢false (sym never))), λ persists. absurd (no_end _ _ persists.begins));
+}
+
+-- only what a run is of changes
+pub run_like : (IsLostNow : ℕ → Type 0) (IsEnd : ℕ → ℕ → Type 0) (period end wider : ℕ) (run : Run) → end ≤ wider
+    → RunIs IsLostNow IsEnd period end run → RunIs IsLostNow IsEnd period wider run
+run_like IsLostNow IsEnd period end wider run within is = record {
+  previous = λ last told. (let was = is.previous last told in (was.0, omega (arith, was.1, within)));
+  last = is.last;
+  told = is.told;
+  one = is.one;
+  oldest = is.oldest;
+  persists = is.persists;
+}
+
+-- ---- the next number is lost
+
+module _ (IsLostNow LostThen : ℕ → Type 0) (IsEnd EndThen : ℕ → ℕ → Type 0) (period end number : ℕ) (run : Run)
+    (is : RunIs IsLostNow IsEnd period end run) (above : end ≤ number) (lost : LostThen number)
+    (still : (other : ℕ) → IsLostNow other → LostThen other)
+    (was : (other : ℕ) → LostThen other → IsLostNow other ⊎ (number ≡ other))
+    (to : (other sent : ℕ) → IsEnd other sent → EndThen other sent)
+    (from : (other sent : ℕ) → EndThen other sent → IsEnd other sent) where
+  under : (other : ℕ) → IsLostNow other → other < number
+  under other there = let last = is.last other there in
+      omega (arith, (is.previous last.0 last.1).1, last.2, above)
+
+  was_under : (other : ℕ) → other < number → LostThen other → IsLostNow other
+  was_under other small there = elim (was other there) [
+    | inl before ↦ before
+    | inr same ↦ absurd (omega (arith, small, same))
+  ]
+
+  follows_last : (last : ℕ) → run.previous ≡ Some last → last + 1 ≡ number → follows run.previous number ≡ true
+  follows_last last previous next = rw previous (elim (eqb_tells (last + 1) number) [
+    | inl same ↦ same.0
+    | inr other ↦ absurd (other.1 next)
+  ])
+
+  last_follows : (previous : Option ℕ) → run.previous ≡ previous → follows run.previous number ≡ true
+      → (last : ℕ) × (run.previous ≡ Some last) × (last + 1 ≡ number)
+  last_follows None none yes_follows = absurd (true≢false (sym yes_follows ∙ ap (λ p. follows p number) none))
+  last_follows (Some last) some yes_follows = (
+    last,
+    some,
+    elim (eqb_tells (last + 1) number) [
+      | inl same ↦ same.1
+      | inr other ↦ absurd (true≢false (sym yes_follows ∙ ap (λ p. follows p number) some ∙ other.0))
+    ],
+  )
+
+  -- a number that is in the run up to the next one was in the run before it, which that one follows
+  was_in_run : (other : ℕ) → other < number → ((k : ℕ) → other ≤ k → k ≤ number → LostThen k)
+      → (follows run.previous number ≡ true) × IsInRun IsLostNow IsEnd period end run other
+  was_in_run other small in_run =
+      let before = was_under (number - 1) (omega (arith, small)) (in_run (number - 1) (omega (arith, small))
+      (omega (arith, small))) in
+      let last = is.last (number - 1) before in
+      let at_end = (is.previous last.0 last.1).1 in (
+        follows_last last.0 last.1 (omega (arith, last.2, at_end, above, small)),
+        λ final is_final k on up. (
+            let same = same_Some last.0 final (sym last.1 ∙ is_final) in
+            was_under k (omega (arith, up, same, at_end, above))
+            (in_run k on (omega (arith, up, same, at_end, above)))
+            ),
+      )
+
+  pub run_on : RunIs LostThen EndThen period (number + 1) (going_on number run)
+  run_on = by (follows run.previous number) refl
+    where
+      by : (test : Bool) → follows run.previous number ≡ test
+          → RunIs LostThen EndThen period (number + 1) (going_on number run)
+      by test tested = record {
+        previous = λ last told. (let same = same_Some number last told in
+            (subst LostThen same lost, omega (arith, same)));
+        last = λ other there. (
+          number,
+          refl,
+          elim (was other there) [
+            | inl before ↦ (omega (arith, under other before))
+            | inr same ↦ (omega (arith, same))
+          ],
+        );
+        told = λ other sent ends. still other (is.told other sent (from other sent ends));
+        one = one test tested;
+        oldest = oldest test tested;
+        persists = persists;
+      }
+        where
+          one : (test : Bool) → follows run.previous number ≡ test → (time : ℕ)
+              → (if follows run.previous number then run.oldest else None) ≡ Some time
+              → (other : ℕ) × EndThen other time
+              × IsInRun LostThen EndThen period (number + 1) (going_on number run) other
+          one false apart time told = absurd (none-some time (rw apart at told))
+          one true yes_follows time told =
+              let found = is.one time (rw yes_follows at told) in
+              let last = last_follows run.previous refl yes_follows in (
+                found.0,
+                to found.0 time found.1,
+                λ final is_final k on up. elim (leb_tells number k) [
+                  | inl large ↦ subst LostThen (omega (arith, large.1, up, same_Some number final is_final)) lost
+                  | inr small ↦ still k (found.2 last.0 last.1 k on (omega (arith, small.1, last.2)))
+                ],
+              )
+
+          oldest : (test : Bool) → follows run.previous number ≡ test → (other sent : ℕ) → EndThen other sent
+              → IsInRun LostThen EndThen period (number + 1) (going_on number run) other
+              → (time : ℕ) × ((if follows run.previous number then run.oldest else None) ≡ Some time) × (time ≤ sent)
+          oldest test tested other sent ends in_run =
+              let small = under other (is.told other sent (from other sent ends)) in
+              let before = was_in_run other small (in_run number refl) in
+              let found = is.oldest other sent (from other sent ends) before.1 in
+              (found.0, rw before.0 found.1, found.2)
+
+          persists : Decides run.is_persistent (Persists LostThen EndThen period)
+          persists = (
+            (λ long. (let there = is.persists.0 long in record {
+              first = there.first;
+              last = there.last;
+              first_sent = there.first_sent;
+              last_sent = there.last_sent;
+              rises = there.rises;
+              begins = to there.first there.first_sent there.begins;
+              ends = to there.last there.last_sent there.ends;
+              between = λ k on up. still k (there.between k on up);
+              long = there.long;
+            })),
+            λ there. (
+                let last = under there.last (is.told there.last there.last_sent
+                (from there.last there.last_sent there.ends)) in
+                is.persists.1 (record {
+                  first = there.first;
+                  last = there.last;
+                  first_sent = there.first_sent;
+                  last_sent = there.last_sent;
+                  rises = there.rises;
+                  begins = from there.first there.first_sent there.begins;
+                  ends = from there.last there.last_sent there.ends;
+                  between = λ k on up. was_under k (omega (arith, up, last)) (there.between k on up);
+                  long = there.long;
+                })
+                ),
+          )
+
+-- ---- with the last number persistent congestion may end
+
+module _ (IsLostNow : ℕ → Type 0) (IsEnd EndThen : ℕ → ℕ → Type 0) (look : Look) (end number sent : ℕ) (run : Run)
+    (is : RunIs IsLostNow IsEnd look.period end run) (last : run.previous ≡ Some number)
+    (below : (other time : ℕ) → IsEnd other time → other < number)
+    (here : EndThen number sent)
+    (to : (other time : ℕ) → IsEnd other time → EndThen other time)
+    (from : (other time : ℕ) → EndThen other time → IsEnd other time ⊎ ((number ≡ other) × (sent ≡ time))) where
+  abbrev now : Run
+  now = ending look sent run
+
+  lost_here : IsLostNow number
+  lost_here = (is.previous number last).0
+
+  in_itself : IsInRun IsLostNow EndThen look.period end now number
+  in_itself final is_final k on up =
+      let same = same_Some number final (sym last ∙ is_final) in
+      subst IsLostNow (omega (arith, same, on, up)) lost_here
+
+  oldest_now : (oldest : Option ℕ) → run.oldest ≡ oldest → (time : ℕ) × (now.oldest ≡ Some time)
+  oldest_now oldest told = (option_map_or (λ before. min before sent) run.oldest sent, refl)
+
+  one_now : (oldest : Option ℕ) → run.oldest ≡ oldest → (time : ℕ) → now.oldest ≡ Some time
+      → (other : ℕ) × EndThen other time × IsInRun IsLostNow EndThen look.period end now other
+  one_now None none time told =
+      let same : sent ≡ time = same_Some sent time
+      (sym (ap (λ o. Some (option_map_or (λ before. min before sent) o sent)) none) ∙ told) in
+      (number, subst (λ t. EndThen number t) same here, in_itself)
+  one_now (Some before) some time told =
+      let least : min before sent ≡ time = same_Some (min before sent) time
+      (sym (ap (λ o. Some (option_map_or (λ b. min b sent) o sent)) some) ∙ told) in
+      elim (leb_tells before sent) [
+        | inl early ↦ (
+            let found = is.one before some in (
+              found.0,
+              subst (λ t. EndThen found.0 t) (omega (arith, least, early.1)) (to found.0 before found.1),
+              found.2,
+            )
+            )
+        | inr late ↦ (number, subst (λ t. EndThen number t) (omega (arith, least, late.1)) here, in_itself)
+      ]
+
+  least_now : (oldest : Option ℕ) → run.oldest ≡ oldest → (other time : ℕ) → EndThen other time
+      → IsInRun IsLostNow EndThen look.period end now other → (t : ℕ) × (now.oldest ≡ Some t) × (t ≤ time)
+  least_now None none other time ends in_run = (
+    sent,
+    ap (λ o. Some (option_map_or (λ b. min b sent) o sent)) none,
+    elim (from other time ends) [
+      | inl was ↦ (
+          let found = is.oldest other time was in_run in
+          absurd (none-some found.0 (sym none ∙ found.1))
+          )
+      | inr same ↦ (omega (arith, same.1))
+    ],
+  )
+  least_now (Some before) some other time ends in_run = (
+    min before sent,
+    ap (λ o. Some (option_map_or (λ b. min b sent) o sent)) some,
+    elim (from other time ends) [
+      | inl was ↦ (
+          let found = is.oldest other time was in_run in
+          let same = same_Some found.0 before (sym found.1 ∙ some) in
+          omega (arith, found.2, same)
+          )
+      | inr same ↦ (omega (arith, same.1))
+    ],
+  )
+
+  -- so long after the oldest of the run
+  long_now : (oldest : Option ℕ) → run.oldest ≡ oldest
+      → option_map_or (λ before. nat_lt look.period (sent - before)) run.oldest false ≡ true
+      → Persists IsLostNow EndThen look.period
+  long_now None none long = absurd (true≢false (sym long
+      ∙ ap (λ o. option_map_or (λ before. nat_lt look.period (sent - before)) o false) none))
+  long_now (Some before) some long =
+      let found = is.one before some in
+      let past = ltb-true look.period (sent - before)
+      (sym (ap (λ o. option_map_or (λ b. nat_lt look.period (sent - b)) o false) some) ∙ long) in
+      record {
+        first = found.0;
+        last = number;
+        first_sent = before;
+        last_sent = sent;
+        rises = below found.0 before found.1;
+        begins = to found.0 before found.1;
+        ends = here;
+        between = found.2 number last;
+        long = past;
+      }
+
+  long_then : Persists IsLostNow EndThen look.period → (Persists IsLostNow IsEnd look.period)
+      ⊎ (option_map_or (λ before. nat_lt look.period (sent - before)) run.oldest false ≡ true)
+  long_then there = elim (from there.last there.last_sent there.ends) [
+    | inl was ↦ elim (from there.first there.first_sent there.begins) [
+      | inl began ↦ inl (record {
+        first = there.first;
+        last = there.last;
+        first_sent = there.first_sent;
+        last_sent = there.last_sent;
+        rises = there.rises;
+        begins = began;
+        ends = was;
+        between = there.between;
+        long = there.long;
+      })
+      | inr same ↦ absurd (omega (arith, same.0, there.rises, below there.last there.last_sent was))
+    ]
+    | inr same ↦ elim (from there.first there.first_sent there.begins) [
+      | inl began ↦ (
+          let found = is.oldest there.first there.first_sent began (λ final is_final k on up. there.between k on
+          (omega (arith, up, same.0, same_Some number final (sym last ∙ is_final)))) in
+          inr (ap (λ o. option_map_or (λ before. nat_lt look.period (sent - before)) o false) found.1
+          ∙ lt-ltb look.period (sent - found.0) (omega (arith, there.long, found.2, same.1)))
+          )
+      | inr first ↦ absurd (omega (arith, same.0, first.0, there.rises))
+    ]
+  ]
+
+  still_long : Persists IsLostNow IsEnd look.period → Persists IsLostNow EndThen look.period
+  still_long there = record {
+    first = there.first;
+    last = there.last;
+    first_sent = there.first_sent;
+    last_sent = there.last_sent;
+    rises = there.rises;
+    begins = to there.first there.first_sent there.begins;
+    ends = to there.last there.last_sent there.ends;
+    between = there.between;
+    long = there.long;
+  }
+
+  either : (one other : Bool) → (one || other) ≡ true → (one ≡ true) ⊎ (other ≡ true)
+  either true other is_true = inl refl
+  either false other is_true = inr is_true
+
+  or_right : (one other : Bool) → other ≡ true → (one || other) ≡ true
+  or_right true other is_true = refl
+  or_right false other is_true = is_true
+
+  pub run_end : RunIs IsLostNow EndThen look.period end now
+  run_end = record {
+    previous = is.previous;
+    last = is.last;
+    told = λ other time ends. elim (from other time ends) [
+      | inl was ↦ is.told other time was
+      | inr same ↦ subst IsLostNow same.0 lost_here
+    ];
+    one = one_now run.oldest refl;
+    oldest = least_now run.oldest refl;
+    persists = (
+      (λ is_true. elim (either run.is_persistent _ is_true) [
+        | inl before ↦ still_long (is.persists.0 before)
+        | inr long ↦ long_now run.oldest refl long
+      ]),
+      λ there. elim (long_then there) [
+        | inl before ↦ ap (λ test. test || option_map_or (λ b. nat_lt look.period (sent - b)) run.oldest false)
+            (is.persists.1 before)
+        | inr long ↦ or_right run.is_persistent _ long
+      ],
+    );
+  }

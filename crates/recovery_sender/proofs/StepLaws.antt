@@ -1,0 +1,63 @@
+-- Steps behind steps are one list of them.
+use Rattle.std.proofs.Common.{◌≡◌, List, [], ◌∷◌, ◌++◌, Ok, sym, subst, ◌∙◌}
+use Rattle.recovery_events.specs.declared.event.Answer.{Answer}
+use Rattle.recovery_events.specs.declared.event.Event.{Event}
+use Rattle.quic_recovery.specs.History.{queue_meaning}
+use Rattle.quic_recovery.specs.Parts.{Parts}
+use Rattle.quic_recovery.specs.Past.{ExtendsOn}
+use Rattle.quic_recovery.specs.State.{Changes}
+use Rattle.recovery_sender.specs.declared.sender.Sender.{Sender}
+use Rattle.recovery_sender.specs.declared.sender.Variables.{Variables}
+use Rattle.recovery_sender.specs.Senders.{parts_in}
+use Rattle.recovery_sender.specs.Steps.{Step, Leads, Goes, Does, told, timed}
+use Rattle.recovery_sender.specs.Timer.{due_of}
+use Rattle.recovery_sender.proofs.LeadLaws.{leads_on}
+
+module _ {F Q R C K S M P : Type 0} {f : _} {c : _} {q : _} {m : _} {r : _} where
+  pub goes_on : (first second : List (Step Q S M P)) (old between new : Sender F Q R C K S M P f c q m r)
+      → Goes first old between → Goes second between new → Goes (first ++ second) old new
+  goes_on first second old between new goes later = record {
+    leads = leads_on _ _ _ first _ _ _ _ goes.leads later.leads;
+    variables = later.variables ∙ goes.variables;
+  }
+
+  -- the timer is set behind steps, with variables made of those that were there
+  pub does_behind_with : (made : Variables → Variables) (steps : List (Step Q S M P))
+      (old between new : Sender F Q R C K S M P f c q m r) → Goes steps old between
+      → Does [] (made between.variables) between new → Does steps (made old.variables) old new
+  does_behind_with made steps old between new goes does =
+      let does : Does [] (made old.variables) between new =
+      subst (λ (kept : Variables). Does [] (made kept) between new) goes.variables does in
+      record {
+        leads = leads_on _ _ _ steps _ _ _ _ goes.leads does.leads;
+        variables = does.variables;
+        timer = does.timer;
+      }
+
+  pub does_behind : (steps : List (Step Q S M P)) (old between new : Sender F Q R C K S M P f c q m r)
+      → Goes steps old between → Does [] between.variables between new → Does steps old.variables old new
+  does_behind = does_behind_with (λ kept. kept)
+
+  -- the same from another that has the same recovery, with variables that are the same
+  pub does_as : (kept wanted : Variables) (old from new : Sender F Q R C K S M P f c q m r)
+      → parts_in old ≡ parts_in from → kept ≡ wanted → Does [] kept from new → Does [] wanted old new
+  does_as kept wanted old from new same is does =
+      let does : Does [] wanted from new = subst (λ (kept : Variables). Does [] kept from new) is does in
+      record {
+        leads = subst (λ (parts : Parts K P M). Leads f.built c.words (queue_meaning q.contents q.words q.blank)
+            (timed (due_of (parts_in new) wanted) ∷ []) parts (parts_in new)) (sym same) does.leads;
+        variables = does.variables;
+        timer = does.timer;
+      }
+
+  -- the timer is set behind an event
+  pub does_event : (event : Event Q S M P) (answer : Answer Q) (kept : Variables)
+      (old between new : Sender F Q R C K S M P f c q m r)
+      → Changes (queue_meaning q.contents q.words q.blank) (parts_in old) event (Ok answer) (parts_in between)
+      → ExtendsOn f.built c.words (queue_meaning q.contents q.words q.blank) (parts_in old) event (Ok answer)
+      (parts_in between) → Does [] kept between new → Does (told event (Ok answer) ∷ []) kept old new
+  does_event event answer kept old between new changes extends does = record {
+    leads = (parts_in between, changes, extends, does.leads);
+    variables = does.variables;
+    timer = does.timer;
+  }

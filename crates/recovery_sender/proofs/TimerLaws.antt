@@ -1,0 +1,142 @@
+-- The timer for losses: what it reads, and that setting it changes nothing of that.
+use Rattle.std.proofs.Common.{◌≡◌, ℕ, true, false, Bool, [], ◌∷◌, Option, None, Some, option_map, Ok, Err, ◌||◌, IsTrue, ◌⊎◌, refl, ap, subst, inl, inr}
+use Rattle.std.specs.Bool.{Decides, one_answer}
+use Rattle.recovery_base.specs.declared.below.SpaceId.{SpaceId}
+use Rattle.recovery_base.specs.declared.below.SpaceId.TheVariants.{Initial, Handshake, Data}
+use Rattle.recovery_base.specs.declared.timer.Timer.TheVariants.{LossDetection}
+use Rattle.recovery_base.specs.Timers.{moment}
+use Rattle.recovery_congestion.specs.Controllers.{ControllerWords}
+use Rattle.recovery_ledger.specs.declared.discarded.DiscardedSpaces.{DiscardedSpaces}
+use Rattle.recovery_ledger.specs.Packets.{Packets, HasEliciting}
+use Rattle.recovery_ledger.specs.Spaces.{Space, Spaces, space_of}
+use Rattle.recovery_paths.specs.PathLog.{OfPaths, PathKnown, paths_known}
+use Rattle.recovery_paths.specs.PathStates.{PathState}
+use Rattle.recovery_events.specs.declared.event.Answer.{Answer}
+use Rattle.recovery_events.specs.declared.event.Answer.TheVariants.{Done}
+use Rattle.recovery_events.specs.declared.event.Event.{Event}
+use Rattle.recovery_events.specs.declared.event.Refusal.{Refusal}
+use Rattle.recovery_events.specs.declared.event.Refusal.TheVariants.{NoMemory}
+use Rattle.quic_recovery.specs.PartReplies.{IsDone}
+use Rattle.quic_recovery.specs.History.{QueueMeaning}
+use Rattle.quic_recovery.specs.Parts.{Parts}
+use Rattle.quic_recovery.specs.Plain.{Plain}
+use Rattle.quic_recovery.specs.declared.driver.Recovery.{Recovery}
+use Rattle.quic_recovery.specs.Past.{ExtendsOn}
+use Rattle.quic_recovery.specs.State.{Changes, OnlyTells}
+use Rattle.recovery_sender.specs.declared.sender.timer.Due.{Due}
+use Rattle.recovery_sender.specs.declared.sender.Variables.{Variables}
+use Rattle.recovery_sender.specs.Steps.{Leads, told, timed, timer_event}
+use Rattle.recovery_sender.specs.Timer.{due_of, has_eliciting, TimerIsSet}
+
+-- ---- what elicits an ACK
+
+either_decided : (P : Type 0) (one rest : Bool) → Decides rest P → Decides (one || rest) (IsTrue one ⊎ P)
+either_decided P true rest decides = (λ yes. inl refl, λ either. refl)
+either_decided P false rest decides = (λ yes. inr (decides.0 yes), only_rest)
+  where
+    only_rest : IsTrue false ⊎ P → rest ≡ true
+    only_rest (inl never) = absurd cc
+    only_rest (inr there) = decides.1 there
+
+eliciting_decided : {P M : Type 0} (packets : Packets P M) → Decides (has_eliciting packets) (HasEliciting packets)
+eliciting_decided [] = (λ yes. absurd cc, λ none. absurd none)
+eliciting_decided (entry ∷ packets) = either_decided _ entry.1.ack_eliciting _ (eliciting_decided packets)
+
+pub eliciting_found : {P M : Type 0} (packets : Packets P M) (found : Bool) → Decides found (HasEliciting packets)
+    → found ≡ has_eliciting packets
+eliciting_found packets found decides = one_answer found _ decides (eliciting_decided packets)
+
+-- ---- what is due hangs on the spaces, on which of them are discarded, and on the path in use
+
+abbrev Seen : (K P M : Type 0) → Type 0
+Seen K P M = Spaces P M × DiscardedSpaces × PathState K
+
+abbrev seen_in : {K P M : Type 0} → Parts K P M → Seen K P M
+seen_in recovery = (recovery.spaces, recovery.discarded, recovery.paths.current.state)
+
+abbrev with_seen : {K P M : Type 0} → Parts K P M → Seen K P M → Parts K P M
+with_seen recovery seen = record recovery {
+  spaces = seen.0;
+  discarded = seen.1;
+  paths = record recovery.paths { current = record recovery.paths.current { state = seen.2 } };
+}
+
+due_same : {K P M : Type 0} (variables : Variables) (old new : Parts K P M) → seen_in new ≡ seen_in old
+    → due_of new variables ≡ due_of old variables
+due_same {K} {P} {M} variables old new same = ap (λ (seen : Seen K P M). due_of (with_seen old seen) variables) same
+
+seen_of : {K P M : Type 0} → Space P M → Space P M → Space P M → DiscardedSpaces → PathState K → Seen K P M
+seen_of initial handshake one_rtt discarded state =
+    (record { initial = initial; handshake = handshake; «data» = one_rtt }, discarded, state)
+
+-- ---- the timer is set
+
+-- what is always done is never refused
+never_refused : (Q : Type 0) (refusal : Refusal) → IsDone {Q = Q} (Err refusal) → ⊥
+never_refused Q NoMemory done = done
+never_refused Q refusal done = done
+
+pub timer_answered : {F Q R C K S M P : Type 0} {f : _} {c : _} {q : _} {m : _} {r : _}
+    (recovery : Recovery F Q R C K S M P f c q m r) (due : Option (ℕ × Due)) (event : Event Q S M P)
+    → event ≡ timer_event due → (refusal : Refusal) → OnlyTells event recovery (Err refusal) → ⊥
+timer_answered {Q = Q} {S = S} {M = M} {P = P} recovery None event is refusal refused = never_refused Q refusal
+    (subst (λ (event : Event Q S M P). OnlyTells event recovery (Err refusal)) is refused)
+timer_answered {Q = Q} {S = S} {M = M} {P = P} recovery (Some due) event is refusal refused = never_refused Q refusal
+    (subst (λ (event : Event Q S M P). OnlyTells event recovery (Err refusal)) is refused)
+
+module _ {K Q S M P : Type 0} (queue : QueueMeaning Q S M P) (old new : Parts K P M) where
+  seen_stays : ((space : SpaceId) → space_of space new.spaces ≡ space_of space old.spaces)
+      → new.discarded ≡ old.discarded → paths_known new.paths ≡ paths_known old.paths → seen_in new ≡ seen_in old
+  unfolding seen_of
+  seen_stays spaces discarded paths =
+      let initial = spaces Initial in let handshake = spaces Handshake in let one_rtt = spaces Data in
+      let state : new.paths.current.state ≡ old.paths.current.state =
+      ap (λ (known : OfPaths (PathKnown K)). known.current.state) paths in
+      let same : seen_of new.spaces.initial new.spaces.handshake new.spaces.«data» new.discarded
+      new.paths.current.state
+      ≡ seen_of old.spaces.initial old.spaces.handshake old.spaces.«data» old.discarded old.paths.current.state = cc in
+      same
+
+  seen_by_timer : (due : Option (ℕ × Due)) (answer : Answer Q) → Changes queue old (timer_event due) (Ok answer) new
+      → seen_in new ≡ seen_in old
+  seen_by_timer None answer changes =
+      seen_stays changes.steps.spaces (ap (λ (plain : Plain). plain.discarded) changes.plain.1) changes.steps.paths
+  seen_by_timer (Some due) answer changes =
+      seen_stays changes.steps.spaces (ap (λ (plain : Plain). plain.discarded) changes.plain.1) changes.steps.paths
+
+  set_by_timer : (due : Option (ℕ × Due)) (answer : Answer Q) → Changes queue old (timer_event due) (Ok answer) new
+      → moment LossDetection new.timers ≡ option_map (λ due. due.0) due
+  set_by_timer None answer changes = changes.plain.0 LossDetection
+  set_by_timer (Some due) answer changes = changes.plain.0 LossDetection
+
+  done_by_timer : (due : Option (ℕ × Due)) (answer : Answer Q) → Changes queue old (timer_event due) (Ok answer) new
+      → answer ≡ Done
+  done_by_timer None answer changes = changes.told
+  done_by_timer (Some due) answer changes = changes.told
+
+module _ {F K Q S M P : Type 0} (built : F → ℕ → ℕ → K) (words : ControllerWords K) (queue : QueueMeaning Q S M P)
+    (variables : Variables) (old new : Parts K P M) (answer : Answer Q) where
+  set_now : Changes queue old (timer_event (due_of old variables)) (Ok answer) new
+      → ExtendsOn built words queue old (timer_event (due_of old variables)) (Ok answer) new
+      → (Changes queue old (timer_event (due_of new variables)) (Ok Done) new
+      × ExtendsOn built words queue old (timer_event (due_of new variables)) (Ok Done) new) × TimerIsSet new variables
+  set_now changes extends =
+      let due = due_of old variables in
+      let same : due_of new variables ≡ due =
+      due_same variables old new (seen_by_timer queue old new due answer changes) in
+      rw same (
+        subst (λ (given : Answer Q). Changes queue old (timer_event due) (Ok given) new
+            × ExtendsOn built words queue old (timer_event due) (Ok given) new)
+            (done_by_timer queue old new due answer changes) (changes, extends),
+        set_by_timer queue old new due answer changes,
+      )
+
+module _ {F K Q S M P : Type 0} (built : F → ℕ → ℕ → K) (words : ControllerWords K) (queue : QueueMeaning Q S M P)
+    (variables : Variables) (old : Parts K P M) (answer : Answer Q) where
+  -- once it is set to what is due, it is set to what is due then
+  pub timer_sets : (new : Parts K P M)
+      → Leads built words queue (told (timer_event (due_of old variables)) (Ok answer) ∷ []) old new
+      → Leads built words queue (timed (due_of new variables) ∷ []) old new × TimerIsSet new variables
+  timer_sets new (between, changes, extends, is) =
+      let now = set_now built words queue variables old between answer changes extends in
+      rw is ((between, now.0.0, now.0.1, refl), now.1)

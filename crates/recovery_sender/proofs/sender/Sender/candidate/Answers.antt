@@ -1,0 +1,28 @@
+use Rattle.std.proofs.Common.{[], ap, ◌∙◌}
+use Rattle.std.specs.Option.{option_map_or}
+use Rattle.recovery_ledger.specs.Spaces.{packets_of}
+use Rattle.recovery_sender.proofs.LossLaws.{next_in, none_below, none_in}
+use Rattle.recovery_sender.proofs.sender.Sender.candidate.Goals as goal
+
+pub returns-in_err-number : goal.returns-in_err-number
+returns-in_err-number g c =
+    let same = ap packets_of c.here.view_is ∙ ap (λ there. option_map_or packets_of there []) c.in_ok-here.ensures in
+    rw (c.from_residual-in_err-number.ensures, ← same) (none_in c.args.look.now c.args.from _
+    c.in_err-number.ensures.first)
+
+pub returns-then-number-look : goal.returns-then-number-look
+returns-then-number-look g c =
+    let same = ap packets_of c.here.view_is ∙ ap (λ there. option_map_or packets_of there []) c.in_ok-here.ensures in
+    rw (← same) (none_below c.args.look.now c.args.from _ c.in_ok-number.number c.in_ok-number.ensures.lowest
+    c.if-number-look.true)
+
+pub returns : goal.returns
+returns g c =
+    let same = ap packets_of c.here.view_is ∙ ap (λ there. option_map_or packets_of there []) c.in_ok-here.ensures in
+    let is = c.packet.view_is in
+    rw (← same) (next_in c.args.look.now c.args.from _ c.in_ok-number.packet.now _ (record {
+      time_sent = ap (λ packet. packet.time_sent) is;
+      size = ap (λ packet. packet.size) is;
+      ack_eliciting = ap (λ packet. packet.ack_eliciting) is;
+      path_generation = ap (λ packet. packet.path_generation) is;
+    }) c.in_ok-number.ensures.first c.in_ok-number.ensures.lowest c.if-number-look.false)

@@ -1,0 +1,5 @@
+use Rattle.recovery_sender.proofs.LeadLaws.{occurred}
+use Rattle.recovery_sender.proofs.sender.Sender.congested.Goals as goal
+
+pub returns-in-Some : goal.returns-in-Some
+returns-in-Some g c = rw c.in-Some.is (occurred _ _ _ _ c.tell.ensures)

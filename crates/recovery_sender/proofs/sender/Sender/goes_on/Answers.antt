@@ -1,0 +1,9 @@
+use Rattle.std.proofs.Common.{refl, ap, ◌∙◌}
+use Rattle.recovery_sender.specs.Calls.{based}
+use Rattle.recovery_sender.proofs.StepLaws.{does_as}
+use Rattle.recovery_sender.proofs.sender.Sender.goes_on.Goals as goal
+
+pub returns : goal.returns
+returns g c = does_as _ _ _ _ _ refl
+    (c.based-self.ensures ∙ ap (λ time. based time c.args.self.now.variables) c.sent_at.ensures)
+    c.set_loss_detection_timer.ensures

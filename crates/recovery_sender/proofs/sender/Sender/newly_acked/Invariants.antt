@@ -1,0 +1,13 @@
+use Rattle.std.proofs.Common.{◌≤◌, length}
+use Rattle.recovery_sender.specs.Acks.{AreNewly}
+use Rattle.recovery_sender.specs.Senders.{parts_in, packets_in}
+use Rattle.recovery_sender.proofs.sender.Sender.newly_acked.Given as goal
+
+abbrev pub invariant-loop-at : goal.invariant-loop-at
+invariant-loop-at g l = record {
+  newly : AreNewly (packets_in (parts_in l.fn.self) l.fn.space) l.fn.ranges l.at l.newly.numbers.items l.newly.elicits;
+  within : l.at ≤ length l.fn.ranges;
+}
+
+abbrev pub decreases-loop-at : goal.decreases-loop-at
+decreases-loop-at g l = l.at

@@ -1,0 +1,178 @@
+-- What an ACK frame comes to (RFC 9002, 5.1, 5.3, 6.2.1, A.7 and B.7; RFC 9000, 13.4.2.1), step after step.
+use Rattle.std.specs.Prelude.{◌≡◌, ℕ, ◌-◌, ◌||◌, ◌==◌, min, nat_lt, ◌⊎◌, Bool, true, false, List, [], ◌∷◌, length, map, Option, None, Some, option_map, Result, Ok, Err, if◌then◌else◌}
+use Rattle.std.specs.Option.{option_and_then}
+use Rattle.recovery_base.specs.declared.below.SpaceId.{SpaceId}
+use Rattle.recovery_base.specs.declared.below.SpaceId.TheVariants.{Handshake}
+use Rattle.recovery_base.specs.declared.below.frames.EcnCounts.{EcnCounts}
+use Rattle.recovery_base.specs.Spaces.{same_space}
+use Rattle.recovery_events.specs.declared.event.Answer.{Answer}
+use Rattle.recovery_events.specs.declared.event.Answer.TheVariants.{Flag}
+use Rattle.recovery_events.specs.declared.event.Event.TheVariants.{Acked, EndAcks, Sample, Ecn}
+use Rattle.recovery_events.specs.declared.event.Refusal.{Refusal}
+use Rattle.recovery_events.specs.declared.event.Refusal.TheVariants.{NoMemory}
+use Rattle.recovery_ledger.specs.Packets.{Packet, packet_at}
+use Rattle.recovery_ledger.specs.Spaces.{Space, next_number_of}
+use Rattle.recovery_paths.specs.PathStates.{PathMarks}
+use Rattle.quic_recovery.specs.Parts.{Parts}
+use Rattle.recovery_sender.specs.declared.frames.Ack.{Ack}
+use Rattle.recovery_sender.specs.declared.sender.acks.Acknowledged.{Acknowledged}
+use Rattle.recovery_sender.specs.declared.sender.acks.EcnEnd.{EcnEnd}
+use Rattle.recovery_sender.specs.declared.sender.acks.EcnEnd.TheVariants.{Quiet, Marked, Failed}
+use Rattle.recovery_sender.specs.declared.sender.Refused.{Refused}
+use Rattle.recovery_sender.specs.declared.sender.Refused.TheVariants as refused
+use Rattle.recovery_sender.specs.declared.sender.Sender.{Sender}
+use Rattle.recovery_sender.specs.declared.sender.Variables.{Variables}
+use Rattle.recovery_sender.specs.Acks.{AckChecked, AreAllowed, AreNewly, AreWhole, WereSent, largest_of}
+use Rattle.recovery_sender.specs.Judging.{Detects, congested}
+use Rattle.recovery_sender.specs.Losses.{largest_in}
+use Rattle.recovery_sender.specs.Senders.{parts_in, packets_in, space_in}
+use Rattle.recovery_sender.specs.Steps.{Step, Does, Goes, marked, occurs, told}
+use Rattle.recovery_sender.specs.Timer.{ack_delay_in, is_address_validated}
+
+-- each of these is acknowledged
+abbrev pub acking : {Q S M P : Type 0} → SpaceId → ℕ → Bool → List ℕ → List (Step Q S M P)
+acking space now app_limited numbers = map (λ number. occurs (Acked space now number app_limited)) numbers
+
+module _ {K P M : Type 0} (recovery : Parts K P M) where
+  -- when a tracked packet was sent, where that was on the path in use (RFC 9000, 9.4)
+  abbrev pub sent_here : Option (Packet P M) → Option ℕ
+  sent_here packet = option_and_then (λ there. if there.path_generation == recovery.paths.current.ledger.generation
+      then Some there.time_sent else None) packet
+
+  abbrev pub sent_on : SpaceId → ℕ → Option ℕ
+  sent_on space number = sent_here (packet_at (packets_in recovery space) number)
+
+  -- what is kept with the path in use
+  abbrev pub marks_now : PathMarks
+  marks_now = recovery.paths.current.marks
+
+  -- whether packets are marked on it, and which packet of it is the first one behind a sample, are set anew
+  abbrev pub with_marks_now : Bool → Option (SpaceId × ℕ) → PathMarks
+  with_marks_now sending first = record marks_now { sending_ecn = sending; first_after_sample = first }
+
+  -- the next packet of a space is the first one behind a sample, where none is (RFC 9002, 7.6.2)
+  abbrev pub first_marked : {Q S : Type 0} → SpaceId → Option (SpaceId × ℕ) → Option (Space P M) → List (Step Q S M P)
+  first_marked space None (Some here) =
+      marked (with_marks_now marks_now.sending_ecn (Some (space, next_number_of here))) ∷ []
+  first_marked space first here = []
+
+  -- packets are marked no more (RFC 9000, 13.4.2.1)
+  abbrev pub unmarked : {Q S : Type 0} → Step Q S M P
+  unmarked = marked (with_marks_now false marks_now.first_after_sample)
+
+-- the largest number that was acknowledged rises
+abbrev pub is_raised : Option ℕ → Option ℕ → Bool
+is_raised before None = false
+is_raised None (Some after) = true
+is_raised (Some before) (Some after) = nat_lt before after
+
+-- probe timeouts are counted anew, but at a client that does not know its address validated, which an ACK of a
+-- Handshake packet tells it (RFC 9002, 6.2.1 and 6.2.2.1); a deadlock is counted on from there
+abbrev pub heard_in : SpaceId → ℕ → Variables → Variables
+heard_in space now variables =
+    let known : Variables = record variables {
+      is_address_known = variables.is_address_known || same_space space Handshake;
+      base = now;
+    } in
+    record known { pto_count = (if is_address_validated known then 0 else variables.pto_count) }
+
+-- ---- what is known of a sample and of ECN
+
+-- a sample of the RTT, where there is one: the delay of the ACK counts in the space of 1-RTT packets, up to the longest
+-- that the peer said (RFC 9002, 5.3)
+module _ {F Q R C K S M P : Type 0} {f : _} {c : _} {q : _} {m : _} {r : _} (space : SpaceId) (delay : ℕ)
+    (old new : Sender F Q R C K S M P f c q m r) where
+  abbrev pub Samples : Option ℕ → Type 0
+  Samples None = Goes [] old new
+  Samples (Some rtt) = (between : Sender F Q R C K S M P f c q m r)
+      × Goes (occurs (Sample (min delay (ack_delay_in old.variables space)) rtt) ∷ []) old between
+      × Goes (first_marked (parts_in between) space (marks_now (parts_in between)).first_after_sample
+      (space_in (parts_in between) space)) between new
+
+-- counts of ECN are answered with more packets marked
+abbrev pub is_marked : {Q : Type 0} → Answer Q → Bool
+is_marked (Flag flag) = flag
+is_marked answer = false
+
+-- when the largest acknowledged number of a space was sent
+abbrev pub largest_sent : {K P M : Type 0} → Parts K P M → SpaceId → Option ℕ
+largest_sent recovery space = option_map (λ here. here.largest_acked_packet_sent) (space_in recovery space)
+
+module _ {F Q R C K S M P : Type 0} {f : _} {c : _} {q : _} {m : _} {r : _} (space : SpaceId) (now newly : ℕ)
+    (old new : Sender F Q R C K S M P f c q m r) where
+  -- the counts of ECN are compared with those before: nothing, more packets were marked, or they cannot be right and
+  -- packets are marked no more (RFC 9000, 13.4.2.1; RFC 9002, B.7)
+  abbrev pub EcnCompared : EcnCounts → EcnEnd → Type 0
+  EcnCompared counts Quiet = (answer : Answer Q) × (is_marked answer ≡ false)
+      × Goes (told (Ecn space newly counts) (Ok answer) ∷ []) old new
+  EcnCompared counts Marked = (answer : Answer Q) × (between : Sender F Q R C K S M P f c q m r)
+      × (is_marked answer ≡ true) × Goes (told (Ecn space newly counts) (Ok answer) ∷ []) old between
+      × Goes (congested now false 0 (largest_sent (parts_in between) space)) between new
+  EcnCompared counts Failed = (between : Sender F Q R C K S M P f c q m r) × (refusal : Refusal)
+      × Goes (told (Ecn space newly counts) (Err refusal) ∷ []) old between
+      × Goes (unmarked (parts_in between) ∷ []) between new
+
+  -- so it is on a path that sends ECN, where the frame raised the largest number acknowledged; one without counts ends
+  -- that
+  abbrev pub EcnComes : Bool → Option EcnCounts → Bool → EcnEnd → Type 0
+  EcnComes false counts raised end = (end ≡ Quiet) × Goes [] old new
+  EcnComes true None raised end = (end ≡ Quiet) × Goes (unmarked (parts_in old) ∷ []) old new
+  EcnComes true (Some counts) false end = (end ≡ Quiet) × Goes [] old new
+  EcnComes true (Some counts) true end = EcnCompared counts end
+
+-- ---- a frame that newly acknowledges something
+
+-- a sample of the RTT: since the largest number of the frame was sent, where it is newly acknowledged and was sent on
+-- the path in use, and something newly acknowledged elicits an ACK (RFC 9002, 5.1)
+abbrev pub rtt_of : {K P M : Type 0} → Parts K P M → SpaceId → ℕ → List (ℕ × ℕ) → Bool → Option ℕ
+rtt_of recovery space now ranges elicits = if elicits then
+    option_map (λ sent. now - sent) (option_and_then (λ largest. sent_on recovery space largest) (largest_of ranges))
+    else None
+
+pub record Acknowledges {F Q R C K S M P : Type 0} {f : _} {c : _} {q : _} {m : _} {r : _} (space : SpaceId) (now : ℕ)
+    (ranges : List (ℕ × ℕ)) (ack : Ack) (elicits : Bool) (old : Sender F Q R C K S M P f c q m r) (acked : Acknowledged)
+    (new : Sender F Q R C K S M P f c q m r) : Type 0 where
+  pub taken : Sender F Q R C K S M P f c q m r
+  pub ended : Sender F Q R C K S M P f c q m r
+  pub sampled : Sender F Q R C K S M P f c q m r
+  pub looked : Sender F Q R C K S M P f c q m r
+  pub heard : Sender F Q R C K S M P f c q m r
+  -- each number is told acknowledged, and that these were all
+  pub acks : Goes (acking space now ack.app_limited acked.numbers.items) old taken
+  pub ends : Goes (occurs (EndAcks now ack.app_limited (largest_in (parts_in taken) space)) ∷ []) taken ended
+  -- the RTT is sampled, losses are looked for, and the counts of ECN compared
+  pub samples : Samples space ack.delay ended sampled (rtt_of (parts_in old) space now ranges elicits)
+  pub detects : Detects space now true sampled acked.losses looked
+  pub compares : EcnComes space now (length acked.numbers.items) looked heard
+      (marks_now (parts_in looked)).sending_ecn ack.ecn
+      (is_raised (largest_in (parts_in old) space) (largest_in (parts_in looked) space)) acked.ecn
+  -- probe timeouts are counted anew, and the timer is set
+  pub does : Does [] (heard_in space now old.variables) heard new
+
+-- ---- a frame
+
+module _ {F Q R C K S M P : Type 0} {f : _} {c : _} {q : _} {m : _} {r : _} (space : SpaceId) (now : ℕ)
+    (ranges : List (ℕ × ℕ)) (ack : Ack) (old new : Sender F Q R C K S M P f c q m r) where
+  -- nothing is newly acknowledged
+  pub record TellsNone (acked : Acknowledged) : Type 0 where
+    pub lost : acked.losses.numbers.items ≡ []
+    pub probe : acked.losses.probe ≡ None
+    pub congestion : acked.losses.congestion ≡ None
+    pub ecn : acked.ecn ≡ Quiet
+    pub does : Does [] old.variables old new
+
+  -- it may be taken: what it newly acknowledges is told, or there is nothing
+  pub record TakesAck (acked : Acknowledged) : Type 0 where
+    pub whole : AreWhole space ranges old.recovery.recovery
+    pub sent : WereSent space ranges old.recovery.recovery
+    pub allowed : AreAllowed space ranges old.recovery.recovery
+    pub elicits : Bool
+    pub newly : AreNewly (packets_in (parts_in old) space) ranges 0 acked.numbers.items elicits
+    pub none : acked.numbers.items ≡ [] → TellsNone acked
+    pub some : (acked.numbers.items ≡ [] → ⊥) → Acknowledges space now ranges ack elicits old acked new
+
+  -- or it is refused, and nothing changes: for what it says, or for want of memory
+  abbrev pub OnAck : Result Acknowledged Refused → Type 0
+  OnAck (Ok acked) = TakesAck acked
+  OnAck (Err refusal) = (new ≡ old)
+      × (AckChecked space ranges old.recovery.recovery (Err refusal) ⊎ (refusal ≡ refused.Event NoMemory))

@@ -1,0 +1,124 @@
+-- An ACK frame: its ranges, and what it newly acknowledges (RFC 9000, 13.1 and 19.3; RFC 9002, A.7).
+use Rattle.std.specs.Prelude.{◌≡◌, ◌≢◌, ℕ, ◌+◌, ◌<◌, ◌≤◌, ◌↔◌, ◌⊎◌, ◌&&◌, nat_le, Decides, Bool, IsTrue, true, false, List, [], ◌∷◌, drop, get_or, length, Option, None, Some, IfSome, Result, Ok, Err}
+use Rattle.recovery_base.specs.declared.below.SpaceId.{SpaceId}
+use Rattle.recovery_events.specs.declared.event.Answer.TheVariants.{Done}
+use Rattle.recovery_events.specs.declared.event.Event.TheVariants.{CheckAck}
+use Rattle.recovery_events.specs.declared.event.Refusal.TheVariants.{BadRange, SpaceDiscarded}
+use Rattle.recovery_ledger.specs.Discarded.{is_discarded}
+use Rattle.recovery_ledger.specs.Packets.{Packet, Packets, packet_at}
+use Rattle.recovery_ledger.specs.Spaces.{space_of, next_number_of}
+use Rattle.quic_recovery.specs.declared.driver.Recovery.{Recovery}
+use Rattle.quic_recovery.specs.State.{parts_of, OnlyTells}
+use Rattle.recovery_sender.specs.declared.sender.Refused.{Refused}
+use Rattle.recovery_sender.specs.declared.sender.Refused.TheVariants as refused
+use Rattle.recovery_sender.specs.Losses.{IsOneOf, AreRising}
+
+-- ---- ranges, the highest first, as they stand in a frame (RFC 9000, 19.3.1)
+
+-- a range ends below another, with a number between them, where there is another
+abbrev pub is_apart : ℕ → Option ℕ → Bool
+is_apart last None = true
+is_apart last (Some above) = nat_le (last + 2) above
+
+-- none ends before it begins, and each lies apart from the one above it
+abbrev pub are_apart : Option ℕ → List (ℕ × ℕ) → Bool
+are_apart above [] = true
+are_apart above (range ∷ ranges) =
+    nat_le range.0 range.1 && is_apart range.1 above && are_apart (Some range.0) ranges
+
+abbrev pub are_ranges : List (ℕ × ℕ) → Bool
+are_ranges [] = false
+are_ranges ranges = are_apart None ranges
+
+-- the largest number of a frame
+abbrev pub largest_of : List (ℕ × ℕ) → Option ℕ
+largest_of [] = None
+largest_of (range ∷ ranges) = Some range.1
+
+-- it is at or above the next number that is given out
+abbrev pub is_unsent : Option ℕ → ℕ → Bool
+is_unsent None next = false
+is_unsent (Some largest) next = nat_le next largest
+
+-- a number lies in one of them
+abbrev pub IsWithin : ℕ → List (ℕ × ℕ) → Type 0
+IsWithin number [] = ⊥
+IsWithin number (range ∷ ranges) = (range.0 ≤ number) × (number ≤ range.1) ⊎ IsWithin number ranges
+
+-- ---- what is newly acknowledged
+
+-- one of them elicits an ACK
+abbrev pub SomeElicits : {P M : Type 0} → Packets P M → List ℕ → Type 0
+SomeElicits packets [] = ⊥
+SomeElicits {P} {M} packets (number ∷ numbers) =
+    ((packet : Packet P M) × (packet_at packets number ≡ Some packet) × IsTrue packet.ack_eliciting)
+    ⊎ SomeElicits packets numbers
+
+-- ---- one range after another, from the lowest
+
+-- the first tracked number from one on, up to another, and whether its packet elicits an ACK
+pub record IsFirstIn {P M : Type 0} (packets : Packets P M) (from last : ℕ) (found : ℕ × Bool) : Type 0 where
+  pub packet : Packet P M
+  pub is : packet_at packets found.0 ≡ Some packet
+  pub elicits : packet.ack_eliciting ≡ found.1
+  pub from_on : from ≤ found.0
+  pub up_to : found.0 ≤ last
+  pub first : (number : ℕ) (other : Packet P M) → packet_at packets number ≡ Some other → from ≤ number
+      → found.0 ≤ number
+
+abbrev pub NoneIn : {P M : Type 0} → Packets P M → ℕ → ℕ → Type 0
+NoneIn {P} {M} packets from last =
+    (number : ℕ) (packet : Packet P M) → packet_at packets number ≡ Some packet → from ≤ number → number ≤ last → ⊥
+
+-- the tracked numbers from one on, below an end, stand behind others
+pub record TakesFrom {P M : Type 0} (packets : Packets P M) (first end : ℕ) (before after : List ℕ) (found : Bool)
+    : Type 0
+  where
+    pub rising : AreRising 0 after end
+    pub each : (number : ℕ) → IsOneOf number after
+        ↔ (IsOneOf number before ⊎ ((first ≤ number) × (number < end) × (packet_at packets number ≢ None)))
+    pub elicits : Decides found (SomeElicits packets after)
+
+-- of the ranges from a place on, those numbers that are tracked, rising and below all ranges before that place; and
+-- whether one of them elicits an ACK
+pub record AreNewly {P M : Type 0} (packets : Packets P M) (ranges : List (ℕ × ℕ)) (place : ℕ) (numbers : List ℕ)
+    (found : Bool) : Type 0 where
+  pub rising : (end : ℕ) × AreRising 0 numbers end
+  pub below : (at : ℕ) → at < place → AreRising 0 numbers (get_or ranges at (0, 0)).0
+  pub each : (number : ℕ) → IsOneOf number numbers
+      ↔ (IsWithin number (drop place ranges) × (packet_at packets number ≢ None))
+  pub elicits : Decides found (SomeElicits packets numbers)
+
+-- ---- what a frame is refused for
+
+-- a number of 1-RTT packets that was skipped is acknowledged by none of them (RFC 9000, 21.4)
+abbrev pub AreAllowed : {F Q R C K S M P : Type 0} {f : _} {c : _} {q : _} {m : _} {r : _} → SpaceId → List (ℕ × ℕ)
+    → Recovery F Q R C K S M P f c q m r → Type 0
+AreAllowed space ranges recovery = (at : ℕ) → at < length ranges →
+    let range = get_or ranges at (0, 0) in OnlyTells (CheckAck space range.0 range.1) recovery (Ok Done)
+
+-- a space that is not discarded, and ranges as they should be
+abbrev pub AreWhole : {F Q R C K S M P : Type 0} {f : _} {c : _} {q : _} {m : _} {r : _} → SpaceId → List (ℕ × ℕ)
+    → Recovery F Q R C K S M P f c q m r → Type 0
+AreWhole space ranges recovery =
+    (is_discarded space (parts_of recovery).discarded ≡ false) × (are_ranges ranges ≡ true)
+
+-- all numbers were sent (RFC 9000, 13.1)
+abbrev pub WereSent : {F Q R C K S M P : Type 0} {f : _} {c : _} {q : _} {m : _} {r : _} → SpaceId → List (ℕ × ℕ)
+    → Recovery F Q R C K S M P f c q m r → Type 0
+WereSent space ranges recovery = IfSome (largest_of ranges)
+    (λ largest. largest < next_number_of (space_of space (parts_of recovery).spaces))
+
+-- a frame may be taken, or it is refused for the first of these: a discarded space, ranges that are none, a number that
+-- was never sent, a number that was skipped
+abbrev pub AckChecked : {F Q R C K S M P : Type 0} {f : _} {c : _} {q : _} {m : _} {r : _} → SpaceId → List (ℕ × ℕ)
+    → Recovery F Q R C K S M P f c q m r → Result (Unit {0}) Refused → Type 0
+AckChecked space ranges recovery (Ok done) =
+    AreWhole space ranges recovery × WereSent space ranges recovery × AreAllowed space ranges recovery
+AckChecked space ranges recovery (Err refused.Unsent) =
+    AreWhole space ranges recovery × (WereSent space ranges recovery → ⊥)
+AckChecked space ranges recovery (Err (refused.Event refusal)) =
+    (is_discarded space (parts_of recovery).discarded ≡ true) × (refusal ≡ SpaceDiscarded)
+    ⊎ ((is_discarded space (parts_of recovery).discarded ≡ false) × (are_ranges ranges ≡ false) × (refusal ≡ BadRange)
+    ⊎ AreWhole space ranges recovery × WereSent space ranges recovery × (at : ℕ) × (at < length ranges)
+    × (let range = get_or ranges at (0, 0) in OnlyTells (CheckAck space range.0 range.1) recovery (Err refusal)))

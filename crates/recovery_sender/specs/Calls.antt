@@ -1,0 +1,214 @@
+-- What the calls beside ACK frames and losses come to, by the state before them (RFC 9002, A.5, A.9 and A.11).
+use Rattle.std.specs.Prelude.{◌≡◌, ℕ, ◌+◌, ◌-◌, ◌^◌, ◌||◌, ◌&&◌, ◌==◌, not, min, nat_lt, nat_le, Bool, true, false, Option, None, Some, Result, Ok, Err, List, [], ◌∷◌, if◌then◌else◌}
+use Rattle.std.specs.Option.{option_and_then}
+use Rattle.recovery_base.specs.declared.below.SpaceId.{SpaceId}
+use Rattle.recovery_base.specs.declared.timer.Timer.TheVariants.{LossDetection}
+use Rattle.recovery_congestion.specs.Controllers.{ControllerWords}
+use Rattle.recovery_events.specs.declared.event.Answer.{Answer}
+use Rattle.recovery_events.specs.declared.event.Answer.TheVariants as answers
+use Rattle.recovery_events.specs.declared.event.Event.{Event}
+use Rattle.recovery_events.specs.declared.event.Event.TheVariants as events
+use Rattle.recovery_events.specs.declared.event.Refusal.TheVariants.{NoMemory, SpaceDiscarded, Overflow}
+use Rattle.rand_core.specs.Stream.{Stream}
+use Rattle.recovery_ledger.specs.Discarded.{is_discarded}
+use Rattle.recovery_ledger.specs.Paths.{counters_of}
+use Rattle.recovery_ledger.specs.Spaces.{space_of}
+use Rattle.recovery_paths.specs.PathLog.{paths_marks}
+use Rattle.recovery_paths.specs.PathStates.{is_blocked, path_delay}
+use Rattle.quic_recovery.specs.declared.driver.RecoveryConfig.{RecoveryConfig}
+use Rattle.quic_recovery.specs.Above.{AreFresh, HasNoLossTime}
+use Rattle.quic_recovery.specs.History.{Reply, begins, queue_meaning}
+use Rattle.quic_recovery.specs.Parts.{Parts}
+use Rattle.quic_recovery.specs.Past.{Reached}
+use Rattle.recovery_sender.specs.declared.sender.Refused.{Refused}
+use Rattle.recovery_sender.specs.declared.sender.Refused.TheVariants as refused
+use Rattle.recovery_sender.specs.declared.sender.Sender.{Sender}
+use Rattle.recovery_sender.specs.declared.sender.packets.Transmission.{Transmission}
+use Rattle.recovery_sender.specs.declared.sender.packets.Transmission.TheVariants.{Transmitted, Blocked, Full, Delayed}
+use Rattle.recovery_sender.specs.declared.sender.Side.{Side}
+use Rattle.recovery_sender.specs.declared.sender.timer.Due.{Due}
+use Rattle.recovery_sender.specs.declared.sender.timer.Due.TheVariants.{Losses, Probes, AntiDeadlock}
+use Rattle.recovery_sender.specs.declared.sender.Variables.{Variables}
+use Rattle.recovery_sender.specs.Senders.{parts_in, fresh}
+use Rattle.recovery_sender.specs.Steps.{Step, told, Goes, Does}
+use Rattle.recovery_sender.specs.Timer.{due_of, is_server}
+
+-- ---- whether a datagram goes out (RFC 9002, 7; RFC 9000, 8.1)
+
+-- it does, unless the pacer wants it later (RFC 9002, 7.7)
+abbrev pub paced_to : Option ℕ → Transmission
+paced_to None = Transmitted
+paced_to (Some until) = Delayed until
+
+module _ {K P M : Type 0} (recovery : Parts K P M) where
+  -- the bytes in flight on the path in use (RFC 9002, B.2)
+  abbrev pub bytes_in_flight : ℕ
+  bytes_in_flight = (counters_of recovery.paths.current.ledger).bytes
+
+  -- window and pacer are asked for what counts in flight, where no probe is due in the space (RFC 9002, 7.5 and 7.7)
+  abbrev pub is_checked : SpaceId → Bool → Bool
+  is_checked space in_flight = in_flight && (space_of space recovery.spaces).loss_probes == 0
+
+module _ {K P M : Type 0} (words : ControllerWords K) (recovery : Parts K P M) where
+  -- how many bytes may be in flight on the path in use (RFC 9002, 7)
+  abbrev pub window_of : ℕ
+  window_of = words.window recovery.paths.current.state.controller
+
+  -- the window has no room for so many bytes more
+  abbrev pub is_full : ℕ → Bool
+  is_full bytes = nat_lt window_of (bytes_in_flight recovery + bytes)
+
+  -- the limit against amplification comes first, then the window, then the pacer
+  abbrev pub transmission : ℕ → ℕ → Bool → Transmission
+  transmission now bytes checked =
+      let path = recovery.paths.current.state in
+      if is_blocked path bytes then Blocked
+      else if checked then (if is_full bytes then Full else paced_to (path_delay words now bytes path))
+      else Transmitted
+
+  -- a discarded space is refused, and then bytes that the total of the path cannot take
+  abbrev pub transmit_reply : ℕ → ℕ → SpaceId → Bool → Result Transmission Refused
+  transmit_reply now bytes space in_flight =
+      if is_discarded space recovery.discarded then Err (refused.Event SpaceDiscarded)
+      else if nat_lt (recovery.paths.current.state.total_sent + bytes) (2 ^ 64)
+      then Ok (transmission now bytes (is_checked recovery space in_flight))
+      else Err (refused.Event Overflow)
+
+-- the recovery is asked for what limit and window let pass
+abbrev pub transmit_steps : {Q S M P : Type 0} → ℕ → ℕ → Bool → Transmission → List (Step Q S M P)
+transmit_steps now bytes checked Transmitted = told (events.Transmit now bytes checked) (Ok answers.Transmitted) ∷ []
+transmit_steps now bytes checked (Delayed until) =
+    told (events.Transmit now bytes checked) (Ok (answers.Delayed until)) ∷ []
+transmit_steps now bytes checked other = []
+
+-- ---- calls that are one event
+
+-- when an event is to send what counts in flight
+abbrev pub to_send : {Q S M P : Type 0} → Event Q S M P → Option ℕ
+to_send (events.Send space now size eliciting largest queue frames) = if nat_lt 0 size then Some now else None
+to_send (events.PollMtu now) = Some now
+to_send event = None
+
+-- the answer says that a packet went out
+abbrev pub goes_out : {Q : Type 0} → Answer Q → Bool
+goes_out (answers.Sent number forgotten) = true
+goes_out (answers.Probe number size) = true
+goes_out answer = false
+
+abbrev pub sent_at : {Q : Type 0} → Option ℕ → Answer Q → Option ℕ
+sent_at time answer = if goes_out answer then time else None
+
+-- a deadlock is counted on from there (RFC 9002, 6.2.2.1)
+abbrev pub based : Option ℕ → Variables → Variables
+based None variables = variables
+based (Some now) variables = record variables { base = now }
+
+-- probe timeouts are counted anew (RFC 9002, 6.2.2 and A.11)
+abbrev pub begun_anew : ℕ → Variables → Variables
+begun_anew now variables = record variables { pto_count = 0; base = now }
+
+-- a discarded space is refused (RFC 9002, 6.4)
+abbrev pub discard_reply : {K P M : Type 0} → Parts K P M → SpaceId → Result (Unit {0}) Refused
+discard_reply recovery space =
+    if is_discarded space recovery.discarded then Err (refused.Event SpaceDiscarded) else Ok (tt {0})
+
+module _ {F Q R C K S M P : Type 0} {f : _} {c : _} {q : _} {m : _} {r : _} (event : Event Q S M P)
+    (old new : Sender F Q R C K S M P f c q m r) where
+  -- the event is answered so, and the timer set; or it is refused so, and all else stays
+  abbrev pub Takes : Result (Answer Q) Refused → Type 0
+  Takes (Ok answer) = Does (told event (Ok answer) ∷ []) (based (sent_at (to_send event) answer) old.variables) old new
+  Takes (Err (refused.Event refusal)) = Goes (told event (Err refusal) ∷ []) old new
+  Takes (Err refused.Unsent) = ⊥
+
+-- ---- events that pass
+
+-- all but those that this layer decides: what is acknowledged and lost and what follows of it, what is probed for, what
+-- is transmitted, which spaces end, and the timer for losses
+abbrev pub Passes : {Q S M P : Type 0} → Event Q S M P → Type 0
+Passes (events.Acked space now number app_limited) = ⊥
+Passes (events.Lost space number) = ⊥
+Passes (events.LossesDone now) = ⊥
+Passes (events.Sample delay rtt) = ⊥
+Passes (events.EndAcks now app_limited largest) = ⊥
+Passes (events.Congestion now sent persistent bytes) = ⊥
+Passes (events.Ecn space newly counts) = ⊥
+Passes (events.QueueProbe space immediate streams) = ⊥
+Passes (events.Transmit now bytes checked) = ⊥
+Passes (events.DiscardSpace space) = ⊥
+Passes (events.SetTimer LossDetection time) = ⊥
+Passes (events.StopTimer LossDetection) = ⊥
+Passes event = Unit {0}
+
+-- the total of what came in on the path in use has no room for so many bytes (RFC 9000, 8.1)
+abbrev pub datagram_reply : {K P M : Type 0} → Parts K P M → ℕ → Result (Unit {0}) Refused
+datagram_reply recovery bytes =
+    if nat_lt (recovery.paths.current.state.total_recvd + bytes) (2 ^ 64) then Ok (tt {0})
+    else Err (refused.Event Overflow)
+
+-- ---- probes (RFC 9002, 6.2.4 and A.9)
+
+-- done or refused, whatever the answer is
+abbrev pub done_of : {Q : Type 0} → Reply Q → Result (Unit {0}) Refused
+done_of (Ok answer) = Ok (tt {0})
+done_of (Err refusal) = Err (refused.Event refusal)
+
+-- the space of what is due
+abbrev pub space_due : Due → SpaceId
+space_due (Losses space) = space
+space_due (Probes space) = space
+space_due (AntiDeadlock space) = space
+
+-- what is due now, where something is
+abbrev pub due_now : {K P M : Type 0} → ℕ → Parts K P M → Variables → Option Due
+due_now now recovery variables =
+    option_and_then (λ due. if nat_le due.0 now then Some due.1 else None) (due_of recovery variables)
+
+-- a probe timeout expired
+abbrev pub timed_out : ℕ → Variables → Variables
+timed_out now variables = record variables { pto_count = min (variables.pto_count + 1) (2 ^ 32 - 1); base = now }
+
+-- how many probes are to be sent, where the second was replied so: one suffices (RFC 9002, 6.2.4)
+abbrev pub probes_with : {Q : Type 0} → Reply Q → ℕ
+probes_with (Ok answer) = 2
+probes_with (Err refusal) = 1
+
+module _ {F Q R C K S M P : Type 0} {f : _} {c : _} {q : _} {m : _} {r : _} (space : SpaceId) (immediate : Bool)
+    (first : S) (old new : Sender F Q R C K S M P f c q m r) where
+  -- one is asked for, or no memory is found for it
+  abbrev pub QueuesProbe : Result (Unit {0}) Refused → Type 0
+  QueuesProbe (Ok done) =
+      (answer : Answer Q) × Goes (told (events.QueueProbe space immediate first) (Ok answer) ∷ []) old new
+  QueuesProbe (Err (refused.Event NoMemory)) =
+      Goes (told (events.QueueProbe space immediate first) (Err NoMemory) ∷ []) old new
+  QueuesProbe (Err other) = ⊥
+
+  -- a timeout asks for one, and is refused where no memory is found for it
+  abbrev pub ProbesOnce : ℕ → Result ℕ Refused → Type 0
+  ProbesOnce now (Ok count) = (count ≡ 1) × (answer : Answer Q)
+      × Does (told (events.QueueProbe space immediate first) (Ok answer) ∷ []) (timed_out now old.variables) old new
+  ProbesOnce now (Err refusal) = QueuesProbe (Err refusal)
+
+  -- it asks for two
+  abbrev pub ProbesTwice : S → ℕ → Result ℕ Refused → Type 0
+  ProbesTwice second now (Ok count) = (answer : Answer Q) × (again : Reply Q) × (count ≡ probes_with again)
+      × Does (told (events.QueueProbe space immediate first) (Ok answer)
+      ∷ told (events.QueueProbe space immediate second) again ∷ []) (timed_out now old.variables) old new
+  ProbesTwice second now (Err refusal) = QueuesProbe (Err refusal)
+
+-- ---- how a sender begins
+
+-- the address of a client's first path is validated: the limit against amplification binds servers (RFC 9000, 8.1)
+abbrev pub config_of : {F : Type 0} → Side → RecoveryConfig F → RecoveryConfig F
+config_of side config = record config { validated = config.validated || not (is_server side) }
+
+module _ {F Q R C K S M P : Type 0} {f : _} {c : _} {q : _} {m : _} {r : _} where
+  -- its recovery is made by these settings, nothing happened to it, and nothing is kept of paths and of losses; then
+  -- the timer is set
+  pub record Begins (side : Side) (config : RecoveryConfig F) (start : ℕ) (random : Stream)
+      (new : Sender F Q R C K S M P f c q m r) : Type 0 where
+    pub made : Sender F Q R C K S M P f c q m r
+    pub came : Reached (begins f.built c.words (queue_meaning q.contents q.words q.blank) (config_of side config) start
+        random) [] (parts_in made)
+    pub marks : AreFresh (paths_marks (parts_in made).paths)
+    pub loss_times : HasNoLossTime (parts_in made).spaces
+    pub does : Does [] (fresh side start) made new

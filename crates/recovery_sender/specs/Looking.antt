@@ -1,0 +1,19 @@
+-- What a look for losses found of the packets below a number.
+use Rattle.std.specs.Prelude.{◌≡◌, ℕ, ◌-◌, ◌^◌, ◌<◌, min, List, Some}
+use Rattle.std.specs.Option.{ForSome}
+use Rattle.recovery_ledger.specs.Packets.{Packets}
+use Rattle.recovery_sender.specs.declared.sender.losses.Look.{Look}
+use Rattle.recovery_sender.specs.declared.sender.losses.Tally.{Tally}
+use Rattle.recovery_sender.specs.Losses.{AreLost, IsEarliest, IsLostBelow, IsTold, bytes_counted, last_counted, without_all}
+use Rattle.recovery_sender.specs.Persisting.{IsEndAt, RunIs}
+
+pub record Looked {P M : Type 0} (look : Look) (old : Packets P M) (end : ℕ) (numbers : List ℕ) (tally : Tally)
+    (new : Packets P M) : Type 0 where
+  pub lost : AreLost look old end numbers
+  pub taken : new ≡ without_all old numbers
+  pub probe : ForSome tally.probe (λ number. (look.probe ≡ Some number) × (number < end) × IsLostBelow look old number)
+  pub earliest : IsEarliest look old end (IsTold numbers tally.probe) tally.loss_time
+  pub bytes : tally.bytes ≡ min (bytes_counted look old numbers) (2 ^ 64 - 1)
+  pub last_sent : tally.last_sent ≡ last_counted look old numbers
+  -- the numbers that are lost now, one behind another
+  pub run : RunIs (IsTold numbers tally.probe) (IsEndAt look old numbers) look.period end tally.run

@@ -1,0 +1,109 @@
+-- When the timer for losses is due, and what for (RFC 9002, 6.2 and A.8), by what can be read of a sender.
+use Rattle.std.specs.Prelude.{◌≡◌, ℕ, ◌+◌, ◌-◌, ◌^◌, ◌||◌, ◌&&◌, not, min, nat_lt, Bool, true, false, Option, None, Some, option_map, if◌then◌else◌}
+use Rattle.std.specs.List.{list_any}
+use Rattle.std.specs.Option.{option_and_then, option_or}
+use Rattle.recovery_base.specs.declared.below.SpaceId.{SpaceId}
+use Rattle.recovery_base.specs.declared.below.SpaceId.TheVariants.{Initial, Handshake, Data}
+use Rattle.recovery_base.specs.declared.timer.Timer.TheVariants.{LossDetection}
+use Rattle.recovery_base.specs.Spaces.{same_space}
+use Rattle.recovery_base.specs.Timers.{moment}
+use Rattle.recovery_congestion.specs.Rtt.{pto_base_of}
+use Rattle.recovery_detection.specs.Timeouts.{probe_timeout_of}
+use Rattle.recovery_ledger.specs.Discarded.{is_discarded}
+use Rattle.recovery_ledger.specs.Packets.{Packets}
+use Rattle.recovery_ledger.specs.Spaces.{Space, packets_of}
+use Rattle.recovery_paths.specs.PathStates.{is_blocked}
+use Rattle.quic_recovery.specs.Parts.{Parts}
+use Rattle.recovery_sender.specs.declared.sender.Side.{Side}
+use Rattle.recovery_sender.specs.declared.sender.Side.TheVariants.{Client, Server}
+use Rattle.recovery_sender.specs.declared.sender.timer.Due.{Due}
+use Rattle.recovery_sender.specs.declared.sender.timer.Due.TheVariants.{Losses, Probes, AntiDeadlock}
+use Rattle.recovery_sender.specs.declared.sender.Variables.{Variables}
+use Rattle.recovery_sender.specs.Senders.{space_in}
+
+-- ---- the least of moments
+
+-- the sooner of two, with what is due then; of equal ones the first
+abbrev pub sooner : Option (ℕ × Due) → Option (ℕ × Due) → Option (ℕ × Due)
+sooner None second = second
+sooner first None = first
+sooner (Some one) (Some other) = if nat_lt other.0 one.0 then Some other else Some one
+
+-- the soonest of all spaces
+abbrev pub soonest : (SpaceId → Option (ℕ × Due)) → Option (ℕ × Due)
+soonest due = sooner (sooner (due Initial) (due Handshake)) (due Data)
+
+-- a span later; it stops at the last moment of the clock
+abbrev pub behind : ℕ → ℕ → ℕ
+behind time span = min (time + span) (2 ^ 64 - 1)
+
+-- ---- what is asked of packets and ends
+
+-- some packet elicits an ACK
+abbrev pub has_eliciting : {P M : Type 0} → Packets P M → Bool
+has_eliciting packets = list_any (λ entry. entry.1.ack_eliciting) packets
+
+abbrev pub is_server : Side → Bool
+is_server Server = true
+is_server Client = false
+
+-- this end is a server, or a client that knows its address validated (RFC 9002, A.8: PeerCompletedAddressValidation)
+abbrev pub is_address_validated : Variables → Bool
+is_address_validated variables = is_server variables.side || variables.is_address_known
+
+-- ---- spans
+
+-- the peer delays its ACKs in the space of 1-RTT packets alone (RFC 9002, 6.2.1)
+abbrev pub ack_delay_in : Variables → SpaceId → ℕ
+ack_delay_in variables Data = variables.max_ack_delay
+ack_delay_in variables space = 0
+
+module _ {K P M : Type 0} (recovery : Parts K P M) where
+  -- a packet of the space may be lost
+  abbrev pub loss_due : SpaceId → Option (ℕ × Due)
+  loss_due space = option_map (λ time. (time, Losses space)) (option_and_then (λ here. here.loss_time)
+      (space_in recovery space))
+
+  -- the probe timeout, as often doubled as it expired in a row, but 16 times at most (RFC 9002, 6.2.1)
+  abbrev pub pto_of : Variables → SpaceId → ℕ
+  pto_of variables space = probe_timeout_of (pto_base_of recovery.paths.current.state.rtt)
+      (ack_delay_in variables space) (min variables.pto_count 16)
+
+module _ {K P M : Type 0} (recovery : Parts K P M) (variables : Variables) where
+  -- 1-RTT packets are not probed for until the handshake is confirmed (RFC 9002, 6.2.1)
+  abbrev pub waits : SpaceId → Bool
+  waits space = same_space space Data && not variables.is_handshake_confirmed
+
+  -- where something tracked elicits an ACK: a probe timeout behind the last packet sent that does
+  abbrev pub probe_in : SpaceId → Space P M → Option (ℕ × Due)
+  probe_in space here = if has_eliciting (packets_of here)
+      then option_map (λ sent. (behind sent (pto_of recovery variables space), Probes space))
+      here.time_of_last_ack_eliciting_packet
+      else None
+
+  abbrev pub probe_due : SpaceId → Option (ℕ × Due)
+  probe_due space = if waits space then None else option_and_then (probe_in space) (space_in recovery space)
+
+  -- the space in which a client ends what may be a deadlock: that of Handshake packets, where it has keys for it and it
+  -- was not discarded (RFC 9002, 6.2.2.1)
+  abbrev pub deadlock_space : SpaceId
+  deadlock_space = if variables.has_handshake_keys && not (is_discarded Handshake recovery.discarded)
+      then Handshake else Initial
+
+  -- a probe timeout behind its base
+  abbrev pub deadlock_due : Option (ℕ × Due)
+  deadlock_due = if is_address_validated variables || is_discarded deadlock_space recovery.discarded then None
+      else Some (behind variables.base (pto_of recovery variables deadlock_space), AntiDeadlock deadlock_space)
+
+  -- while the path in use may send a byte, probes are due, and a deadlock is to be ended (RFC 9000, 8.1)
+  abbrev pub probes_due : Option (ℕ × Due)
+  probes_due = if is_blocked recovery.paths.current.state 1 then None
+      else option_or (soonest probe_due) deadlock_due
+
+  -- the losses of a space come first (RFC 9002, A.8: SetLossDetectionTimer)
+  abbrev pub due_of : Option (ℕ × Due)
+  due_of = option_or (soonest (loss_due recovery)) probes_due
+
+  -- the timer is set so
+  abbrev pub TimerIsSet : Type 0
+  TimerIsSet = moment LossDetection recovery.timers ≡ option_map (λ due. due.0) due_of

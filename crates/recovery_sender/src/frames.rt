@@ -1,0 +1,52 @@
+//! ACK frames as they come in (RFC 9000, 19.3).
+ghost use Rattle.std.specs.Prelude.{◌≡◌};
+ghost use Rattle.recovery_sender.specs.Acks.{are_ranges, is_apart, largest_of};
+
+use quic_recovery::below::EcnCounts;
+use quic_recovery::time::Duration;
+
+/// What an ACK frame says beside its ranges, and what the layer above knows at its arrival.
+#[derive(Clone, Copy)]
+pub struct Ack {
+    /// How long the peer says that it delayed the ACK.
+    pub delay: Duration,
+    /// The counts of ECN, where the frame has them.
+    pub ecn: Option<EcnCounts>,
+    /// Whether the sender had too little to send to fill its window (RFC 9002, 7.8).
+    pub app_limited: bool,
+}
+
+/// Whether there is a range, none ends before it begins, and between each and the next lower there is at least one
+/// number (RFC 9000, 19.3.1).
+pub(crate) fn are_ranges(ranges: &[(u64, u64)]) -> bool
+    ensures { result ≡ are_ranges ranges.now }
+{
+    let mut above: Option<u64> = None;
+    for (first, last) in ranges {
+        if *first > *last || !is_apart(*last, above) {
+            return false;
+        }
+        above = Some(*first);
+    }
+    above.is_some()
+}
+
+/// Whether a range that ends so has a gap to the one above it, where there is one.
+fn is_apart(last: u64, above: Option<u64>) -> bool
+    ensures { result ≡ is_apart last above }
+{
+    match above {
+        Some(first) => last < first && first - last >= 2,
+        None => true,
+    }
+}
+
+/// The largest number of ranges, where there is a range.
+pub(crate) fn largest_of(ranges: &[(u64, u64)]) -> Option<u64>
+    ensures { result ≡ largest_of ranges.now }
+{
+    match ranges {
+        [(_, last), ..] => Some(*last),
+        [] => None,
+    }
+}

@@ -1,0 +1,489 @@
+//! An ACK frame comes in (RFC 9002, A.7; RFC 9000, 13.1 and 13.4.2).
+ghost use Rattle.std.specs.Prelude.{◌≡◌, ◌≢◌, ◌∷◌, [], None, ◌+◌, ◌^◌, ◌≤◌, ◌<◌, true, Decides, MatchOption, IfSome, IfOk, IfErr, OnOk, ℕ, Err, length, get_or, min};
+ghost use Rattle.recovery_events.specs.declared.event.Event.TheVariants.{CheckAck, EndAcks};
+ghost use Rattle.quic_recovery.specs.State.{OnlyTells};
+ghost use Rattle.recovery_sender.specs.Acks.{are_ranges, is_unsent, largest_of, AckChecked, AreAllowed, AreNewly, IsFirstIn, NoneIn, SomeElicits, TakesFrom};
+ghost use Rattle.recovery_sender.specs.Losses.{largest_in, AreRising, IsOneOf};
+ghost use Rattle.recovery_sender.specs.Senders.{parts_in, packets_in, space_in};
+ghost use Rattle.recovery_sender.specs.Acking.{OnAck, acking, first_marked, heard_in, is_marked, is_raised, largest_sent, marks_now, rtt_of, sent_on, unmarked, with_marks_now, Acknowledges, EcnCompared, EcnComes, Samples};
+ghost use Rattle.recovery_sender.specs.Steps.{marked, occurs, Does, Goes};
+ghost use Rattle.recovery_ledger.specs.Packets.{packet_at};
+
+use super::{Losses, Refused, Sender, Side, Variables};
+use crate::frames::{Ack, are_ranges, largest_of};
+use quic_recovery::below::{EcnCounts, SpaceId};
+use quic_recovery::congestion::ControllerFactory;
+use quic_recovery::event::PathName;
+use quic_recovery::paths::{PathMarks, PathResponses};
+use quic_recovery::queue::RetransmitQueue;
+use quic_recovery::time::{Duration, Instant};
+use quic_recovery::{Answer, Event, Refusal};
+use rand_core::Rng;
+
+/// What the counts of ECN of a frame come to (RFC 9000, 13.4.2.1).
+#[derive(Clone, Copy)]
+pub enum EcnEnd {
+    /// Nothing.
+    Quiet,
+    /// More packets were marked: there is congestion (RFC 9002, 7.1).
+    Marked,
+    /// The check failed: packets are marked no more on the path.
+    Failed,
+}
+
+/// What an ACK frame comes to.
+#[derive(Drop)]
+pub struct Acknowledged {
+    /// The numbers that it newly acknowledges, rising.
+    pub numbers: Vec<u64>,
+    /// What was found lost.
+    pub losses: Losses,
+    /// What its counts of ECN come to.
+    pub ecn: EcnEnd,
+}
+
+/// What a frame newly acknowledges, before anything is done.
+#[derive(Drop)]
+pub struct Newly {
+    /// The numbers, rising.
+    numbers: Vec<u64>,
+    /// Whether one of them elicits an ACK.
+    elicits: bool,
+}
+
+impl Variables {
+    /// Something was newly acknowledged in a space: so far the peer was heard.
+    fn heard(self, space: SpaceId, now: Instant) -> Self
+        ensures { result ≡ heard_in space now self }
+    {
+        let is_address_known = self.is_address_known || space == SpaceId::Handshake;
+        let pto_count = if self.side == Side::Server || is_address_known {
+            0
+        } else {
+            self.pto_count
+        };
+        Variables {
+            is_address_known,
+            pto_count,
+            base: now,
+            ..self
+        }
+    }
+}
+
+/// Whether the largest number that was acknowledged rises.
+fn is_raised(before: Option<u64>, after: Option<u64>) -> bool
+    ensures { result ≡ is_raised before after }
+{
+    match (before, after) {
+        (_, None) => false,
+        (None, Some(_)) => true,
+        (Some(before), Some(after)) => before < after,
+    }
+}
+
+/// Whether counts of ECN were answered with more packets marked.
+fn is_marked<Q>(answer: &Answer<Q>) -> bool
+    ensures { result ≡ is_marked answer.now }
+{
+    match answer {
+        Answer::Flag(is_marked) => *is_marked,
+        _ => false,
+    }
+}
+
+/// The lesser of two spans.
+fn lesser(one: Duration, other: Duration) -> Duration
+    ensures { result ≡ min one other }
+{
+    if other < one { other } else { one }
+}
+
+/// Whether the largest number of a frame was not sent, where this is the next one.
+fn is_unsent(largest: Option<u64>, next: u64) -> bool
+    ensures { result ≡ is_unsent largest next }
+{
+    match largest {
+        Some(largest) => largest >= next,
+        None => false,
+    }
+}
+
+impl<F, Q, R> Sender<F, Q, R>
+where
+    F: ControllerFactory + Drop,
+    F::Controller: Drop,
+    Q: RetransmitQueue + Drop,
+    Q::Meta: Drop,
+    Q::Streams: Drop,
+    R: Rng + Drop,
+{
+    /// An ACK frame came in (RFC 9002, A.7: OnAckReceived), with the first and last number of each of its ranges, the
+    /// highest range first, as on the wire. What it newly acknowledges is told, the round-trip time sampled, and losses
+    /// are looked for.
+    ///
+    /// A refusal changes nothing: `SpaceDiscarded`; `BadRange` where there is no range, one ends before it begins, or
+    /// two have no number between them (RFC 9000, 19.3.1); `Unsent` where a number was never sent (RFC 9000, 13.1);
+    /// `SkippedAcked` where it holds the number that was skipped last (RFC 9000, 21.4); `NoMemory` where there is no
+    /// room for the list of what is acknowledged. It costs its ranges, what it newly acknowledges and what is lost or
+    /// lies below the largest acknowledged, each with a logarithm.
+    pub fn on_ack(
+        &mut self,
+        space: SpaceId,
+        now: Instant,
+        ranges: &[(u64, u64)],
+        ack: Ack,
+    ) -> Result<Acknowledged, Refused>
+        ensures { OnAck space now ranges.now ack self.old self.new result }
+    {
+        if let Err(refused) = self.check_ack(space, ranges) {
+            return Err(refused);
+        }
+        let newly = match self.newly_acked(space, ranges) {
+            Ok(newly) => newly,
+            Err(refused) => return Err(refused),
+        };
+        if newly.numbers.is_empty() {
+            self.set_loss_detection_timer();
+            return Ok(Acknowledged {
+                numbers: newly.numbers,
+                losses: Losses::none(self.alloc),
+                ecn: EcnEnd::Quiet,
+            });
+        }
+        Ok(self.acknowledge(space, now, ranges, ack, newly))
+    }
+
+    /// Whether a frame may be taken. Refused by `SpaceDiscarded`, by `BadRange` where its ranges are none, by `Unsent`
+    /// where a number was never sent, or by `SkippedAcked`, in this order.
+    fn check_ack(&self, space: SpaceId, ranges: &[(u64, u64)]) -> Result<(), Refused>
+        ensures small { OnOk result (IfSome (largest_of ranges.now)
+            (λ largest. largest + 1 < 2 ^ 64)) }
+        ensures checked { AckChecked space ranges.now self.now.recovery.recovery result }
+    {
+        let Some(here) = self.space(space) else {
+            return Err(Refused::Event(Refusal::SpaceDiscarded));
+        };
+        if !are_ranges(ranges) {
+            return Err(Refused::Event(Refusal::BadRange));
+        }
+        if is_unsent(largest_of(ranges), here.next_packet_number()) {
+            return Err(Refused::Unsent);
+        }
+        match self.check_ranges(space, ranges) {
+            Ok(()) => Ok(()),
+            Err(refusal) => Err(Refused::Event(refusal)),
+        }
+    }
+
+    /// None of the ranges holds the number that was skipped last (RFC 9000, 21.4).
+    fn check_ranges(&self, space: SpaceId, ranges: &[(u64, u64)]) -> Result<(), Refusal>
+        ensures ok { OnOk result (AreAllowed space ranges.now self.now.recovery.recovery) }
+        ensures refused { IfErr result (λ refusal. (at : ℕ) × (at < length ranges.now)
+            × (let range = get_or ranges.now at (0, 0) in
+            OnlyTells (CheckAck space range.0 range.1) self.now.recovery.recovery (Err refusal))) }
+    {
+        for (low, high) in ranges {
+            if let Err(refusal) = self.recovery.recovery().check_ack(space, *low, *high) {
+                return Err(refusal);
+            }
+        }
+        Ok(())
+    }
+
+    /// The first tracked number from one on, up to another, and whether its packet elicits an ACK.
+    fn first_in(&self, space: SpaceId, from: u64, last: u64) -> Option<(u64, bool)>
+        ensures { MatchOption result (NoneIn (packets_in (parts_in self.now) space) from last)
+            (λ found. IsFirstIn (packets_in (parts_in self.now) space) from last found) }
+    {
+        let here = self.space(space)?;
+        let (number, packet) = here.sent_packets.tracked_from(from)?;
+        if number > last {
+            return None;
+        }
+        Some((number, packet.ack_eliciting))
+    }
+
+    /// The tracked numbers of a range are put behind those below it. Refused by `NoMemory`.
+    fn take_range(
+        &self,
+        space: SpaceId,
+        first: u64,
+        last: u64,
+        newly: &mut Newly,
+    ) -> Result<(), Refused>
+        requires whole { first ≤ last }
+        requires small { last + 1 < 2 ^ 64 }
+        requires rising { AreRising 0 newly.old.numbers.items first }
+        requires elicits { Decides newly.old.elicits
+            (SomeElicits (packets_in (parts_in self.now) space) newly.old.numbers.items) }
+        ensures memory { IfErr result (λ refused. refused ≡ Refused.Event Refusal.NoMemory) }
+        ensures taken { OnOk result (TakesFrom (packets_in (parts_in self.now) space) first
+            (last + 1) newly.old.numbers.items newly.new.numbers.items newly.new.elicits) }
+    {
+        let mut from = first;
+        while let Some((number, elicits)) = self.first_in(space, from, last) {
+            if newly.numbers.reserve(1).is_err() {
+                return Err(Refused::Event(Refusal::NoMemory));
+            }
+            newly.numbers.push_reserved(number);
+            newly.elicits |= elicits;
+            from = number + 1;
+        }
+        Ok(())
+    }
+
+    /// What a frame newly acknowledges. Refused by `NoMemory`. It costs its ranges and what they newly acknowledge,
+    /// each with a logarithm.
+    fn newly_acked(&self, space: SpaceId, ranges: &[(u64, u64)]) -> Result<Newly, Refused>
+        requires whole { are_ranges ranges.now ≡ true }
+        requires small { IfSome (largest_of ranges.now) (λ largest. largest + 1 < 2 ^ 64) }
+        ensures memory { IfErr result (λ refused. refused ≡ Refused.Event Refusal.NoMemory) }
+        ensures newly { IfOk result (λ newly. AreNewly (packets_in (parts_in self.now) space)
+            ranges.now 0 newly.numbers.items newly.elicits) }
+    {
+        let mut newly = Newly {
+            numbers: Vec::new(self.alloc),
+            elicits: false,
+        };
+        let mut at = ranges.len();
+        while at > 0 {
+            at -= 1;
+            let (first, last) = ranges[at];
+            if let Err(refused) = self.take_range(space, first, last, &mut newly) {
+                return Err(refused);
+            }
+        }
+        Ok(newly)
+    }
+
+    /// Each of these numbers is told acknowledged.
+    fn tell_acked(&mut self, space: SpaceId, now: Instant, app_limited: bool, numbers: &[u64])
+        requires tracked { (number : ℕ) → IsOneOf number numbers.now
+            → packet_at (packets_in (parts_in self.old) space) number ≢ None }
+        requires rising { (end : ℕ) × AreRising 0 numbers.now end }
+        ensures { Goes (acking space now app_limited numbers.now) self.old self.new }
+    {
+        for number in numbers {
+            self.tell(Event::Acked {
+                space,
+                now,
+                number: *number,
+                app_limited,
+            });
+        }
+    }
+
+    /// When a tracked packet was sent, where that was on the path in use (RFC 9000, 9.4).
+    fn sent_on(&self, space: SpaceId, number: u64) -> Option<Instant>
+        ensures { result ≡ sent_on (parts_in self.now) space number }
+    {
+        let here = self.space(space)?;
+        let (found, packet) = here.sent_packets.tracked_from(number)?;
+        if found != number {
+            return None;
+        }
+        if packet.path_generation != self.path().generation() {
+            return None;
+        }
+        Some(packet.time_sent)
+    }
+
+    /// A sample of the round-trip time, where there is one (RFC 9002, 5.1 and 5.3): the peer's delay counts in the
+    /// space of 1-RTT packets, up to the longest that it said.
+    fn sample(&mut self, space: SpaceId, delay: Duration, rtt: Option<Duration>)
+        ensures { Samples space delay self.old self.new rtt }
+    {
+        let Some(rtt) = rtt else {
+            return;
+        };
+        let delay = lesser(delay, self.ack_delay_in(space));
+        self.tell(Event::Sample { delay, rtt });
+        self.mark_first_packet(space);
+    }
+
+    /// The next packet of a space is the first one behind a sample, where none is (RFC 9002, 7.6.2).
+    fn mark_first_packet(&mut self, space: SpaceId)
+        ensures { let old = parts_in self.old in Goes (first_marked old space
+            (marks_now old).first_after_sample (space_in old space)) self.old self.new }
+    {
+        let path = self.path();
+        if path.first_packet_after_rtt_sample.is_some() {
+            return;
+        }
+        let sending_ecn = path.sending_ecn;
+        let Some(here) = self.space(space) else {
+            return;
+        };
+        let next = here.next_packet_number();
+        self.set_marks(sending_ecn, Some((space, next)));
+    }
+
+    /// Packets are marked no more on the path in use (RFC 9000, 13.4.2.1).
+    fn stop_ecn(&mut self)
+        ensures { Goes (unmarked (parts_in self.old) ∷ []) self.old self.new }
+    {
+        let first = self.path().first_packet_after_rtt_sample;
+        self.set_marks(false, first);
+    }
+
+    /// Whether packets are marked on the path in use, and which of them is the first one behind a sample, are set anew.
+    fn set_marks(&mut self, sending_ecn: bool, first: Option<(SpaceId, u64)>)
+        ensures { Goes (marked (with_marks_now (parts_in self.old) sending_ecn first) ∷ [])
+            self.old self.new }
+    {
+        let blank = PathMarks {
+            sending_ecn,
+            challenge: None,
+            challenge_pending: false,
+            path_responses: PathResponses::new(),
+            first_packet_after_rtt_sample: first,
+        };
+        let Some(mut marks) = self.recovery.set_marks(PathName::Current, blank) else {
+            unreachable!();
+        };
+        marks.sending_ecn = sending_ecn;
+        marks.first_packet_after_rtt_sample = first;
+        self.recovery.set_marks(PathName::Current, marks);
+    }
+
+    /// The counts of ECN of a frame (RFC 9002, A.7 and B.7; RFC 9000, 13.4.2.1).
+    fn process_ecn(
+        &mut self,
+        space: SpaceId,
+        now: Instant,
+        newly_acked: u64,
+        counts: Option<EcnCounts>,
+        is_raised: bool,
+    ) -> EcnEnd
+        ensures { EcnComes space now newly_acked self.old self.new
+            (marks_now (parts_in self.old)).sending_ecn counts is_raised result }
+    {
+        if !self.path().sending_ecn {
+            return EcnEnd::Quiet;
+        }
+        let Some(counts) = counts else {
+            self.stop_ecn();
+            return EcnEnd::Quiet;
+        };
+        if !is_raised {
+            return EcnEnd::Quiet;
+        }
+        self.compare_ecn(space, now, newly_acked, counts)
+    }
+
+    /// The same, where they are to be compared with those before.
+    fn compare_ecn(
+        &mut self,
+        space: SpaceId,
+        now: Instant,
+        newly_acked: u64,
+        counts: EcnCounts,
+    ) -> EcnEnd
+        ensures { EcnCompared space now newly_acked self.old self.new counts result }
+    {
+        let Ok(answer) = self.recovery.apply(Event::Ecn {
+            space,
+            newly_acked,
+            counts,
+        })
+        else {
+            self.stop_ecn();
+            return EcnEnd::Failed;
+        };
+        if !is_marked(&answer) {
+            return EcnEnd::Quiet;
+        }
+        let sent = self.largest_acked_sent(space);
+        self.congested(now, sent, false, 0);
+        EcnEnd::Marked
+    }
+
+    /// When the largest acknowledged number of a space was sent.
+    fn largest_acked_sent(&self, space: SpaceId) -> Option<Instant>
+        ensures { result ≡ largest_sent (parts_in self.now) space }
+    {
+        let here = self.space(space)?;
+        Some(here.largest_acked_packet_sent)
+    }
+
+    /// The largest number acknowledged in a space, if any.
+    fn largest_acked(&self, space: SpaceId) -> Option<u64>
+        ensures { result ≡ largest_in (parts_in self.now) space }
+    {
+        self.space(space)?.largest_acked_packet
+    }
+
+    /// How long the largest number of a frame was on its way, where that is a sample of the round-trip time (RFC 9002,
+    /// 5.1).
+    fn rtt_of(
+        &self,
+        space: SpaceId,
+        now: Instant,
+        ranges: &[(u64, u64)],
+        elicits: bool,
+    ) -> Option<Duration>
+        ensures { result ≡ rtt_of (parts_in self.now) space now ranges.now elicits }
+    {
+        if !elicits {
+            return None;
+        }
+        let sent = self.sent_on(space, largest_of(ranges)?)?;
+        Some(now - sent)
+    }
+
+    /// The acknowledged numbers were all (RFC 9002, 7).
+    fn end_acks(&mut self, space: SpaceId, now: Instant, app_limited: bool)
+        ensures { Goes (occurs (EndAcks now app_limited
+            (largest_in (parts_in self.old) space)) ∷ []) self.old self.new }
+    {
+        let largest = self.largest_acked(space);
+        self.tell(Event::EndAcks {
+            now,
+            app_limited,
+            largest,
+        });
+    }
+
+    /// A frame that newly acknowledges something is taken (RFC 9002, A.7).
+    fn acknowledge(
+        &mut self,
+        space: SpaceId,
+        now: Instant,
+        ranges: &[(u64, u64)],
+        ack: Ack,
+        newly: Newly,
+    ) -> Acknowledged
+        requires newly { AreNewly (packets_in (parts_in self.old) space) ranges.now 0
+            newly.numbers.items newly.elicits }
+        ensures numbers { result.numbers.items ≡ newly.numbers.items }
+        ensures stages { Acknowledges space now ranges.now ack newly.elicits
+            self.old result self.new }
+    {
+        let before = self.largest_acked(space);
+        let rtt = self.rtt_of(space, now, ranges, newly.elicits);
+        let numbers: &[u64] = &newly.numbers;
+        let count = numbers.len() as u64;
+        self.tell_acked(space, now, ack.app_limited, numbers);
+        self.end_acks(space, now, ack.app_limited);
+        self.sample(space, ack.delay, rtt);
+        let losses = self.detect_and_remove_lost_packets(space, now, true);
+        let is_raised = is_raised(before, self.largest_acked(space));
+        let ecn = self.process_ecn(space, now, count, ack.ecn, is_raised);
+        self.hear(space, now);
+        Acknowledged {
+            numbers: newly.numbers,
+            losses,
+            ecn,
+        }
+    }
+
+    /// Probe timeouts are counted anew, but at a client that does not know its address validated (RFC 9002, 6.2.1): an
+    /// ACK of a Handshake packet tells it (6.2.2.1). The timer is set.
+    fn hear(&mut self, space: SpaceId, now: Instant)
+        ensures { Does [] (heard_in space now self.old.variables) self.old self.new }
+    {
+        self.variables = self.variables.heard(space, now);
+        self.set_loss_detection_timer();
+    }
+}

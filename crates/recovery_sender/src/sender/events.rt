@@ -1,0 +1,170 @@
+//! How a sender begins, and the events that pass through it.
+ghost use Rattle.std.specs.Prelude.{◌≡◌, ◌<◌, ◌≤◌, ◌+◌, ◌^◌, ◌∷◌, [], Ok, IfOk, OnOk, OnErr, Decides};
+ghost use Rattle.recovery_skips.specs.Skips.{IsSkips};
+ghost use Rattle.recovery_sender.specs.Calls.{config_of, datagram_reply, to_send, Begins, Passes, Takes};
+ghost use Rattle.recovery_sender.specs.Senders.{parts_in};
+ghost use Rattle.recovery_sender.specs.Steps.{told, Goes, Does};
+
+use super::packets::counted_at;
+use super::{Refused, Sender, Side, Variables};
+use quic_recovery::below::NoMemory;
+use quic_recovery::congestion::ControllerFactory;
+use quic_recovery::event::PathName;
+use quic_recovery::queue::RetransmitQueue;
+use quic_recovery::time::Instant;
+use quic_recovery::timer::Timer;
+use quic_recovery::{Answer, Event, LiveRecovery, RecoveryConfig, Refusal};
+use rand_core::Rng;
+use std::alloc::Global;
+
+/// The settings of the recovery of a side's sender.
+fn config_of<F>(side: Side, config: RecoveryConfig<F>) -> RecoveryConfig<F>
+    ensures { result ≡ config_of side config }
+{
+    let mut config = config;
+    config.validated = config.validated || side == Side::Client;
+    config
+}
+
+/// When an event is to send what counts in flight.
+fn to_send<Q: RetransmitQueue>(event: &Event<Q>) -> Option<Instant>
+    ensures { result ≡ to_send event.now }
+{
+    match event {
+        Event::Send { now, size, .. } => counted_at(*now, *size),
+        Event::PollMtu { now } => Some(*now),
+        _ => None,
+    }
+}
+
+/// Whether an event may be handed in by [`Sender::on_event`]: the sender decides itself what is acknowledged and lost
+/// and what follows of it, what is probed for, what is transmitted, which spaces end, and when the timer for losses is
+/// due.
+pub fn passes<Q: RetransmitQueue>(event: &Event<Q>) -> bool
+    ensures { Decides result (Passes event.now) }
+{
+    match event {
+        Event::Acked { .. }
+        | Event::Lost { .. }
+        | Event::LossesDone { .. }
+        | Event::Sample { .. }
+        | Event::EndAcks { .. }
+        | Event::Congestion { .. }
+        | Event::Ecn { .. }
+        | Event::QueueProbe { .. }
+        | Event::Transmit { .. }
+        | Event::DiscardSpace { .. } => false,
+        Event::SetTimer { timer, .. } | Event::StopTimer { timer } => match timer {
+            Timer::LossDetection => false,
+            _ => true,
+        },
+        _ => true,
+    }
+}
+
+impl<F, Q, R> Sender<F, Q, R>
+where
+    F: ControllerFactory + Drop,
+    F::Controller: Drop,
+    Q: RetransmitQueue + Drop,
+    Q::Meta: Drop,
+    Q::Streams: Drop,
+    R: Rng + Drop,
+{
+    /// A sender to which nothing has happened yet, made at the moment `now`. The first path of a client is validated,
+    /// whatever the settings say (RFC 9000, 8.1). `NoMemory` as of [`LiveRecovery::new`].
+    pub fn new(
+        alloc: Global,
+        side: Side,
+        config: RecoveryConfig<F>,
+        rng: R,
+        now: Instant,
+    ) -> Result<Self, NoMemory>
+        requires issued { config.issued ≤ 2 ^ 62 }
+        requires skips { IsSkips config.skips }
+        ensures begins { IfOk result (λ sender. Begins side config now (R.stream rng) sender) }
+        ensures memory { OnErr result (0 < config.issued) }
+    {
+        let recovery = LiveRecovery::new(alloc, config_of(side, config), rng, now)?;
+        let mut sender = Sender {
+            alloc,
+            recovery,
+            variables: Variables::new(side, now),
+        };
+        sender.set_loss_detection_timer();
+        Ok(sender)
+    }
+
+    /// An event that passes, [`Event::Send`] and [`Event::PollMtu`] among them, as [`LiveRecovery::apply`] does it; and
+    /// it is refused as there.
+    pub fn on_event(&mut self, event: Event<Q>) -> Result<Answer<Q>, Refused>
+        requires passes { Passes event }
+        ensures { Takes event self.old self.new result }
+    {
+        let time = to_send(&event);
+        match self.recovery.apply(event) {
+            Ok(answer) => {
+                self.goes_on(time, &answer);
+                Ok(answer)
+            }
+            Err(refusal) => Err(Refused::Event(refusal)),
+        }
+    }
+
+    /// A probe of the MTU goes out, where one is due, as [`Event::PollMtu`] has it, and is refused. The window isn't
+    /// asked: a probe of the MTU is let pass it (RFC 9000, 14.4).
+    pub fn poll_mtu(&mut self, now: Instant) -> Result<Answer<Q>, Refused>
+        ensures { Takes (Event.PollMtu now) self.old self.new result }
+    {
+        self.on_event(Event::PollMtu { now })
+    }
+
+    /// A datagram of so many bytes came in on the path in use: what may be sent grows, where its address is not
+    /// validated, so that the timer may be due at once (RFC 9000, 8.1; RFC 9002, A.6). Refused by `Overflow` where the
+    /// bytes that came in on the path would pass `u64::MAX`.
+    pub fn on_datagram(&mut self, bytes: u64) -> Result<(), Refused>
+        ensures reply { result ≡ datagram_reply (parts_in self.old) bytes }
+        ensures steps { let event = Event.DatagramIn PathName.Current bytes in
+            OnOk result (Does (told event (Ok Answer.Done) ∷ [])
+            self.old.variables self.old self.new) }
+        ensures refused { OnErr result (self.new ≡ self.old) }
+    {
+        if self.path().total_recvd.checked_add(bytes).is_none() {
+            return Err(Refused::Event(Refusal::Overflow));
+        }
+        self.receive(bytes);
+        self.set_loss_detection_timer();
+        Ok(())
+    }
+
+    /// The peer was seen to receive at the address of the path in use (RFC 9000, 8.1 and 8.2).
+    pub fn on_address_validated(&mut self)
+        ensures { Does (told (Event.Validated PathName.Current) (Ok Answer.Done) ∷ [])
+            self.old.variables self.old self.new }
+    {
+        self.validate();
+        self.set_loss_detection_timer();
+    }
+
+    /// A datagram came in of which the total has room.
+    fn receive(&mut self, bytes: u64)
+        requires { (parts_in self.old).paths.current.state.total_recvd + bytes < 2 ^ 64 }
+        ensures { Goes (told (Event.DatagramIn PathName.Current bytes) (Ok Answer.Done) ∷ [])
+            self.old self.new }
+    {
+        self.tell(Event::DatagramIn {
+            path: PathName::Current,
+            bytes,
+        });
+    }
+
+    /// The address of the path in use is validated.
+    fn validate(&mut self)
+        ensures { Goes (told (Event.Validated PathName.Current) (Ok Answer.Done) ∷ [])
+            self.old self.new }
+    {
+        self.tell(Event::Validated {
+            path: PathName::Current,
+        });
+    }
+}

@@ -1,0 +1,244 @@
+//! What goes out, and spaces that end (RFC 9002, 6.4 and 7; RFC 9000, 8.1).
+ghost use Rattle.std.specs.Prelude.{◌≡◌, ◌<◌, ◌≤◌, ◌+◌, ◌^◌, ◌∷◌, [], true, false, None, Some, if◌then◌else◌, nat_lt, Ok, IfOk, OnOk, OnErr};
+ghost use Rattle.recovery_ledger.specs.Discarded.{is_discarded};
+ghost use Rattle.recovery_ledger.specs.Spaces.{space_of};
+ghost use Rattle.recovery_paths.specs.PathStates.{is_blocked};
+ghost use Rattle.recovery_sender.specs.Senders.{parts_in};
+ghost use Rattle.recovery_sender.specs.Calls.{based, begun_anew, bytes_in_flight, discard_reply, is_checked, is_full, sent_at, transmission, transmit_reply, transmit_steps, window_of, Takes};
+ghost use Rattle.recovery_sender.specs.Steps.{told, Goes, Does};
+
+use super::{Refused, Sender, Variables};
+use quic_recovery::below::SpaceId;
+use quic_recovery::congestion::{Controller, ControllerFactory};
+use quic_recovery::queue::RetransmitQueue;
+use quic_recovery::time::Instant;
+use quic_recovery::{Answer, Event, Refusal};
+use rand_core::Rng;
+
+/// Whether a datagram goes out.
+#[derive(Clone, Copy)]
+pub enum Transmission {
+    /// It does, and is counted.
+    Transmitted,
+    /// The limit against amplification forbids it (RFC 9000, 8.1).
+    Blocked,
+    /// The window has no room for it (RFC 9002, 7).
+    Full,
+    /// The pacer wants it later: it is to be asked for again at this moment (RFC 9002, 7.7).
+    Delayed(Instant),
+}
+
+/// When a packet counts in flight that is sent now: where it has a size (RFC 9002, 2).
+pub(super) fn counted_at(now: Instant, size: u16) -> Option<Instant>
+    ensures { result ≡ (if nat_lt 0 size then Some now else None) }
+{
+    if size > 0 { Some(now) } else { None }
+}
+
+/// When a packet went out, where the answer says so.
+fn sent_at<Q>(time: Option<Instant>, answer: &Answer<Q>) -> Option<Instant>
+    ensures { result ≡ sent_at time answer.now }
+{
+    match answer {
+        Answer::Sent { .. } | Answer::Probe { .. } => time,
+        _ => None,
+    }
+}
+
+impl Variables {
+    /// A deadlock is counted on from a moment, if there is one (RFC 9002, 6.2.2.1).
+    fn based(self, time: Option<Instant>) -> Self
+        ensures { result ≡ based time self }
+    {
+        match time {
+            Some(base) => Variables { base, ..self },
+            None => self,
+        }
+    }
+}
+
+impl<F, Q, R> Sender<F, Q, R>
+where
+    F: ControllerFactory + Drop,
+    F::Controller: Drop,
+    Q: RetransmitQueue + Drop,
+    Q::Meta: Drop,
+    Q::Streams: Drop,
+    R: Rng + Drop,
+{
+    /// Whether a datagram of so many bytes goes out now, with packets of a space. Where nothing in it counts in flight,
+    /// or a probe is due in the space, the limit against amplification alone is asked (RFC 9002, 7, 7.5 and 7.7). What
+    /// goes is counted; the packets in it are told by `send` before the next datagram is asked for. Refused by
+    /// `SpaceDiscarded`, then by `Overflow` where the bytes transmitted on the path would pass `u64::MAX`.
+    pub fn transmit(
+        &mut self,
+        now: Instant,
+        bytes: u16,
+        space: SpaceId,
+        in_flight: bool,
+    ) -> Result<Transmission, Refused>
+        // By the state before it,
+        ensures reply { result
+            ≡ transmit_reply F.Controller.words (parts_in self.old) now bytes space in_flight }
+
+        // so that what counts in flight finds room in the window, where no probe is due (RFC 9002, 7).
+        ensures window { result ≡ Ok Transmission.Transmitted → in_flight ≡ true
+            → (space_of space (parts_in self.old).spaces).loss_probes ≡ 0
+            → bytes_in_flight (parts_in self.old) + bytes
+            ≤ window_of F.Controller.words (parts_in self.old) }
+
+        // The recovery is asked for what limit and window let pass.
+        ensures steps { IfOk result (λ sent. let old = parts_in self.old in
+            Does (transmit_steps now bytes (is_checked old space in_flight) sent)
+            self.old.variables self.old self.new) }
+        ensures refused { OnErr result (self.new ≡ self.old) }
+    {
+        let Some(is_checked) = self.is_checked(space, in_flight) else {
+            return Err(Refused::Event(Refusal::SpaceDiscarded));
+        };
+        if !self.path().has_room(bytes) {
+            return Err(Refused::Event(Refusal::Overflow));
+        }
+        let sent = self.transmit_where_it_may(now, bytes, is_checked);
+        self.set_loss_detection_timer();
+        Ok(sent)
+    }
+
+    /// A packet goes out, as [`Event::Send`] has it, and is refused. What has no size counts for no probe timeout (RFC
+    /// 9002, A.5).
+    pub fn send(
+        &mut self,
+        space: SpaceId,
+        now: Instant,
+        size: u16,
+        ack_eliciting: bool,
+        largest_acked: Option<u64>,
+        queue: Q,
+        stream_frames: Q::Meta,
+    ) -> Result<Answer<Q>, Refused>
+        ensures { Takes (Event.Send space now size ack_eliciting largest_acked queue stream_frames)
+            self.old self.new result }
+    {
+        let sent = self.recovery.apply(Event::Send {
+            space,
+            now,
+            size,
+            ack_eliciting,
+            largest_acked,
+            queue,
+            stream_frames,
+        });
+        match sent {
+            Ok(answer) => {
+                self.goes_on(counted_at(now, size), &answer);
+                Ok(answer)
+            }
+            Err(refusal) => Err(Refused::Event(refusal)),
+        }
+    }
+
+    /// What was answered went out at this moment, where it counts in flight (RFC 9002, A.5); the timer is set.
+    pub(super) fn goes_on(&mut self, time: Option<Instant>, answer: &Answer<Q>)
+        ensures { Does [] (based (sent_at time answer.now) self.old.variables) self.old self.new }
+    {
+        self.variables = self.variables.based(sent_at(time, answer));
+        self.set_loss_detection_timer();
+    }
+
+    /// The keys of a space are dropped, and with them all that it tracks; probe timeouts are counted anew (RFC 9002,
+    /// 6.2.2, 6.4 and A.11). Refused by `SpaceDiscarded`.
+    pub fn discard(&mut self, space: SpaceId, now: Instant) -> Result<(), Refused>
+        ensures reply { result ≡ discard_reply (parts_in self.old) space }
+        ensures steps { OnOk result (Does (told (Event.DiscardSpace space) (Ok Answer.Done) ∷ [])
+            (begun_anew now self.old.variables) self.old self.new) }
+        ensures refused { OnErr result (self.new ≡ self.old) }
+    {
+        if self.is_discarded(space) {
+            return Err(Refused::Event(Refusal::SpaceDiscarded));
+        }
+        self.drop_keys(space);
+        self.begin_anew(now);
+        Ok(())
+    }
+
+    /// Whether a space is discarded.
+    pub(super) fn is_discarded(&self, space: SpaceId) -> bool
+        ensures { result ≡ is_discarded space (parts_in self.now).discarded }
+    {
+        self.space(space).is_none()
+    }
+
+    /// The keys of a space are dropped that is not discarded.
+    fn drop_keys(&mut self, space: SpaceId)
+        requires { is_discarded space (parts_in self.old).discarded ≡ false }
+        ensures { Goes (told (Event.DiscardSpace space) (Ok Answer.Done) ∷ []) self.old self.new }
+    {
+        self.tell(Event::DiscardSpace { space });
+    }
+
+    /// Probe timeouts are counted anew (RFC 9002, 6.2.2).
+    pub(super) fn begin_anew(&mut self, now: Instant)
+        ensures { Does [] (begun_anew now self.old.variables) self.old self.new }
+    {
+        self.variables.pto_count = 0;
+        self.variables.base = now;
+        self.set_loss_detection_timer();
+    }
+
+    /// Whether window and pacer are asked for a datagram with packets of a space that is not discarded.
+    fn is_checked(&self, space: SpaceId, in_flight: bool) -> Option<bool>
+        ensures { let recovery = parts_in self.now in result
+            ≡ (if is_discarded space recovery.discarded then None
+            else Some (is_checked recovery space in_flight)) }
+    {
+        let here = self.space(space)?;
+        Some(in_flight && here.loss_probes == 0)
+    }
+
+    /// The datagram goes out, where limit, window and pacer let it.
+    fn transmit_where_it_may(&mut self, now: Instant, bytes: u16, is_checked: bool) -> Transmission
+        requires total { (parts_in self.old).paths.current.state.total_sent + bytes < 2 ^ 64 }
+        ensures value { result
+            ≡ transmission F.Controller.words (parts_in self.old) now bytes is_checked }
+        ensures steps { Goes (transmit_steps now bytes is_checked result) self.old self.new }
+    {
+        if self.path().anti_amplification_blocked(u64::from(bytes)) {
+            Transmission::Blocked
+        } else if is_checked && self.is_full(bytes) {
+            Transmission::Full
+        } else {
+            self.transmit_now(now, bytes, is_checked)
+        }
+    }
+
+    /// Whether the window has no room for so many bytes more (RFC 9002, 7).
+    fn is_full(&self, bytes: u16) -> bool
+        ensures { result ≡ is_full F.Controller.words (parts_in self.now) bytes }
+    {
+        let path = self.path();
+        let after = u128::from(path.in_flight().bytes) + u128::from(bytes);
+        after > u128::from(path.congestion.window())
+    }
+
+    /// The datagram goes out, where the pacer lets it.
+    fn transmit_now(&mut self, now: Instant, bytes: u16, is_checked: bool) -> Transmission
+        requires total { (parts_in self.old).paths.current.state.total_sent + bytes < 2 ^ 64 }
+        requires limit { is_blocked (parts_in self.old).paths.current.state bytes ≡ false }
+        requires window { is_checked ≡ true
+            → is_full F.Controller.words (parts_in self.old) bytes ≡ false }
+        ensures value { result
+            ≡ transmission F.Controller.words (parts_in self.old) now bytes is_checked }
+        ensures steps { Goes (transmit_steps now bytes is_checked result) self.old self.new }
+    {
+        let event = Event::Transmit {
+            now,
+            bytes,
+            checked: is_checked,
+        };
+        match self.tell(event) {
+            Answer::Transmitted => Transmission::Transmitted,
+            Answer::Delayed(until) => Transmission::Delayed(until),
+            _ => unreachable!(),
+        }
+    }
+}

@@ -1,0 +1,242 @@
+//! The timer for losses and probes (RFC 9002, 6.2 and A.8).
+ghost use Rattle.std.specs.Prelude.{◌≡◌, ◌∷◌, [], Ok, Err, option_copied, option_map};
+ghost use Rattle.recovery_base.specs.declared.timer.Timer.TheVariants.{LossDetection};
+ghost use Rattle.recovery_base.specs.Timers.{moment};
+ghost use Rattle.recovery_events.specs.declared.event.Refusal.{Refusal};
+ghost use Rattle.recovery_ledger.specs.Spaces.{packets_of};
+ghost use Rattle.quic_recovery.specs.State.{OnlyTells};
+ghost use Rattle.recovery_sender.specs.Senders.{parts_in, space_in};
+ghost use Rattle.recovery_sender.specs.Timer.{ack_delay_in, due_of, has_eliciting, sooner, loss_due, probe_due, probe_in, deadlock_due, deadlock_space, pto_of, is_address_validated};
+ghost use Rattle.recovery_sender.specs.Steps.{told, timer_event, Goes, Does};
+
+use super::{Sender, Side};
+use quic_recovery::below::SpaceId;
+use quic_recovery::congestion::ControllerFactory;
+use quic_recovery::paths::PathData;
+use quic_recovery::queue::RetransmitQueue;
+use quic_recovery::spaces::PacketSpace;
+use quic_recovery::time::{Duration, Instant};
+use quic_recovery::timer::Timer;
+use quic_recovery::{Answer, Event};
+use rand_core::Rng;
+use recovery_detection::probe_timeout;
+
+/// The most times that a probe timeout is doubled.
+const MOST_DOUBLINGS: u32 = 16;
+
+/// What the timer is for.
+#[derive(Clone, Copy)]
+pub enum Due {
+    /// Packets of a space may be lost.
+    Losses(SpaceId),
+    /// A space is to be probed.
+    Probes(SpaceId),
+    /// A client is to end what may be a deadlock (RFC 9002, 6.2.2.1).
+    AntiDeadlock(SpaceId),
+}
+
+/// The moment at which something is due, where there is one.
+fn time_of(due: &Option<(Instant, Due)>) -> Option<Instant>
+    ensures { result ≡ option_map (λ due. due.0) due.now }
+{
+    match due {
+        Some((time, _)) => Some(*time),
+        None => None,
+    }
+}
+
+/// The sooner of two moments with what is due at them; of equal ones the first.
+fn sooner(first: Option<(Instant, Due)>, second: Option<(Instant, Due)>) -> Option<(Instant, Due)>
+    ensures { result ≡ sooner first second }
+{
+    let is_first = match (time_of(&first), time_of(&second)) {
+        (Some(one), Some(other)) => one <= other,
+        (Some(_), None) => true,
+        _ => false,
+    };
+    if is_first { first } else { second }
+}
+
+/// Whether some packet tracked in a space elicits an ACK (RFC 9002, 2).
+fn has_eliciting<Q>(here: &PacketSpace<Q>) -> bool
+where
+    Q: RetransmitQueue + Drop,
+    Q::Meta: Drop,
+    ensures { result ≡ has_eliciting (packets_of here.now) }
+{
+    here.sent_packets.has_ack_eliciting()
+}
+
+/// The timer for losses is set, or stopped.
+fn timer_event<Q: RetransmitQueue>(due: Option<(Instant, Due)>) -> Event<Q>
+    ensures { result ≡ timer_event due }
+{
+    let timer = Timer::LossDetection;
+    match due {
+        Some((time, _)) => Event::SetTimer { timer, time },
+        None => Event::StopTimer { timer },
+    }
+}
+
+impl<F, Q, R> Sender<F, Q, R>
+where
+    F: ControllerFactory + Drop,
+    F::Controller: Drop,
+    Q: RetransmitQueue + Drop,
+    Q::Meta: Drop,
+    Q::Streams: Drop,
+    R: Rng + Drop,
+{
+    /// The moment of the timer for losses (RFC 9002, A.8), as each call leaves it.
+    pub fn loss_detection_timer(&self) -> Option<Instant>
+        ensures { result ≡ moment LossDetection (parts_in self.now).timers }
+    {
+        self.recovery.recovery().timers().get(Timer::LossDetection)
+    }
+
+    /// Sets the timer, or stops it (RFC 9002, A.8: SetLossDetectionTimer).
+    pub(super) fn set_loss_detection_timer(&mut self)
+        ensures { Does [] self.old.variables self.old self.new }
+    {
+        let event = timer_event(self.due());
+        self.tell(event);
+    }
+
+    /// When the timer is due, and what for.
+    pub(super) fn due(&self) -> Option<(Instant, Due)>
+        ensures { result ≡ due_of (parts_in self.now) self.now.variables }
+    {
+        let losses = sooner(
+            sooner(
+                self.loss_due(SpaceId::Initial),
+                self.loss_due(SpaceId::Handshake),
+            ),
+            self.loss_due(SpaceId::Data),
+        );
+        if losses.is_some() {
+            return losses;
+        }
+        if self.path().anti_amplification_blocked(1) {
+            return None;
+        }
+        let probes = sooner(
+            sooner(
+                self.probe_due(SpaceId::Initial),
+                self.probe_due(SpaceId::Handshake),
+            ),
+            self.probe_due(SpaceId::Data),
+        );
+        if probes.is_some() {
+            return probes;
+        }
+        self.deadlock_due()
+    }
+
+    /// When packets of a space may be lost.
+    fn loss_due(&self, space: SpaceId) -> Option<(Instant, Due)>
+        ensures { result ≡ loss_due (parts_in self.now) space }
+    {
+        let time = self.space(space)?.loss_time?;
+        Some((time, Due::Losses(space)))
+    }
+
+    /// When a space is to be probed: that of 1-RTT packets only once the handshake is confirmed (RFC 9002, 6.2.1).
+    fn probe_due(&self, space: SpaceId) -> Option<(Instant, Due)>
+        ensures { result ≡ probe_due (parts_in self.now) self.now.variables space }
+    {
+        if space == SpaceId::Data && !self.variables.is_handshake_confirmed {
+            return None;
+        }
+        self.probe_in(space, self.space(space)?)
+    }
+
+    /// When it is, by what is kept for it.
+    fn probe_in(&self, space: SpaceId, here: &PacketSpace<Q>) -> Option<(Instant, Due)>
+        ensures { result ≡ probe_in (parts_in self.now) self.now.variables space here.now }
+    {
+        if !has_eliciting(here) {
+            return None;
+        }
+        let sent = here.time_of_last_ack_eliciting_packet?;
+        Some((sent + self.pto(space), Due::Probes(space)))
+    }
+
+    /// When a client sends, that else might wait for a server that may not (RFC 9002, 6.2.2.1).
+    fn deadlock_due(&self) -> Option<(Instant, Due)>
+        ensures { result ≡ deadlock_due (parts_in self.now) self.now.variables }
+    {
+        if self.is_address_validated() {
+            return None;
+        }
+        let space = self.deadlock_space();
+        self.space(space)?;
+        Some((
+            self.variables.base + self.pto(space),
+            Due::AntiDeadlock(space),
+        ))
+    }
+
+    /// In which space it sends then.
+    fn deadlock_space(&self) -> SpaceId
+        ensures { result ≡ deadlock_space (parts_in self.now) self.now.variables }
+    {
+        if self.variables.has_handshake_keys && self.space(SpaceId::Handshake).is_some() {
+            SpaceId::Handshake
+        } else {
+            SpaceId::Initial
+        }
+    }
+
+    /// Whether this end is no client that has to fear for its address (RFC 9002, A.8: PeerCompletedAddressValidation).
+    pub(super) fn is_address_validated(&self) -> bool
+        ensures { result ≡ is_address_validated self.now.variables }
+    {
+        self.variables.side == Side::Server || self.variables.is_address_known
+    }
+
+    /// The probe timeout of a space, as often doubled as it expired in a row, but 16 times at most (RFC 9002, 6.2.1).
+    fn pto(&self, space: SpaceId) -> Duration
+        ensures { result ≡ pto_of (parts_in self.now) self.now.variables space }
+    {
+        let delay = self.ack_delay_in(space);
+        let count = self.variables.pto_count.min(MOST_DOUBLINGS);
+        probe_timeout(self.path().rtt.pto_base(), delay, count)
+    }
+
+    /// How late the peer's ACKs may be: that counts in the space of 1-RTT packets alone (RFC 9002, 5.3 and 6.2.1).
+    pub(super) fn ack_delay_in(&self, space: SpaceId) -> Duration
+        ensures { result ≡ ack_delay_in self.now.variables space }
+    {
+        match space {
+            SpaceId::Data => self.variables.max_ack_delay,
+            _ => Duration::ZERO,
+        }
+    }
+
+    /// What is kept for a space that is not discarded.
+    pub(super) fn space(&self, space: SpaceId) -> Option<&PacketSpace<Q>>
+        ensures { option_copied result ≡ space_in (parts_in self.now) space }
+    {
+        self.recovery.recovery().space(space)
+    }
+
+    /// The path in use.
+    pub(super) fn path(&self) -> &PathData<F::Controller>
+        ensures { result.now ≡ (parts_in self.now).paths.current }
+    {
+        self.recovery.recovery().current()
+    }
+
+    /// An event that is never refused here.
+    #[inline(always)]
+    pub(super) fn tell(&mut self, event: Event<Q>) -> Answer<Q>
+        requires answered { (refusal : Refusal)
+            → ¬ OnlyTells event self.old.recovery.recovery (Err refusal) }
+        ensures { Goes (told event (Ok result) ∷ []) self.old self.new }
+    {
+        match self.recovery.apply(event) {
+            Ok(answer) => answer,
+            Err(_) => unreachable!(),
+        }
+    }
+}

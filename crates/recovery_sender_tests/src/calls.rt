@@ -1,0 +1,337 @@
+//! What each call of a sender says, and the timer for losses that it leaves.
+use quic_recovery::congestion::NewRenoConfig;
+use quic_recovery_rows::config::{settings, words};
+use quic_recovery_rows::events::{Answer, Event, at, received};
+use quic_recovery_rows::tally::Tally;
+use rand_pcg::Pcg32;
+use recovery_base::below::SpaceId;
+use recovery_base::time::Duration;
+use recovery_sender::{
+    Ack, Acknowledged, Losses, Refused, Sender, Side, Timeout, Transmission, passes,
+};
+use std::alloc::Global;
+use std::process::Abort;
+
+type Reno = Sender<NewRenoConfig, Tally, Pcg32>;
+
+/// A call, with its moment in nanoseconds first.
+#[derive(Clone, Copy)]
+enum Call {
+    Transmit(u64, u16, SpaceId, bool),
+    Send(u64, u16, SpaceId),
+    PollMtu(u64),
+    Datagram(u64),
+    Validated,
+    Keys,
+    Confirmed,
+    PeerMaxAckDelay(u64),
+    Discard(u64, SpaceId),
+    Received(SpaceId, u64),
+    /// A frame of 1-RTT packets that acknowledges one number.
+    Ack(u64, u64),
+    Timeout(u64),
+}
+
+/// What a call says.
+#[derive(Clone, Copy, PartialEq, Eq)]
+enum Said {
+    Done,
+    Transmitted,
+    Blocked,
+    Full,
+    Delayed,
+    Sent(u64),
+    Probe(u64, u16),
+    New,
+    /// The first number acknowledged, how many are, and the first that is lost.
+    Acked(u64, usize, Option<u64>),
+    /// The first number that is lost, and the bytes of congestion.
+    Lost(Option<u64>, Option<u64>),
+    /// So many probes are due.
+    ProbesDue(u8),
+    Nothing,
+    Other,
+    Refused(u64),
+    Unsent,
+}
+
+fn refused(refused: &Refused) -> Said {
+    match refused {
+        Refused::Event(refusal) => Said::Refused(u64::from(refusal.number())),
+        Refused::Unsent => Said::Unsent,
+    }
+}
+
+fn transmission(reply: &Result<Transmission, Refused>) -> Said {
+    match reply {
+        Ok(Transmission::Transmitted) => Said::Transmitted,
+        Ok(Transmission::Blocked) => Said::Blocked,
+        Ok(Transmission::Full) => Said::Full,
+        Ok(Transmission::Delayed(_)) => Said::Delayed,
+        Err(given) => refused(given),
+    }
+}
+
+fn answer(reply: &Result<Answer, Refused>) -> Said {
+    match reply {
+        Ok(Answer::Sent { number, .. }) => Said::Sent(*number),
+        Ok(Answer::Probe { number, size }) => Said::Probe(*number, *size),
+        Ok(Answer::New { .. }) => Said::New,
+        Ok(_) => Said::Other,
+        Err(given) => refused(given),
+    }
+}
+
+fn done(reply: &Result<(), Refused>) -> Said {
+    match reply {
+        Ok(()) => Said::Done,
+        Err(given) => refused(given),
+    }
+}
+
+fn first(numbers: &[u64]) -> Option<u64> {
+    Some(*numbers.first()?)
+}
+
+fn lost(losses: &Losses) -> Said {
+    Said::Lost(first(&losses.numbers), losses.congestion)
+}
+
+fn acked(reply: &Result<Acknowledged, Refused>) -> Said {
+    match reply {
+        Ok(acked) => match first(&acked.numbers) {
+            Some(number) => {
+                Said::Acked(number, acked.numbers.len(), first(&acked.losses.numbers))
+            }
+            None => Said::Nothing,
+        },
+        Err(given) => refused(given),
+    }
+}
+
+fn timed_out(reply: &Result<Timeout, Refused>) -> Said {
+    match reply {
+        Ok(Timeout::Nothing) => Said::Nothing,
+        Ok(Timeout::Lost(losses)) => lost(losses),
+        Ok(Timeout::Probe { count, .. }) => Said::ProbesDue(*count),
+        Err(given) => refused(given),
+    }
+}
+
+/// A frame without a delay and without counts of ECN.
+fn on_ack(sender: &mut Reno, now: u64, number: u64) -> Said {
+    let ack = Ack {
+        delay: Duration::ZERO,
+        ecn: None,
+        app_limited: false,
+    };
+    let reply = sender.on_ack(SpaceId::Data, at(now), &[(number, number)], ack);
+    acked(&reply)
+}
+
+/// Calls that may be refused.
+fn play(sender: &mut Reno, given: Call) -> Said {
+    match given {
+        Call::Transmit(now, bytes, space, in_flight) => {
+            let reply = sender.transmit(at(now), bytes, space, in_flight);
+            transmission(&reply)
+        }
+        Call::Send(now, size, space) => {
+            let nothing = Tally { bytes: 0 };
+            let reply = sender.send(space, at(now), size, true, None, nothing, 0);
+            answer(&reply)
+        }
+        Call::PollMtu(now) => {
+            let reply = sender.poll_mtu(at(now));
+            answer(&reply)
+        }
+        Call::Received(space, number) => pass(sender, received(space, number, true)),
+        Call::Datagram(bytes) => {
+            let reply = sender.on_datagram(bytes);
+            done(&reply)
+        }
+        Call::Discard(now, space) => {
+            let reply = sender.discard(space, at(now));
+            done(&reply)
+        }
+        Call::Ack(now, number) => on_ack(sender, now, number),
+        Call::Timeout(now) => {
+            let reply = sender.on_timeout(at(now), false, true, true);
+            timed_out(&reply)
+        }
+        other => tell(sender, other),
+    }
+}
+
+/// An event that passes.
+fn pass(sender: &mut Reno, event: Event) -> Said {
+    if !passes(&event) {
+        return Said::Other;
+    }
+    let reply = sender.on_event(event);
+    answer(&reply)
+}
+
+/// The other calls: what is said of the connection.
+fn tell(sender: &mut Reno, given: Call) -> Said {
+    match given {
+        Call::Validated => sender.on_address_validated(),
+        Call::Keys => sender.on_handshake_keys(),
+        Call::Confirmed => sender.on_handshake_confirmed(),
+        Call::PeerMaxAckDelay(nanos) => sender.set_peer_max_ack_delay(Duration::from_nanos(nanos)),
+        _ => return Said::Other,
+    }
+    Said::Done
+}
+
+/// Asserts what each call says, and the timer that it leaves.
+fn walk<const N: usize>(rt: &impl Abort, sender: &mut Reno, rows: [(Call, Said, Option<u64>); N]) {
+    let mut row = 0u64;
+    for (given, said, timer) in rows {
+        let found = play(sender, given);
+        let is_right = found == said && sender.loss_detection_timer() == timer.map(at);
+        assert!(rt; is_right, "row {row}");
+        row = row.saturating_add(1);
+    }
+}
+
+/// A server may send three times what came in, and as much as its window holds: ten datagrams of 1,200 bytes (RFC 9000,
+/// 8.1; RFC 9002, 7.2). Its probe timeout is 333 ms, four times half of that, and the peer's delay (RFC 9002, 6.2.1).
+#[test]
+fn a_server(rt: HostRuntime) {
+    let (initial, data) = (SpaceId::Initial, SpaceId::Data);
+    let rows = [
+        (Call::Datagram(400), Said::Done, None),
+        (
+            Call::Transmit(0, 1200, initial, true),
+            Said::Transmitted,
+            None,
+        ),
+        (Call::Send(0, 1200, initial), Said::Sent(0), None),
+        (Call::Transmit(0, 1, initial, true), Said::Blocked, None),
+        (Call::Datagram(1), Said::Done, Some(999_000_000)),
+        (Call::Discard(0, initial), Said::Done, None),
+        (Call::Transmit(0, 1, initial, true), Said::Refused(5), None),
+        (Call::Validated, Said::Done, None),
+        (Call::Confirmed, Said::Done, None),
+        (Call::Transmit(0, 12_001, data, true), Said::Full, None),
+        (
+            Call::Transmit(0, 12_001, data, false),
+            Said::Transmitted,
+            None,
+        ),
+        (
+            Call::Send(0, 1000, data),
+            Said::Sent(0),
+            Some(1_024_000_000),
+        ),
+        (
+            Call::PeerMaxAckDelay(10_000_000),
+            Said::Done,
+            Some(1_009_000_000),
+        ),
+        (
+            Call::PollMtu(1_000_000),
+            Said::Probe(1, 1326),
+            Some(1_010_000_000),
+        ),
+        (Call::Received(data, 0), Said::New, Some(1_010_000_000)),
+    ];
+    run(&rt, rt.alloc(), Side::Server, rows);
+}
+
+/// A client's timer runs from the start on, lest both ends wait for ever (RFC 9002, 6.2.2.1), and no limit stops it;
+/// its window may be filled exactly (RFC 9002, 7).
+#[test]
+fn a_client(rt: HostRuntime) {
+    let (initial, handshake) = (SpaceId::Initial, SpaceId::Handshake);
+    let rows = [
+        (Call::Keys, Said::Done, Some(999_000_000)),
+        (
+            Call::Transmit(0, 12_001, initial, true),
+            Said::Full,
+            Some(999_000_000),
+        ),
+        (
+            Call::Transmit(0, 12_000, initial, true),
+            Said::Transmitted,
+            Some(999_000_000),
+        ),
+        (
+            Call::Send(1_000_000, 300, handshake),
+            Said::Sent(0),
+            Some(1_000_000_000),
+        ),
+        (
+            Call::Discard(2_000_000, handshake),
+            Said::Done,
+            Some(1_001_000_000),
+        ),
+        (Call::Discard(3_000_000, initial), Said::Done, None),
+    ];
+    run(&rt, rt.alloc(), Side::Client, rows);
+}
+
+/// Three numbers below the largest acknowledged, or 9/8 of the RTT of 100 ms after it was sent, a packet is lost (RFC
+/// 9002, 6.1); then nothing is left, and a frame with a number that was never sent is refused (RFC 9000, 13.1).
+#[test]
+fn losses(rt: HostRuntime) {
+    let data = SpaceId::Data;
+    let rows = [
+        (Call::Validated, Said::Done, None),
+        (Call::Confirmed, Said::Done, None),
+        (
+            Call::Send(0, 1000, data),
+            Said::Sent(0),
+            Some(1_024_000_000),
+        ),
+        (
+            Call::Send(1_000_000, 1000, data),
+            Said::Sent(1),
+            Some(1_025_000_000),
+        ),
+        (
+            Call::Send(2_000_000, 1000, data),
+            Said::Sent(2),
+            Some(1_026_000_000),
+        ),
+        (
+            Call::Send(3_000_000, 1000, data),
+            Said::Sent(3),
+            Some(1_027_000_000),
+        ),
+        (
+            Call::Ack(103_000_000, 3),
+            Said::Acked(3, 1, Some(0)),
+            Some(113_500_000),
+        ),
+        (Call::Timeout(113_499_999), Said::Nothing, Some(113_500_000)),
+        (
+            Call::Timeout(113_500_000),
+            Said::Lost(Some(1), Some(1000)),
+            Some(114_500_000),
+        ),
+        (
+            Call::Timeout(114_500_000),
+            Said::Lost(Some(2), Some(1000)),
+            None,
+        ),
+        (Call::Ack(115_000_000, 4), Said::Unsent, None),
+    ];
+    run(&rt, rt.alloc(), Side::Server, rows);
+}
+
+fn run<const N: usize>(
+    rt: &impl Abort,
+    alloc: Global,
+    side: Side,
+    rows: [(Call, Said, Option<u64>); N],
+) {
+    match Sender::new(alloc, side, settings(8), words(), at(0)) {
+        Ok(mut sender) => {
+            walk(rt, &mut sender, rows);
+            drop(sender);
+        }
+        Err(_) => panic!(rt; "NoMemory"),
+    }
+}

@@ -1,0 +1,5 @@
+//! Tests of the sender, over its public calls.
+#![tactic(auto)]
+
+#[cfg(test)]
+mod calls;
