@@ -1,5 +1,5 @@
 #!/usr/bin/env python3
-"""./prove, ./check and the three launchers as a user meets them, with a stand-in for the toolchain, in copies of the tree in which nothing
+"""./prove, ./check and the launchers as a user meets them, with a stand-in for the toolchain, in copies of the tree in which nothing
 was built: two at once, an interrupt, no toolchain, a tree that cannot be written, another logic, a program that is missing, there, or
 older than its sources, answers that are too long, a pipe that nobody reads, and how long ./prove says that it takes."""
 import importlib.machinery
@@ -18,7 +18,10 @@ import tree
 from tree import ROOT
 
 tests = tree.Tests("launchers")
-LAUNCHERS = {"recovery-replay": "recovery_program", "recovery-trace": "recovery_trace", "recovery-pictures": "recovery_pictures"}
+LAUNCHERS = {
+    "recovery-replay": "recovery_program", "recovery-trace": "recovery_trace", "recovery-sender": "recovery_sender_program",
+    "recovery-pictures": "recovery_pictures",
+}
 TOOLS = "awk bash cat dirname env find grep head mkdir mktemp readlink rm sh sleep touch".split()
 MISSING = f"the Rattle toolchain is missing: its command rt ({tree.logic()}) is not on the PATH\n"
 SECONDS = 300  # by which all that is waited for has happened

@@ -18,7 +18,10 @@ PROGRAM = ROOT / "crates" / "recovery_program" / "out" / "recovery_program"
 USAGE = b"usage: recovery-replay [SEED [WINDOW]]\n"
 LINE, ANSWER = b"next-timeout\n", b"timeout none\n"
 UNPROVED = re.compile(rb"recovery-replay: not proved yet: .*\n")
-LAUNCHERS = {"recovery-replay": "recovery_program", "recovery-trace": "recovery_trace", "recovery-pictures": "recovery_pictures"}
+LAUNCHERS = {
+    "recovery-replay": "recovery_program", "recovery-trace": "recovery_trace", "recovery-sender": "recovery_sender_program",
+    "recovery-pictures": "recovery_pictures",
+}
 
 tests = tree.Tests("program")
 expect = tests.expect
@@ -48,7 +51,7 @@ def scripts(path):
             yield place, [], [row[: -len(" => cannot be read")]], None
         elif row and not row.startswith("#"):
             here = here or (place, [], [], [])
-            if row.startswith("recovery-replay "):
+            if row.startswith(("recovery-replay ", "recovery-sender ")):
                 here[1].extend(row.split()[1:])
             else:
                 here[2].extend(line for line, _ in lines_of(row))

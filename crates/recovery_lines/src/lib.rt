@@ -5,6 +5,6 @@ mod blanks;
 mod digits;
 pub mod laws;
 pub mod lines;
-mod words;
+pub mod words;
 
 pub use words::number_in;

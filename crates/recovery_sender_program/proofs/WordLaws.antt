@@ -1,0 +1,8 @@
+-- What a word that is read leaves.
+use Rattle.std.proofs.Common.{◌≡◌, ℕ, ◌+◌, List, [], ◌∷◌, length, Some, arith}
+use Rattle.recovery_lines.specs.Reading.{first_word}
+
+pub one_less : (words rest : List (List ℕ)) (word : List ℕ) → first_word words ≡ Some (word, rest)
+    → length rest + 1 ≡ length words
+one_less [] rest word e = absurd cc
+one_less (next ∷ words) rest word e = grind (arith, e)

@@ -1,0 +1,150 @@
+//! What is written for each call: one line.
+use crate::calls::Reply;
+use itoa::Buffer;
+use quic_recovery::below::SpaceId;
+use quic_recovery::time::Instant;
+use quic_recovery::{Answer, Refusal};
+use recovery_answers::answers::write_reply;
+use recovery_queue::items::ItemQueue;
+use recovery_sender::{Acknowledged, EcnEnd, Losses, Refused, Timeout, Transmission};
+use std::alloc::{AllocError, Global};
+
+fn push_number(text: &mut String, before: &str, number: u64) -> Result<(), AllocError> {
+    text.push_str(before)?;
+    text.push_str(Buffer::new().format(number))
+}
+
+fn push_numbers(text: &mut String, numbers: &[u64]) -> Result<(), AllocError> {
+    for number in numbers {
+        push_number(text, " ", *number)?;
+    }
+    Ok(())
+}
+
+/// Whether nothing is lost.
+fn is_none(losses: &Losses) -> bool {
+    losses.numbers.is_empty() && losses.probe.is_none()
+}
+
+fn push_congestion(text: &mut String, losses: &Losses) -> Result<(), AllocError> {
+    match losses.congestion {
+        Some(bytes) if losses.is_persistent => push_number(text, " persistent ", bytes),
+        Some(bytes) => push_number(text, " congestion ", bytes),
+        None => Ok(()),
+    }
+}
+
+fn push_lost(text: &mut String, losses: &Losses) -> Result<(), AllocError> {
+    text.push_str("lost")?;
+    push_numbers(text, &losses.numbers)?;
+    if let Some(probe) = losses.probe {
+        push_number(text, " ", probe)?;
+    }
+    if is_none(losses) {
+        text.push_str(" none")?;
+    }
+    push_congestion(text, losses)?;
+    if losses.is_black_hole {
+        return text.push_str(" black-hole");
+    }
+    Ok(())
+}
+
+fn push_ecn(text: &mut String, ecn: EcnEnd) -> Result<(), AllocError> {
+    match ecn {
+        EcnEnd::Quiet => Ok(()),
+        EcnEnd::Marked => text.push_str(" ecn-congestion"),
+        EcnEnd::Failed => text.push_str(" ecn-failed"),
+    }
+}
+
+fn push_acknowledged(text: &mut String, acknowledged: &Acknowledged) -> Result<(), AllocError> {
+    if acknowledged.numbers.is_empty() {
+        return text.push_str("acked none");
+    }
+    text.push_str("acked")?;
+    push_numbers(text, &acknowledged.numbers)?;
+    if !is_none(&acknowledged.losses) {
+        text.push_str(" ")?;
+        push_lost(text, &acknowledged.losses)?;
+    }
+    push_ecn(text, acknowledged.ecn)
+}
+
+fn push_transmission(text: &mut String, transmission: Transmission) -> Result<(), AllocError> {
+    match transmission {
+        Transmission::Transmitted => text.push_str("transmitted"),
+        Transmission::Blocked => text.push_str("blocked"),
+        Transmission::Full => text.push_str("full"),
+        Transmission::Delayed(until) => push_number(text, "delayed ", until.as_nanos()),
+    }
+}
+
+fn space_word(space: SpaceId) -> &'static str {
+    match space {
+        SpaceId::Initial => "initial",
+        SpaceId::Handshake => "handshake",
+        SpaceId::Data => "data",
+    }
+}
+
+fn push_probes(text: &mut String, space: SpaceId, count: u8) -> Result<(), AllocError> {
+    text.push_str("probe ")?;
+    text.push_str(space_word(space))?;
+    push_number(text, " ", u64::from(count))
+}
+
+fn push_timeout(text: &mut String, timeout: &Timeout) -> Result<(), AllocError> {
+    match timeout {
+        Timeout::Nothing => text.push_str("nothing"),
+        Timeout::Lost(losses) => push_lost(text, losses),
+        Timeout::Probe { space, count } => push_probes(text, *space, *count),
+    }
+}
+
+/// The line of an answer or refusal of the recovery, without its line feed.
+fn push_answer(
+    alloc: Global,
+    text: &mut String,
+    reply: &Result<Answer<ItemQueue>, Refusal>,
+) -> Result<(), AllocError> {
+    let mut line = String::new(alloc);
+    write_reply(&mut line, reply)?;
+    line.pop();
+    text.push_str(&line)
+}
+
+fn push_timer(text: &mut String, timer: Option<Instant>) -> Result<(), AllocError> {
+    match timer {
+        Some(time) => push_number(text, " timer ", time.as_nanos()),
+        None => text.push_str(" timer none"),
+    }
+}
+
+fn push_reply(alloc: Global, text: &mut String, reply: Reply) -> Result<(), AllocError> {
+    match reply {
+        Reply::Transmission(transmission) => push_transmission(text, transmission),
+        Reply::Acknowledged(acknowledged) => push_acknowledged(text, &acknowledged),
+        Reply::Timeout(timeout) => push_timeout(text, &timeout),
+        Reply::Answer(answer) => push_answer(alloc, text, &Ok(answer)),
+        Reply::Done => text.push_str("done"),
+    }
+}
+
+/// Appends the line of a call, with the timer for losses behind what is no refusal.
+pub fn write_call(
+    alloc: Global,
+    text: &mut String,
+    reply: Result<Reply, Refused>,
+    timer: Option<Instant>,
+) -> Result<(), AllocError> {
+    match reply {
+        Ok(reply) => {
+            push_reply(alloc, text, reply)?;
+            push_timer(text, timer)?;
+        }
+        Err(Refused::Event(refusal)) => push_answer(alloc, text, &Err(refusal))?,
+        Err(Refused::Unsent) => text.push_str("refused 21 Unsent")?,
+    }
+    text.push_str("\n")
+}

@@ -1,0 +1,18 @@
+//! What the program says of itself.
+/// What `--version` writes.
+pub const VERSION: &str = "recovery-sender 0.11.19\n";
+
+/// What `--help` writes.
+pub const HELP: &str = "\
+usage: recovery-sender client|server [SEED [WINDOW]]
+Answers the calls of a sender one at a time: reads a line, writes its answer with the timer for losses, reads the next.
+
+  client|server  which end of the connection sends
+  SEED           skips packet numbers as this seed draws them (0 to 18446744073709551615); -, or none: skips none
+  WINDOW         a congestion window that never changes, in bytes, above 0; none: NewReno
+  --help         writes this
+  --version      writes which recovery this is
+
+It ends at the first line that cannot be read.
+Status: 0, or 1 where reading, writing or memory failed, or 2 where a line or the arguments could not be read.
+";
