@@ -12,6 +12,9 @@ use Rattle.recovery_ledger.specs.Discarded.{is_discarded}
 use Rattle.recovery_ledger.specs.Packets.{Packet, Packets, packet_at, without, first_from}
 use Rattle.recovery_ledger.specs.Spaces.{space_of, packets_of}
 use Rattle.recovery_queue.specs.Slots.{is_from, AreFrom}
+use Rattle.recovery_losses.specs.Losses.{AreRising, IsOneOf, without_all}
+use Rattle.recovery_losses.proofs.LookLaws.{all_other, without_more}
+use Rattle.recovery_losses.proofs.LossLaws.{lowest_from, none_from}
 use Rattle.quic_recovery.specs.declared.driver.Recovery.{Recovery}
 use Rattle.quic_recovery.specs.History.{QueueMeaning, queue_meaning}
 use Rattle.quic_recovery.specs.Parts.{Parts}
@@ -19,12 +22,9 @@ use Rattle.quic_recovery.specs.Plain.{Plain}
 use Rattle.quic_recovery.specs.State.{Changes, OnlyTells, parts_of}
 use Rattle.recovery_sender.specs.declared.sender.Sender.{Sender}
 use Rattle.recovery_sender.specs.Acking.{acking, sent_here}
-use Rattle.recovery_sender.specs.Losses.{AreRising, IsOneOf, without_all}
 use Rattle.recovery_sender.specs.Senders.{packets_in, parts_in}
 use Rattle.recovery_sender.specs.Steps.{Goes, occurs}
 use Rattle.recovery_sender.proofs.LeadLaws.{leads_on}
-use Rattle.recovery_sender.proofs.LookLaws.{all_other, without_more}
-use Rattle.recovery_sender.proofs.LossLaws.{lowest_from, none_from}
 
 -- ---- look-ups
 

@@ -4,20 +4,21 @@ use Rattle.std.proofs.lemmas.Option.{none-some, same_Some}
 use Rattle.std.specs.Option.{ForSome}
 use Rattle.recovery_base.specs.declared.below.SpaceId.{SpaceId}
 use Rattle.recovery_ledger.specs.Packets.{Packets}
+use Rattle.recovery_losses.specs.declared.looks.Look.{Look}
+use Rattle.recovery_losses.specs.declared.tally.Tally.{Tally}
+use Rattle.recovery_losses.specs.Losses.{IsEarliest, IsLostBelow, IsTold, bytes_counted, last_counted, waiting}
+use Rattle.recovery_losses.specs.Looking.{Looked}
+use Rattle.recovery_losses.specs.Persisting.{IsEndAt, Persists}
+use Rattle.recovery_losses.proofs.LookLaws.{probe_waits}
 use Rattle.quic_recovery.specs.Above.{with_loss_time_at}
 use Rattle.quic_recovery.specs.History.{queue_meaning}
-use Rattle.recovery_sender.specs.declared.sender.losses.Look.{Look}
 use Rattle.recovery_sender.specs.declared.sender.losses.Losses.{Losses}
-use Rattle.recovery_sender.specs.declared.sender.losses.Tally.{Tally}
 use Rattle.recovery_sender.specs.declared.sender.Sender.{Sender}
 use Rattle.recovery_sender.specs.Judging.{Detects, Finds, HasNoGap, LossesAre, congested, detecting, ended, losing, one_of}
-use Rattle.recovery_sender.specs.Looking.{Looked}
-use Rattle.recovery_sender.specs.Losses.{IsEarliest, IsLostBelow, IsTold, bytes_counted, largest_in, last_counted, look_of, waiting}
-use Rattle.recovery_sender.specs.Persisting.{IsEndAt, Persists}
+use Rattle.recovery_sender.specs.Losses.{largest_in, look_of, NothingLost}
 use Rattle.recovery_sender.specs.Senders.{parts_in, packets_in}
 use Rattle.recovery_sender.specs.Steps.{Step, Goes, Leads, loss_time}
 use Rattle.recovery_sender.proofs.LeadLaws.{leads_on}
-use Rattle.recovery_sender.proofs.LookLaws.{probe_waits}
 
 -- what became of the probe
 module _ {P M : Type 0} (look : Look) (packets : Packets P M) (numbers : List ℕ) (tally : Tally) (now : Packets P M)
@@ -52,8 +53,8 @@ module _ {P M : Type 0} (look : Look) (packets : Packets P M) (numbers : List �
 
 -- all that happened, one after another
 module _ {F Q R C K S M P : Type 0} {f : _} {c : _} {q : _} {m : _} {r : _} (look : Look)
-    (start found told shown probed new : Sender F Q R C K S M P f c q m r) (numbers : List ℕ) (persistent : Bool)
-    (bytes : ℕ) (sent probe time : Option ℕ) where
+    (start found told shown probed new : Sender F Q R C K S M P f c q m r) (numbers : List ℕ)
+    (reported persistent : Bool) (bytes : ℕ) (sent probe time : Option ℕ) where
   on : (steps more : List (Step Q S M P)) (old between new : Sender F Q R C K S M P f c q m r)
       → Leads f.built c.words (queue_meaning q.contents q.words q.blank) steps (parts_in old) (parts_in between)
       → Leads f.built c.words (queue_meaning q.contents q.words q.blank) more (parts_in between) (parts_in new)
@@ -61,14 +62,14 @@ module _ {F Q R C K S M P : Type 0} {f : _} {c : _} {q : _} {m : _} {r : _} (loo
   on steps more old between new = leads_on f.built c.words (queue_meaning q.contents q.words q.blank) steps more
       (parts_in old) (parts_in between) (parts_in new)
 
-  pub goes_all : Goes (losing look.space numbers) start found → Goes (ended look.at numbers) found told
+  pub goes_all : Goes (losing look.space numbers) start found → Goes (ended look.at reported numbers) found told
       → Goes (congested look.at persistent bytes sent) told shown → Goes (losing look.space (one_of probe)) shown probed
       → parts_in new ≡ with_loss_time_at look.space time (parts_in probed) → new.variables ≡ probed.variables
-      → Goes (losing look.space numbers ++ (ended look.at numbers ++ (congested look.at persistent bytes sent
+      → Goes (losing look.space numbers ++ (ended look.at reported numbers ++ (congested look.at persistent bytes sent
       ++ (losing look.space (one_of probe) ++ loss_time look.space time ∷ [])))) start new
   goes_all finds ends congests probes times same = record {
     leads = on (losing look.space numbers) _ start found new finds.leads
-        (on (ended look.at numbers) _ found told new ends.leads
+        (on (ended look.at reported numbers) _ found told new ends.leads
         (on (congested look.at persistent bytes sent) _ told shown new congests.leads
         (on (losing look.space (one_of probe)) (loss_time look.space time ∷ []) shown probed new probes.leads times)));
     variables = same ∙ probes.variables ∙ congests.variables ∙ ends.variables ∙ finds.variables;
@@ -93,28 +94,28 @@ module _ {F Q R C K S M P : Type 0} {f : _} {c : _} {q : _} {m : _} {r : _} (spa
       (last_counted look packets losses.numbers.items) time) old new
 
   -- nothing is tracked below what was acknowledged
-  pub detects_none : HasNoGap (parts_in old) space → losses.numbers.items ≡ [] → losses.probe ≡ None
-      → losses.congestion ≡ None → losses.is_persistent ≡ false
+  pub detects_none : HasNoGap (parts_in old) space → NothingLost losses
       → parts_in new ≡ with_loss_time_at space None (parts_in old)
       → new.variables ≡ old.variables → Detects space now due old losses new
-  detects_none none numbers probe congestion persistent times same = record {
+  detects_none none nothing times same = record {
     looks = λ largest is. (
       None,
       record {
         found = None;
         is_found = λ number never. absurd (none-some number never);
-        persistent = rw (numbers, persistent) (no_persistence _ _);
-        lost = rw numbers (record { rising = omega arith; lost = λ number never. absurd never });
-        probe = λ number is. absurd (none-some number (sym probe ∙ is));
+        persistent = rw (nothing.numbers, nothing.persistent) (no_persistence _ _);
+        lost = rw nothing.numbers (record { rising = omega arith; lost = λ number never. absurd never });
+        probe = λ number is. absurd (none-some number (sym nothing.probe ∙ is));
         earliest = record {
           one = λ least never. absurd (none-some least never);
           least = λ number packet at below small untold is_due. absurd (none largest is number packet below.0 below.1);
         };
-        congestion = rw numbers congestion;
+        congestion = rw nothing.numbers nothing.congestion;
+        black_hole = λ none. nothing.black_hole;
       },
-      rw (numbers, probe) goes,
+      rw (nothing.numbers, nothing.probe) goes,
     );
-    none = λ is. (numbers, probe, congestion, goes);
+    none = λ is. (nothing, goes);
   }
     where
       goes : Goes (loss_time space None ∷ []) old new
@@ -130,7 +131,8 @@ module _ {F Q R C K S M P : Type 0} {f : _} {c : _} {q : _} {m : _} {r : _} (spa
 
   pub found_all : (largest : ℕ) (tally : Tally) (found told shown probed : Sender F Q R C K S M P f c q m r)
       (after : Tally) → Finds (look_for largest) old largest losses.numbers.items tally found
-      → Goes (ended now losses.numbers.items) found told
+      → Goes (ended now losses.is_black_hole losses.numbers.items) found told
+      → (losses.numbers.items ≡ [] → losses.is_black_hole ≡ false)
       → Goes (congested now losses.is_persistent tally.bytes tally.last_sent) told shown
       → IfSome losses.probe (λ number. (tally.probe ≡ Some number) × (after ≡ tally))
       → IfNone losses.probe ((tally.probe ≡ None) × (after ≡ tally)
@@ -139,8 +141,8 @@ module _ {F Q R C K S M P : Type 0} {f : _} {c : _} {q : _} {m : _} {r : _} (spa
       → parts_in new ≡ with_loss_time_at space after.loss_time (parts_in probed) → new.variables ≡ probed.variables
       → losses.congestion ≡ option_map (λ sent. tally.bytes) tally.last_sent
       → losses.is_persistent ≡ tally.run.is_persistent → IsLook largest
-  found_all largest tally found told shown probed after finds ends congests is_told waits probes times same congestion
-      persistent =
+  found_all largest tally found told shown probed after finds ends unreported congests is_told waits probes times same
+      congestion persistent =
       let look = look_for largest in let looked = finds.looked in (
         after.loss_time,
         record {
@@ -151,10 +153,11 @@ module _ {F Q R C K S M P : Type 0} {f : _} {c : _} {q : _} {m : _} {r : _} (spa
           probe = probe_behind look _ losses.numbers.items tally _ looked losses.probe after is_told;
           earliest = earliest_behind look _ losses.numbers.items tally _ looked losses.probe after is_told waits;
           congestion = rw (← looked.bytes, ← looked.last_sent) congestion;
+          black_hole = unreported;
         },
         rw (← looked.bytes, ← looked.last_sent) (goes_all look old found told shown probed new losses.numbers.items
-            losses.is_persistent tally.bytes tally.last_sent losses.probe after.loss_time finds.goes ends congests
-            probes times same),
+            losses.is_black_hole losses.is_persistent tally.bytes tally.last_sent losses.probe after.loss_time
+            finds.goes ends congests probes times same),
       )
 
   -- what is kept beside the recovery stays
@@ -162,5 +165,5 @@ module _ {F Q R C K S M P : Type 0} {f : _} {c : _} {q : _} {m : _} {r : _} (spa
   variables_kept detects = by_largest (largest_in (parts_in old) space) refl
     where
       by_largest : (largest : Option ℕ) → largest_in (parts_in old) space ≡ largest → new.variables ≡ old.variables
-      by_largest None none = (detects.none none).3.variables
+      by_largest None none = (detects.none none).1.variables
       by_largest (Some largest) is = (detects.looks largest is).2.variables

@@ -3,19 +3,19 @@ use Rattle.std.proofs.Common.{◌≡◌, ℕ, ◌+◌, List, [], ◌∷◌, ◌+
 use Rattle.std.proofs.lemmas.List.{map-append}
 use Rattle.std.proofs.lemmas.Option.{none-some}
 use Rattle.recovery_ledger.specs.Packets.{Packets, without}
+use Rattle.recovery_losses.specs.declared.looks.Candidate.{Candidate}
+use Rattle.recovery_losses.specs.declared.looks.Look.{Look}
+use Rattle.recovery_losses.specs.declared.tally.Tally.{Tally}
+use Rattle.recovery_losses.specs.Losses.{IsNext, counting, finding_probe, waiting}
+use Rattle.recovery_losses.specs.Looking.{Looked}
+use Rattle.recovery_losses.proofs.LookLaws.{looked_waiting, looked_probe, looked_lost}
 use Rattle.quic_recovery.specs.History.{queue_meaning}
 use Rattle.quic_recovery.specs.Parts.{Parts}
-use Rattle.recovery_sender.specs.declared.sender.losses.Candidate.{Candidate}
-use Rattle.recovery_sender.specs.declared.sender.losses.Look.{Look}
-use Rattle.recovery_sender.specs.declared.sender.losses.Tally.{Tally}
 use Rattle.recovery_sender.specs.declared.sender.Sender.{Sender}
 use Rattle.recovery_sender.specs.Judging.{Finds, Judges, losing}
-use Rattle.recovery_sender.specs.Looking.{Looked}
-use Rattle.recovery_sender.specs.Losses.{IsNext, counting, finding_probe, waiting}
 use Rattle.recovery_sender.specs.Senders.{parts_in, packets_in}
 use Rattle.recovery_sender.specs.Steps.{Leads}
 use Rattle.recovery_sender.proofs.LeadLaws.{leads_on, packets_lost}
-use Rattle.recovery_sender.proofs.LookLaws.{looked_waiting, looked_probe, looked_lost}
 
 module _ {F Q R C K S M P : Type 0} {f : _} {c : _} {q : _} {m : _} {r : _} (look : Look)
     (start : Sender F Q R C K S M P f c q m r) (from : ℕ) (numbers : List ℕ) (tally : Tally)

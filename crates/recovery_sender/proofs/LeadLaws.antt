@@ -1,9 +1,10 @@
 -- Steps of a sender, one after another, and what a loss leaves of what is tracked.
-use Rattle.std.proofs.Common.{◌≡◌, ◌≢◌, ℕ, true, false, Bool, List, [], ◌∷◌, ◌++◌, length, ◌==◌, Option, None, Some, Ok, refl, ap, subst, ◌∙◌, arith}
+use Rattle.std.proofs.Common.{◌≡◌, ◌≢◌, ℕ, true, false, Bool, List, [], ◌∷◌, ◌++◌, length, ◌==◌, Option, None, Some, Ok, refl, sym, ap, subst, ◌∙◌, true≢false, arith}
 use Rattle.recovery_base.specs.declared.below.SpaceId.{SpaceId}
 use Rattle.recovery_base.specs.declared.below.SpaceId.TheVariants.{Initial, Handshake, Data}
 use Rattle.recovery_congestion.specs.Controllers.{ControllerWords}
 use Rattle.recovery_events.specs.declared.event.Answer.{Answer}
+use Rattle.recovery_events.specs.declared.event.Answer.TheVariants.{BlackHole}
 use Rattle.recovery_events.specs.declared.event.Event.{Event}
 use Rattle.recovery_events.specs.declared.event.Event.TheVariants.{Lost, LossesDone, Congestion}
 use Rattle.recovery_ledger.specs.Discarded.{is_discarded}
@@ -15,7 +16,7 @@ use Rattle.quic_recovery.specs.Plain.{Plain, plain_of}
 use Rattle.quic_recovery.specs.State.{Changes}
 use Rattle.recovery_sender.specs.Senders.{packets_in, parts_in}
 use Rattle.recovery_sender.specs.declared.sender.Sender.{Sender}
-use Rattle.recovery_sender.specs.Judging.{ended, congested}
+use Rattle.recovery_sender.specs.Judging.{ended, congested, is_reported}
 use Rattle.recovery_sender.specs.Steps.{Step, Leads, Goes, told, occurs, loss_time, marked}
 
 module _ {F K Q S M P : Type 0} (built : F → ℕ → ℕ → K) (words : ControllerWords K) (queue : QueueMeaning Q S M P) where
@@ -54,6 +55,10 @@ module _ {F K Q S M P : Type 0} (built : F → ℕ → ℕ → K) (words : Contr
       by_test true gone = absurd (tracked (grind (arith, gone)))
       by_test false kept = rw (same, kept) (taken_in space number answer old new changes)
 
+pub none_ended : (numbers : List ℕ) → false ≡ (length numbers == 0) → numbers ≡ [] → ⊥
+none_ended [] some none = true≢false (sym some)
+none_ended (number ∷ numbers) some none = absurd cc
+
 -- an event that was answered so occurred
 module _ {F Q R C K S M P : Type 0} {f : _} {c : _} {q : _} {m : _} {r : _} where
   pub occurred : (event : Event Q S M P) (answer : Answer Q) (old new : Sender F Q R C K S M P f c q m r)
@@ -63,10 +68,15 @@ module _ {F Q R C K S M P : Type 0} {f : _} {c : _} {q : _} {m : _} {r : _} wher
     variables = goes.variables;
   }
 
-  pub some_ended : (now : ℕ) (numbers : List ℕ) (old new : Sender F Q R C K S M P f c q m r)
-      → false ≡ (length numbers == 0) → Goes (occurs (LossesDone now) ∷ []) old new → Goes (ended now numbers) old new
-  some_ended now [] old new some goes = absurd cc
-  some_ended now (number ∷ numbers) old new some goes = goes
+  -- that all losses were told is answered with whether a black hole is reported
+  pub some_ended : (now : ℕ) (answer : Answer Q) (numbers : List ℕ) (old new : Sender F Q R C K S M P f c q m r)
+      → false ≡ (length numbers == 0) → Goes (told (LossesDone now) (Ok answer) ∷ []) old new
+      → Goes (ended now (is_reported answer) numbers) old new
+  some_ended now answer [] old new some goes = absurd (true≢false (sym some))
+  some_ended now answer (number ∷ numbers) old new some goes =
+      let is = goes.leads.1.told in
+      subst (λ (a : Answer Q). Goes (told (LossesDone now) (Ok a) ∷ []) old new)
+      (is ∙ ap (λ (a : Answer Q). BlackHole (is_reported a)) (sym is)) goes
 
 -- ---- what leaves the packets of the spaces as they are
 
@@ -92,11 +102,12 @@ module _ {F Q R C K S M P : Type 0} {f : _} {c : _} {q : _} {m : _} {r : _} (spa
   abbrev tracked : Parts K P M → Packets P M
   tracked recovery = packets_in recovery space
 
-  pub packets_ended : (now : ℕ) (numbers : List ℕ) → Goes (ended now numbers) old new
+  pub packets_ended : (now : ℕ) (reported : Bool) (numbers : List ℕ) → Goes (ended now reported numbers) old new
       → tracked (parts_in new) ≡ tracked (parts_in old)
-  packets_ended now [] goes = ap tracked goes.leads
-  packets_ended now (number ∷ numbers) goes = let leads = goes.leads in ap tracked leads.4
-      ∙ done_same (queue_meaning q.contents q.words q.blank) space leads.0 (parts_in old) leads.1 now leads.2
+  packets_ended now reported [] goes = ap tracked goes.leads
+  packets_ended now reported (number ∷ numbers) goes = let leads = goes.leads in ap tracked leads.3
+      ∙ done_same (queue_meaning q.contents q.words q.blank) space (BlackHole reported) (parts_in old) leads.0 now
+      leads.1
 
   pub packets_congested : (now : ℕ) (persistent : Bool) (bytes : ℕ) (sent : Option ℕ)
       → Goes (congested now persistent bytes sent) old new → tracked (parts_in new) ≡ tracked (parts_in old)

@@ -8,8 +8,5 @@ pub mod FindLaws
 pub mod FrameLaws
 pub mod KeptLaws
 pub mod LeadLaws
-pub mod LookLaws
-pub mod LossLaws
-pub mod RunLaws
 pub mod StepLaws
 pub mod TimerLaws

@@ -24,7 +24,7 @@ use Rattle.recovery_sender.specs.declared.sender.Sender.{Sender}
 use Rattle.recovery_sender.specs.declared.sender.Variables.{Variables}
 use Rattle.recovery_sender.specs.Acks.{AckChecked, AreAllowed, AreNewly, AreWhole, WereSent, largest_of}
 use Rattle.recovery_sender.specs.Judging.{Detects, congested}
-use Rattle.recovery_sender.specs.Losses.{largest_in}
+use Rattle.recovery_sender.specs.Losses.{largest_in, NothingLost}
 use Rattle.recovery_sender.specs.Senders.{parts_in, packets_in, space_in}
 use Rattle.recovery_sender.specs.Steps.{Step, Does, Goes, marked, occurs, told}
 use Rattle.recovery_sender.specs.Timer.{ack_delay_in, is_address_validated}
@@ -155,9 +155,7 @@ module _ {F Q R C K S M P : Type 0} {f : _} {c : _} {q : _} {m : _} {r : _} (spa
     (ranges : List (ℕ × ℕ)) (ack : Ack) (old new : Sender F Q R C K S M P f c q m r) where
   -- nothing is newly acknowledged
   pub record TellsNone (acked : Acknowledged) : Type 0 where
-    pub lost : acked.losses.numbers.items ≡ []
-    pub probe : acked.losses.probe ≡ None
-    pub congestion : acked.losses.congestion ≡ None
+    pub lost : NothingLost acked.losses
     pub ecn : acked.ecn ≡ Quiet
     pub does : Does [] old.variables old new
 

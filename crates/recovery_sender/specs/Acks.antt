@@ -7,11 +7,11 @@ use Rattle.recovery_events.specs.declared.event.Refusal.TheVariants.{BadRange, S
 use Rattle.recovery_ledger.specs.Discarded.{is_discarded}
 use Rattle.recovery_ledger.specs.Packets.{Packet, Packets, packet_at}
 use Rattle.recovery_ledger.specs.Spaces.{space_of, next_number_of}
+use Rattle.recovery_losses.specs.Losses.{IsOneOf, AreRising}
 use Rattle.quic_recovery.specs.declared.driver.Recovery.{Recovery}
 use Rattle.quic_recovery.specs.State.{parts_of, OnlyTells}
 use Rattle.recovery_sender.specs.declared.sender.Refused.{Refused}
 use Rattle.recovery_sender.specs.declared.sender.Refused.TheVariants as refused
-use Rattle.recovery_sender.specs.Losses.{IsOneOf, AreRising}
 
 -- ---- ranges, the highest first, as they stand in a frame (RFC 9000, 19.3.1)
 

@@ -1,20 +1,23 @@
 -- What becomes of the packets that a look for losses goes over, one after another.
-use Rattle.std.specs.Prelude.{◌≡◌, ◌≢◌, ℕ, ◌-◌, ◌^◌, ◌<◌, ◌⊎◌, Decides, min, List, [], ◌∷◌, ◌++◌, Bool, Option, None, Some, option_map, map}
+use Rattle.std.specs.Prelude.{◌≡◌, ◌≢◌, ℕ, ◌-◌, ◌^◌, ◌<◌, ◌⊎◌, Decides, min, List, [], ◌∷◌, ◌++◌, Bool, false, Option, None, Some, option_map, map, Ok}
 use Rattle.std.specs.Option.{ForSome}
 use Rattle.recovery_base.specs.declared.below.SpaceId.{SpaceId}
+use Rattle.recovery_events.specs.declared.event.Answer.{Answer}
+use Rattle.recovery_events.specs.declared.event.Answer.TheVariants.{BlackHole}
 use Rattle.recovery_events.specs.declared.event.Event.TheVariants.{Lost, LossesDone, Congestion}
-use Rattle.recovery_sender.specs.declared.sender.losses.Candidate.{Candidate}
 use Rattle.recovery_ledger.specs.Packets.{Packet, Packets, packet_at}
+use Rattle.recovery_losses.specs.declared.looks.Candidate.{Candidate}
+use Rattle.recovery_losses.specs.declared.looks.Look.{Look}
+use Rattle.recovery_losses.specs.declared.tally.Tally.{Tally}
+use Rattle.recovery_losses.specs.Losses.{AreLost, IsDueAt, IsEarliest, IsLost, IsLostBelow, IsTold, bytes_counted, counting, finding_probe, last_counted, waiting}
+use Rattle.recovery_losses.specs.Looking.{Looked}
+use Rattle.recovery_losses.specs.Persisting.{IsEndAt, Persists}
 use Rattle.quic_recovery.specs.Parts.{Parts}
-use Rattle.recovery_sender.specs.declared.sender.losses.Look.{Look}
 use Rattle.recovery_sender.specs.declared.sender.losses.Losses.{Losses}
-use Rattle.recovery_sender.specs.declared.sender.losses.Tally.{Tally}
 use Rattle.recovery_sender.specs.declared.sender.Sender.{Sender}
-use Rattle.recovery_sender.specs.Looking.{Looked}
-use Rattle.recovery_sender.specs.Losses.{AreLost, IsDueAt, IsEarliest, IsLost, IsLostBelow, IsTold, bytes_counted, counting, finding_probe, largest_in, last_counted, look_of, waiting}
-use Rattle.recovery_sender.specs.Persisting.{IsEndAt, Persists}
+use Rattle.recovery_sender.specs.Losses.{largest_in, look_of, NothingLost}
 use Rattle.recovery_sender.specs.Senders.{parts_in, packets_in}
-use Rattle.recovery_sender.specs.Steps.{Step, loss_time, occurs, Goes}
+use Rattle.recovery_sender.specs.Steps.{Step, loss_time, occurs, told, Goes}
 
 -- each of these is told lost
 abbrev pub losing : {Q S M P : Type 0} → SpaceId → List ℕ → List (Step Q S M P)
@@ -60,10 +63,15 @@ pub record Finds {F Q R C K S M P : Type 0} {f : _} {c : _} {q : _} {m : _} {r :
 
 -- ---- behind them
 
--- that these were all is told, where there was one
-abbrev pub ended : {Q S M P : Type 0} → ℕ → List ℕ → List (Step Q S M P)
-ended now [] = []
-ended now (number ∷ numbers) = occurs (LossesDone now) ∷ []
+-- an answer says that a black hole is reported
+abbrev pub is_reported : {Q : Type 0} → Answer Q → Bool
+is_reported (BlackHole reported) = reported
+is_reported answer = false
+
+-- that these were all is told, where there was one, and answered with whether a black hole is reported (RFC 8899, 4.3)
+abbrev pub ended : {Q S M P : Type 0} → ℕ → Bool → List ℕ → List (Step Q S M P)
+ended now reported [] = []
+ended now reported (number ∷ numbers) = told (LossesDone now) (Ok (BlackHole reported)) ∷ []
 
 -- there is congestion, where one that counts was sent last at this moment
 abbrev pub congested : {Q S M P : Type 0} → ℕ → Bool → ℕ → Option ℕ → List (Step Q S M P)
@@ -93,11 +101,13 @@ pub record LossesAre {P M : Type 0} (look : Look) (packets : Packets P M) (losse
     pub congestion : losses.congestion
         ≡ option_map (λ sent. min (bytes_counted look packets losses.numbers.items) (2 ^ 64 - 1))
         (last_counted look packets losses.numbers.items)
+    -- where nothing was told lost, no black hole is reported
+    pub black_hole : losses.numbers.items ≡ [] → losses.is_black_hole ≡ false
 
 -- what is told, in its order (RFC 9002, A.10; RFC 9000, 14.4)
 abbrev pub detecting : {Q S M P : Type 0} → Look → Losses → Bool → ℕ → Option ℕ → Option ℕ → List (Step Q S M P)
 detecting look losses persistent bytes sent time = losing look.space losses.numbers.items
-    ++ (ended look.at losses.numbers.items ++ (congested look.at persistent bytes sent
+    ++ (ended look.at losses.is_black_hole losses.numbers.items ++ (congested look.at persistent bytes sent
     ++ (losing look.space (one_of losses.probe) ++ loss_time look.space time ∷ [])))
 
 -- nothing was acknowledged, or nothing is tracked below what was
@@ -115,5 +125,5 @@ pub record Detects {F Q R C K S M P : Type 0} {f : _} {c : _} {q : _} {m : _} {r
       × Goes (detecting look losses losses.is_persistent
       (min (bytes_counted look (packets_in (parts_in old) space) losses.numbers.items) (2 ^ 64 - 1))
       (last_counted look (packets_in (parts_in old) space) losses.numbers.items) time) old new)
-  pub none : largest_in (parts_in old) space ≡ None → (losses.numbers.items ≡ []) × (losses.probe ≡ None)
-      × (losses.congestion ≡ None) × Goes (loss_time space None ∷ []) old new
+  pub none : largest_in (parts_in old) space ≡ None
+      → NothingLost losses × Goes (loss_time space None ∷ []) old new

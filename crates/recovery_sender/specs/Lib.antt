@@ -2,9 +2,7 @@ pub mod Acking
 pub mod Acks
 pub mod Calls
 pub mod Judging
-pub mod Looking
 pub mod Losses
-pub mod Persisting
 pub mod Senders
 pub mod Steps
 pub mod Timeouts

@@ -1,46 +1,30 @@
--- Which packets are lost, when the next one is, and what that comes to (RFC 9002, 6.1, 7.6 and A.10).
-use Rattle.std.specs.Prelude.{◌≡◌, ◌≢◌, ℕ, ◌+◌, ◌-◌, ◌^◌, ◌<◌, ◌≤◌, ◌⊎◌, ◌*◌, ◌&&◌, ◌||◌, ◌==◌, min, max, nat_lt, nat_le, Bool, false, List, [], ◌∷◌, Option, None, Some, if◌then◌else◌}
-use Rattle.std.specs.Option.{ForSome, option_and_then, option_map_or}
+-- What a look for losses goes by, as a sender is, and where it finds nothing (RFC 9002, 6.1, 7.6 and A.10).
+use Rattle.std.specs.Prelude.{◌≡◌, ℕ, ◌+◌, ◌*◌, Bool, false, [], Option, None, if◌then◌else◌}
+use Rattle.std.specs.Option.{option_and_then}
 use Rattle.recovery_base.specs.declared.below.SpaceId.{SpaceId}
 use Rattle.recovery_base.specs.declared.below.SpaceId.TheVariants.{Data}
-use Rattle.recovery_base.specs.Spaces.{same_space, space_index}
-use Rattle.recovery_base.specs.Timers.{earlier_of}
-use Rattle.recovery_detection.specs.Timeouts.{loss_delay_of}
+use Rattle.recovery_base.specs.Spaces.{same_space}
 use Rattle.recovery_congestion.specs.Rtt.{rtt_get, pto_base_of}
-use Rattle.recovery_ledger.specs.Packets.{Packet, Packets, packet_at, without}
+use Rattle.recovery_detection.specs.Timeouts.{loss_delay_of}
 use Rattle.recovery_mtud.specs.Discovery.{probe_of}
+use Rattle.recovery_losses.specs.declared.looks.Look.{Look}
+use Rattle.recovery_losses.specs.Losses.{first_of}
 use Rattle.quic_recovery.specs.Parts.{Parts}
-use Rattle.recovery_sender.specs.declared.sender.losses.Candidate.{Candidate}
-use Rattle.recovery_sender.specs.declared.sender.losses.Look.{Look}
-use Rattle.recovery_sender.specs.declared.sender.losses.Run.{Run}
-use Rattle.recovery_sender.specs.declared.sender.losses.Tally.{Tally}
+use Rattle.recovery_sender.specs.declared.sender.losses.Losses.{Losses}
 use Rattle.recovery_sender.specs.declared.sender.Variables.{Variables}
 use Rattle.recovery_sender.specs.Senders.{space_in}
-use Rattle.recovery_sender.specs.Timer.{behind}
 
--- ---- numbers
-
-abbrev pub IsOneOf : ℕ → List ℕ → Type 0
-IsOneOf number [] = ⊥
-IsOneOf number (first ∷ numbers) = (first ≡ number) ⊎ IsOneOf number numbers
-
--- they rise, from the first on and below the end
-abbrev pub AreRising : ℕ → List ℕ → ℕ → Type 0
-AreRising first [] end = first ≤ end
-AreRising first (number ∷ numbers) end = (first ≤ number) × AreRising (number + 1) numbers end
-
--- ---- which are lost (RFC 9002, 6.1)
+-- nothing was lost
+pub record NothingLost (losses : Losses) : Type 0 where
+  pub numbers : losses.numbers.items ≡ []
+  pub probe : losses.probe ≡ None
+  pub congestion : losses.congestion ≡ None
+  pub persistent : losses.is_persistent ≡ false
+  pub black_hole : losses.is_black_hole ≡ false
 
 -- the largest number that was acknowledged in a space
 abbrev pub largest_in : {K P M : Type 0} → Parts K P M → SpaceId → Option ℕ
 largest_in recovery space = option_and_then (λ here. here.largest_acked_packet) (space_in recovery space)
-
--- from which number on the packets of a space may make congestion persistent, as the path marked the first packet
--- behind a sample of the RTT (RFC 9002, 7.6.2), by space and then number
-abbrev pub first_of : Option (SpaceId × ℕ) → SpaceId → Option ℕ
-first_of None space = None
-first_of (Some mark) space = if nat_lt (space_index mark.0) (space_index space) then Some 0
-    else if same_space mark.0 space then Some mark.1 else None
 
 -- what a look goes by, at a space whose largest acknowledged number is this; only one that is due to an ACK finds
 -- persistent congestion
@@ -55,145 +39,3 @@ look_of recovery variables space now due_to_ack largest = let path = recovery.pa
   first_of_run = (if due_to_ack then first_of path.marks.first_after_sample space else None);
   period = 3 * (pto_base_of path.state.rtt + variables.max_ack_delay);
 }
-
--- when a packet that was sent then is lost by its age (RFC 9002, 6.1.2)
-abbrev pub lost_at : Look → ℕ → ℕ
-lost_at look sent = behind sent look.delay
-
--- three numbers below the largest acknowledged, or sent long ago (RFC 9002, 6.1.1 and 6.1.2)
-abbrev pub IsLost : Look → ℕ → ℕ → Type 0
-IsLost look number sent = (number + 3 ≤ look.largest) ⊎ (lost_at look sent ≤ look.at)
-
--- when it is to be looked at: once it is lost by its age, or now, where it is lost and memory was refused
-abbrev pub IsDueAt : Look → ℕ → ℕ → ℕ → Type 0
-IsDueAt look number sent time = ((¬ IsLost look number sent) × (time ≡ lost_at look sent))
-    ⊎ (IsLost look number sent × (time ≡ look.at))
-
--- a packet with a size on the path in use: its loss is a sign of congestion (RFC 9002, 7; RFC 9000, 9.4)
-abbrev pub is_counted : Look → ℕ → ℕ → Bool
-is_counted look size generation = nat_lt 0 size && (generation == look.generation)
-
--- the later of two moments, where there are any
-abbrev pub later_of : Option ℕ → Option ℕ → Option ℕ
-later_of None second = second
-later_of (Some first) None = Some first
-later_of (Some first) (Some second) = Some (max first second)
-
--- the packets but those of some numbers
-abbrev pub without_all : {P M : Type 0} → Packets P M → List ℕ → Packets P M
-without_all packets [] = packets
-without_all packets (number ∷ numbers) = without_all (without packets number) numbers
-
-module _ {P M : Type 0} (look : Look) (packets : Packets P M) where
-  -- tracked below the largest acknowledged
-  abbrev pub IsBelow : ℕ → Packet P M → Type 0
-  IsBelow number packet = (packet_at packets number ≡ Some packet) × (number < look.largest)
-
-  -- and lost
-  abbrev pub IsLostBelow : ℕ → Type 0
-  IsLostBelow number = (packet : Packet P M) × IsBelow number packet × IsLost look number packet.time_sent
-
-  -- the bytes of those that count
-  abbrev pub size_counted : Option (Packet P M) → ℕ
-  size_counted None = 0
-  size_counted (Some packet) = if is_counted look packet.size packet.path_generation then packet.size else 0
-
-  abbrev pub bytes_counted : List ℕ → ℕ
-  bytes_counted [] = 0
-  bytes_counted (number ∷ numbers) = size_counted (packet_at packets number) + bytes_counted numbers
-
-  -- when the last of those that count was sent, where there is one
-  abbrev pub sent_counted : Option (Packet P M) → Option ℕ
-  sent_counted None = None
-  sent_counted (Some packet) =
-      if is_counted look packet.size packet.path_generation then Some packet.time_sent else None
-
-  abbrev pub last_counted : List ℕ → Option ℕ
-  last_counted [] = None
-  last_counted (number ∷ numbers) = later_of (sent_counted (packet_at packets number)) (last_counted numbers)
-
-  -- the least moment at which a packet below a number is to be looked at that was not told lost, where there is one
-  pub record IsEarliest (end : ℕ) (IsTold : ℕ → Type 0) (time : Option ℕ) : Type 0 where
-    pub one : ForSome time (λ least. (number : ℕ) × (packet : Packet P M) × IsBelow number packet × (number < end)
-        × (IsTold number → ⊥) × IsDueAt look number packet.time_sent least)
-    pub least : (number : ℕ) (packet : Packet P M) (due : ℕ) → IsBelow number packet → number < end
-        → (IsTold number → ⊥) → IsDueAt look number packet.time_sent due → (t : ℕ) × (time ≡ Some t) × (t ≤ due)
-
--- these are told lost: rising, each of them lost, and no probe of the MTU
-pub record AreLost {P M : Type 0} (look : Look) (packets : Packets P M) (end : ℕ) (numbers : List ℕ) : Type 0 where
-  pub rising : AreRising 0 numbers end
-  pub lost : (number : ℕ) → IsOneOf number numbers → IsLostBelow look packets number × (look.probe ≢ Some number)
-
--- ---- how the look goes on from packet to packet
-
--- a candidate is the packet of its number
-pub record IsOf {P M : Type 0} (packet : Packet P M) (candidate : Candidate) : Type 0 where
-  pub time_sent : candidate.time_sent ≡ packet.time_sent
-  pub size : candidate.size ≡ packet.size
-  pub ack_eliciting : candidate.ack_eliciting ≡ packet.ack_eliciting
-  pub path_generation : candidate.path_generation ≡ packet.path_generation
-
--- the first packet below the largest acknowledged from a number on
-pub record IsNext {P M : Type 0} (look : Look) (packets : Packets P M) (from : ℕ) (candidate : Candidate) : Type 0 where
-  pub packet : Packet P M
-  pub is : IsOf packet candidate
-  pub below : IsBelow look packets candidate.number packet
-  pub from_on : from ≤ candidate.number
-  pub first : (number : ℕ) (other : Packet P M) → packet_at packets number ≡ Some other → from ≤ number
-      → candidate.number ≤ number
-
--- there is none
-abbrev pub NoneFrom : {P M : Type 0} → Look → Packets P M → ℕ → Type 0
-NoneFrom {P} {M} look packets from =
-    (number : ℕ) (packet : Packet P M) → IsBelow look packets number packet → from ≤ number → ⊥
-
--- what the look found so far, where a packet waits until this moment
-abbrev pub waiting : ℕ → Tally → Tally
-waiting time tally = record tally { loss_time = earlier_of tally.loss_time (Some time) }
-
--- the number behind another, where there is one
-abbrev pub follows : Option ℕ → ℕ → Bool
-follows None number = false
-follows (Some last) number = last + 1 == number
-
--- the next number is lost: the run goes on, or begins
-abbrev pub going_on : ℕ → Run → Run
-going_on number run = record {
-  previous = Some number;
-  oldest = (if follows run.previous number then run.oldest else None);
-  is_persistent = run.is_persistent;
-}
-
--- a packet with which persistent congestion may begin or end (RFC 9002, 7.6.2)
-abbrev pub is_end : Look → ℕ → Bool → Bool
-is_end look number eliciting = eliciting && option_map_or (λ first. nat_le first number) look.first_of_run false
-
--- it was sent then: so long after the oldest of the run, congestion is persistent
-abbrev pub ending : Look → ℕ → Run → Run
-ending look sent run = record run {
-  oldest = Some (option_map_or (λ oldest. min oldest sent) run.oldest sent);
-  is_persistent = run.is_persistent || option_map_or (λ oldest. nat_lt look.period (sent - oldest)) run.oldest false;
-}
-
--- where the probe of the MTU is lost
-abbrev pub finding_probe : Look → Candidate → Tally → Tally
-finding_probe look packet tally = record tally { probe = look.probe; run = going_on packet.number tally.run }
-
--- where a packet was told lost
-abbrev pub counting : Look → Candidate → Tally → Tally
-counting look packet tally = let run = going_on packet.number tally.run in
-    if is_counted look packet.size packet.path_generation then record tally {
-      last_sent = later_of tally.last_sent (Some packet.time_sent);
-      bytes = min (tally.bytes + packet.size) (2 ^ 64 - 1);
-      run = (if is_end look packet.number packet.ack_eliciting then ending look packet.time_sent run else run);
-    } else record tally { run = run }
-
--- a number was told lost, or is that of the probe, which is told last
-abbrev pub IsTold : List ℕ → Option ℕ → ℕ → Type 0
-IsTold numbers probe number = IsOneOf number numbers ⊎ (probe ≡ Some number)
-
-abbrev pub no_run : Run
-no_run = record { previous = None; oldest = None; is_persistent = false }
-
-abbrev pub nothing_found : Tally
-nothing_found = record { loss_time = None; probe = None; last_sent = None; bytes = 0; run = no_run }

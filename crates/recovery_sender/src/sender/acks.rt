@@ -1,9 +1,10 @@
 //! An ACK frame comes in (RFC 9002, A.7; RFC 9000, 13.1 and 13.4.2).
 ghost use Rattle.std.specs.Prelude.{◌≡◌, ◌≢◌, ◌∷◌, [], None, ◌+◌, ◌^◌, ◌≤◌, ◌<◌, true, Decides, MatchOption, IfSome, IfOk, IfErr, OnOk, ℕ, Err, length, get_or, min};
 ghost use Rattle.recovery_events.specs.declared.event.Event.TheVariants.{CheckAck, EndAcks};
+ghost use Rattle.recovery_losses.specs.Losses.{AreRising, IsOneOf};
 ghost use Rattle.quic_recovery.specs.State.{OnlyTells};
 ghost use Rattle.recovery_sender.specs.Acks.{are_ranges, is_unsent, largest_of, AckChecked, AreAllowed, AreNewly, IsFirstIn, NoneIn, SomeElicits, TakesFrom};
-ghost use Rattle.recovery_sender.specs.Losses.{largest_in, AreRising, IsOneOf};
+ghost use Rattle.recovery_sender.specs.Losses.{largest_in};
 ghost use Rattle.recovery_sender.specs.Senders.{parts_in, packets_in, space_in};
 ghost use Rattle.recovery_sender.specs.Acking.{OnAck, acking, first_marked, heard_in, is_marked, is_raised, largest_sent, marks_now, rtt_of, sent_on, unmarked, with_marks_now, Acknowledges, EcnCompared, EcnComes, Samples};
 ghost use Rattle.recovery_sender.specs.Steps.{marked, occurs, Does, Goes};

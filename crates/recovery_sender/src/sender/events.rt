@@ -111,8 +111,8 @@ where
         }
     }
 
-    /// A probe of the MTU goes out, where one is due, as [`Event::PollMtu`] has it, and is refused. The window isn't
-    /// asked: a probe of the MTU is let pass it (RFC 9000, 14.4).
+    /// A probe of the MTU goes out, where one is due, as [`Event::PollMtu`] has it, and is refused. The window is
+    /// not asked: a probe of the MTU is let pass it (RFC 9000, 14.4).
     pub fn poll_mtu(&mut self, now: Instant) -> Result<Answer<Q>, Refused>
         ensures { Takes (Event.PollMtu now) self.old self.new result }
     {

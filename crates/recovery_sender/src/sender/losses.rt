@@ -3,24 +3,22 @@ ghost use Rattle.std.specs.Prelude.{◌≡◌, ◌≢◌, ℕ, ◌+◌, ◌-◌,
 ghost use Rattle.std.specs.Option.{ForSome};
 ghost use Rattle.recovery_events.specs.declared.event.Event.TheVariants.{Lost};
 ghost use Rattle.recovery_ledger.specs.Packets.{packet_at};
+ghost use Rattle.recovery_losses.specs.Losses.{waiting, IsNext, NoneFrom};
 ghost use Rattle.recovery_sender.specs.Senders.{parts_in, packets_in};
 ghost use Rattle.recovery_sender.specs.Steps.{occurs, Goes};
-ghost use Rattle.recovery_sender.specs.Losses.{look_of, largest_in, first_of, lost_at, no_run, going_on, ending, is_end, nothing_found, waiting, counting, finding_probe, IsLost, IsNext, NoneFrom};
-ghost use Rattle.recovery_sender.specs.Judging.{Judges, Finds, Detects, HasNoGap, congested, ended, losing, one_of};
+ghost use Rattle.recovery_sender.specs.Losses.{look_of, largest_in, NothingLost};
+ghost use Rattle.recovery_sender.specs.Judging.{Judges, Finds, Detects, HasNoGap, congested, ended, is_reported, losing, one_of};
 
 use super::Sender;
 use quic_recovery::below::SpaceId;
 use quic_recovery::congestion::ControllerFactory;
 use quic_recovery::queue::RetransmitQueue;
-use quic_recovery::time::{Duration, Instant};
+use quic_recovery::time::Instant;
 use quic_recovery::{Answer, Event};
 use rand_core::Rng;
-use recovery_base::timer::earlier;
 use recovery_detection::loss_delay;
+use recovery_losses::{Candidate, Look, Tally, first_of};
 use std::alloc::Global;
-
-/// How far below the largest acknowledged number a packet is lost (RFC 9002, 6.1.1: kPacketThreshold).
-const PACKET_THRESHOLD: u64 = 3;
 
 /// How many probe timeouts make congestion persistent (RFC 9002, 7.6.1: kPersistentCongestionThreshold).
 const PERSISTENT_CONGESTION_THRESHOLD: u128 = 3;
@@ -43,10 +41,7 @@ pub struct Losses {
 impl Losses {
     /// Nothing was lost. It takes no memory.
     pub(super) fn none(alloc: Global) -> Self
-        ensures numbers { result.numbers.items ≡ [] }
-        ensures probe { result.probe ≡ None }
-        ensures congestion { result.congestion ≡ None }
-        ensures persistent { result.is_persistent ≡ false }
+        ensures { NothingLost result }
     {
         Losses {
             numbers: Vec::new(alloc),
@@ -58,197 +53,13 @@ impl Losses {
     }
 }
 
-/// What a look for losses goes by.
-#[derive(Clone, Copy)]
-pub struct Look {
-    space: SpaceId,
-    /// The moment of it.
-    at: Instant,
-    /// The largest number that was acknowledged.
-    largest: u64,
-    /// How long after its sending a packet is lost.
-    delay: Duration,
-    /// The number of the MTU's probe in flight.
-    probe: Option<u64>,
-    /// The current path's.
-    generation: u64,
-    /// From which number on packets may make congestion persistent; none, where it is not looked for (RFC 9002, 7.6.2).
-    first_of_run: Option<u64>,
-    /// How long persistent congestion lasts, in nanoseconds (RFC 9002, 7.6.1).
-    period: u128,
-}
-
-/// A tracked packet, as far as a look needs it.
-#[derive(Clone, Copy)]
-pub struct Candidate {
-    number: u64,
-    time_sent: Instant,
-    size: u16,
-    ack_eliciting: bool,
-    path_generation: u64,
-}
-
-/// What a look found so far.
-#[derive(Clone, Copy)]
-pub struct Tally {
-    /// When the next packet is lost.
-    loss_time: Option<Instant>,
-    /// The MTU's probe, where it is lost.
-    probe: Option<u64>,
-    /// When the last of the packets that count was sent, if there is one.
-    last_sent: Option<Instant>,
-    /// The bytes of those that count; they stop at `u64::MAX`.
-    bytes: u64,
-    /// The run of numbers that are lost.
-    run: Run,
-}
-
-/// The numbers that are lost one behind another, and whether congestion persists over them (RFC 9002, 7.6).
-#[derive(Clone, Copy)]
-pub struct Run {
-    /// The number that was lost last.
-    previous: Option<u64>,
-    /// When the first was sent, in the run up to that number, of the packets that may begin persistent congestion.
-    oldest: Option<Instant>,
-    is_persistent: bool,
-}
-
-impl Look {
-    /// When a packet is lost by its age (RFC 9002, 6.1.2).
-    fn lost_at(&self, packet: &Candidate) -> Instant
-        ensures { result ≡ lost_at self.now packet.now.time_sent }
-    {
-        packet.time_sent + self.delay
-    }
-
-    /// Whether a packet is lost: by its number or by its age (RFC 9002, 6.1).
-    fn is_lost(&self, packet: &Candidate) -> bool
-        requires below { packet.now.number < self.now.largest }
-        ensures { Decides result (IsLost self.now packet.now.number packet.now.time_sent) }
-    {
-        self.largest - packet.number >= PACKET_THRESHOLD || self.lost_at(packet) <= self.at
-    }
-
-    /// Whether persistent congestion may begin or end with a packet that counts (RFC 9002, 7.6.2).
-    fn is_end(&self, packet: &Candidate) -> bool
-        ensures { result ≡ is_end self.now packet.now.number packet.now.ack_eliciting }
-    {
-        match self.first_of_run {
-            Some(first) => packet.ack_eliciting && first <= packet.number,
-            None => false,
-        }
-    }
-}
-
-impl Run {
-    /// None is lost yet.
-    fn new() -> Self
-        ensures { result ≡ no_run }
-    {
-        Run {
-            previous: None,
-            oldest: None,
-            is_persistent: false,
-        }
-    }
-
-    /// A number is lost: the run goes on, where it is the next one.
-    fn go_on(&mut self, number: u64)
-        ensures { self.new ≡ going_on number self.old }
-    {
-        let follows = match self.previous {
-            Some(last) => last < number && number - last == 1,
-            None => false,
-        };
-        if !follows {
-            self.oldest = None;
-        }
-        self.previous = Some(number);
-    }
-
-    /// With the packet that was sent then persistent congestion may begin or end.
-    fn end(&mut self, look: &Look, sent: Instant)
-        ensures { self.new ≡ ending look.now sent self.old }
-    {
-        self.oldest = Some(match self.oldest {
-            Some(oldest) => {
-                let span = sent.saturating_duration_since(oldest).as_nanos();
-                self.is_persistent = self.is_persistent || span > look.period;
-                oldest.min(sent)
-            }
-            None => sent,
-        });
-    }
-}
-
-impl Tally {
-    /// Nothing was found yet.
-    fn new() -> Self
-        ensures { result ≡ nothing_found }
-    {
-        Tally {
-            loss_time: None,
-            probe: None,
-            last_sent: None,
-            bytes: 0,
-            run: Run::new(),
-        }
-    }
-
-    /// The bytes of those that count, where there is one.
-    fn congestion(&self) -> Option<u64>
-        ensures { result ≡ option_map (λ sent. self.now.bytes) self.now.last_sent }
-    {
-        match self.last_sent {
-            Some(_) => Some(self.bytes),
-            None => None,
-        }
-    }
-
-    /// A packet waits until this moment.
-    fn waits(&mut self, time: Instant)
-        ensures { self.new ≡ waiting time self.old }
-    {
-        self.loss_time = earlier(self.loss_time, Some(time));
-    }
-
-    /// The probe of the MTU is lost.
-    fn finds_probe(&mut self, look: &Look, packet: &Candidate)
-        ensures { self.new ≡ finding_probe look.now packet.now self.old }
-    {
-        self.probe = look.probe;
-        self.run.go_on(packet.number);
-    }
-
-    /// A packet is lost: where it counts, that is a sign of congestion (RFC 9002, 7).
-    fn counts(&mut self, look: &Look, packet: &Candidate)
-        ensures { self.new ≡ counting look.now packet.now self.old }
-    {
-        self.run.go_on(packet.number);
-        if packet.size > 0 && packet.path_generation == look.generation {
-            self.bytes = self.bytes.saturating_add(u64::from(packet.size));
-            self.last_sent = Some(match self.last_sent {
-                Some(last) => last.max(packet.time_sent),
-                None => packet.time_sent,
-            });
-            if look.is_end(packet) {
-                self.run.end(look, packet.time_sent);
-            }
-        }
-    }
-}
-
-/// The first number of a space that is no earlier than a mark, by space and then number (RFC 9002, 7.6.2).
-fn first_of(mark: Option<(SpaceId, u64)>, space: SpaceId) -> Option<u64>
-    ensures { result ≡ first_of mark space }
+/// Whether a black hole is reported.
+fn is_reported<Q>(answer: &Answer<Q>) -> bool
+    ensures { result ≡ is_reported answer.now }
 {
-    let (marked, number) = mark?;
-    if marked < space {
-        Some(0)
-    } else if marked == space {
-        Some(number)
-    } else {
-        None
+    match answer {
+        Answer::BlackHole(is_reported) => *is_reported,
+        _ => false,
     }
 }
 
@@ -292,7 +103,8 @@ where
 
     /// The first tracked packet from a number on that lies below the largest acknowledged.
     fn candidate(&self, look: &Look, from: u64) -> Option<Candidate>
-        ensures { MatchOption result
+        ensures fits { IfSome result (λ found. found.number + 1 < 2 ^ 64) }
+        ensures next { MatchOption result
             (NoneFrom look.now (packets_in (parts_in self.now) look.now.space) from)
             (λ found. IsNext look.now (packets_in (parts_in self.now) look.now.space) from found) }
     {
@@ -373,15 +185,14 @@ where
 
     /// All that was found lost was told, where something was: whether a black hole is reported (RFC 8899, 4.3).
     fn losses_done(&mut self, now: Instant, numbers: &[u64]) -> bool
-        ensures { Goes (ended now numbers.now) self.old self.new }
+        ensures goes { Goes (ended now result numbers.now) self.old self.new }
+        ensures none { numbers.now ≡ [] → result ≡ false }
     {
         if numbers.is_empty() {
             return false;
         }
-        match self.tell(Event::LossesDone { now }) {
-            Answer::BlackHole(is_reported) => is_reported,
-            _ => false,
-        }
+        let answer = self.tell(Event::LossesDone { now });
+        is_reported(&answer)
     }
 
     /// There is congestion, where a packet that counts was sent last at this moment (RFC 9002, 7.3.2).

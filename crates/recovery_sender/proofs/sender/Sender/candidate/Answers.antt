@@ -1,23 +1,23 @@
 use Rattle.std.proofs.Common.{[], ap, ◌∙◌}
 use Rattle.std.specs.Option.{option_map_or}
 use Rattle.recovery_ledger.specs.Spaces.{packets_of}
-use Rattle.recovery_sender.proofs.LossLaws.{next_in, none_below, none_in}
+use Rattle.recovery_losses.proofs.LossLaws.{next_in, none_below, none_in}
 use Rattle.recovery_sender.proofs.sender.Sender.candidate.Goals as goal
 
-pub returns-in_err-number : goal.returns-in_err-number
-returns-in_err-number g c =
+pub returns-in_err-number-clause-next : goal.returns-in_err-number-clause-next
+returns-in_err-number-clause-next g c =
     let same = ap packets_of c.here.view_is ∙ ap (λ there. option_map_or packets_of there []) c.in_ok-here.ensures in
     rw (c.from_residual-in_err-number.ensures, ← same) (none_in c.args.look.now c.args.from _
     c.in_err-number.ensures.first)
 
-pub returns-then-number-look : goal.returns-then-number-look
-returns-then-number-look g c =
+pub returns-then-number-look-clause-next : goal.returns-then-number-look-clause-next
+returns-then-number-look-clause-next g c =
     let same = ap packets_of c.here.view_is ∙ ap (λ there. option_map_or packets_of there []) c.in_ok-here.ensures in
     rw (← same) (none_below c.args.look.now c.args.from _ c.in_ok-number.number c.in_ok-number.ensures.lowest
     c.if-number-look.true)
 
-pub returns : goal.returns
-returns g c =
+pub returns-clause-next : goal.returns-clause-next
+returns-clause-next g c =
     let same = ap packets_of c.here.view_is ∙ ap (λ there. option_map_or packets_of there []) c.in_ok-here.ensures in
     let is = c.packet.view_is in
     rw (← same) (next_in c.args.look.now c.args.from _ c.in_ok-number.packet.now _ (record {

@@ -1,6 +1,6 @@
 use Rattle.std.proofs.Common.{refl, arith}
+use Rattle.recovery_losses.proofs.LookLaws.{looked_first, looked_end}
 use Rattle.recovery_sender.specs.Senders.{parts_in, packets_in}
-use Rattle.recovery_sender.proofs.LookLaws.{looked_first, looked_end}
 use Rattle.recovery_sender.proofs.FindLaws.{finds_on}
 use Rattle.recovery_sender.proofs.sender.Sender.find_lost.Goals as goal
 
@@ -15,8 +15,9 @@ loop-packet-init g c = record {
 
 pub loop-packet-preserved : goal.loop-packet-preserved
 loop-packet-preserved g c = record {
-  finds = finds_on c.args.look.now _ _ _ _ _ c.loop-packet.invariant.finds _ c.in-Some.ensures _ _ _ c.judge.ensures;
-  within = omega (arith, c.in-Some.ensures.below.1);
+  finds = finds_on c.args.look.now _ _ _ _ _ c.loop-packet.invariant.finds _ c.in-Some.ensures.next _ _ _
+      c.judge.ensures;
+  within = omega (arith, c.in-Some.ensures.next.below.1);
 }
 
 pub returns : goal.returns
@@ -25,6 +26,6 @@ returns g c =
     let found = i.finds in
     record {
       looked = looked_end c.args.look.now (packets_in (parts_in c.args.self.now) c.args.look.now.space)
-          c.loop-packet.from _ _ _ found.looked c.args.look.now.largest i.within c.in_default.ensures;
+          c.loop-packet.from _ _ _ found.looked c.args.look.now.largest i.within c.in_default.ensures.next;
       goes = found.goes;
     }

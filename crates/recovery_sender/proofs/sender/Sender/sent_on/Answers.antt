@@ -1,9 +1,9 @@
 use Rattle.std.proofs.Common.{[], Some, ap, refl, sym, ◌∙◌}
 use Rattle.std.specs.Option.{option_map_or}
 use Rattle.recovery_ledger.specs.Spaces.{packets_of}
+use Rattle.recovery_losses.proofs.LossLaws.{found_from}
 use Rattle.recovery_sender.specs.Senders.{parts_in}
 use Rattle.recovery_sender.proofs.AckedLaws.{absent_below, absent_from, at_same, sent_elsewhere, sent_there}
-use Rattle.recovery_sender.proofs.LossLaws.{found_from}
 use Rattle.recovery_sender.proofs.sender.Sender.sent_on.Goals as goal
 
 pub returns-in_err-found : goal.returns-in_err-found

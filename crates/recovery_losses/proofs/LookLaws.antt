@@ -6,14 +6,14 @@ use Rattle.std.specs.Option.{ForSome}
 use Rattle.recovery_base.specs.Timers.{earlier_of}
 use Rattle.recovery_ledger.specs.Packets.{Packet, Packets, packet_at, without}
 use Rattle.recovery_ledger.proofs.PacketLaws.{number_at}
-use Rattle.recovery_sender.specs.declared.sender.losses.Candidate.{Candidate}
-use Rattle.recovery_sender.specs.declared.sender.losses.Look.{Look}
-use Rattle.recovery_sender.specs.declared.sender.losses.Run.{Run}
-use Rattle.recovery_sender.specs.declared.sender.losses.Tally.{Tally}
-use Rattle.recovery_sender.proofs.RunLaws.{run_end, run_first, run_like, run_on}
-use Rattle.recovery_sender.specs.Looking.{Looked}
-use Rattle.recovery_sender.specs.Persisting.{IsEndAt, RunIs}
-use Rattle.recovery_sender.specs.Losses.{AreLost, AreRising, IsBelow, IsDueAt, IsEarliest, IsLost, IsLostBelow, IsNext, IsOneOf, IsTold, NoneFrom, bytes_counted, counting, finding_probe, going_on, is_counted, is_end, last_counted, later_of, nothing_found, sent_counted, size_counted, waiting, without_all}
+use Rattle.recovery_losses.specs.declared.looks.Candidate.{Candidate}
+use Rattle.recovery_losses.specs.declared.looks.Look.{Look}
+use Rattle.recovery_losses.specs.declared.tally.Run.{Run}
+use Rattle.recovery_losses.specs.declared.tally.Tally.{Tally}
+use Rattle.recovery_losses.proofs.RunLaws.{run_end, run_first, run_like, run_on}
+use Rattle.recovery_losses.specs.Looking.{Looked}
+use Rattle.recovery_losses.specs.Persisting.{IsEndAt, RunIs}
+use Rattle.recovery_losses.specs.Losses.{AreLost, AreRising, IsBelow, IsDueAt, IsEarliest, IsLost, IsLostBelow, IsNext, IsOneOf, IsTold, NoneFrom, bytes_counted, counting, finding_probe, going_on, is_counted, is_end, last_counted, later_of, nothing_found, sent_counted, size_counted, waiting, without_all}
 
 -- ---- numbers
 

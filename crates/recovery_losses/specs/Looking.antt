@@ -2,10 +2,10 @@
 use Rattle.std.specs.Prelude.{◌≡◌, ℕ, ◌-◌, ◌^◌, ◌<◌, min, List, Some}
 use Rattle.std.specs.Option.{ForSome}
 use Rattle.recovery_ledger.specs.Packets.{Packets}
-use Rattle.recovery_sender.specs.declared.sender.losses.Look.{Look}
-use Rattle.recovery_sender.specs.declared.sender.losses.Tally.{Tally}
-use Rattle.recovery_sender.specs.Losses.{AreLost, IsEarliest, IsLostBelow, IsTold, bytes_counted, last_counted, without_all}
-use Rattle.recovery_sender.specs.Persisting.{IsEndAt, RunIs}
+use Rattle.recovery_losses.specs.declared.looks.Look.{Look}
+use Rattle.recovery_losses.specs.declared.tally.Tally.{Tally}
+use Rattle.recovery_losses.specs.Losses.{AreLost, IsEarliest, IsLostBelow, IsTold, bytes_counted, last_counted, without_all}
+use Rattle.recovery_losses.specs.Persisting.{IsEndAt, RunIs}
 
 pub record Looked {P M : Type 0} (look : Look) (old : Packets P M) (end : ℕ) (numbers : List ℕ) (tally : Tally)
     (new : Packets P M) : Type 0 where

@@ -3,10 +3,27 @@ use Rattle.std.proofs.Common.{◌≡◌, ℕ, ◌+◌, ◌-◌, ◌<◌, ◌≤�
 use Rattle.std.specs.Option.{option_map_or}
 use Rattle.std.proofs.lemmas.Bool.Decides.{eqb_tells, leb_tells}
 use Rattle.std.proofs.lemmas.Option.{none-some, same_Some}
-use Rattle.recovery_sender.specs.declared.sender.losses.Look.{Look}
-use Rattle.recovery_sender.specs.declared.sender.losses.Run.{Run}
-use Rattle.recovery_sender.specs.Losses.{ending, follows, going_on, no_run}
-use Rattle.recovery_sender.specs.Persisting.{IsInRun, Persists, RunIs}
+use Rattle.recovery_losses.specs.declared.looks.Look.{Look}
+use Rattle.recovery_losses.specs.declared.tally.Run.{Run}
+use Rattle.recovery_losses.specs.Losses.{ending, follows, going_on, no_run}
+use Rattle.recovery_losses.specs.Persisting.{IsInRun, Persists, RunIs}
+
+-- congestion that persists by some numbers persists by others, of which they are
+persists_like : (IsLostNow LostThen : ℕ → Type 0) (IsEnd EndThen : ℕ → ℕ → Type 0) (period : ℕ)
+    → (there : Persists IsLostNow IsEnd period)
+    → EndThen there.first there.first_sent → EndThen there.last there.last_sent
+    → ((number : ℕ) → number ≤ there.last → IsLostNow number → LostThen number) → Persists LostThen EndThen period
+persists_like IsLostNow LostThen IsEnd EndThen period there begins ends lost = record {
+  first = there.first;
+  last = there.last;
+  first_sent = there.first_sent;
+  last_sent = there.last_sent;
+  rises = there.rises;
+  begins = begins;
+  ends = ends;
+  between = λ number on up. lost number up (there.between number on up);
+  long = there.long;
+}
 
 -- nothing is lost yet
 pub run_first : (IsLostNow : ℕ → Type 0) (IsEnd : ℕ → ℕ → Type 0) (period end : ℕ)
@@ -134,31 +151,15 @@ module _ (IsLostNow LostThen : ℕ → Type 0) (IsEnd EndThen : ℕ → ℕ → 
 
           persists : Decides run.is_persistent (Persists LostThen EndThen period)
           persists = (
-            (λ long. (let there = is.persists.0 long in record {
-              first = there.first;
-              last = there.last;
-              first_sent = there.first_sent;
-              last_sent = there.last_sent;
-              rises = there.rises;
-              begins = to there.first there.first_sent there.begins;
-              ends = to there.last there.last_sent there.ends;
-              between = λ k on up. still k (there.between k on up);
-              long = there.long;
-            })),
+            (λ long. (let there = is.persists.0 long in persists_like IsLostNow LostThen IsEnd EndThen period there
+                (to there.first there.first_sent there.begins) (to there.last there.last_sent there.ends)
+                (λ k up. still k))),
             λ there. (
                 let last = under there.last (is.told there.last there.last_sent
                 (from there.last there.last_sent there.ends)) in
-                is.persists.1 (record {
-                  first = there.first;
-                  last = there.last;
-                  first_sent = there.first_sent;
-                  last_sent = there.last_sent;
-                  rises = there.rises;
-                  begins = from there.first there.first_sent there.begins;
-                  ends = from there.last there.last_sent there.ends;
-                  between = λ k on up. was_under k (omega (arith, up, last)) (there.between k on up);
-                  long = there.long;
-                })
+                is.persists.1 (persists_like LostThen IsLostNow EndThen IsEnd period there
+                (from there.first there.first_sent there.begins) (from there.last there.last_sent there.ends)
+                (λ k up. was_under k (omega (arith, up, last))))
                 ),
           )
 
@@ -256,17 +257,8 @@ module _ (IsLostNow : ℕ → Type 0) (IsEnd EndThen : ℕ → ℕ → Type 0) (
       ⊎ (option_map_or (λ before. nat_lt look.period (sent - before)) run.oldest false ≡ true)
   long_then there = elim (from there.last there.last_sent there.ends) [
     | inl was ↦ elim (from there.first there.first_sent there.begins) [
-      | inl began ↦ inl (record {
-        first = there.first;
-        last = there.last;
-        first_sent = there.first_sent;
-        last_sent = there.last_sent;
-        rises = there.rises;
-        begins = began;
-        ends = was;
-        between = there.between;
-        long = there.long;
-      })
+      | inl began ↦ inl (persists_like IsLostNow IsLostNow EndThen IsEnd look.period there began was
+          (λ k up lost. lost))
       | inr same ↦ absurd (omega (arith, same.0, there.rises, below there.last there.last_sent was))
     ]
     | inr same ↦ elim (from there.first there.first_sent there.begins) [
@@ -281,17 +273,8 @@ module _ (IsLostNow : ℕ → Type 0) (IsEnd EndThen : ℕ → ℕ → Type 0) (
   ]
 
   still_long : Persists IsLostNow IsEnd look.period → Persists IsLostNow EndThen look.period
-  still_long there = record {
-    first = there.first;
-    last = there.last;
-    first_sent = there.first_sent;
-    last_sent = there.last_sent;
-    rises = there.rises;
-    begins = to there.first there.first_sent there.begins;
-    ends = to there.last there.last_sent there.ends;
-    between = there.between;
-    long = there.long;
-  }
+  still_long there = persists_like IsLostNow IsLostNow IsEnd EndThen look.period there
+      (to there.first there.first_sent there.begins) (to there.last there.last_sent there.ends) (λ k up lost. lost)
 
   either : (one other : Bool) → (one || other) ≡ true → (one ≡ true) ⊎ (other ≡ true)
   either true other is_true = inl refl

@@ -1,9 +1,9 @@
 -- Persistent congestion (RFC 9002, 7.6): by what is lost now.
 use Rattle.std.specs.Prelude.{◌≡◌, ℕ, ◌-◌, ◌<◌, ◌≤◌, IsTrue, Decides, List, Some}
 use Rattle.recovery_ledger.specs.Packets.{Packet, Packets, packet_at}
-use Rattle.recovery_sender.specs.declared.sender.losses.Look.{Look}
-use Rattle.recovery_sender.specs.declared.sender.losses.Run.{Run}
-use Rattle.recovery_sender.specs.Losses.{IsOneOf, is_counted, is_end}
+use Rattle.recovery_losses.specs.declared.looks.Look.{Look}
+use Rattle.recovery_losses.specs.declared.tally.Run.{Run}
+use Rattle.recovery_losses.specs.Losses.{IsOneOf, is_counted, is_end}
 
 -- a packet that was told lost may begin or end persistent congestion: it counts, elicits an ACK, and is no earlier than
 -- the first packet behind a sample of the RTT; it was sent then (RFC 9002, 7.6.2)

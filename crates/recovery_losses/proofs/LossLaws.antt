@@ -2,9 +2,9 @@
 use Rattle.std.proofs.Common.{◌≡◌, ℕ, ◌≤◌, ◌<◌, [], ◌∷◌, None, Some, arith, filter}
 use Rattle.recovery_ledger.specs.Packets.{Packet, Packets, packet_at, first_from}
 use Rattle.recovery_queue.specs.Slots.{is_from, AreFrom}
-use Rattle.recovery_sender.specs.declared.sender.losses.Candidate.{Candidate}
-use Rattle.recovery_sender.specs.declared.sender.losses.Look.{Look}
-use Rattle.recovery_sender.specs.Losses.{IsNext, IsOf, NoneFrom}
+use Rattle.recovery_losses.specs.declared.looks.Candidate.{Candidate}
+use Rattle.recovery_losses.specs.declared.looks.Look.{Look}
+use Rattle.recovery_losses.specs.Losses.{IsNext, IsOf, NoneFrom}
 
 module _ {P M : Type 0} where
   pub none_from : (from : ℕ) (packets : Packets P M) → first_from from packets ≡ None

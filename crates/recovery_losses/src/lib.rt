@@ -1,0 +1,10 @@
+//! What a look for losses goes by, and what it finds of the packets that it goes over, one after another: which are
+//! lost, when the next one is, what counts as congestion, and whether that persists (RFC 9002, 6.1, 7.6 and A.10). It
+//! holds no packets and tells nobody: the sender does. Begin at `looks.rt`, and at `specs/Losses.antt`.
+#![tactic(auto)]
+
+mod looks;
+mod tally;
+
+pub use looks::{Candidate, Look, first_of};
+pub use tally::{Run, Tally};

@@ -1,0 +1,131 @@
+//! What a look for losses found so far, and whether congestion persists (RFC 9002, 7 and 7.6).
+ghost use Rattle.std.specs.Prelude.{◌≡◌, option_map};
+ghost use Rattle.recovery_losses.specs.Losses.{no_run, going_on, ending, nothing_found, waiting, counting, finding_probe};
+
+use crate::looks::{Candidate, Look};
+use recovery_base::time::Instant;
+use recovery_base::timer::earlier;
+
+/// What a look found so far.
+#[derive(Clone, Copy)]
+pub struct Tally {
+    /// When the next packet is lost.
+    pub loss_time: Option<Instant>,
+    /// The number of the MTU's probe, where it is lost.
+    pub probe: Option<u64>,
+    /// When the last of the packets that count was sent, if there is one.
+    pub last_sent: Option<Instant>,
+    /// The bytes of those that count; they stop at `u64::MAX`.
+    pub bytes: u64,
+    /// The run of numbers that are lost.
+    pub run: Run,
+}
+
+/// The numbers that are lost one behind another, and whether congestion persists over them (RFC 9002, 7.6).
+#[derive(Clone, Copy)]
+pub struct Run {
+    /// The number that was lost last.
+    previous: Option<u64>,
+    /// When the first was sent, in the run up to that number, of the packets that may begin persistent congestion.
+    oldest: Option<Instant>,
+    /// Whether congestion is persistent.
+    pub is_persistent: bool,
+}
+
+impl Run {
+    /// None is lost yet.
+    fn new() -> Self
+        ensures { result ≡ no_run }
+    {
+        Run {
+            previous: None,
+            oldest: None,
+            is_persistent: false,
+        }
+    }
+
+    /// A number is lost: the run goes on, where it is the next one.
+    fn go_on(&mut self, number: u64)
+        ensures { self.new ≡ going_on number self.old }
+    {
+        let follows = match self.previous {
+            Some(last) => last < number && number - last == 1,
+            None => false,
+        };
+        if !follows {
+            self.oldest = None;
+        }
+        self.previous = Some(number);
+    }
+
+    /// With the packet that was sent then persistent congestion may begin or end.
+    fn end(&mut self, look: &Look, sent: Instant)
+        ensures { self.new ≡ ending look.now sent self.old }
+    {
+        self.oldest = Some(match self.oldest {
+            Some(oldest) => {
+                let span = sent.saturating_duration_since(oldest).as_nanos();
+                self.is_persistent = self.is_persistent || span > look.period;
+                oldest.min(sent)
+            }
+            None => sent,
+        });
+    }
+}
+
+impl Tally {
+    /// Nothing was found yet.
+    pub fn new() -> Self
+        ensures { result ≡ nothing_found }
+    {
+        Tally {
+            loss_time: None,
+            probe: None,
+            last_sent: None,
+            bytes: 0,
+            run: Run::new(),
+        }
+    }
+
+    /// The bytes of those that count, where there is one.
+    pub fn congestion(&self) -> Option<u64>
+        ensures { result ≡ option_map (λ sent. self.now.bytes) self.now.last_sent }
+    {
+        match self.last_sent {
+            Some(_) => Some(self.bytes),
+            None => None,
+        }
+    }
+
+    /// A packet waits until this moment.
+    pub fn waits(&mut self, time: Instant)
+        ensures { self.new ≡ waiting time self.old }
+    {
+        self.loss_time = earlier(self.loss_time, Some(time));
+    }
+
+    /// The probe of the MTU is lost.
+    pub fn finds_probe(&mut self, look: &Look, packet: &Candidate)
+        ensures { self.new ≡ finding_probe look.now packet.now self.old }
+    {
+        self.probe = look.probe;
+        self.run.go_on(packet.number);
+    }
+
+    /// A packet is lost: where it counts, that is a sign of congestion (RFC 9002, 7).
+    pub fn counts(&mut self, look: &Look, packet: &Candidate)
+        ensures { self.new ≡ counting look.now packet.now self.old }
+    {
+        self.run.go_on(packet.number);
+        if packet.size > 0 && packet.path_generation == look.generation {
+            self.bytes = self.bytes.saturating_add(u64::from(packet.size));
+            self.last_sent = Some(match self.last_sent {
+                Some(last) => last.max(packet.time_sent),
+                None => packet.time_sent,
+            });
+            if look.is_end(packet) {
+                self.run.end(look, packet.time_sent);
+            }
+        }
+    }
+}
