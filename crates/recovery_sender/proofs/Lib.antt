@@ -1,3 +1,4 @@
+pub mod AbandonLaws
 pub mod AckLaws
 pub mod AckedLaws
 pub mod CallLaws

@@ -1,3 +1,4 @@
+pub mod Abandoning
 pub mod Acking
 pub mod Acks
 pub mod Calls

@@ -11,6 +11,7 @@ use rand_core::Rng;
 use std::alloc::Global;
 
 mod acks;
+mod ends;
 mod events;
 mod losses;
 mod packets;

@@ -50,6 +50,15 @@ fn push_lost(text: &mut String, losses: &Losses) -> Result<(), AllocError> {
     Ok(())
 }
 
+/// What is lost with a space.
+fn push_abandoned(text: &mut String, numbers: &[u64]) -> Result<(), AllocError> {
+    if numbers.is_empty() {
+        return text.push_str("lost none");
+    }
+    text.push_str("lost")?;
+    push_numbers(text, numbers)
+}
+
 fn push_ecn(text: &mut String, ecn: EcnEnd) -> Result<(), AllocError> {
     match ecn {
         EcnEnd::Quiet => Ok(()),
@@ -126,6 +135,7 @@ fn push_reply(alloc: Global, text: &mut String, reply: Reply) -> Result<(), Allo
         Reply::Transmission(transmission) => push_transmission(text, transmission),
         Reply::Acknowledged(acknowledged) => push_acknowledged(text, &acknowledged),
         Reply::Timeout(timeout) => push_timeout(text, &timeout),
+        Reply::Abandoned(numbers) => push_abandoned(text, &numbers),
         Reply::Answer(answer) => push_answer(alloc, text, &Ok(answer)),
         Reply::Done => text.push_str("done"),
     }

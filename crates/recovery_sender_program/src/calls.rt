@@ -3,6 +3,7 @@ ghost use Rattle.recovery_sender.specs.Calls.{Passes};
 ghost use Rattle.recovery_sender_program.specs.Calls.{MayPass};
 
 use crate::lines::{Call, Datagram, Frame, Word};
+use quic_recovery::below::SpaceId;
 use quic_recovery::congestion::ControllerFactory;
 use quic_recovery::time::Instant;
 use quic_recovery::{Answer, Event};
@@ -19,6 +20,8 @@ pub enum Reply {
     Acknowledged(Acknowledged),
     /// What a timeout comes to.
     Timeout(Timeout),
+    /// What is lost with a space.
+    Abandoned(Vec<u64>),
     /// What an event is answered.
     Answer(Answer<ItemQueue>),
     /// It is done.
@@ -86,6 +89,22 @@ where
     }
 }
 
+/// What was sent in a space was sent in vain.
+fn abandoned<F>(
+    sender: &mut Sender<F, ItemQueue, Pcg32>,
+    space: SpaceId,
+    now: Instant,
+) -> Result<Reply, Refused>
+where
+    F: ControllerFactory + Drop,
+    F::Controller: Drop,
+{
+    match sender.abandon(space, now) {
+        Ok(numbers) => Ok(Reply::Abandoned(numbers)),
+        Err(refused) => Err(refused),
+    }
+}
+
 /// It is done, or refused.
 fn done(done: Result<(), Refused>) -> Result<Reply, Refused> {
     match done {
@@ -103,6 +122,7 @@ where
     match word {
         Word::Datagram(bytes) => return done(sender.on_datagram(bytes)),
         Word::Discard(space, now) => return done(sender.discard(space, now)),
+        Word::Abandon(space, now) => return abandoned(sender, space, now),
         Word::Keys => sender.on_handshake_keys(),
         Word::Confirmed => sender.on_handshake_confirmed(),
         Word::Validated => sender.on_address_validated(),

@@ -38,7 +38,7 @@ pub struct Frame {
     pub ack: Ack,
 }
 
-/// What is said of the connection: answered with no more than that it is done.
+/// What is said of the connection, and of its spaces.
 #[derive(Clone, Copy)]
 pub enum Word {
     /// A datagram of so many bytes came in.
@@ -53,6 +53,8 @@ pub enum Word {
     PeerDelay(Duration),
     /// A space ends.
     Discard(SpaceId, Instant),
+    /// What was sent in a space was sent in vain.
+    Abandon(SpaceId, Instant),
 }
 
 /// A call of a sender.
@@ -121,6 +123,7 @@ fn word_of(name: &[u8], words: &mut Words<'_>) -> Option<Word> {
         name if is_name(name, "validated") => Some(Word::Validated),
         name if is_name(name, "peer-delay") => Some(Word::PeerDelay(words.span()?)),
         name if is_name(name, "discard") => Some(Word::Discard(words.space()?, words.moment()?)),
+        name if is_name(name, "abandon") => Some(Word::Abandon(words.space()?, words.moment()?)),
         _ => None,
     }
 }

@@ -26,6 +26,7 @@ enum Call {
     Confirmed,
     PeerMaxAckDelay(u64),
     Discard(u64, SpaceId),
+    Abandon(u64, SpaceId),
     Received(SpaceId, u64),
     /// A frame of 1-RTT packets that acknowledges one number.
     Ack(u64, u64),
@@ -109,6 +110,13 @@ fn acked(reply: &Result<Acknowledged, Refused>) -> Said {
     }
 }
 
+fn abandoned(reply: &Result<Vec<u64>, Refused>) -> Said {
+    match reply {
+        Ok(numbers) => Said::Lost(first(numbers), None),
+        Err(given) => refused(given),
+    }
+}
+
 fn timed_out(reply: &Result<Timeout, Refused>) -> Said {
     match reply {
         Ok(Timeout::Nothing) => Said::Nothing,
@@ -153,6 +161,10 @@ fn play(sender: &mut Reno, given: Call) -> Said {
         Call::Discard(now, space) => {
             let reply = sender.discard(space, at(now));
             done(&reply)
+        }
+        Call::Abandon(now, space) => {
+            let reply = sender.abandon(space, at(now));
+            abandoned(&reply)
         }
         Call::Ack(now, number) => on_ack(sender, now, number),
         Call::Timeout(now) => {
@@ -238,6 +250,47 @@ fn a_server(rt: HostRuntime) {
         (Call::Received(data, 0), Said::New, Some(1_010_000_000)),
     ];
     run(&rt, rt.alloc(), Side::Server, rows);
+}
+
+/// What was sent before a Retry, or in 0-RTT that is refused, is lost without congestion; probes are counted anew (RFC
+/// 9002, 6.3 and 6.4).
+#[test]
+fn a_retry(rt: HostRuntime) {
+    let (initial, data) = (SpaceId::Initial, SpaceId::Data);
+    let rows = [
+        (
+            Call::Send(0, 1200, initial),
+            Said::Sent(0),
+            Some(999_000_000),
+        ),
+        (Call::Send(0, 1200, data), Said::Sent(0), Some(999_000_000)),
+        (
+            Call::Timeout(999_000_000),
+            Said::ProbesDue(2),
+            Some(1_998_000_000),
+        ),
+        (
+            Call::Abandon(1_000_000_000, initial),
+            Said::Lost(Some(0), None),
+            Some(1_999_000_000),
+        ),
+        (
+            Call::Send(1_000_000_000, 1200, initial),
+            Said::Sent(1),
+            Some(1_999_000_000),
+        ),
+        (
+            Call::Abandon(1_010_000_000, data),
+            Said::Lost(Some(0), None),
+            Some(1_999_000_000),
+        ),
+        (
+            Call::Abandon(1_010_000_000, data),
+            Said::Lost(None, None),
+            Some(1_999_000_000),
+        ),
+    ];
+    run(&rt, rt.alloc(), Side::Client, rows);
 }
 
 /// A client's timer runs from the start on, lest both ends wait for ever (RFC 9002, 6.2.2.1), and no limit stops it;

@@ -1,10 +1,10 @@
-//! What goes out, and spaces that end (RFC 9002, 6.4 and 7; RFC 9000, 8.1).
+//! What goes out (RFC 9002, 7; RFC 9000, 8.1).
 ghost use Rattle.std.specs.Prelude.{◌≡◌, ◌<◌, ◌≤◌, ◌+◌, ◌^◌, ◌∷◌, [], true, false, None, Some, if◌then◌else◌, nat_lt, Ok, IfOk, OnOk, OnErr};
 ghost use Rattle.recovery_ledger.specs.Discarded.{is_discarded};
 ghost use Rattle.recovery_ledger.specs.Spaces.{space_of};
 ghost use Rattle.recovery_paths.specs.PathStates.{is_blocked};
 ghost use Rattle.recovery_sender.specs.Senders.{parts_in};
-ghost use Rattle.recovery_sender.specs.Calls.{based, begun_anew, bytes_in_flight, discard_reply, is_checked, is_full, sent_at, transmission, transmit_reply, transmit_steps, window_of, Takes};
+ghost use Rattle.recovery_sender.specs.Calls.{based, bytes_in_flight, is_checked, is_full, sent_at, transmission, transmit_reply, transmit_steps, window_of, Takes};
 ghost use Rattle.recovery_sender.specs.Steps.{told, Goes, Does};
 
 use super::{Refused, Sender, Variables};
@@ -142,46 +142,6 @@ where
         ensures { Does [] (based (sent_at time answer.now) self.old.variables) self.old self.new }
     {
         self.variables = self.variables.based(sent_at(time, answer));
-        self.set_loss_detection_timer();
-    }
-
-    /// The keys of a space are dropped, and with them all that it tracks; probe timeouts are counted anew (RFC 9002,
-    /// 6.2.2, 6.4 and A.11). Refused by `SpaceDiscarded`.
-    pub fn discard(&mut self, space: SpaceId, now: Instant) -> Result<(), Refused>
-        ensures reply { result ≡ discard_reply (parts_in self.old) space }
-        ensures steps { OnOk result (Does (told (Event.DiscardSpace space) (Ok Answer.Done) ∷ [])
-            (begun_anew now self.old.variables) self.old self.new) }
-        ensures refused { OnErr result (self.new ≡ self.old) }
-    {
-        if self.is_discarded(space) {
-            return Err(Refused::Event(Refusal::SpaceDiscarded));
-        }
-        self.drop_keys(space);
-        self.begin_anew(now);
-        Ok(())
-    }
-
-    /// Whether a space is discarded.
-    pub(super) fn is_discarded(&self, space: SpaceId) -> bool
-        ensures { result ≡ is_discarded space (parts_in self.now).discarded }
-    {
-        self.space(space).is_none()
-    }
-
-    /// The keys of a space are dropped that is not discarded.
-    fn drop_keys(&mut self, space: SpaceId)
-        requires { is_discarded space (parts_in self.old).discarded ≡ false }
-        ensures { Goes (told (Event.DiscardSpace space) (Ok Answer.Done) ∷ []) self.old self.new }
-    {
-        self.tell(Event::DiscardSpace { space });
-    }
-
-    /// Probe timeouts are counted anew (RFC 9002, 6.2.2).
-    pub(super) fn begin_anew(&mut self, now: Instant)
-        ensures { Does [] (begun_anew now self.old.variables) self.old self.new }
-    {
-        self.variables.pto_count = 0;
-        self.variables.base = now;
         self.set_loss_detection_timer();
     }
 

@@ -1,0 +1,110 @@
+//! Spaces that end, and what was sent in vain (RFC 9002, 6.2.2, 6.3 and 6.4).
+ghost use Rattle.std.specs.Prelude.{◌≡◌, ◌∷◌, [], true, false, Ok, OnOk, OnErr, IfSome, IfNone};
+ghost use Rattle.recovery_ledger.specs.Discarded.{is_discarded};
+ghost use Rattle.recovery_sender.specs.Calls.{begun_anew, discard_reply};
+ghost use Rattle.recovery_sender.specs.Abandoning.{Abandons, Forsakes, IsLeast};
+ghost use Rattle.recovery_sender.specs.Senders.{parts_in, packets_in};
+ghost use Rattle.recovery_sender.specs.Steps.{told, Goes, Does};
+
+use super::{Refused, Sender};
+use quic_recovery::below::SpaceId;
+use quic_recovery::congestion::ControllerFactory;
+use quic_recovery::queue::RetransmitQueue;
+use quic_recovery::time::Instant;
+use quic_recovery::{Answer, Event, Refusal};
+use rand_core::Rng;
+
+impl<F, Q, R> Sender<F, Q, R>
+where
+    F: ControllerFactory + Drop,
+    F::Controller: Drop,
+    Q: RetransmitQueue + Drop,
+    Q::Meta: Drop,
+    Q::Streams: Drop,
+    R: Rng + Drop,
+{
+    /// The keys of a space are dropped, and with them all that it tracks; probe timeouts are counted anew (RFC 9002,
+    /// 6.2.2, 6.4 and A.11). Refused by `SpaceDiscarded`.
+    pub fn discard(&mut self, space: SpaceId, now: Instant) -> Result<(), Refused>
+        ensures reply { result ≡ discard_reply (parts_in self.old) space }
+        ensures steps { OnOk result (Does (told (Event.DiscardSpace space) (Ok Answer.Done) ∷ [])
+            (begun_anew now self.old.variables) self.old self.new) }
+        ensures refused { OnErr result (self.new ≡ self.old) }
+    {
+        if self.is_discarded(space) {
+            return Err(Refused::Event(Refusal::SpaceDiscarded));
+        }
+        self.drop_keys(space);
+        self.begin_anew(now);
+        Ok(())
+    }
+
+    /// Whether a space is discarded.
+    pub(super) fn is_discarded(&self, space: SpaceId) -> bool
+        ensures { result ≡ is_discarded space (parts_in self.now).discarded }
+    {
+        self.space(space).is_none()
+    }
+
+    /// The keys of a space are dropped that is not discarded.
+    fn drop_keys(&mut self, space: SpaceId)
+        requires { is_discarded space (parts_in self.old).discarded ≡ false }
+        ensures { Goes (told (Event.DiscardSpace space) (Ok Answer.Done) ∷ []) self.old self.new }
+    {
+        self.tell(Event::DiscardSpace { space });
+    }
+
+    /// Probe timeouts are counted anew (RFC 9002, 6.2.2).
+    pub(super) fn begin_anew(&mut self, now: Instant)
+        ensures { Does [] (begun_anew now self.old.variables) self.old self.new }
+    {
+        self.variables.pto_count = 0;
+        self.variables.base = now;
+        self.set_loss_detection_timer();
+    }
+
+    /// What a space tracks was sent in vain: behind a Retry (RFC 9002, 6.3), or where 0-RTT is refused (RFC 9002, 6.4).
+    /// Each packet is told lost, which is no sign of congestion, so that its contents wait to be sent again; probe
+    /// timeouts are counted anew. Hands out the numbers, rising. Refused by `SpaceDiscarded`: then nothing changes; and
+    /// by `NoMemory`: what was told lost by then is lost, and the same call goes on with the rest. It costs what is
+    /// tracked, each packet with a logarithm.
+    pub fn abandon(&mut self, space: SpaceId, now: Instant) -> Result<Vec<u64>, Refused>
+        ensures { Abandons space self.old now self.new result }
+    {
+        if self.is_discarded(space) {
+            return Err(Refused::Event(Refusal::SpaceDiscarded));
+        }
+        let mut numbers = Vec::new(self.alloc);
+        if !self.lose_all(space, &mut numbers) {
+            self.set_loss_detection_timer();
+            return Err(Refused::Event(Refusal::NoMemory));
+        }
+        self.recovery.set_loss_time(space, None);
+        self.begin_anew(now);
+        Ok(numbers)
+    }
+
+    /// Each packet that a space tracks is told lost, the least number first; false, where memory is refused.
+    fn lose_all(&mut self, space: SpaceId, numbers: &mut Vec<u64>) -> bool
+        requires none { numbers.old.items ≡ [] }
+        ensures lost { Forsakes space self.old numbers.new.items self.new }
+        ensures all { result ≡ true → packets_in (parts_in self.new) space ≡ [] }
+    {
+        while let Some(number) = self.first_tracked(space) {
+            if !self.lose(space, number, numbers) {
+                return false;
+            }
+        }
+        true
+    }
+
+    /// The least number that a space tracks.
+    fn first_tracked(&self, space: SpaceId) -> Option<u64>
+        ensures none { IfNone result (packets_in (parts_in self.now) space ≡ []) }
+        ensures some { IfSome result (IsLeast (packets_in (parts_in self.now) space)) }
+    {
+        let here = self.space(space)?;
+        let (number, _) = here.sent_packets.tracked_from(0)?;
+        Some(number)
+    }
+}
