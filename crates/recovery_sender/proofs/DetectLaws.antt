@@ -1,8 +1,9 @@
 -- A look for losses as a whole: its parts, one after another.
-use Rattle.std.proofs.Common.{◌≡◌, ◌≢◌, ℕ, ◌-◌, ◌^◌, min, Bool, false, true≢false, Decides, List, [], ◌∷◌, ◌++◌, Option, None, Some, option_map, IfSome, IfNone, ◌⊎◌, inl, inr, refl, sym, subst, ◌∙◌, arith}
+use Rattle.std.proofs.Common.{◌≡◌, ◌≢◌, ℕ, ◌-◌, ◌^◌, min, Bool, true, false, true≢false, Decides, List, [], ◌∷◌, ◌++◌, Option, None, Some, option_map, IfSome, IfNone, ◌⊎◌, inl, inr, refl, sym, subst, ◌∙◌, arith}
 use Rattle.std.proofs.lemmas.Option.{none-some, same_Some}
 use Rattle.std.specs.Option.{ForSome}
 use Rattle.recovery_base.specs.declared.below.SpaceId.{SpaceId}
+use Rattle.recovery_ledger.specs.Discarded.{is_discarded}
 use Rattle.recovery_ledger.specs.Packets.{Packets}
 use Rattle.recovery_losses.specs.declared.looks.Look.{Look}
 use Rattle.recovery_losses.specs.declared.tally.Tally.{Tally}
@@ -12,13 +13,17 @@ use Rattle.recovery_losses.specs.Persisting.{IsEndAt, Persists}
 use Rattle.recovery_losses.proofs.LookLaws.{probe_waits}
 use Rattle.quic_recovery.specs.Above.{with_loss_time_at}
 use Rattle.quic_recovery.specs.History.{queue_meaning}
+use Rattle.quic_recovery.specs.Parts.{Parts}
 use Rattle.recovery_sender.specs.declared.sender.losses.Losses.{Losses}
 use Rattle.recovery_sender.specs.declared.sender.Sender.{Sender}
 use Rattle.recovery_sender.specs.Judging.{Detects, Finds, HasNoGap, LossesAre, congested, detecting, ended, losing, one_of}
 use Rattle.recovery_sender.specs.Losses.{largest_in, look_of, NothingLost}
+use Rattle.recovery_sender.specs.Promises.Lost.{LosesTracked}
+use Rattle.recovery_sender.specs.Promises.Pasts.{ByPasts}
 use Rattle.recovery_sender.specs.Senders.{parts_in, packets_in}
 use Rattle.recovery_sender.specs.Steps.{Step, Goes, Leads, loss_time}
 use Rattle.recovery_sender.proofs.LeadLaws.{leads_on}
+use Rattle.recovery_sender.proofs.PromiseLaws.{loses_tracked}
 
 -- what became of the probe
 module _ {P M : Type 0} (look : Look) (packets : Packets P M) (numbers : List ℕ) (tally : Tally) (now : Packets P M)
@@ -75,6 +80,16 @@ module _ {F Q R C K S M P : Type 0} {f : _} {c : _} {q : _} {m : _} {r : _} (loo
     variables = same ∙ probes.variables ∙ congests.variables ∙ ends.variables ∙ finds.variables;
   }
 
+-- a space in which something was acknowledged lives
+kept_where : {K P M : Type 0} (recovery : Parts K P M) (space : SpaceId) (largest : ℕ)
+    → largest_in recovery space ≡ Some largest → is_discarded space recovery.discarded ≡ false
+kept_where recovery space largest is = by (is_discarded space recovery.discarded) refl
+  where
+    by : (test : Bool) → is_discarded space recovery.discarded ≡ test
+        → is_discarded space recovery.discarded ≡ false
+    by true gone = absurd (none-some largest (rw gone at is))
+    by false kept = kept
+
 -- where nothing is lost, no congestion persists
 no_persistence : {P M : Type 0} (look : Look) (packets : Packets P M)
     → Decides false (Persists (IsTold [] None) (IsEndAt look packets []) look.period)
@@ -93,6 +108,13 @@ module _ {F Q R C K S M P : Type 0} {f : _} {c : _} {q : _} {m : _} {r : _} (spa
       (min (bytes_counted look packets losses.numbers.items) (2 ^ 64 - 1))
       (last_counted look packets losses.numbers.items) time) old new
 
+  -- by the events before
+  promised : (largest : ℕ) → largest_in (parts_in old) space ≡ Some largest → (time : Option ℕ)
+      → LossesAre (look_for largest) (packets_in (parts_in old) space) losses time
+      → ByPasts old (LosesTracked (look_for largest) losses time)
+  promised largest is time are =
+      loses_tracked space old (kept_where (parts_in old) space largest is) (look_for largest) losses time refl are
+
   -- nothing is tracked below what was acknowledged
   pub detects_none : HasNoGap (parts_in old) space → NothingLost losses
       → parts_in new ≡ with_loss_time_at space None (parts_in old)
@@ -100,7 +122,19 @@ module _ {F Q R C K S M P : Type 0} {f : _} {c : _} {q : _} {m : _} {r : _} (spa
   detects_none none nothing times same = record {
     looks = λ largest is. (
       None,
-      record {
+      nothing_found largest is,
+      promised largest is None (nothing_found largest is),
+      rw (nothing.numbers, nothing.probe) goes,
+    );
+    none = λ is. (nothing, goes);
+  }
+    where
+      goes : Goes (loss_time space None ∷ []) old new
+      goes = record { leads = times; variables = same }
+
+      nothing_found : (largest : ℕ) → largest_in (parts_in old) space ≡ Some largest
+          → LossesAre (look_for largest) (packets_in (parts_in old) space) losses None
+      nothing_found largest is = record {
         found = None;
         is_found = λ number never. absurd (none-some number never);
         persistent = rw (nothing.numbers, nothing.persistent) (no_persistence _ _);
@@ -112,20 +146,14 @@ module _ {F Q R C K S M P : Type 0} {f : _} {c : _} {q : _} {m : _} {r : _} (spa
         };
         congestion = rw nothing.numbers nothing.congestion;
         black_hole = λ none. nothing.black_hole;
-      },
-      rw (nothing.numbers, nothing.probe) goes,
-    );
-    none = λ is. (nothing, goes);
-  }
-    where
-      goes : Goes (loss_time space None ∷ []) old new
-      goes = record { leads = times; variables = same }
+      }
 
   -- all was gone over
   pub detects_all : (largest : ℕ) → largest_in (parts_in old) space ≡ Some largest → IsLook largest
       → Detects space now due old losses new
   detects_all largest known look = record {
-    looks = λ other is. subst IsLook (same_Some largest other (sym known ∙ is)) look;
+    looks = λ other is. (let found = subst IsLook (same_Some largest other (sym known ∙ is)) look in
+        (found.0, found.1, promised other is found.0 found.1, found.2));
     none = λ is. absurd (none-some largest (sym is ∙ known));
   }
 
@@ -166,4 +194,4 @@ module _ {F Q R C K S M P : Type 0} {f : _} {c : _} {q : _} {m : _} {r : _} (spa
     where
       by_largest : (largest : Option ℕ) → largest_in (parts_in old) space ≡ largest → new.variables ≡ old.variables
       by_largest None none = (detects.none none).1.variables
-      by_largest (Some largest) is = (detects.looks largest is).2.variables
+      by_largest (Some largest) is = (detects.looks largest is).3.variables

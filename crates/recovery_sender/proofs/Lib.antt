@@ -1,6 +1,7 @@
 pub mod AbandonLaws
 pub mod AckLaws
 pub mod AckedLaws
+pub mod AliveLaws
 pub mod CallLaws
 pub mod CheckLaws
 pub mod DetectLaws
@@ -9,5 +10,7 @@ pub mod FindLaws
 pub mod FrameLaws
 pub mod KeptLaws
 pub mod LeadLaws
+pub mod PastLaws
+pub mod PromiseLaws
 pub mod StepLaws
 pub mod TimerLaws

@@ -32,6 +32,7 @@ module _ {F Q R C K S M P : Type 0} {f : _} {c : _} {q : _} {m : _} {r : _} wher
         leads = leads_on _ _ _ steps _ _ _ _ goes.leads does.leads;
         variables = does.variables;
         timer = does.timer;
+        alive = does.alive;
       }
 
   pub does_behind : (steps : List (Step Q S M P)) (old between new : Sender F Q R C K S M P f c q m r)
@@ -48,6 +49,7 @@ module _ {F Q R C K S M P : Type 0} {f : _} {c : _} {q : _} {m : _} {r : _} wher
             (timed (due_of (parts_in new) wanted) ∷ []) parts (parts_in new)) (sym same) does.leads;
         variables = does.variables;
         timer = does.timer;
+        alive = does.alive;
       }
 
   -- the timer is set behind an event
@@ -60,4 +62,5 @@ module _ {F Q R C K S M P : Type 0} {f : _} {c : _} {q : _} {m : _} {r : _} wher
     leads = (parts_in between, changes, extends, does.leads);
     variables = does.variables;
     timer = does.timer;
+    alive = does.alive;
   }

@@ -11,6 +11,8 @@ use Rattle.recovery_sender.specs.declared.sender.Refused.TheVariants as refused
 use Rattle.recovery_sender.specs.declared.sender.Sender.{Sender}
 use Rattle.recovery_sender.specs.Calls.{begun_anew}
 use Rattle.recovery_sender.specs.Judging.{losing}
+use Rattle.recovery_sender.specs.Promises.Acked.{LosesAll}
+use Rattle.recovery_sender.specs.Promises.Pasts.{ByPasts}
 use Rattle.recovery_sender.specs.Senders.{parts_in, packets_in}
 use Rattle.recovery_sender.specs.Steps.{Goes, Does, loss_time}
 
@@ -36,11 +38,12 @@ module _ {F Q R C K S M P : Type 0} {f : _} {c : _} {q : _} {m : _} {r : _} (spa
     pub above : (number : ℕ) (packet : Packet P M) → packet_at (packets_in (parts_in new) space) number ≡ Some packet
         → end ≤ number
 
-  -- these are all, and the space has no loss time; or memory was refused for one, which is tracked still
+  -- these are all, by the events before too, and the space has no loss time; or memory was refused for one, which is
+  -- tracked still
   abbrev pub Abandons : ℕ → Sender F Q R C K S M P f c q m r → Result (Vec ℕ) Refused → Type 0
   Abandons now new (Ok numbers) = (is_discarded space (parts_in old).discarded ≡ false)
       × (between : Sender F Q R C K S M P f c q m r) × Forsakes numbers.items between
-      × (packets_in (parts_in between) space ≡ [])
+      × (packets_in (parts_in between) space ≡ []) × ByPasts old (LosesAll space numbers.items)
       × Does (loss_time space None ∷ []) (begun_anew now old.variables) between new
   Abandons now new (Err refusal) = (new ≡ old) × (refusal ≡ refused.Event SpaceDiscarded)
       × (is_discarded space (parts_in old).discarded ≡ true)

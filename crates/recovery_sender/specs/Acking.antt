@@ -25,6 +25,8 @@ use Rattle.recovery_sender.specs.declared.sender.Variables.{Variables}
 use Rattle.recovery_sender.specs.Acks.{AckChecked, AreAllowed, AreNewly, AreWhole, WereSent, largest_of}
 use Rattle.recovery_sender.specs.Judging.{Detects, congested}
 use Rattle.recovery_sender.specs.Losses.{largest_in, NothingLost}
+use Rattle.recovery_sender.specs.Promises.Acked.{AcksTracked}
+use Rattle.recovery_sender.specs.Promises.Pasts.{ByPasts}
 use Rattle.recovery_sender.specs.Senders.{parts_in, packets_in, space_in}
 use Rattle.recovery_sender.specs.Steps.{Step, Does, Goes, marked, occurs, told}
 use Rattle.recovery_sender.specs.Timer.{ack_delay_in, is_address_validated}
@@ -166,6 +168,8 @@ module _ {F Q R C K S M P : Type 0} {f : _} {c : _} {q : _} {m : _} {r : _} (spa
     pub allowed : AreAllowed space ranges old.recovery.recovery
     pub elicits : Bool
     pub newly : AreNewly (packets_in (parts_in old) space) ranges 0 acked.numbers.items elicits
+    -- that is what the events before say
+    pub tracked : ByPasts old (AcksTracked space ranges acked.numbers.items)
     pub none : acked.numbers.items ≡ [] → TellsNone acked
     pub some : (acked.numbers.items ≡ [] → ⊥) → Acknowledges space now ranges ack elicits old acked new
 

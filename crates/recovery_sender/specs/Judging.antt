@@ -16,6 +16,8 @@ use Rattle.quic_recovery.specs.Parts.{Parts}
 use Rattle.recovery_sender.specs.declared.sender.losses.Losses.{Losses}
 use Rattle.recovery_sender.specs.declared.sender.Sender.{Sender}
 use Rattle.recovery_sender.specs.Losses.{largest_in, look_of, NothingLost}
+use Rattle.recovery_sender.specs.Promises.Lost.{LosesTracked}
+use Rattle.recovery_sender.specs.Promises.Pasts.{ByPasts}
 use Rattle.recovery_sender.specs.Senders.{parts_in, packets_in}
 use Rattle.recovery_sender.specs.Steps.{Step, loss_time, occurs, told, Goes}
 
@@ -122,6 +124,7 @@ pub record Detects {F Q R C K S M P : Type 0} {f : _} {c : _} {q : _} {m : _} {r
   pub looks : (largest : ℕ) → largest_in (parts_in old) space ≡ Some largest →
       (let look : Look = look_of (parts_in old) old.variables space now due_to_ack largest in
       (time : Option ℕ) × LossesAre look (packets_in (parts_in old) space) losses time
+      × ByPasts old (LosesTracked look losses time)
       × Goes (detecting look losses losses.is_persistent
       (min (bytes_counted look (packets_in (parts_in old) space) losses.numbers.items) (2 ^ 64 - 1))
       (last_counted look (packets_in (parts_in old) space) losses.numbers.items) time) old new)

@@ -4,6 +4,7 @@ pub mod Acks
 pub mod Calls
 pub mod Judging
 pub mod Losses
+pub mod Promises
 pub mod Senders
 pub mod Steps
 pub mod Timeouts

@@ -17,6 +17,8 @@ use Rattle.quic_recovery.specs.State.{Changes}
 use Rattle.recovery_sender.specs.declared.sender.Sender.{Sender}
 use Rattle.recovery_sender.specs.declared.sender.timer.Due.{Due}
 use Rattle.recovery_sender.specs.declared.sender.Variables.{Variables}
+use Rattle.recovery_sender.specs.Promises.Alive.{NeverStalls}
+use Rattle.recovery_sender.specs.Promises.Pasts.{ByPasts}
 use Rattle.recovery_sender.specs.Senders.{parts_in}
 use Rattle.recovery_sender.specs.Timer.{due_of, TimerIsSet}
 
@@ -64,3 +66,5 @@ module _ {F Q R C K S M P : Type 0} {f : _} {c : _} {q : _} {m : _} {r : _} wher
         (steps ++ timed (due_of (parts_in new) kept) ∷ []) (parts_in old) (parts_in new)
     pub variables : new.variables ≡ kept
     pub timer : TimerIsSet (parts_in new) new.variables
+    -- so that it never stalls
+    pub alive : ByPasts new (λ past. NeverStalls (parts_in new) new.variables)

@@ -1,13 +1,16 @@
 //! An ACK frame comes in (RFC 9002, A.7; RFC 9000, 13.1 and 13.4.2).
-ghost use Rattle.std.specs.Prelude.{◌≡◌, ◌≢◌, ◌∷◌, [], None, ◌+◌, ◌^◌, ◌≤◌, ◌<◌, true, Decides, MatchOption, IfSome, IfOk, IfErr, OnOk, ℕ, Err, length, get_or, min};
+ghost use Rattle.std.specs.Prelude.{◌≡◌, ◌≢◌, ◌∷◌, [], None, ◌+◌, ◌^◌, ◌≤◌, ◌<◌, true, false, Decides, MatchOption, IfSome, IfOk, IfErr, OnOk, ℕ, Err, length, get_or, min};
 ghost use Rattle.recovery_events.specs.declared.event.Event.TheVariants.{CheckAck, EndAcks};
 ghost use Rattle.recovery_losses.specs.Losses.{AreRising, IsOneOf};
 ghost use Rattle.quic_recovery.specs.State.{OnlyTells};
 ghost use Rattle.recovery_sender.specs.Acks.{are_ranges, is_unsent, largest_of, AckChecked, AreAllowed, AreNewly, IsFirstIn, NoneIn, SomeElicits, TakesFrom};
 ghost use Rattle.recovery_sender.specs.Losses.{largest_in};
+ghost use Rattle.recovery_sender.specs.Promises.Acked.{AcksTracked};
+ghost use Rattle.recovery_sender.specs.Promises.Pasts.{ByPasts};
 ghost use Rattle.recovery_sender.specs.Senders.{parts_in, packets_in, space_in};
 ghost use Rattle.recovery_sender.specs.Acking.{OnAck, acking, first_marked, heard_in, is_marked, is_raised, largest_sent, marks_now, rtt_of, sent_on, unmarked, with_marks_now, Acknowledges, EcnCompared, EcnComes, Samples};
 ghost use Rattle.recovery_sender.specs.Steps.{marked, occurs, Does, Goes};
+ghost use Rattle.recovery_ledger.specs.Discarded.{is_discarded};
 ghost use Rattle.recovery_ledger.specs.Packets.{packet_at};
 
 use super::{Losses, Refused, Sender, Side, Variables};
@@ -237,11 +240,14 @@ where
     /// What a frame newly acknowledges. Refused by `NoMemory`. It costs its ranges and what they newly acknowledge,
     /// each with a logarithm.
     fn newly_acked(&self, space: SpaceId, ranges: &[(u64, u64)]) -> Result<Newly, Refused>
+        requires there { is_discarded space (parts_in self.now).discarded ≡ false }
         requires whole { are_ranges ranges.now ≡ true }
         requires small { IfSome (largest_of ranges.now) (λ largest. largest + 1 < 2 ^ 64) }
         ensures memory { IfErr result (λ refused. refused ≡ Refused.Event Refusal.NoMemory) }
         ensures newly { IfOk result (λ newly. AreNewly (packets_in (parts_in self.now) space)
             ranges.now 0 newly.numbers.items newly.elicits) }
+        ensures tracked { IfOk result (λ newly.
+            ByPasts self.now (AcksTracked space ranges.now newly.numbers.items)) }
     {
         let mut newly = Newly {
             numbers: Vec::new(self.alloc),

@@ -2,6 +2,7 @@ use Rattle.std.proofs.Common.{None, [], ◌∷◌, inr, refl, sym, subst, ◌∙
 use Rattle.recovery_sender.specs.declared.sender.Variables.{Variables}
 use Rattle.recovery_sender.specs.Calls.{begun_anew}
 use Rattle.recovery_sender.specs.Steps.{Does, loss_time}
+use Rattle.recovery_sender.proofs.PromiseLaws.{loses_all}
 use Rattle.recovery_sender.proofs.StepLaws.{does_as, does_behind_with}
 use Rattle.recovery_sender.proofs.sender.Sender.abandon.Goals as goal
 
@@ -20,11 +21,14 @@ returns-then-not-lose_all g c =
 pub returns : goal.returns
 returns g c =
     let lost = c.lose_all.ensures.lost in
+    let all = c.lose_all.ensures.all c.if-not-lose_all.false in
+    let kept = sym c.is_discarded.ensures ∙ c.if-is_discarded.false in
     let steps = loss_time c.args.space None ∷ [] in (
-      sym c.is_discarded.ensures ∙ c.if-is_discarded.false,
+      kept,
       c.lose_all.new.self,
       lost,
-      c.lose_all.ensures.all c.if-not-lose_all.false,
+      all,
+      loses_all c.args.space c.args.self.now kept _ lost.tracked (sym lost.left ∙ all),
       subst (λ (kept : Variables). Does steps (begun_anew c.args.now kept) c.lose_all.new.self c.begin_anew.new.self)
           lost.goes.variables (does_behind_with (begun_anew c.args.now) steps c.lose_all.new.self _ _
           (record { leads = c.set_loss_time.ensures.after; variables = refl }) c.begin_anew.ensures),

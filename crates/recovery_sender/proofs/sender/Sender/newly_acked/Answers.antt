@@ -3,6 +3,7 @@ use Rattle.recovery_sender.specs.Acks.{AreNewly}
 use Rattle.recovery_sender.specs.Senders.{parts_in, packets_in}
 use Rattle.recovery_sender.proofs.AckLaws.{newly_on}
 use Rattle.recovery_sender.proofs.FrameLaws.{are_fine, ranges_are, small_all}
+use Rattle.recovery_sender.proofs.PromiseLaws.{acks_tracked}
 use Rattle.recovery_sender.proofs.sender.Sender.newly_acked.Goals as goal
 
 pub take_range-requires-clause-whole : goal.take_range-requires-clause-whole
@@ -34,3 +35,10 @@ loop-at-preserved g c =
           one;
       within = omega (arith, i.within);
     }
+
+pub returns-clause-tracked : goal.returns-clause-tracked
+returns-clause-tracked g c =
+    let i = c.loop-at.invariant in
+    acks_tracked c.args.space c.args.self.now c.requires.there c.args.ranges.now _ c.loop-at.newly.elicits
+    (subst (λ at. AreNewly (packets_in (parts_in c.args.self.now) c.args.space) c.args.ranges.now at
+    c.loop-at.newly.numbers.items c.loop-at.newly.elicits) (omega (arith, c.loop-at-test.false)) i.newly)

@@ -1,5 +1,7 @@
 use Rattle.quic_recovery.specs.History.{queue_meaning}
 use Rattle.recovery_sender.specs.Senders.{parts_in}
+use Rattle.recovery_sender.specs.Timer.{TimerIsSet}
+use Rattle.recovery_sender.proofs.AliveLaws.{never_stalls}
 use Rattle.recovery_sender.proofs.TimerLaws.{timer_answered, timer_sets}
 use Rattle.recovery_sender.proofs.sender.Sender.set_loss_detection_timer.Goals as goal
 
@@ -15,4 +17,11 @@ returns g c =
     (queue_meaning g.Q.RetransmitQueue.contents g.Q.RetransmitQueue.words g.Q.RetransmitQueue.blank) variables
     (parts_in c.args.self.now) c.tell.result (parts_in c.tell.new.self)
     (rw (c.timer_event-event.ensures, c.due.ensures) at c.tell.ensures.leads) in
-    record { leads = sets.0; variables = c.tell.ensures.variables; timer = rw c.tell.ensures.variables sets.1 }
+    let timer : TimerIsSet (parts_in c.tell.new.self) c.tell.new.self.variables =
+    rw c.tell.ensures.variables sets.1 in
+    record {
+      leads = sets.0;
+      variables = c.tell.ensures.variables;
+      timer = timer;
+      alive = never_stalls c.tell.new.self _ timer;
+    }

@@ -1,0 +1,82 @@
+-- What a sender tracks, by the events by which it came here.
+use Rattle.std.proofs.Common.{◌≡◌, ◌≢◌, ◌↔◌, ℕ, ◌∷◌, true, false, Bool, Option, None, Some, Ok, refl, sym, ap, ◌∙◌, arith}
+use Rattle.std.proofs.lemmas.Bool.{false≢true}
+use Rattle.std.proofs.lemmas.Bool.Decides.{nat_tests}
+use Rattle.std.proofs.lemmas.Option.{none-some}
+use Rattle.std.specs.Prelude.{is_some}
+use Rattle.rand_core.specs.Stream.{Stream}
+use Rattle.recovery_base.specs.declared.below.SpaceId.{SpaceId}
+use Rattle.recovery_events.specs.declared.event.Answer.TheVariants as answers
+use Rattle.recovery_events.specs.declared.event.Answer.TheVariants.{Probe}
+use Rattle.recovery_events.specs.declared.event.Event.{Event}
+use Rattle.recovery_events.specs.declared.event.Event.TheVariants.{Send, PollMtu}
+use Rattle.recovery_ledger.specs.Discarded.{is_discarded}
+use Rattle.recovery_ledger.specs.Packets.{Packet, packet_at}
+use Rattle.recovery_ledger.specs.Tracked.{Sent}
+use Rattle.quic_recovery.specs.declared.driver.RecoveryConfig.{RecoveryConfig}
+use Rattle.quic_recovery.specs.History.{AtEach, Beginning, History, Reply, begins, queue_meaning}
+use Rattle.quic_recovery.specs.Past.{Reached}
+use Rattle.quic_recovery.specs.Promises.Tracked.{is_tracked}
+use Rattle.quic_recovery.specs.Told.{Told}
+use Rattle.quic_recovery.proofs.FieldLaws.{IsSaid, said_found, said_then, said_told}
+use Rattle.quic_recovery.proofs.Runs.{kept_after}
+use Rattle.quic_recovery.proofs.TrackedLaws.{AllTracked, keeps_tracked, none_tracked, sent_in, tracked_found}
+use Rattle.recovery_sender.specs.declared.sender.Sender.{Sender}
+use Rattle.recovery_sender.specs.Promises.Lost.{sent_at}
+use Rattle.recovery_sender.specs.Senders.{parts_in, packets_in}
+
+-- ---- when a packet went out goes with its number
+
+abbrev time_in : {P M : Type 0} → Packet P M → ℕ
+time_in packet = packet.time_sent
+
+module _ {F K Q S M P : Type 0} (beginning : Beginning F K Q S M P) (space : SpaceId) where
+  abbrev Timed : History Q S M P → Type 0
+  Timed history = IsSaid time_in (sent_at space history) (sent_in beginning history space)
+
+  timed_after : (history : History Q S M P) (event : Event Q S M P) (reply : Reply Q)
+      → Told beginning history event reply → Timed history → Timed ((event, reply) ∷ history)
+  timed_after history event reply told timed =
+      said_told beginning space time_in (λ contents packet. refl) history (sent_at space history) timed event reply
+      (sent_at space ((event, reply) ∷ history)) told (same event reply)
+    where
+      same : (event : Event Q S M P) (reply : Reply Q) (n : ℕ)
+          → said_then beginning space time_in (λ contents packet. refl) history (sent_at space history) timed event
+          reply n
+          ≡ sent_at space ((event, reply) ∷ history) n
+      same (Send there now size eliciting largest queue frames) (Ok (answers.Sent number forgotten)) n =
+          grind (arith, nat_tests)
+      same (PollMtu now) (Ok (Probe number size)) n = grind (arith, nat_tests)
+      same event reply n = refl
+
+  pub all_timed : (history : History Q S M P) → AtEach (Told beginning) history → Timed history
+  all_timed = kept_after (Told beginning) Timed timed_after tt
+
+-- ---- what is tracked
+
+some_iff : {T : Type 0} (found : Option T) (tracked : Bool) → is_some found ≡ tracked
+    → (found ≢ None) ↔ (tracked ≡ true)
+some_iff None tracked is = ((λ other. absurd (other refl)), λ holds. absurd (false≢true (is ∙ holds)))
+some_iff (Some found) tracked is = ((λ other. sym is), λ holds none. none-some found (sym none))
+
+module _ {F Q R C K S M P : Type 0} {f : _} {c : _} {q : _} {m : _} {r : _} (sender : Sender F Q R C K S M P f c q m r)
+    (config : RecoveryConfig F) (start : ℕ) (random : Stream) (past : History Q S M P)
+    (came : Reached (begins f.built c.words (queue_meaning q.contents q.words q.blank) config start random) past
+    (parts_in sender)) (space : SpaceId) (kept : is_discarded space (parts_in sender).discarded ≡ false) where
+  abbrev beginning : Beginning F K Q S M P
+  beginning = begins f.built c.words (queue_meaning q.contents q.words q.blank) config start random
+
+  packets_by : packets_in (parts_in sender) space ≡ (sent_in beginning past space).tracked
+  packets_by = rw kept (ap (λ (sent : Sent P M). sent.tracked) (came.left.spaces space).sent)
+
+  pub tracked_by : (n : ℕ) → (packet_at (packets_in (parts_in sender) space) n ≢ None)
+      ↔ (is_tracked space n past ≡ true)
+  tracked_by n = some_iff (packet_at (packets_in (parts_in sender) space) n) (is_tracked space n past) (rw packets_by
+      (tracked_found beginning past (kept_after (Told beginning) (AllTracked beginning) (keeps_tracked beginning)
+      (none_tracked beginning) past came.told) space n))
+
+  pub sent_by_past : (n : ℕ) (packet : Packet P M) → packet_at (packets_in (parts_in sender) space) n ≡ Some packet
+      → packet.time_sent ≡ sent_at space past n
+  sent_by_past n packet is = said_found time_in (sent_at space past) (sent_in beginning past space).next
+      (sent_in beginning past space).tracked (all_timed beginning space past came.told) n packet
+      (rw packets_by at is)

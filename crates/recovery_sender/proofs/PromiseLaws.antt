@@ -1,0 +1,132 @@
+-- What a sender promises by the events before a call.
+use Rattle.std.proofs.Common.{◌≡◌, ◌≢◌, ◌⊎◌, ◌≤◌, ℕ, false, Bool, true≢false, ◌==◌, List, [], ◌∷◌, length, Option, None, Some, inl, inr, refl, sym, ap, subst, ◌∙◌}
+use Rattle.std.proofs.lemmas.Bool.Decides.{eqb_tells}
+use Rattle.std.proofs.lemmas.Option.{none-some, same_Some}
+use Rattle.std.specs.Global.{Vec}
+use Rattle.recovery_base.specs.declared.below.SpaceId.{SpaceId}
+use Rattle.recovery_ledger.specs.Discarded.{is_discarded}
+use Rattle.recovery_ledger.specs.Packets.{Packet, Packets, packet_at}
+use Rattle.recovery_losses.specs.declared.looks.Look.{Look}
+use Rattle.recovery_losses.specs.Losses.{IsLost, IsLostBelow, IsOneOf, IsTold, without_all}
+use Rattle.recovery_losses.proofs.LookLaws.{all_other}
+use Rattle.recovery_sender.specs.declared.sender.losses.Losses.{Losses}
+use Rattle.recovery_sender.specs.declared.sender.Sender.{Sender}
+use Rattle.recovery_sender.specs.Acks.{AreNewly}
+use Rattle.recovery_sender.specs.Judging.{LossesAre}
+use Rattle.recovery_sender.specs.Promises.Acked.{AcksTracked, LosesAll}
+use Rattle.recovery_sender.specs.Promises.Lost.{IsLostBy, LosesTracked}
+use Rattle.recovery_sender.specs.Promises.Pasts.{ByPasts}
+use Rattle.recovery_sender.specs.Senders.{parts_in, packets_in}
+use Rattle.recovery_sender.proofs.PastLaws.{sent_by_past, tracked_by}
+
+-- ---- whether a number is one of some
+
+pub some_left : (numbers : Vec ℕ) → false ≡ (numbers.len == 0) → numbers.items ≡ [] → ⊥
+some_left numbers some none = elim (eqb_tells numbers.len 0) [
+  | inl same ↦ true≢false (sym (some ∙ same.0))
+  | inr apart ↦ apart.1 (numbers.ok.0 ∙ ap (λ (items : List ℕ). length items) none)
+]
+
+one_or_not : (number : ℕ) (numbers : List ℕ) → IsOneOf number numbers ⊎ (IsOneOf number numbers → ⊥)
+one_or_not number [] = inr (λ never. never)
+one_or_not number (first ∷ numbers) = elim (eqb_tells first number) [
+  | inl same ↦ inl (inl same.1)
+  | inr apart ↦ elim (one_or_not number numbers) [
+    | inl there ↦ inl (inr there)
+    | inr other ↦ inr (neither apart.1 other)
+  ]
+]
+  where
+    neither : (first ≡ number → ⊥) → (IsOneOf number numbers → ⊥) → IsOneOf number (first ∷ numbers) → ⊥
+    neither apart other (inl same) = apart same
+    neither apart other (inr there) = other there
+
+probed_or_not : (number : ℕ) (probe : Option ℕ) → (probe ≡ Some number) ⊎ (probe ≡ Some number → ⊥)
+probed_or_not number None = inr (none-some number)
+probed_or_not number (Some probe) = elim (eqb_tells probe number) [
+  | inl same ↦ inl (ap (λ n. Some n) same.1)
+  | inr apart ↦ inr (λ is. apart.1 (same_Some probe number is))
+]
+
+told_or_not : (numbers : List ℕ) (probe : Option ℕ) (number : ℕ) → IsTold numbers probe number
+    ⊎ (IsTold numbers probe number → ⊥)
+told_or_not numbers probe number = elim (one_or_not number numbers) [
+  | inl there ↦ inl (inl there)
+  | inr other ↦ elim (probed_or_not number probe) [
+    | inl probed ↦ inl (inr probed)
+    | inr apart ↦ inr (neither other apart)
+  ]
+]
+  where
+    neither : (IsOneOf number numbers → ⊥) → (probe ≡ Some number → ⊥) → IsTold numbers probe number → ⊥
+    neither other apart (inl there) = other there
+    neither other apart (inr probed) = apart probed
+
+found_or_not : {P M : Type 0} (packets : Packets P M) (number : ℕ) → packet_at packets number ≢ None
+    → (packet : Packet P M) × (packet_at packets number ≡ Some packet)
+found_or_not {P} {M} packets number other = by (packet_at packets number) refl
+  where
+    by : (found : Option (Packet P M)) → packet_at packets number ≡ found
+        → (packet : Packet P M) × (packet_at packets number ≡ Some packet)
+    by None none = absurd (other none)
+    by (Some packet) is = (packet, is)
+
+-- ---- by each past
+
+module _ {F Q R C K S M P : Type 0} {f : _} {c : _} {q : _} {m : _} {r : _} (space : SpaceId)
+    (sender : Sender F Q R C K S M P f c q m r) (kept : is_discarded space (parts_in sender).discarded ≡ false) where
+  -- what a frame newly acknowledges
+  pub acks_tracked : (ranges : List (ℕ × ℕ)) (numbers : List ℕ) (elicits : Bool)
+      → AreNewly (packets_in (parts_in sender) space) ranges 0 numbers elicits
+      → ByPasts sender (AcksTracked space ranges numbers)
+  acks_tracked ranges numbers elicits newly config start random past came number =
+      let tracked = tracked_by sender config start random past came space kept number in (
+        (λ there. (let named = (newly.each number).0 there in (named.0, tracked.0 named.1))),
+        λ named. (newly.each number).1 (named.0, tracked.1 named.1),
+      )
+
+  -- what is told lost where a space is abandoned
+  pub loses_all : (numbers : List ℕ)
+      → ((number : ℕ) → IsOneOf number numbers → packet_at (packets_in (parts_in sender) space) number ≢ None)
+      → without_all (packets_in (parts_in sender) space) numbers ≡ [] → ByPasts sender (LosesAll space numbers)
+  loses_all numbers each none config start random past came number =
+      let tracked = tracked_by sender config start random past came space kept number in (
+        (λ there. tracked.0 (each number there)),
+        λ is. elim (one_or_not number numbers) [
+          | inl there ↦ there
+          | inr other ↦ absurd (tracked.1 is (sym (all_other (packets_in (parts_in sender) space) numbers number other)
+              ∙ ap (λ packets. packet_at packets number) none))
+        ],
+      )
+
+  -- what a look finds lost
+  pub loses_tracked : (look : Look) (losses : Losses) (time : Option ℕ) → look.space ≡ space
+      → LossesAre look (packets_in (parts_in sender) space) losses time
+      → ByPasts sender (LosesTracked look losses time)
+  loses_tracked look losses time here are config start random past came = record { told = told; all = all }
+    where
+      lost_by : (number : ℕ) → IsLostBelow look (packets_in (parts_in sender) space) number → IsLostBy look past number
+      lost_by number lost = rw here (
+        (tracked_by sender config start random past came space kept number).0
+            (λ none. none-some lost.0 (sym none ∙ lost.1.0)),
+        lost.1.1,
+        subst (λ sent. IsLost look number sent)
+            (sent_by_past sender config start random past came space kept number lost.0 lost.1.0) lost.2,
+      )
+
+      told : (number : ℕ) → IsTold losses.numbers.items losses.probe number → IsLostBy look past number
+      told number (inl there) = lost_by number (are.lost.lost number there).0
+      told number (inr probed) = lost_by number (are.probe number probed).1
+
+      all : (number : ℕ) → IsLostBy look past number → IsTold losses.numbers.items losses.probe number
+          ⊎ (due : ℕ) × (time ≡ Some due) × (due ≤ look.at)
+      all number (tracked, below, lost) = elim (told_or_not losses.numbers.items losses.probe number) [
+        | inl is ↦ inl is
+        | inr untold ↦ (
+            let found = found_or_not (packets_in (parts_in sender) space) number
+            ((tracked_by sender config start random past came space kept number).1 (rw here at tracked)) in
+            let sent = sent_by_past sender config start random past came space kept number found.0 found.1 in
+            inr (are.earliest.least number found.0 look.at (found.1, below) below untold
+            (inr (subst (λ sent. IsLost look number sent) (sym sent) (rw here at lost), refl)))
+            )
+      ]

@@ -1,0 +1,4 @@
+pub mod Acked
+pub mod Alive
+pub mod Lost
+pub mod Pasts

@@ -1,0 +1,35 @@
+-- Lost (RFC 9002, 6.1 and A.10): a look at a space tells lost exactly the packets that are tracked there by the events
+-- before it, below the largest number acknowledged, three numbers or so long a time behind; but for one for which
+-- memory is refused: then the next look is due at once.
+use Rattle.std.specs.Prelude.{◌≡◌, ℕ, ◌<◌, ◌≤◌, ◌⊎◌, ◌==◌, ◌&&◌, true, [], ◌∷◌, Option, Some, Ok, if◌then◌else◌}
+use Rattle.recovery_base.specs.declared.below.SpaceId.{SpaceId}
+use Rattle.recovery_base.specs.declared.below.SpaceId.TheVariants.{Data}
+use Rattle.recovery_base.specs.Spaces.{same_space}
+use Rattle.recovery_events.specs.declared.event.Answer.TheVariants.{Sent, Probe}
+use Rattle.recovery_events.specs.declared.event.Event.TheVariants.{Send, PollMtu}
+use Rattle.recovery_losses.specs.declared.looks.Look.{Look}
+use Rattle.recovery_losses.specs.Losses.{IsLost, IsTold}
+use Rattle.quic_recovery.specs.History.{History}
+use Rattle.quic_recovery.specs.Promises.Tracked.{is_tracked}
+use Rattle.recovery_sender.specs.declared.sender.losses.Losses.{Losses}
+
+module _ {Q S M P : Type 0} where
+  -- when the packet of a number went out
+  abbrev pub sent_at : SpaceId → History Q S M P → ℕ → ℕ
+  sent_at space [] n = 0
+  sent_at space ((Send there now size eliciting largest queue frames, Ok (Sent number forgotten)) ∷ earlier) n =
+      if same_space there space && number == n then now else sent_at space earlier n
+  sent_at space ((PollMtu now, Ok (Probe number size)) ∷ earlier) n =
+      if same_space Data space && number == n then now else sent_at space earlier n
+  sent_at space (happened ∷ earlier) n = sent_at space earlier n
+
+  -- it is tracked below the largest number acknowledged, and one of the two thresholds holds
+  abbrev pub IsLostBy : Look → History Q S M P → ℕ → Type 0
+  IsLostBy look past number = (is_tracked look.space number past ≡ true) × (number < look.largest)
+      × IsLost look number (sent_at look.space past number)
+
+  -- these are told, and the next look is at that moment
+  pub record LosesTracked (look : Look) (losses : Losses) (time : Option ℕ) (past : History Q S M P) : Type 0 where
+    pub told : (number : ℕ) → IsTold losses.numbers.items losses.probe number → IsLostBy look past number
+    pub all : (number : ℕ) → IsLostBy look past number → IsTold losses.numbers.items losses.probe number
+        ⊎ (due : ℕ) × (time ≡ Some due) × (due ≤ look.at)
