@@ -77,6 +77,7 @@ GROUPS = {
     "ANSWER": "What an event is answered: `kind` of a reply.",
     "REFUSAL": "Why it is refused: `refusal` of a reply.",
     "FAULT": "What is wrong with the peer's counts of ECN (RFC 9000, 13.4.2.1): `first` of a reply that is refused by ECN.",
+    "ECN": "What the counts of ECN of an ACK frame come to for a sender (RFC 9000, 13.4.2.1).",
     "NEW": "What comes of `recovery_ffi_new`.",
     "CONTROLLER": "Which congestion controller paths have.",
     "SKIPS": "How packet numbers are skipped (RFC 9000, 21.4).",
@@ -577,6 +578,8 @@ def cargo(folder):
     said = ran("a sender over UDP", [examples / "sender"])
     expect("it says what it came to", bool(said) and "all 200 were acknowledged" in said, said or "")
     expect("it says by which logic the library was proved", bool(said) and f", proved with {LOGIC.read_text().strip()}\n" in said, said or "")
+    said = ran("a sender over UDP where three of ten datagrams are lost", [examples / "sender", "30"])
+    expect("all of its items are acknowledged", bool(said) and "all 200 were acknowledged" in said, said or "")
     said = ran("a transfer over UDP", [examples / "transfer", "2000000", "20"])
     expect("all bytes of it come", bool(said) and "2000000 bytes came, as they were sent" in said, said or "")
     said = ran("little memory in Rust", [examples / "memory"], scarce=SCARCE)
@@ -639,11 +642,11 @@ def in_c(folder, source, program):
 
 def programs_in_c(folder, made):
     """The programs in C and C++: each prints what stands beside it."""
-    for source, wanted in [("main.c", "main.out"), ("misuse.c", "misuse.out"), ("tunnel.c", "tunnel.out"), ("main.cpp", "main_cpp.out")]:
+    for source in "main.c", "misuse.c", "sender.c", "tunnel.c", "main.cpp":
         program = made / source.replace(".", "_")
         if ran(f"{source} is compiled", in_c(folder, source, program)) is not None:
             found = ran(f"{source} ends well", [program])
-            wanted = (ROOT / "rust" / "c" / wanted).read_text()
+            wanted = (ROOT / "rust" / "c" / f"{source.removesuffix('.c').replace('.', '_')}.out").read_text()
             expect(f"what {source} prints", found == wanted, f"{found}\nand not\n{wanted}")
             if shutil.which("valgrind"):
                 words = ["valgrind", "--leak-check=full", "--error-exitcode=9", program]

@@ -88,6 +88,37 @@ static void nothing(struct recovery_handle *none) {
     recovery_ffi_drop(none);
 }
 
+// Calls of a sender where a recovery stands alone, and events that a sender decides itself.
+static void senders(struct recovery_handle *alone) {
+    const unsigned none = RECOVERY_REFUSAL_NO_SENDER, bad = RECOVERY_REFUSAL_BAD_ARGUMENT;
+    const struct recovery_ackframe frame = {0}, slow = {.delay_nanos = 1000000000};
+    const struct recovery_ackrange range = {.first = 0, .last = 0};
+    refused("a datagram", recovery_ffi_sender_transmit(alone, 0, 1200, 2, true), none);
+    refused("an ACK", recovery_ffi_sender_ack(alone, 2, 0, &frame, &range, 1), none);
+    refused("a timeout", recovery_ffi_sender_timeout(alone, 0, false), none);
+    refused("a discarded space", recovery_ffi_sender_discard(alone, 0, 0), none);
+    refused("keys", recovery_ffi_sender_handshake_keys(alone), none);
+    refused("a delay", recovery_ffi_sender_peer_delay(alone, 1, 0), none);
+    expect("nothing was told", recovery_ffi_told(alone).acked == 0 && recovery_ffi_told_numbers(alone, true, NULL, 0) == 0);
+    struct recovery_handle sender = {0};
+    struct recovery_settings settings = recovery_ffi_default_settings();
+    expect("a sender is made", recovery_ffi_sender_new(&sender, true, &settings, &remote, id, 8, 0) == RECOVERY_NEW_MADE);
+    expect("none is made over it", recovery_ffi_sender_new(&sender, true, &settings, &remote, id, 8, 0) == RECOVERY_NEW_HELD);
+    refused("an event around it", recovery_ffi_lost(&sender, 2, 0), RECOVERY_REFUSAL_DECIDED);
+    refused("its timer", recovery_ffi_set_timer(&sender, RECOVERY_TIMER_LOSS_DETECTION, 5), RECOVERY_REFUSAL_DECIDED);
+    refused("a number that was not sent", recovery_ffi_sender_ack(&sender, 2, 0, &frame, &range, 1), RECOVERY_REFUSAL_UNSENT);
+    refused("no range", recovery_ffi_sender_ack(&sender, 2, 0, &frame, NULL, 0), RECOVERY_REFUSAL_BAD_RANGE);
+    refused("a delay of 10^9 nanoseconds", recovery_ffi_sender_ack(&sender, 2, 0, &slow, &range, 1), bad);
+    refused("such a delay of the peer", recovery_ffi_sender_peer_delay(&sender, 0, 1000000000), bad);
+    refused("an ACK in space 3", recovery_ffi_sender_ack(&sender, 3, 0, &frame, &range, 1), bad);
+    refused("a datagram in space 3", recovery_ffi_sender_transmit(&sender, 0, 1200, 3, true), bad);
+    struct recovery_marks marks = {0};
+    expect("no marks around it", !recovery_ffi_set_marks(&sender, false, &marks));
+    expect("the marks stay", recovery_ffi_marks(&sender, false).sending_ecn);
+    recovery_ffi_drop(&sender);
+    refused("a datagram of none", recovery_ffi_sender_transmit(&sender, 0, 1200, 2, true), RECOVERY_REFUSAL_NO_RECOVERY);
+}
+
 int main(void) {
     struct recovery_handle recovery = {0};
     nothing(&recovery);
@@ -95,6 +126,7 @@ int main(void) {
     expect("one is made", made(&recovery, recovery_ffi_default_settings(), 8) == RECOVERY_NEW_MADE);
     expect("none is made over it", made(&recovery, recovery_ffi_default_settings(), 8) == RECOVERY_NEW_HELD);
     arguments(&recovery);
+    senders(&recovery);
     struct recovery_reply sent = recovery_ffi_send(&recovery, RECOVERY_SPACE_DATA, 0, 100, true, false, 0, NULL, 0);
     expect("the first packet goes out after all that", sent.kind == RECOVERY_ANSWER_SENT && sent.first == 0);
     recovery_ffi_drop(&recovery);

@@ -51,6 +51,17 @@ enum recovery_answer {
     RECOVERY_ANSWER_QUEUE = 17,
     // The event has no other answer.
     RECOVERY_ANSWER_DONE = 18,
+    // The window has no room for the datagram of a sender. The answers that senders alone give lie above those of events,
+    // so that further ones of these do not move them.
+    RECOVERY_ANSWER_FULL = 128,
+    // An ACK frame of a sender is taken.
+    RECOVERY_ANSWER_ACKNOWLEDGED = 129,
+    // No timer of the sender is due.
+    RECOVERY_ANSWER_NOTHING = 130,
+    // Packets were looked for that are lost.
+    RECOVERY_ANSWER_LOSSES = 131,
+    // Probes are to be sent.
+    RECOVERY_ANSWER_PROBES = 132,
     // The event is refused. It lies far from the answers, so that further ones do not move it.
     RECOVERY_ANSWER_REFUSED = 255,
 };
@@ -98,6 +109,12 @@ enum recovery_refusal {
     RECOVERY_REFUSAL_BAD_RANGE = 19,
     // The number of the peer's id is held with another id, or with a token that is not the frame's (RFC 9000, 19.15).
     RECOVERY_REFUSAL_CONFLICT = 20,
+    // A number was acknowledged that was never sent (RFC 9000, 13.1): of a sender alone.
+    RECOVERY_REFUSAL_UNSENT = 21,
+    // The event is one that the sender decides itself: it is not handed in around it.
+    RECOVERY_REFUSAL_DECIDED = 252,
+    // The handle holds a recovery that stands alone, without a sender.
+    RECOVERY_REFUSAL_NO_SENDER = 253,
     // The handle holds no recovery.
     RECOVERY_REFUSAL_NO_RECOVERY = 254,
     // An argument lies out of its range: a space or a timer that there is not, an id of more than 20 bytes, a number of a
@@ -117,6 +134,16 @@ enum recovery_fault {
     RECOVERY_FAULT_BLEACHED = 3,
     // Packets were counted that were not sent so.
     RECOVERY_FAULT_CORRUPTED = 4,
+};
+
+// What the counts of ECN of an ACK frame come to for a sender (RFC 9000, 13.4.2.1).
+enum recovery_ecn {
+    // Nothing, or the frame has no counts of ECN.
+    RECOVERY_ECN_QUIET = 0,
+    // More packets were marked: there is congestion (RFC 9002, 7.1).
+    RECOVERY_ECN_MARKED = 1,
+    // The check failed: packets are marked no more on the path.
+    RECOVERY_ECN_FAILED = 2,
 };
 
 // What comes of `recovery_ffi_new`.
@@ -281,6 +308,54 @@ struct recovery_bucket {
     uint64_t last;
     // The MTU that its capacity was computed for, in bytes.
     uint16_t mtu;
+};
+
+// A range of numbers that an ACK frame acknowledges (RFC 9000, 19.3.1).
+struct recovery_ackrange {
+    // The first number.
+    uint64_t first;
+    // The last number.
+    uint64_t last;
+};
+
+// What an ACK frame says beside its ranges, and what the stack knows at its arrival.
+struct recovery_ackframe {
+    // How long the peer says that it delayed the ACK, in whole seconds.
+    uint64_t delay_secs;
+    // The count of ECT(0), where the frame has counts (RFC 9000, 19.3.2).
+    uint64_t ect0;
+    // The count of ECT(1).
+    uint64_t ect1;
+    // The count of ECN-CE.
+    uint64_t ce;
+    // The nanoseconds of that delay beside its seconds, below 10^9.
+    uint32_t delay_nanos;
+    // Whether the frame has counts of ECN.
+    bool has_ecn;
+    // Whether the sender had too little to send to fill its window (RFC 9002, 7.8).
+    bool app_limited;
+};
+
+// What was told last: of an ACK frame, or of a timeout that found losses.
+struct recovery_toldview {
+    // How many numbers the frame newly acknowledged; of a timeout 0.
+    uint64_t acked;
+    // How many numbers were found lost, without that of the MTU's probe.
+    uint64_t lost;
+    // The number of the MTU's probe, where that was lost: no sign of congestion (RFC 9000, 14.4).
+    uint64_t probe;
+    // The bytes lost on the path in use, where there was congestion (RFC 9002, 7.3.2).
+    uint64_t congestion;
+    // What the frame's counts of ECN came to (RFC 9000, 13.4.2.1).
+    uint8_t ecn;
+    // Whether the MTU's probe was lost.
+    bool has_probe;
+    // Whether there was congestion.
+    bool has_congestion;
+    // Whether it is persistent (RFC 9002, 7.6).
+    bool is_persistent;
+    // Whether a black hole was reported (RFC 8899, 4.3).
+    bool is_black_hole;
 };
 
 // The settings: times are in nanoseconds, and sizes in bytes.
@@ -496,7 +571,7 @@ bool recovery_ffi_is_token(struct recovery_handle *handle, const uint8_t *token)
 struct recovery_marks recovery_ffi_marks(struct recovery_handle *handle, bool previous);
 
 // The layer above keeps this with a path from now on. False, and nothing changes, where there is no such path or no
-// such space.
+// such space, and where a sender is held: it sets marks itself.
 bool recovery_ffi_set_marks(struct recovery_handle *handle, bool previous, const struct recovery_marks *marks);
 
 // Makes an MTU discovery, as a path of these settings has it: by `initial_mtu`, `min_mtu`, `allow_mtud` and what they
@@ -635,6 +710,54 @@ struct recovery_idsview recovery_ffi_ids(struct recovery_handle *handle);
 // set to.
 struct recovery_momentview recovery_ffi_next_id_timeout(struct recovery_handle *handle);
 
+// Makes a recovery of a sender, of the client or else of the server, whose peer is at this address and has this id of
+// at most 20 bytes. A client's first path is validated, whatever the settings say (RFC 9000, 8.1). The answer is
+// `RECOVERY_NEW_MADE`, or the number of what is wrong; the handle then holds what it held.
+uint8_t recovery_ffi_sender_new(struct recovery_handle *handle, bool client, const struct recovery_settings *settings, const struct recovery_address *remote, const uint8_t *initial_cid, size_t initial_cid_len, uint64_t now);
+
+// Whether a datagram of so many bytes goes out now, with packets of a space: `RECOVERY_ANSWER_TRANSMITTED`, and it is counted;
+// `RECOVERY_ANSWER_BLOCKED` by the limit against amplification (RFC 9000, 8.1); `RECOVERY_ANSWER_FULL` where the window has no room (RFC
+// 9002, 7); `RECOVERY_ANSWER_DELAYED` by the pacer, until `first` (RFC 9002, 7.7). Where nothing in it counts in flight, or a
+// probe is due in the space, the limit alone is asked. The packets in it are told by `recovery_ffi_send` before the
+// next datagram is asked for. Refused by `RECOVERY_REFUSAL_SPACE_DISCARDED`, then by `RECOVERY_REFUSAL_OVERFLOW`.
+struct recovery_reply recovery_ffi_sender_transmit(struct recovery_handle *handle, uint64_t now, uint16_t bytes, uint8_t space, bool in_flight);
+
+// An ACK frame came in (RFC 9002, A.7), with its ranges, the highest first, as on the wire: `RECOVERY_ANSWER_ACKNOWLEDGED`.
+// What it newly acknowledges, and what is lost by it, `recovery_ffi_told` and `recovery_ffi_told_numbers` say.
+// Refused, and nothing changes, by `RECOVERY_REFUSAL_SPACE_DISCARDED`, by `RECOVERY_REFUSAL_BAD_RANGE` where there is no range, one ends
+// before it begins, or two have no number between them (RFC 9000, 19.3.1), by `RECOVERY_REFUSAL_UNSENT`, by
+// `RECOVERY_REFUSAL_SKIPPED_ACKED` (RFC 9000, 21.4), or by `RECOVERY_REFUSAL_NO_MEMORY`.
+struct recovery_reply recovery_ffi_sender_ack(struct recovery_handle *handle, uint8_t space, uint64_t now, const struct recovery_ackframe *frame, const struct recovery_ackrange *ranges, size_t ranges_len);
+
+// The timer for losses may be due (RFC 9002, A.9): `RECOVERY_ANSWER_NOTHING` where it is not; `RECOVERY_ANSWER_LOSSES` where packets
+// were looked for that are lost, which `recovery_ffi_told` and `recovery_ffi_told_numbers` say; or `RECOVERY_ANSWER_PROBES`,
+// with the space in `first` and in `second` how many are to be sent, 1 or 2. `immediate_ack` asks for an IMMEDIATE_ACK
+// frame in a probe. Refused by `RECOVERY_REFUSAL_NO_MEMORY` where the first probe finds none; then nothing changed.
+struct recovery_reply recovery_ffi_sender_timeout(struct recovery_handle *handle, uint64_t now, bool immediate_ack);
+
+// The keys of a space are dropped, and with them all that it tracks; probe timeouts are counted anew (RFC 9002, 6.2.2,
+// 6.4 and A.11): `RECOVERY_ANSWER_DONE`. Refused by `RECOVERY_REFUSAL_SPACE_DISCARDED`.
+struct recovery_reply recovery_ffi_sender_discard(struct recovery_handle *handle, uint8_t space, uint64_t now);
+
+// There are keys of Handshake packets (RFC 9002, A.8): `RECOVERY_ANSWER_DONE`.
+struct recovery_reply recovery_ffi_sender_handshake_keys(struct recovery_handle *handle);
+
+// The handshake is confirmed (RFC 9001, 4.1.2): packets of 1-RTT keys are probed for from now on, and a client knows
+// its address validated (RFC 9002, 6.2.1 and 6.2.2.1): `RECOVERY_ANSWER_DONE`.
+struct recovery_reply recovery_ffi_sender_handshake_confirmed(struct recovery_handle *handle);
+
+// The peer delays its ACKs of 1-RTT packets at most so long (RFC 9000, 18.2: max_ack_delay): `RECOVERY_ANSWER_DONE`. There are
+// fewer than 10^9 nanoseconds.
+struct recovery_reply recovery_ffi_sender_peer_delay(struct recovery_handle *handle, uint64_t secs, uint32_t nanos);
+
+// What was told last: by an ACK frame that was not refused, or by a timeout that looked for losses. Nothing before it,
+// and where there is no sender.
+struct recovery_toldview recovery_ffi_told(struct recovery_handle *handle);
+
+// How many numbers were newly acknowledged as something was told last, or, with `lost`, how many were found lost,
+// without that of the MTU's probe; they are written, rising, where there is room for all.
+size_t recovery_ffi_told_numbers(struct recovery_handle *handle, bool lost, uint64_t *out, size_t out_len);
+
 // The default settings: an address that is not validated, ACKs 25 ms late at most, ids of 8 bytes that last 10 s, one
 // of them issued, no skips, an RTT of 333 ms, MTUs of 1200 bytes and up to 1452, and NewReno with 12,000 bytes and a
 // half.
@@ -650,7 +773,7 @@ struct recovery_reply recovery_ffi_stop_timer(struct recovery_handle *handle, ui
 struct recovery_reply recovery_ffi_next_timeout(struct recovery_handle *handle);
 
 // Does nothing; a library of another layout does not have it, and a program with this header does not link with that one.
-void recovery_ffi_layout(void) __asm__("recovery_ffi_layout_dc6aa126");
+void recovery_ffi_layout(void) __asm__("recovery_ffi_layout_b69caf3d");
 __attribute__((used)) static void (*const recovery_ffi_has_this_layout)(void) = recovery_ffi_layout;
 
 #ifdef __cplusplus

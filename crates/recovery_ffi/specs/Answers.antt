@@ -5,35 +5,33 @@ use Rattle.std.specs.declared.net.socket_addr.SocketAddr.{SocketAddr}
 use Rattle.recovery_base.specs.declared.below.ids.IssuedCid.{IssuedCid}
 use Rattle.recovery_events.specs.declared.event.Event.TheVariants.{IssueIds, NewPath}
 use Rattle.quic_recovery.specs.History as History
-use Rattle.quic_recovery.specs.Past.{Extends, Extended}
-use Rattle.quic_recovery.specs.State.{parts_of, known_to, Transition, InFlightLeft}
-use Rattle.recovery_events.specs.declared.event.Event.{Event}
 use Rattle.recovery_ffi.specs.Codes.{issued_of, IsAt}
+use Rattle.recovery_ffi.specs.Kept.{Comes, ItemEvent, Lets}
 use Rattle.recovery_ffi.specs.declared.codes.Address.{Address}
 use Rattle.recovery_ffi.specs.declared.codes.Id.{Id}
 use Rattle.recovery_ffi.specs.declared.stack.Stack.{Stack}
 use Rattle.recovery_ffi.specs.declared.stack.Reply.{Reply}
-use Rattle.recovery_ffi.specs.Replies.{spelled, bad_argument, no_memory, no_recovery, taken_after, token_after}
+use Rattle.recovery_ffi.specs.Replies.{spelled, bad_argument, decided, no_memory, no_recovery, taken_after, token_after}
 
-abbrev pub ItemEvent : Type 0
-ItemEvent = Event (List ℕ) (Unit {0}) (Unit {0}) (List ℕ)
-
--- all that the event's `apply` says of the recovery and a reply, whatever came before, and that reply is spelled
+-- all that is said of the event and its reply, by the recovery that is kept or by its sender, whatever came before, and
+-- that reply is spelled
 pub record Tells (old : Stack) (event : ItemEvent) (spelling : Reply) (new : Stack) : Type 0 where
   pub reply : History.Reply (List ℕ)
-  pub changes : Transition event old.recovery.recovery reply new.recovery.recovery
-  pub in_flight : let new = parts_of new.recovery.recovery in InFlightLeft (known_to new) new.paths
-  pub extends : Extends old.recovery.recovery event reply new.recovery.recovery
-  pub extended : ∥ Extended old.recovery.recovery event reply new.recovery.recovery ∥₁
+  pub comes : Comes old.kept event reply new.kept
   pub spells : spelling ≡ spelled reply
   pub taken : new.taken ≡ taken_after reply old.taken
   pub token : new.token ≡ token_after reply old.token
+
+-- a recovery that stands alone lets each event in; one that a sender decides itself is refused, and nothing changes
+abbrev pub LetsIn : Stack → ItemEvent → Reply → Stack → Type 0
+LetsIn old event spelling new = (Lets old.kept event × Tells old event spelling new)
+    ⊎ ((¬ Lets old.kept event) × (spelling ≡ decided) × (new ≡ old))
 
 -- a recovery is held from then on, to which the event came
 pub record HandsIn (was : Stack) (event : ItemEvent) (spelling : Reply) (new : Option Stack) : Type 0 where
   pub is : Stack
   pub holds : new ≡ Some is
-  pub tells : Tells was event spelling is
+  pub lets : LetsIn was event spelling is
 
 -- the same of what a handle holds; where it holds none, the call is refused
 abbrev pub Answers : Option Stack → ItemEvent → Reply → Option Stack → Type 0

@@ -14,6 +14,8 @@ use Rattle.recovery_base.specs.declared.timer.Timer.{Timer}
 use Rattle.recovery_base.specs.declared.timer.TheConstants.Timer.{VALUES}
 use Rattle.recovery_paths.specs.declared.path_pair.PathName.{PathName}
 use Rattle.recovery_paths.specs.declared.path_pair.PathName.TheVariants.{Current, Previous}
+use Rattle.recovery_sender.specs.declared.sender.Side.{Side}
+use Rattle.recovery_sender.specs.declared.sender.Side.TheVariants.{Client, Server}
 use Rattle.recovery_ffi.specs.declared.codes.Address.{Address}
 use Rattle.recovery_ffi.specs.declared.codes.Id.{Id}
 
@@ -33,6 +35,9 @@ timer_coded = slice_get VALUES
 
 abbrev pub path_coded : Bool → PathName
 path_coded previous = if previous then Previous else Current
+
+abbrev pub side_coded : Bool → Side
+side_coded client = if client then Client else Server
 
 abbrev pub maybe : Bool → ℕ → Option ℕ
 maybe some number = if some then Some number else None

@@ -1,5 +1,7 @@
 pub mod Held
 pub mod Replies
+pub mod Kept
+pub mod Sending
 pub mod Answers
 pub mod Codes
 pub mod Settings

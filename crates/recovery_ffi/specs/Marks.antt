@@ -7,7 +7,10 @@ use Rattle.recovery_paths.specs.declared.path_pair.PathName.{PathName}
 use Rattle.quic_recovery.specs.Above.{marks_at, with_marks_at}
 use Rattle.quic_recovery.specs.Past.{KeepsPasts}
 use Rattle.quic_recovery.specs.State.{parts_of}
+use Rattle.quic_recovery.specs.declared.driver.Recovery.{Recovery}
 use Rattle.recovery_ffi.specs.Codes.{maybe, space_coded, space_number}
+use Rattle.recovery_ffi.specs.declared.kept.Kept.{Kept}
+use Rattle.recovery_ffi.specs.declared.kept.Kept.TheVariants.{Alone, Sends}
 use Rattle.recovery_ffi.specs.declared.marks.Marks.{Marks}
 use Rattle.recovery_ffi.specs.declared.stack.Stack.{Stack}
 
@@ -51,10 +54,20 @@ marks_shown (Some marks) = record {
 }
 
 -- marks are kept with a path from then on, if it lives; all else stays, and for the past it is all the same
+pub record MarksRecovery {F Q R C K S M P : Type 0} {f : _} {c : _} {q : _} {m : _} {r : _} (name : PathName)
+    (marks : PathMarks) (is_set : Bool) (old new : Recovery F Q R C K S M P f c q m r) : Type 0 where
+  pub set : is_set ≡ is_some (marks_at name (parts_of old))
+  pub after : parts_of new ≡ with_marks_at name marks (parts_of old)
+  pub stays : KeepsPasts old new
+
+-- a sender sets them itself
+abbrev pub MarksKept : PathName → PathMarks → Bool → Kept → Kept → Type 0
+MarksKept name marks is_set (Alone old) (Alone new) = MarksRecovery name marks is_set old.recovery new.recovery
+MarksKept name marks is_set (Alone old) (Sends new) = ⊥
+MarksKept name marks is_set (Sends old) new = IsFalse is_set × (new ≡ Sends old)
+
 pub record MarksStack (name : PathName) (marks : PathMarks) (is_set : Bool) (old new : Stack) : Type 0 where
-  pub set : is_set ≡ is_some (marks_at name (parts_of old.recovery.recovery))
-  pub after : parts_of new.recovery.recovery ≡ with_marks_at name marks (parts_of old.recovery.recovery)
-  pub stays : KeepsPasts old.recovery.recovery new.recovery.recovery
+  pub kept : MarksKept name marks is_set old.kept new.kept
   pub taken : new.taken ≡ old.taken
   pub token : new.token ≡ old.token
 

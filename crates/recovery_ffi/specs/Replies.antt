@@ -7,7 +7,7 @@ use Rattle.recovery_events.specs.Refusals.{refusal_number}
 use Rattle.recovery_events.specs.declared.event.Refusal.{Refusal}
 use Rattle.recovery_events.specs.declared.event.Refusal.TheVariants.{Ecn, NoMemory}
 use Rattle.recovery_events.specs.declared.event.Answer.TheVariants.{New, Duplicate, Sent, Acked, Lost, Retire, Flag, Timeout, InFlight, Transmitted, Blocked, Delayed, Ready, Probe, NoProbe, BlackHole, Sendable, Queue, Done}
-use Rattle.recovery_ffi.specs.declared.numbers.TheConstants.{ANSWER_NEW, ANSWER_DUPLICATE, ANSWER_SENT, ANSWER_ACKED, ANSWER_LOST, ANSWER_RETIRE, ANSWER_FLAG, ANSWER_TIMEOUT, ANSWER_IN_FLIGHT, ANSWER_TRANSMITTED, ANSWER_BLOCKED, ANSWER_DELAYED, ANSWER_READY, ANSWER_PROBE, ANSWER_NO_PROBE, ANSWER_BLACK_HOLE, ANSWER_SENDABLE, ANSWER_QUEUE, ANSWER_DONE, ANSWER_REFUSED, REFUSAL_NO_RECOVERY, REFUSAL_BAD_ARGUMENT, FAULT_ECT0_FALLS, FAULT_ECT1_FALLS, FAULT_CE_FALLS, FAULT_BLEACHED, FAULT_CORRUPTED}
+use Rattle.recovery_ffi.specs.declared.numbers.TheConstants.{ANSWER_NEW, ANSWER_DUPLICATE, ANSWER_SENT, ANSWER_ACKED, ANSWER_LOST, ANSWER_RETIRE, ANSWER_FLAG, ANSWER_TIMEOUT, ANSWER_IN_FLIGHT, ANSWER_TRANSMITTED, ANSWER_BLOCKED, ANSWER_DELAYED, ANSWER_READY, ANSWER_PROBE, ANSWER_NO_PROBE, ANSWER_BLACK_HOLE, ANSWER_SENDABLE, ANSWER_QUEUE, ANSWER_DONE, ANSWER_REFUSED, REFUSAL_BAD_ARGUMENT, REFUSAL_DECIDED, REFUSAL_NO_RECOVERY, REFUSAL_NO_SENDER, FAULT_ECT0_FALLS, FAULT_ECT1_FALLS, FAULT_CE_FALLS, FAULT_BLEACHED, FAULT_CORRUPTED}
 use Rattle.recovery_ffi.specs.declared.stack.Reply.{Reply}
 
 -- an answer that holds nothing
@@ -72,6 +72,14 @@ no_memory = refusal_spelled NoMemory
 -- the handle holds no recovery
 abbrev pub no_recovery : Reply
 no_recovery = record (plain ANSWER_REFUSED) { refusal = REFUSAL_NO_RECOVERY }
+
+-- it holds one without a sender
+abbrev pub no_sender : Reply
+no_sender = record (plain ANSWER_REFUSED) { refusal = REFUSAL_NO_SENDER }
+
+-- its sender decides the event itself
+abbrev pub decided : Reply
+decided = record (plain ANSWER_REFUSED) { refusal = REFUSAL_DECIDED }
 
 -- an argument is out of its range
 abbrev pub bad_argument : Reply

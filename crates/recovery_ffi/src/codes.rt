@@ -129,10 +129,16 @@ pub fn queue_of(alloc: Global, items: &[u64]) -> Result<ItemQueue, NoMemory>
 pub fn copy_items(queue: &ItemQueue, out: &mut [u64]) -> usize
     ensures { IsWritten queue.now out.old result out.new }
 {
-    let items = queue.items();
-    let count = items.len();
+    copy_numbers(queue.items(), out)
+}
+
+/// How many numbers there are; they are written where there is room for all.
+pub fn copy_numbers(numbers: &[u64], out: &mut [u64]) -> usize
+    ensures { IsWritten numbers.now out.old result out.new }
+{
+    let count = numbers.len();
     if count <= out.len() {
-        out[..count].copy_from_slice(items);
+        out[..count].copy_from_slice(numbers);
     }
     count
 }
@@ -189,7 +195,7 @@ pub fn socket_of(given: &Address) -> SocketAddr
 }
 
 /// A span of seconds and nanoseconds, where these are fewer than a second's.
-fn span(secs: u64, nanos: u32) -> Option<Duration>
+pub fn span(secs: u64, nanos: u32) -> Option<Duration>
     ensures { result ≡ span secs nanos }
 {
     if nanos < 1_000_000_000 {

@@ -2,7 +2,9 @@
 ghost use Rattle.std.specs.Prelude.{◌≡◌, Some, None, is_some, MatchOption};
 ghost use Rattle.recovery_ffi.specs.Answers.{Answers};
 ghost use Rattle.recovery_ffi.specs.Held.{Holds};
+ghost use Rattle.recovery_ffi.specs.Sending.{Asks};
 
+use crate::sending::Call;
 use crate::slot::Slot;
 use crate::stack::{Reply, Stack};
 use quic_recovery::Event;
@@ -58,6 +60,19 @@ impl Handle {
             return Reply::no_recovery();
         };
         let reply = stack.apply(event);
+        self.put(stack);
+        reply
+    }
+
+    /// One call of a sender; refused where no stack is held.
+    pub fn ask(&mut self, alloc: Global, call: Call) -> Reply
+        ensures { Asks self.old.slot.held call result self.new.slot.held }
+    {
+        let Some(mut stack) = self.take(alloc) else {
+            drop(call);
+            return Reply::no_recovery();
+        };
+        let reply = stack.ask(alloc, call);
         self.put(stack);
         reply
     }

@@ -9,6 +9,7 @@ mod controllers;
 mod discovery;
 mod handle;
 mod ids;
+mod kept;
 mod layout;
 mod marks;
 mod mtu;
@@ -21,6 +22,8 @@ mod parts;
 mod paths;
 mod probes;
 mod readers;
+mod sender;
+mod sending;
 mod settings;
 mod slot;
 mod stack;
@@ -38,6 +41,7 @@ use quic_recovery::time::Instant;
 use rand_core::SeedableRng;
 use rand_pcg::Pcg32;
 use recovery_base::below::ConnectionId;
+use recovery_sender::Side;
 use settings::{Settings, config, fault};
 use stack::Stack;
 use std::alloc::Global;
@@ -53,7 +57,23 @@ pub extern "C" fn recovery_ffi_new(
     initial_cid: &[u8],
     now: u64,
 ) -> u8
-    ensures { NewOr result settings.now remote.now initial_cid.now now
+    ensures { NewOr None result settings.now remote.now initial_cid.now now
+        handle.old.slot.held handle.new.slot.held }
+{
+    begin(alloc, handle, None, settings, remote, initial_cid, now)
+}
+
+/// The same of a recovery of a sender of this side, if there is one.
+fn begin(
+    alloc: Global,
+    handle: &mut Handle,
+    side: Option<Side>,
+    settings: &Settings,
+    remote: &Address,
+    initial_cid: &[u8],
+    now: u64,
+) -> u8
+    ensures { NewOr side result settings.now remote.now initial_cid.now now
         handle.old.slot.held handle.new.slot.held }
 {
     if handle.holds() {
@@ -66,7 +86,7 @@ pub extern "C" fn recovery_ffi_new(
     if fault != NEW_MADE {
         return fault;
     }
-    if make(alloc, handle, settings, remote, id, now) {
+    if make(alloc, handle, side, settings, remote, id, now) {
         NEW_MADE
     } else {
         NEW_NO_MEMORY
@@ -81,6 +101,7 @@ pub extern "C" fn recovery_ffi_new(
 fn make(
     alloc: Global,
     handle: &mut Handle,
+    side: Option<Side>,
     settings: &Settings,
     remote: &Address,
     id: ConnectionId,
@@ -88,12 +109,12 @@ fn make(
 ) -> bool
     requires none { handle.old.slot.held ≡ None }
     requires sound { IsSound settings.now }
-    ensures { MadeOr result settings.now remote.now id now handle.new.slot.held }
+    ensures { MadeOr side result settings.now remote.now id now handle.new.slot.held }
 {
     let peer = socket_of(remote);
     let config = config(settings, id, peer);
     let rng = Pcg32::seed_from_u64(settings.seed);
-    match Stack::new(alloc, config, rng, Instant::from_nanos(now)) {
+    match Stack::new(alloc, side, config, rng, Instant::from_nanos(now)) {
         Ok(stack) => handle.make(alloc, stack),
         Err(_) => false,
     }

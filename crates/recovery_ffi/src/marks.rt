@@ -2,13 +2,14 @@
 //! changes it.
 ghost use Rattle.std.specs.Prelude.{◌≡◌, None};
 ghost use Rattle.quic_recovery.specs.Above.{marks_at};
-ghost use Rattle.quic_recovery.specs.State.{parts_of};
 ghost use Rattle.recovery_ffi.specs.Answers.{Reads};
 ghost use Rattle.recovery_ffi.specs.Codes.{path_coded};
-ghost use Rattle.recovery_ffi.specs.Marks.{first_of, marks_given, marks_shown, MarksStack, SetsMarks};
+ghost use Rattle.recovery_ffi.specs.Kept.{parts_kept};
+ghost use Rattle.recovery_ffi.specs.Marks.{first_of, marks_given, marks_shown, MarksKept, MarksStack, SetsMarks};
 
 use crate::codes::{maybe, path_coded, space_coded, space_number};
 use crate::handle::Handle;
+use crate::kept::Kept;
 use crate::stack::{ItemPath, Stack};
 use quic_recovery::event::PathName;
 use quic_recovery::paths::{PathMarks, PathResponses};
@@ -101,12 +102,12 @@ impl Marks {
 
 impl Stack {
     fn marks(&self, previous: bool) -> Marks
-        ensures { let parts = parts_of self.now.recovery.recovery in
+        ensures { let parts = parts_kept self.now.kept in
             result ≡ marks_shown (marks_at (path_coded previous) parts) }
     {
         match path_coded(previous) {
-            PathName::Current => Marks::of(self.recovery.recovery().current()),
-            PathName::Previous => match self.recovery.recovery().previous() {
+            PathName::Current => Marks::of(self.recovery().current()),
+            PathName::Previous => match self.recovery().previous() {
                 Some(path) => Marks::of(path),
                 None => Marks::none(),
             },
@@ -116,8 +117,19 @@ impl Stack {
     fn set_marks(&mut self, previous: bool, marks: PathMarks) -> bool
         ensures { MarksStack (path_coded previous) marks result self.old self.new }
     {
-        let before = self.recovery.set_marks(path_coded(previous), marks);
-        before.is_some()
+        self.kept.set_marks(path_coded(previous), marks)
+    }
+}
+
+impl Kept {
+    /// Of a path of a recovery that stands alone; a sender sets its marks itself.
+    fn set_marks(&mut self, path: PathName, marks: PathMarks) -> bool
+        ensures { MarksKept path marks result self.old self.new }
+    {
+        match self {
+            Kept::Alone(recovery) => recovery.set_marks(path, marks).is_some(),
+            Kept::Sends(_) => false,
+        }
     }
 }
 
@@ -125,7 +137,7 @@ impl Stack {
 #[unsafe(no_mangle)]
 pub extern "C" fn recovery_ffi_marks(alloc: Global, handle: &mut Handle, previous: bool) -> Marks
     ensures { Reads handle.old.slot.held handle.new.slot.held (λ stack.
-        let parts = parts_of stack.recovery.recovery in
+        let parts = parts_kept stack.kept in
         result ≡ marks_shown (marks_at (path_coded previous) parts)) (result ≡ marks_shown None) }
 {
     let Some(stack) = handle.take(alloc) else {
@@ -137,7 +149,7 @@ pub extern "C" fn recovery_ffi_marks(alloc: Global, handle: &mut Handle, previou
 }
 
 /// The layer above keeps this with a path from now on. False, and nothing changes, where there is no such path or no
-/// such space.
+/// such space, and where a sender is held: it sets marks itself.
 #[unsafe(no_mangle)]
 pub extern "C" fn recovery_ffi_set_marks(
     alloc: Global,

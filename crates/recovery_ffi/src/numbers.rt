@@ -1,5 +1,5 @@
-//! The numbers that stand for what crosses: answers, refusals of a call, faults of counts, what comes of making a
-//! recovery, and settings that choose. `tests/rust.py --write` writes them for Rust and for C.
+//! The numbers that stand for what crosses: answers, refusals of a call, faults of counts and what these come to, what
+//! comes of making a recovery, and settings that choose. `tests/rust.py --write` writes them for Rust and for C.
 
 /// The packet is new.
 pub const ANSWER_NEW: u8 = 0;
@@ -39,9 +39,26 @@ pub const ANSWER_SENDABLE: u8 = 16;
 pub const ANSWER_QUEUE: u8 = 17;
 /// The event has no other answer.
 pub const ANSWER_DONE: u8 = 18;
+/// The window has no room for the datagram of a sender. The answers that senders alone give lie above those of events,
+/// so that further ones of these do not move them.
+pub const ANSWER_FULL: u8 = 128;
+/// An ACK frame of a sender is taken.
+pub const ANSWER_ACKNOWLEDGED: u8 = 129;
+/// No timer of the sender is due.
+pub const ANSWER_NOTHING: u8 = 130;
+/// Packets were looked for that are lost.
+pub const ANSWER_LOSSES: u8 = 131;
+/// Probes are to be sent.
+pub const ANSWER_PROBES: u8 = 132;
 /// The event is refused. It lies far from the answers, so that further ones do not move it.
 pub const ANSWER_REFUSED: u8 = 255;
 
+/// A number was acknowledged that was never sent (RFC 9000, 13.1): of a sender alone.
+pub const REFUSAL_UNSENT: u8 = 21;
+/// The event is one that the sender decides itself: it is not handed in around it.
+pub const REFUSAL_DECIDED: u8 = 252;
+/// The handle holds a recovery that stands alone, without a sender.
+pub const REFUSAL_NO_SENDER: u8 = 253;
 /// The handle holds no recovery.
 pub const REFUSAL_NO_RECOVERY: u8 = 254;
 /// An argument lies out of its range: a space or a timer that there is not, an id of more than 20 bytes, a number of a
@@ -58,6 +75,13 @@ pub const FAULT_CE_FALLS: u64 = 2;
 pub const FAULT_BLEACHED: u64 = 3;
 /// Packets were counted that were not sent so.
 pub const FAULT_CORRUPTED: u64 = 4;
+
+/// Nothing, or the frame has no counts of ECN.
+pub const ECN_QUIET: u8 = 0;
+/// More packets were marked: there is congestion (RFC 9002, 7.1).
+pub const ECN_MARKED: u8 = 1;
+/// The check failed: packets are marked no more on the path.
+pub const ECN_FAILED: u8 = 2;
 
 /// There was no memory.
 pub const NEW_NO_MEMORY: u8 = 0;

@@ -3,9 +3,9 @@
 ghost use Rattle.std.specs.Prelude.{◌≡◌, slice_get, None};
 ghost use Rattle.recovery_ids.specs.LocalIds.{first_moment};
 ghost use Rattle.recovery_paths.specs.PathLog.{path_of};
-ghost use Rattle.quic_recovery.specs.State.{parts_of};
 ghost use Rattle.recovery_ffi.specs.Answers.{Reads};
 ghost use Rattle.recovery_ffi.specs.Codes.{path_coded};
+ghost use Rattle.recovery_ffi.specs.Kept.{parts_kept};
 ghost use Rattle.recovery_ffi.specs.Views.{path_view, no_path, moment_shown, moment_named, ack_delay_named, ids_shown, no_ids, range_shown, ranges_in, no_space, space_named, IsSpaceShown};
 
 use crate::handle::Handle;
@@ -17,7 +17,7 @@ use std::alloc::Global;
 #[unsafe(no_mangle)]
 pub extern "C" fn recovery_ffi_path(alloc: Global, handle: &mut Handle, previous: bool) -> PathView
     ensures { Reads handle.old.slot.held handle.new.slot.held (λ stack.
-        let paths = (parts_of stack.recovery.recovery).paths in
+        let paths = (parts_kept stack.kept).paths in
         result ≡ path_view (path_of (path_coded previous) paths)) (result ≡ no_path) }
 {
     let Some(stack) = handle.take(alloc) else {
@@ -32,7 +32,7 @@ pub extern "C" fn recovery_ffi_path(alloc: Global, handle: &mut Handle, previous
 #[unsafe(no_mangle)]
 pub extern "C" fn recovery_ffi_space(alloc: Global, handle: &mut Handle, space: u8) -> SpaceView
     ensures { Reads handle.old.slot.held handle.new.slot.held (λ stack.
-        IsSpaceShown (space_named space (parts_of stack.recovery.recovery)) result)
+        IsSpaceShown (space_named space (parts_kept stack.kept)) result)
         (result ≡ no_space) }
 {
     let Some(stack) = handle.take(alloc) else {
@@ -52,7 +52,7 @@ pub extern "C" fn recovery_ffi_range(
     index: usize,
 ) -> RangeView
     ensures { Reads handle.old.slot.held handle.new.slot.held (λ stack.
-        let kept = space_named space (parts_of stack.recovery.recovery) in
+        let kept = space_named space (parts_kept stack.kept) in
         result ≡ range_shown (slice_get (ranges_in kept) index)) (result ≡ range_shown None) }
 {
     let Some(stack) = handle.take(alloc) else {
@@ -73,7 +73,7 @@ pub extern "C" fn recovery_ffi_ack_delay(
     now: u64,
 ) -> MomentView
     ensures { Reads handle.old.slot.held handle.new.slot.held (λ stack.
-        result ≡ ack_delay_named space now (parts_of stack.recovery.recovery))
+        result ≡ ack_delay_named space now (parts_kept stack.kept))
         (result ≡ moment_shown None) }
 {
     let Some(stack) = handle.take(alloc) else {
@@ -88,7 +88,7 @@ pub extern "C" fn recovery_ffi_ack_delay(
 #[unsafe(no_mangle)]
 pub extern "C" fn recovery_ffi_timer(alloc: Global, handle: &mut Handle, timer: u8) -> MomentView
     ensures { Reads handle.old.slot.held handle.new.slot.held (λ stack.
-        let timers = (parts_of stack.recovery.recovery).timers in
+        let timers = (parts_kept stack.kept).timers in
         result ≡ moment_named timer timers) (result ≡ moment_shown None) }
 {
     let Some(stack) = handle.take(alloc) else {
@@ -103,7 +103,7 @@ pub extern "C" fn recovery_ffi_timer(alloc: Global, handle: &mut Handle, timer: 
 #[unsafe(no_mangle)]
 pub extern "C" fn recovery_ffi_ids(alloc: Global, handle: &mut Handle) -> IdsView
     ensures { Reads handle.old.slot.held handle.new.slot.held (λ stack.
-        result ≡ ids_shown (parts_of stack.recovery.recovery)) (result ≡ no_ids) }
+        result ≡ ids_shown (parts_kept stack.kept)) (result ≡ no_ids) }
 {
     let Some(stack) = handle.take(alloc) else {
         return IdsView::none();
@@ -118,7 +118,7 @@ pub extern "C" fn recovery_ffi_ids(alloc: Global, handle: &mut Handle) -> IdsVie
 #[unsafe(no_mangle)]
 pub extern "C" fn recovery_ffi_next_id_timeout(alloc: Global, handle: &mut Handle) -> MomentView
     ensures { Reads handle.old.slot.held handle.new.slot.held (λ stack.
-        let ids = (parts_of stack.recovery.recovery).local_ids in
+        let ids = (parts_kept stack.kept).local_ids in
         result ≡ moment_shown (first_moment ids.deadlines)) (result ≡ moment_shown None) }
 {
     let Some(stack) = handle.take(alloc) else {

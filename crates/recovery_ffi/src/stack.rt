@@ -2,33 +2,37 @@
 ghost use Rattle.std.specs.Prelude.{◌≡◌, ◌≤◌, ◌^◌, IfOk};
 ghost use Rattle.rand_core.specs.Steps.{stream_of, steps_u32};
 ghost use Rattle.rand_pcg.specs.Pcg.{pcg32};
-ghost use Rattle.recovery_ffi.specs.Made.{IsFresh};
+ghost use Rattle.recovery_ffi.specs.Made.{IsNew};
 ghost use Rattle.recovery_skips.specs.Skips.{IsSkips};
-ghost use Rattle.recovery_ffi.specs.Replies.{bad_argument, no_memory, no_recovery, plain, sent_spelled, retire_spelled, timeout_spelled, refusal_spelled, fault_number, spelled, taken_after, token_after};
-ghost use Rattle.recovery_ffi.specs.Answers.{Tells};
+ghost use Rattle.recovery_ffi.specs.Kept.{parts_kept, Lets};
+ghost use Rattle.recovery_ffi.specs.Replies.{bad_argument, decided, no_memory, no_recovery, no_sender, plain, sent_spelled, retire_spelled, timeout_spelled, refusal_spelled, fault_number, spelled, taken_after, token_after};
+ghost use Rattle.quic_recovery.specs.State.{parts_of};
+ghost use Rattle.recovery_ffi.specs.Answers.{Tells, LetsIn};
+ghost use Rattle.recovery_ffi.specs.Sending.{AsksStack};
 
 use crate::controllers::{Chosen, ChosenConfig};
+use crate::kept::Kept;
 use crate::numbers::{
     ANSWER_ACKED, ANSWER_BLACK_HOLE, ANSWER_BLOCKED, ANSWER_DELAYED, ANSWER_DONE, ANSWER_DUPLICATE,
     ANSWER_FLAG, ANSWER_IN_FLIGHT, ANSWER_LOST, ANSWER_NEW, ANSWER_NO_PROBE, ANSWER_PROBE,
     ANSWER_QUEUE, ANSWER_READY, ANSWER_REFUSED, ANSWER_RETIRE, ANSWER_SENDABLE, ANSWER_SENT,
     ANSWER_TIMEOUT, ANSWER_TRANSMITTED, FAULT_BLEACHED, FAULT_CE_FALLS, FAULT_CORRUPTED,
-    FAULT_ECT0_FALLS, FAULT_ECT1_FALLS, REFUSAL_BAD_ARGUMENT, REFUSAL_NO_RECOVERY,
+    FAULT_ECT0_FALLS, FAULT_ECT1_FALLS, REFUSAL_BAD_ARGUMENT, REFUSAL_DECIDED, REFUSAL_NO_RECOVERY,
+    REFUSAL_NO_SENDER,
 };
+use crate::sending::Call;
 use quic_recovery::below::{NoMemory, ResetToken};
 use quic_recovery::paths::PathData;
 use quic_recovery::spaces::PacketSpace;
-use quic_recovery::{Answer, Event, LiveRecovery, RecoveryConfig, Refusal};
+use quic_recovery::{Answer, Event, Recovery, RecoveryConfig, Refusal};
 use rand_pcg::Pcg32;
 use recovery_base::time::Instant;
 use recovery_queue::items::ItemQueue;
+use recovery_sender::Side;
 use std::alloc::Global;
 use std::ops::Range;
 
-/// A recovery over a chosen controller, whose packets carry numbered items and whose skips are drawn by PCG32.
-pub type ItemRecovery = LiveRecovery<ChosenConfig, ItemQueue, Pcg32>;
-
-/// One of its paths.
+/// One of a recovery's paths.
 pub type ItemPath = PathData<Chosen>;
 
 /// One of its packet number spaces.
@@ -37,7 +41,7 @@ pub type ItemSpace = PacketSpace<ItemQueue>;
 /// A recovery, and what of its answers is no number.
 #[derive(Drop)]
 pub struct Stack {
-    pub recovery: ItemRecovery,
+    pub kept: Kept,
     /// The queue that was taken last; none before one was.
     pub taken: ItemQueue,
     /// The token that was answered last; all zeros before one was.
@@ -87,6 +91,26 @@ impl Reply {
         }
     }
 
+    /// It holds one without a sender.
+    pub fn no_sender() -> Reply
+        ensures { result ≡ no_sender }
+    {
+        Reply {
+            refusal: REFUSAL_NO_SENDER,
+            ..Reply::plain(ANSWER_REFUSED)
+        }
+    }
+
+    /// Its sender decides the event itself.
+    fn decided() -> Reply
+        ensures { result ≡ decided }
+    {
+        Reply {
+            refusal: REFUSAL_DECIDED,
+            ..Reply::plain(ANSWER_REFUSED)
+        }
+    }
+
     /// An argument lies out of its range.
     pub fn bad_argument() -> Reply
         ensures { result ≡ bad_argument }
@@ -114,9 +138,10 @@ impl Reply {
 }
 
 impl Stack {
-    /// A recovery to which nothing has happened yet.
+    /// A recovery to which nothing has happened yet: of a sender of this side, if there is one.
     pub fn new(
         alloc: Global,
+        side: Option<Side>,
         config: RecoveryConfig<ChosenConfig>,
         rng: Pcg32,
         now: Instant,
@@ -124,22 +149,41 @@ impl Stack {
         requires issued { config.issued ≤ 2 ^ 62 }
         requires skips { IsSkips config.skips }
         ensures { IfOk result
-            (λ stack. IsFresh config now (stream_of (steps_u32 pcg32) rng) stack) }
+            (λ stack. IsNew side config now (stream_of (steps_u32 pcg32) rng) stack) }
     {
-        let recovery = LiveRecovery::new(alloc, config, rng, now)?;
+        let kept = Kept::new(alloc, side, config, rng, now)?;
         Ok(Stack {
-            recovery,
+            kept,
             taken: ItemQueue::from_items(Vec::new(alloc)),
             token: ResetToken::from([0; 16]),
         })
     }
 
-    /// One event.
+    /// The recovery, to look at.
+    pub fn recovery(&self) -> &Recovery<ChosenConfig, ItemQueue, Pcg32>
+        ensures { parts_of result.now ≡ parts_kept self.now.kept }
+    {
+        self.kept.recovery()
+    }
+
+    /// One event; refused where a sender decides it itself.
     #[inline(always)]
     pub fn apply(&mut self, event: Event<ItemQueue>) -> Reply
+        ensures { LetsIn self.old event result self.new }
+    {
+        if !self.kept.lets(&event) {
+            return Reply::decided();
+        }
+        self.hand_in(event)
+    }
+
+    /// One event that it lets pass.
+    #[inline(always)]
+    fn hand_in(&mut self, event: Event<ItemQueue>) -> Reply
+        requires { Lets self.old.kept event }
         ensures { Tells self.old event result self.new }
     {
-        let reply = self.recovery.apply(event);
+        let reply = self.kept.apply(event);
         let spelling = spell(&reply);
         self.keep(reply);
         spelling
@@ -148,7 +192,7 @@ impl Stack {
     /// What of a reply is no number is kept.
     #[inline(always)]
     fn keep(&mut self, reply: Result<Answer<ItemQueue>, Refusal>)
-        ensures recovery { self.new.recovery ≡ self.old.recovery }
+        ensures kept { self.new.kept ≡ self.old.kept }
         ensures taken { self.new.taken ≡ taken_after reply self.old.taken }
         ensures token { self.new.token ≡ token_after reply self.old.token }
     {
@@ -157,6 +201,13 @@ impl Stack {
             Ok(Answer::Retire(Some((_, token)))) => self.token = token,
             _ => {}
         }
+    }
+
+    /// One call of a sender; refused where there is none.
+    pub fn ask(&mut self, alloc: Global, call: Call) -> Reply
+        ensures { AsksStack call self.old result self.new }
+    {
+        self.kept.ask(alloc, call)
     }
 }
 
@@ -247,7 +298,8 @@ pub fn spell_flag(kind: u8, flag: bool) -> Reply
     }
 }
 
-fn spell_refusal(refusal: Refusal) -> Reply
+/// A refusal by its number.
+pub fn spell_refusal(refusal: Refusal) -> Reply
     ensures { result ≡ refusal_spelled refusal }
 {
     let first = match refusal {

@@ -1,9 +1,9 @@
 //! What of a recovery can be read.
 ghost use Rattle.std.specs.Prelude.{◌≡◌, Some, Decides, option_copied, slice_get};
-ghost use Rattle.quic_recovery.specs.State.{parts_of};
 ghost use Rattle.recovery_ids.specs.LocalIds.{first_moment};
 ghost use Rattle.recovery_paths.specs.PathLog.{path_of};
 ghost use Rattle.recovery_ffi.specs.Codes.{path_coded};
+ghost use Rattle.recovery_ffi.specs.Kept.{parts_kept};
 ghost use Rattle.recovery_ffi.specs.Views.{path_shown, no_path, path_view, moment_shown, moment_named, ack_delay_named, ids_shown, no_ids, range_shown, ranges_in, no_space, space_named, IsSpaceShown};
 
 use crate::codes::{nanos_shown, path_coded, space_coded, timer_coded};
@@ -251,12 +251,12 @@ fn show_space(space: &ItemSpace) -> SpaceView
 impl Stack {
     /// What is kept for a path.
     pub fn path(&self, previous: bool) -> PathView
-        ensures { let paths = (parts_of self.now.recovery.recovery).paths in
+        ensures { let paths = (parts_kept self.now.kept).paths in
             result ≡ path_view (path_of (path_coded previous) paths) }
     {
         match path_coded(previous) {
-            PathName::Current => show_path(self.recovery.recovery().current()),
-            PathName::Previous => match self.recovery.recovery().previous() {
+            PathName::Current => show_path(self.recovery().current()),
+            PathName::Previous => match self.recovery().previous() {
                 Some(path) => show_path(path),
                 None => PathView::none(),
             },
@@ -266,14 +266,14 @@ impl Stack {
     /// The space of a number, where there is one that is not discarded.
     fn named(&self, space: u8) -> Option<&ItemSpace>
         ensures { option_copied result
-            ≡ space_named space (parts_of self.now.recovery.recovery) }
+            ≡ space_named space (parts_kept self.now.kept) }
     {
-        self.recovery.recovery().space(space_coded(space)?)
+        self.recovery().space(space_coded(space)?)
     }
 
     /// What a space has to send.
     pub fn space(&self, space: u8) -> SpaceView
-        ensures { let parts = parts_of self.now.recovery.recovery in
+        ensures { let parts = parts_kept self.now.kept in
             IsSpaceShown (space_named space parts) result }
     {
         match self.named(space) {
@@ -284,7 +284,7 @@ impl Stack {
 
     /// One of the ranges of numbers that are to be acknowledged in a space, in ascending order.
     pub fn range(&self, space: u8, index: usize) -> RangeView
-        ensures { let kept = space_named space (parts_of self.now.recovery.recovery) in
+        ensures { let kept = space_named space (parts_kept self.now.kept) in
             result ≡ range_shown (slice_get (ranges_in kept) index) }
     {
         match self.named(space) {
@@ -296,7 +296,7 @@ impl Stack {
     /// How long ago the largest packet came, which an ACK frame tells (RFC 9000, 13.2.5).
     pub fn ack_delay(&self, space: u8, now: Instant) -> MomentView
         ensures { result
-            ≡ ack_delay_named space now (parts_of self.now.recovery.recovery) }
+            ≡ ack_delay_named space now (parts_kept self.now.kept) }
     {
         match self.named(space) {
             Some(space) => MomentView::of(Some(nanos_shown(space.pending_acks.ack_delay(now)))),
@@ -306,13 +306,13 @@ impl Stack {
 
     /// When a timer expires.
     pub fn timer(&self, timer: u8) -> MomentView
-        ensures { let timers = (parts_of self.now.recovery.recovery).timers in
+        ensures { let timers = (parts_kept self.now.kept).timers in
             result ≡ moment_named timer timers }
     {
         let Some(timer) = timer_coded(timer) else {
             return MomentView::of(None);
         };
-        match self.recovery.recovery().timers().get(timer) {
+        match self.recovery().timers().get(timer) {
             Some(moment) => MomentView::of(Some(moment.as_nanos())),
             None => MomentView::of(None),
         }
@@ -320,9 +320,9 @@ impl Stack {
 
     /// The ids of both ends.
     pub fn ids(&self) -> IdsView
-        ensures { result ≡ ids_shown (parts_of self.now.recovery.recovery) }
+        ensures { result ≡ ids_shown (parts_kept self.now.kept) }
     {
-        let recovery = self.recovery.recovery();
+        let recovery = self.recovery();
         IdsView {
             active: recovery.remote_ids().active_seq(),
             issued: recovery.local_ids().issued(),
@@ -334,10 +334,10 @@ impl Stack {
 
     /// When the oldest of this end's ids is to be retired, where they end.
     pub fn next_id_timeout(&self) -> MomentView
-        ensures { let ids = (parts_of self.now.recovery.recovery).local_ids in
+        ensures { let ids = (parts_kept self.now.kept).local_ids in
             result ≡ moment_shown (first_moment ids.deadlines) }
     {
-        match self.recovery.recovery().local_ids().next_timeout() {
+        match self.recovery().local_ids().next_timeout() {
             Some(moment) => MomentView::of(Some(moment.as_nanos())),
             None => MomentView::of(None),
         }

@@ -1,5 +1,8 @@
-//! A tiny sender over UDP on the loopback interface: numbered items go out in packets, the other end acknowledges what comes
-//! and throws every ninth datagram away, and the recovery says how fast to send, what to send again and when to probe.
+//! A tiny stack over UDP on the loopback interface: numbered items go out in packets, the other end acknowledges what comes,
+//! and the sender says how fast to send, what is lost and to be sent again, and when to probe.
+//!
+//!     sender              the other end throws every ninth datagram away
+//!     sender PERCENT      so many of a hundred datagrams are thrown away, both ways: 0 to 30
 use quic_recovery::*;
 use std::collections::{BTreeMap, BTreeSet, VecDeque};
 use std::error::Error;
@@ -11,16 +14,14 @@ use std::time::{Duration, Instant as Clock};
 const ITEMS: u64 = 200;
 const SIZE: u16 = 1200;
 const SPACE: SpaceId = SpaceId::Data;
-const DELAY: Duration = Duration::from_millis(25);
 
 type Outcome<T> = Result<T, Box<dyn Error + Send + Sync>>;
 
-fn recovery(remote: SocketAddr) -> Result<Recovery, ConfigError> {
+fn config(remote: SocketAddr) -> RecoveryConfig {
     let mut config = RecoveryConfig::new(remote, ConnectionId::from([7; 8]));
-    config.validated = true;
     config.allow_mtud = false;
     config.transport.initial_rtt = Duration::from_millis(20);
-    Recovery::new(&config, Instant::from_nanos(0))
+    config
 }
 
 fn now(began: Clock) -> Instant {
@@ -40,18 +41,58 @@ fn bytes(words: impl IntoIterator<Item = u64>) -> Vec<u8> {
     words.into_iter().flat_map(u64::to_le_bytes).collect()
 }
 
-/// The end that receives: it acknowledges, until a datagram of no bytes comes.
-fn receive(socket: &UdpSocket, sender: SocketAddr, began: Clock) -> Outcome<BTreeSet<u64>> {
-    let mut recovery = recovery(sender)?;
+/// Which datagrams the path throws away.
+enum Thrown {
+    /// Each ninth one towards the receiver: how many went there.
+    EveryNinth(u64),
+    /// So many of a hundred, both ways, as they are drawn (xorshift).
+    Percent(u64, u64),
+}
+
+impl Thrown {
+    fn drawn(state: &mut u64) -> u64 {
+        *state ^= *state << 13;
+        *state ^= *state >> 7;
+        *state ^= *state << 17;
+        (*state >> 11) % 100
+    }
+
+    fn there(&mut self) -> bool {
+        match self {
+            Thrown::EveryNinth(count) => {
+                *count += 1;
+                *count % 9 == 0
+            }
+            Thrown::Percent(percent, state) => Thrown::drawn(state) < *percent,
+        }
+    }
+
+    fn back(&mut self) -> bool {
+        match self {
+            Thrown::EveryNinth(_) => false,
+            Thrown::Percent(percent, state) => Thrown::drawn(state) < *percent,
+        }
+    }
+}
+
+/// The end that receives: it acknowledges at once, until a datagram of no bytes comes. An ACK has the first and last number
+/// of each range, the highest first.
+fn receive(
+    socket: &UdpSocket,
+    sender: SocketAddr,
+    began: Clock,
+    mut thrown: Thrown,
+) -> Outcome<BTreeSet<u64>> {
+    let mut recovery = Recovery::new(&config(sender), Instant::from_nanos(0))?;
     let (mut items, mut buffer) = (BTreeSet::new(), [0; 2048]);
-    for count in 1u64.. {
+    loop {
         let (len, _) = socket.recv_from(&mut buffer)?;
         let mut said = words(&buffer[..len]);
         let Some(number) = said.next() else {
-            break;
+            return Ok(items);
         };
-        if count % 9 == 0 {
-            continue; // this one is lost on the way
+        if thrown.there() {
+            continue;
         }
         let received = Event::Received {
             space: SPACE,
@@ -64,81 +105,75 @@ fn receive(socket: &UdpSocket, sender: SocketAddr, began: Clock) -> Outcome<BTre
         }
         let held = said.next().unwrap_or(0) as usize;
         items.extend(said.take(held));
-        let ranges: Vec<u64> = recovery
-            .ranges(SPACE)
-            .flat_map(|it| [it.start, it.end])
-            .collect();
+        let mut ranges: Vec<_> = recovery.ranges(SPACE).collect();
+        ranges.reverse();
         recovery.apply(Event::AcksSent { space: SPACE })?;
-        socket.send_to(&bytes(ranges), sender)?;
+        if !thrown.back() {
+            let ends = ranges.into_iter().flat_map(|it| [it.start, it.end - 1]);
+            socket.send_to(&bytes(ends), sender)?;
+        }
     }
-    Ok(items)
 }
 
-/// The end that sends.
-struct Sender {
-    recovery: Recovery,
+/// The end that sends. It finds no loss itself: it keeps the items of its packets, to know which of them came.
+struct Stack {
+    sender: Sender,
     socket: UdpSocket,
     began: Clock,
     waiting: VecDeque<u64>,
-    /// When each packet was sent that is neither acknowledged nor lost, and its items.
-    tracked: BTreeMap<u64, (Instant, Vec<u64>)>,
+    carried: BTreeMap<u64, Vec<u64>>,
+    told: Acknowledged,
     acked: BTreeSet<u64>,
     packets: u64,
     lost: u64,
     probes: u64,
 }
 
-impl Sender {
-    /// One packet with up to four items.
+impl Stack {
+    fn new(socket: UdpSocket, remote: SocketAddr, began: Clock) -> Outcome<Self> {
+        let start = Instant::from_nanos(0);
+        let mut sender = Sender::new(Side::Client, &config(remote), start)?;
+        sender.on_handshake_confirmed();
+        for space in [SpaceId::Initial, SpaceId::Handshake] {
+            sender.discard(space, start)?;
+        }
+        Ok(Stack {
+            sender,
+            socket,
+            began,
+            waiting: (0..ITEMS).collect(),
+            carried: BTreeMap::new(),
+            told: Acknowledged::default(),
+            acked: BTreeSet::new(),
+            packets: 0,
+            lost: 0,
+            probes: 0,
+        })
+    }
+
+    /// One packet with up to four items; without one it is a PING.
     fn send(&mut self) -> Outcome<()> {
         let count = self.waiting.len().min(4);
         let items: Vec<u64> = self.waiting.drain(..count).collect();
-        let now = now(self.began);
-        let packet = Event::Send {
-            space: SPACE,
-            now,
-            size: SIZE,
-            ack_eliciting: true,
-            largest_acked: None,
-            queue: &items,
-        };
-        let Answer::Sent { number, .. } = self.recovery.apply(packet)? else {
-            return Err("a packet is sent".into());
-        };
-        let head = [number, items.len() as u64];
+        let sent = self
+            .sender
+            .send(SPACE, now(self.began), SIZE, true, None, &items)?;
+        let head = [sent.number, items.len() as u64];
         let mut datagram = bytes(head.into_iter().chain(items.iter().copied()));
         datagram.resize(usize::from(SIZE), 0);
         self.socket.send(&datagram)?;
-        self.tracked.insert(number, (now, items));
+        self.carried.insert(sent.number, items);
         self.packets += 1;
-        self.set_timer(now)
-    }
-
-    /// When to probe, if nothing is heard until then (RFC 9002, 6.2.1).
-    fn set_timer(&mut self, now: Instant) -> Outcome<()> {
-        let timer = Timer::LossDetection;
-        let path = self.recovery.path(PathName::Current).ok_or("a path")?;
-        let time = now.saturating_add(path.rtt.pto_base + DELAY);
-        self.recovery.apply(Event::SetTimer { timer, time })?;
         Ok(())
     }
 
-    /// Sends what window and pacer let; the moment at which the pacer is to be asked again, if it is.
+    /// Sends what limit, window and pacer let; the moment at which the pacer is to be asked again, if it is.
     fn send_all(&mut self) -> Outcome<Option<Instant>> {
         while !self.waiting.is_empty() {
-            let path = self.recovery.path(PathName::Current).ok_or("a path")?;
-            if path.in_flight + u64::from(SIZE) > path.window {
-                return Ok(None);
-            }
-            let datagram = Event::Transmit {
-                now: now(self.began),
-                bytes: SIZE,
-                checked: true,
-            };
-            match self.recovery.apply(datagram)? {
-                Answer::Transmitted => self.send()?,
-                Answer::Delayed(until) => return Ok(Some(until)),
-                other => return Err(format!("{other:?}").into()),
+            match self.sender.transmit(now(self.began), SIZE, SPACE, true)? {
+                Transmission::Transmitted => self.send()?,
+                Transmission::Delayed(until) => return Ok(Some(until)),
+                Transmission::Full | Transmission::Blocked => return Ok(None),
             }
         }
         Ok(None)
@@ -146,117 +181,90 @@ impl Sender {
 
     /// What is to be sent again waits for its turn.
     fn take_pending(&mut self) -> Outcome<()> {
-        if let Answer::Queue(items) = self.recovery.apply(Event::TakePending { space: SPACE })? {
+        if let Answer::Queue(items) = self.sender.on_event(Event::TakePending { space: SPACE })? {
             self.waiting.extend(items);
         }
         Ok(())
     }
 
-    /// An ACK: its ranges, each from the first number to one above the last.
-    fn hear(&mut self, ranges: &[u64]) -> Outcome<()> {
-        let now = now(self.began);
-        let (mut largest, mut newest) = (None, None);
-        for range in ranges.chunks_exact(2) {
-            let (low, high) = (range[0], range[1] - 1);
-            self.recovery.apply(Event::CheckAck {
-                space: SPACE,
-                low,
-                high,
-            })?;
-            let numbers: Vec<u64> = self.tracked.range(low..=high).map(|it| *it.0).collect();
-            for number in numbers {
-                let app_limited = false;
-                self.recovery.apply(Event::Acked {
-                    space: SPACE,
-                    now,
-                    number,
-                    app_limited,
-                })?;
-                let Some((sent, items)) = self.tracked.remove(&number) else {
-                    continue;
-                };
-                self.acked.extend(items);
-                newest = Some(sent);
-                largest = Some(number);
-            }
-        }
-        if let Some(sent) = newest {
-            let rtt = now.saturating_duration_since(sent);
-            let delay = Duration::ZERO;
-            self.recovery.apply(Event::Sample { delay, rtt })?;
-            self.recovery.apply(Event::EndAcks {
-                now,
-                app_limited: false,
-                largest,
-            })?;
-            self.set_timer(now)?;
-        }
-        self.find_lost(ranges.last().map_or(0, |it| it - 1), now)
-    }
-
-    /// Packets three below the largest one acknowledged are lost (RFC 9002, 6.1.1).
-    fn find_lost(&mut self, largest: u64, now: Instant) -> Outcome<()> {
-        let end = (largest + 1).saturating_sub(3);
-        let numbers: Vec<u64> = self.tracked.range(..end).map(|it| *it.0).collect();
-        let Some(last) = numbers.last() else {
-            return Ok(());
-        };
-        let sent = self.tracked[last].0;
-        for number in &numbers {
-            self.recovery.apply(Event::Lost {
-                space: SPACE,
-                number: *number,
-            })?;
-            self.tracked.remove(number);
+    /// These packets are lost: their items wait to be sent again.
+    fn lose(&mut self, numbers: &[u64]) -> Outcome<()> {
+        for number in numbers {
+            self.carried.remove(number);
             self.lost += 1;
         }
-        self.recovery.apply(Event::LossesDone { now })?;
-        let bytes = numbers.len() as u64 * u64::from(SIZE);
-        self.recovery.apply(Event::Congestion {
-            now,
-            sent,
-            persistent: false,
-            bytes,
-        })?;
         self.take_pending()
     }
 
-    /// Nothing was heard for too long: a probe goes out, whatever the window says (RFC 9002, 6.2.4).
-    fn probe(&mut self) -> Outcome<()> {
-        self.recovery.apply(Event::QueueProbe {
-            space: SPACE,
-            immediate_ack: false,
-        })?;
-        self.take_pending()?;
-        self.probes += 1;
-        self.send()
+    /// An ACK came in.
+    fn hear(&mut self, ranges: &[(u64, u64)]) -> Outcome<()> {
+        let (now, ack) = (now(self.began), Ack::default());
+        let mut told = std::mem::take(&mut self.told);
+        self.sender
+            .on_ack_into(SPACE, now, &ack, ranges, &mut told)?;
+        for number in &told.numbers {
+            self.acked
+                .extend(self.carried.remove(number).unwrap_or_default());
+        }
+        self.lose(&told.losses.numbers)?;
+        self.told = told;
+        Ok(())
+    }
+
+    /// The timer may be due: something may be lost, or probes go out, whatever the window says (RFC 9002, 6.2.4).
+    fn time_out(&mut self) -> Outcome<()> {
+        match self.sender.on_timeout(now(self.began), false)? {
+            Timeout::Nothing => {}
+            Timeout::Lost(losses) => self.lose(&losses.numbers)?,
+            Timeout::Probe { count, .. } => {
+                self.take_pending()?;
+                for _ in 0..count {
+                    self.sender.transmit(now(self.began), SIZE, SPACE, true)?;
+                    self.send()?;
+                    self.probes += 1;
+                }
+            }
+        }
+        Ok(())
     }
 
     fn run(&mut self) -> Outcome<()> {
         let mut buffer = [0; 2048];
         while (self.acked.len() as u64) < ITEMS {
             let paced = self.send_all()?;
-            let Answer::Timeout(Some(timer)) = self.recovery.apply(Event::NextTimeout)? else {
-                return Err("a timer is set".into());
-            };
-            let until = paced.map_or(timer, |it| it.min(timer));
+            let until = [paced, self.sender.timer()].into_iter().flatten().min();
+            let until = until.ok_or("something is in flight, or waits")?;
             let wait = until.saturating_duration_since(now(self.began));
             self.socket
                 .set_read_timeout(Some(wait.max(Duration::from_micros(50))))?;
             match self.socket.recv(&mut buffer) {
-                Ok(len) => self.hear(&words(&buffer[..len]).collect::<Vec<_>>())?,
+                Ok(len) => {
+                    let ends: Vec<u64> = words(&buffer[..len]).collect();
+                    let ranges = ends.chunks_exact(2).map(|it| (it[0], it[1]));
+                    self.hear(&ranges.collect::<Vec<_>>())?;
+                }
                 Err(it) if matches!(it.kind(), ErrorKind::WouldBlock | ErrorKind::TimedOut) => {}
                 Err(it) => return Err(it.into()),
             }
-            if now(self.began) >= timer {
-                self.probe()?;
-            }
+            self.time_out()?;
         }
         Ok(())
     }
 }
 
+/// What the argument says, if there is one.
+fn thrown() -> Outcome<Thrown> {
+    let Some(word) = std::env::args().nth(1) else {
+        return Ok(Thrown::EveryNinth(0));
+    };
+    match word.parse() {
+        Ok(percent @ 0..=30) => Ok(Thrown::Percent(percent, 0x9E37_79B9_7F4A_7C15)),
+        _ => Err("usage: sender [PERCENT], of datagrams thrown away: 0 to 30".into()),
+    }
+}
+
 fn main() -> Outcome<()> {
+    let thrown = thrown()?;
     println!("{VERSION}");
     let (socket, other) = (
         UdpSocket::bind("127.0.0.1:0")?,
@@ -264,32 +272,23 @@ fn main() -> Outcome<()> {
     );
     let (address, began) = (socket.local_addr()?, Clock::now());
     socket.connect(other.local_addr()?)?;
-    let mut sender = Sender {
-        recovery: recovery(other.local_addr()?)?,
-        socket,
-        began,
-        waiting: (0..ITEMS).collect(),
-        tracked: BTreeMap::new(),
-        acked: BTreeSet::new(),
-        packets: 0,
-        lost: 0,
-        probes: 0,
-    };
-    let receiver = thread::spawn(move || receive(&other, address, began));
-    sender.run()?;
-    sender.socket.send(&[])?;
+    let mut stack = Stack::new(socket, other.local_addr()?, began)?;
+    let receiver = thread::spawn(move || receive(&other, address, began, thrown));
+    stack.run()?;
+    stack.socket.send(&[])?;
     let items = receiver.join().map_err(|_| "the receiver ended early")??;
-    let Sender {
+    let Stack {
         packets,
         lost,
         probes,
+        acked,
         ..
-    } = sender;
+    } = stack;
     println!("{packets} packets, {lost} of them lost, {probes} probes");
     println!(
         "{} items came, and all {} were acknowledged",
         items.len(),
-        sender.acked.len()
+        acked.len()
     );
     Ok(())
 }

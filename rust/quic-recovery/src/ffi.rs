@@ -39,6 +39,17 @@ pub const ANSWER_SENDABLE: u8 = 16;
 pub const ANSWER_QUEUE: u8 = 17;
 /// The event has no other answer.
 pub const ANSWER_DONE: u8 = 18;
+/// The window has no room for the datagram of a sender. The answers that senders alone give lie above those of events,
+/// so that further ones of these do not move them.
+pub const ANSWER_FULL: u8 = 128;
+/// An ACK frame of a sender is taken.
+pub const ANSWER_ACKNOWLEDGED: u8 = 129;
+/// No timer of the sender is due.
+pub const ANSWER_NOTHING: u8 = 130;
+/// Packets were looked for that are lost.
+pub const ANSWER_LOSSES: u8 = 131;
+/// Probes are to be sent.
+pub const ANSWER_PROBES: u8 = 132;
 /// The event is refused. It lies far from the answers, so that further ones do not move it.
 pub const ANSWER_REFUSED: u8 = 255;
 
@@ -83,6 +94,12 @@ pub const REFUSAL_NOT_INITIAL_ID: u8 = 18;
 pub const REFUSAL_BAD_RANGE: u8 = 19;
 /// The number of the peer's id is held with another id, or with a token that is not the frame's (RFC 9000, 19.15).
 pub const REFUSAL_CONFLICT: u8 = 20;
+/// A number was acknowledged that was never sent (RFC 9000, 13.1): of a sender alone.
+pub const REFUSAL_UNSENT: u8 = 21;
+/// The event is one that the sender decides itself: it is not handed in around it.
+pub const REFUSAL_DECIDED: u8 = 252;
+/// The handle holds a recovery that stands alone, without a sender.
+pub const REFUSAL_NO_SENDER: u8 = 253;
 /// The handle holds no recovery.
 pub const REFUSAL_NO_RECOVERY: u8 = 254;
 /// An argument lies out of its range: a space or a timer that there is not, an id of more than 20 bytes, a number of a
@@ -99,6 +116,13 @@ pub const FAULT_CE_FALLS: u64 = 2;
 pub const FAULT_BLEACHED: u64 = 3;
 /// Packets were counted that were not sent so.
 pub const FAULT_CORRUPTED: u64 = 4;
+
+/// Nothing, or the frame has no counts of ECN.
+pub const ECN_QUIET: u8 = 0;
+/// More packets were marked: there is congestion (RFC 9002, 7.1).
+pub const ECN_MARKED: u8 = 1;
+/// The check failed: packets are marked no more on the path.
+pub const ECN_FAILED: u8 = 2;
 
 /// There was no memory.
 pub const NEW_NO_MEMORY: u8 = 0;
@@ -259,6 +283,60 @@ pub struct Bucket {
     pub last: u64,
     /// The MTU that its capacity was computed for, in bytes.
     pub mtu: u16,
+}
+
+/// A range of numbers that an ACK frame acknowledges (RFC 9000, 19.3.1).
+#[repr(C)]
+#[derive(Clone, Copy, Debug, PartialEq, Eq)]
+pub struct AckRange {
+    /// The first number.
+    pub first: u64,
+    /// The last number.
+    pub last: u64,
+}
+
+/// What an ACK frame says beside its ranges, and what the stack knows at its arrival.
+#[repr(C)]
+#[derive(Clone, Copy, Debug, PartialEq, Eq)]
+pub struct AckFrame {
+    /// How long the peer says that it delayed the ACK, in whole seconds.
+    pub delay_secs: u64,
+    /// The count of ECT(0), where the frame has counts (RFC 9000, 19.3.2).
+    pub ect0: u64,
+    /// The count of ECT(1).
+    pub ect1: u64,
+    /// The count of ECN-CE.
+    pub ce: u64,
+    /// The nanoseconds of that delay beside its seconds, below 10^9.
+    pub delay_nanos: u32,
+    /// Whether the frame has counts of ECN.
+    pub has_ecn: bool,
+    /// Whether the sender had too little to send to fill its window (RFC 9002, 7.8).
+    pub app_limited: bool,
+}
+
+/// What was told last: of an ACK frame, or of a timeout that found losses.
+#[repr(C)]
+#[derive(Clone, Copy, Debug, PartialEq, Eq)]
+pub struct ToldView {
+    /// How many numbers the frame newly acknowledged; of a timeout 0.
+    pub acked: u64,
+    /// How many numbers were found lost, without that of the MTU's probe.
+    pub lost: u64,
+    /// The number of the MTU's probe, where that was lost: no sign of congestion (RFC 9000, 14.4).
+    pub probe: u64,
+    /// The bytes lost on the path in use, where there was congestion (RFC 9002, 7.3.2).
+    pub congestion: u64,
+    /// What the frame's counts of ECN came to (RFC 9000, 13.4.2.1).
+    pub ecn: u8,
+    /// Whether the MTU's probe was lost.
+    pub has_probe: bool,
+    /// Whether there was congestion.
+    pub has_congestion: bool,
+    /// Whether it is persistent (RFC 9002, 7.6).
+    pub is_persistent: bool,
+    /// Whether a black hole was reported (RFC 8899, 4.3).
+    pub is_black_hole: bool,
 }
 
 /// The settings: times are in nanoseconds, and sizes in bytes.
@@ -437,7 +515,7 @@ pub struct IdsView {
 
 unsafe extern "C" {
     /// Does nothing; a library of another layout does not have it.
-    #[link_name = "recovery_ffi_layout_dc6aa126"]
+    #[link_name = "recovery_ffi_layout_b69caf3d"]
     pub fn recovery_ffi_layout();
 
     /// Makes a recovery, whose peer is at this address and has this id of at most 20 bytes. The answer is `NEW_MADE`, or
@@ -518,7 +596,7 @@ unsafe extern "C" {
     pub fn recovery_ffi_marks(handle: *mut Handle, previous: bool) -> Marks;
 
     /// The layer above keeps this with a path from now on. False, and nothing changes, where there is no such path or no
-    /// such space.
+    /// such space, and where a sender is held: it sets marks itself.
     pub fn recovery_ffi_set_marks(handle: *mut Handle, previous: bool, marks: *const Marks)
         -> bool;
 
@@ -717,6 +795,81 @@ unsafe extern "C" {
     /// When the oldest of this end's ids is to be retired (RFC 9000, 5.1.2), where they end: what `TIMER_PUSH_NEW_CID` is
     /// set to.
     pub fn recovery_ffi_next_id_timeout(handle: *mut Handle) -> MomentView;
+
+    /// Makes a recovery of a sender, of the client or else of the server, whose peer is at this address and has this id of
+    /// at most 20 bytes. A client's first path is validated, whatever the settings say (RFC 9000, 8.1). The answer is
+    /// `NEW_MADE`, or the number of what is wrong; the handle then holds what it held.
+    pub fn recovery_ffi_sender_new(
+        handle: *mut Handle,
+        client: bool,
+        settings: *const Settings,
+        remote: *const Address,
+        initial_cid: *const u8,
+        initial_cid_len: usize,
+        now: u64,
+    ) -> u8;
+
+    /// Whether a datagram of so many bytes goes out now, with packets of a space: `ANSWER_TRANSMITTED`, and it is counted;
+    /// `ANSWER_BLOCKED` by the limit against amplification (RFC 9000, 8.1); `ANSWER_FULL` where the window has no room (RFC
+    /// 9002, 7); `ANSWER_DELAYED` by the pacer, until `first` (RFC 9002, 7.7). Where nothing in it counts in flight, or a
+    /// probe is due in the space, the limit alone is asked. The packets in it are told by `recovery_ffi_send` before the
+    /// next datagram is asked for. Refused by `REFUSAL_SPACE_DISCARDED`, then by `REFUSAL_OVERFLOW`.
+    pub fn recovery_ffi_sender_transmit(
+        handle: *mut Handle,
+        now: u64,
+        bytes: u16,
+        space: u8,
+        in_flight: bool,
+    ) -> Reply;
+
+    /// An ACK frame came in (RFC 9002, A.7), with its ranges, the highest first, as on the wire: `ANSWER_ACKNOWLEDGED`.
+    /// What it newly acknowledges, and what is lost by it, `recovery_ffi_told` and `recovery_ffi_told_numbers` say.
+    /// Refused, and nothing changes, by `REFUSAL_SPACE_DISCARDED`, by `REFUSAL_BAD_RANGE` where there is no range, one ends
+    /// before it begins, or two have no number between them (RFC 9000, 19.3.1), by `REFUSAL_UNSENT`, by
+    /// `REFUSAL_SKIPPED_ACKED` (RFC 9000, 21.4), or by `REFUSAL_NO_MEMORY`.
+    pub fn recovery_ffi_sender_ack(
+        handle: *mut Handle,
+        space: u8,
+        now: u64,
+        frame: *const AckFrame,
+        ranges: *const AckRange,
+        ranges_len: usize,
+    ) -> Reply;
+
+    /// The timer for losses may be due (RFC 9002, A.9): `ANSWER_NOTHING` where it is not; `ANSWER_LOSSES` where packets
+    /// were looked for that are lost, which `recovery_ffi_told` and `recovery_ffi_told_numbers` say; or `ANSWER_PROBES`,
+    /// with the space in `first` and in `second` how many are to be sent, 1 or 2. `immediate_ack` asks for an IMMEDIATE_ACK
+    /// frame in a probe. Refused by `REFUSAL_NO_MEMORY` where the first probe finds none; then nothing changed.
+    pub fn recovery_ffi_sender_timeout(handle: *mut Handle, now: u64, immediate_ack: bool)
+        -> Reply;
+
+    /// The keys of a space are dropped, and with them all that it tracks; probe timeouts are counted anew (RFC 9002, 6.2.2,
+    /// 6.4 and A.11): `ANSWER_DONE`. Refused by `REFUSAL_SPACE_DISCARDED`.
+    pub fn recovery_ffi_sender_discard(handle: *mut Handle, space: u8, now: u64) -> Reply;
+
+    /// There are keys of Handshake packets (RFC 9002, A.8): `ANSWER_DONE`.
+    pub fn recovery_ffi_sender_handshake_keys(handle: *mut Handle) -> Reply;
+
+    /// The handshake is confirmed (RFC 9001, 4.1.2): packets of 1-RTT keys are probed for from now on, and a client knows
+    /// its address validated (RFC 9002, 6.2.1 and 6.2.2.1): `ANSWER_DONE`.
+    pub fn recovery_ffi_sender_handshake_confirmed(handle: *mut Handle) -> Reply;
+
+    /// The peer delays its ACKs of 1-RTT packets at most so long (RFC 9000, 18.2: max_ack_delay): `ANSWER_DONE`. There are
+    /// fewer than 10^9 nanoseconds.
+    pub fn recovery_ffi_sender_peer_delay(handle: *mut Handle, secs: u64, nanos: u32) -> Reply;
+
+    /// What was told last: by an ACK frame that was not refused, or by a timeout that looked for losses. Nothing before it,
+    /// and where there is no sender.
+    pub fn recovery_ffi_told(handle: *mut Handle) -> ToldView;
+
+    /// How many numbers were newly acknowledged as something was told last, or, with `lost`, how many were found lost,
+    /// without that of the MTU's probe; they are written, rising, where there is room for all.
+    pub fn recovery_ffi_told_numbers(
+        handle: *mut Handle,
+        lost: bool,
+        out: *mut u64,
+        out_len: usize,
+    ) -> usize;
 
     /// The default settings: an address that is not validated, ACKs 25 ms late at most, ids of 8 bytes that last 10 s, one
     /// of them issued, no skips, an RTT of 333 ms, MTUs of 1200 bytes and up to 1452, and NewReno with 12,000 bytes and a

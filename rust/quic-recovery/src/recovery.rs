@@ -2,6 +2,7 @@
 use crate::config::{address, ConfigError, RecoveryConfig};
 use crate::event::{Answer, Event, Refusal};
 use crate::ffi;
+use crate::sender::Side;
 use crate::timer::Timer;
 use crate::types::{Instant, PathMarks, PathName, ResetToken, SendableFrames, SpaceId};
 use std::cell::UnsafeCell;
@@ -275,8 +276,19 @@ impl Recovery {
     /// A recovery to which nothing has happened yet, made at the moment `now`. Settings that the library does not take are
     /// refused.
     pub fn new(config: &RecoveryConfig, now: Instant) -> Result<Self, ConfigError> {
-        let settings = config.settings();
+        Recovery::of(None, config, now)
+    }
+
+    /// The same, of a sender of this side if there is one.
+    pub(crate) fn of(
+        side: Option<Side>,
+        config: &RecoveryConfig,
+        now: Instant,
+    ) -> Result<Self, ConfigError> {
+        let (settings, remote) = (config.settings(), address(config.remote));
         let id: &[u8] = &config.initial_cid;
+        let (bytes, len) = (id.as_ptr(), id.len());
+        let now = now.as_nanos();
         let mut handle = ffi::Handle {
             ptr: null_mut(),
             holds: false,
@@ -285,14 +297,18 @@ impl Recovery {
         unsafe { ffi::recovery_ffi_layout() };
         // SAFETY: the handle is as it begins, and the id is a slice.
         let code = unsafe {
-            ffi::recovery_ffi_new(
-                &mut handle,
-                &settings,
-                &address(config.remote),
-                id.as_ptr(),
-                id.len(),
-                now.as_nanos(),
-            )
+            match side {
+                None => ffi::recovery_ffi_new(&mut handle, &settings, &remote, bytes, len, now),
+                Some(side) => ffi::recovery_ffi_sender_new(
+                    &mut handle,
+                    side == Side::Client,
+                    &settings,
+                    &remote,
+                    bytes,
+                    len,
+                    now,
+                ),
+            }
         };
         match ConfigError::from_number(code) {
             Some(error) => Err(error),
@@ -306,14 +322,25 @@ impl Recovery {
     /// that is refused by `DelayTooSmall`, which is kept.
     #[inline]
     pub fn apply(&mut self, event: Event<'_>) -> Result<Answer, Refusal> {
-        // SAFETY: the handle holds a recovery, and `self` is borrowed alone.
-        let reply = unsafe { hand_in(self.handle.get_mut(), event) };
+        let reply = self.reply_to(event);
         self.read(reply)
+    }
+
+    /// One event, with its reply in numbers.
+    #[inline]
+    pub(crate) fn reply_to(&mut self, event: Event<'_>) -> ffi::Reply {
+        // SAFETY: the handle holds a recovery, and `self` is borrowed alone.
+        unsafe { hand_in(self.handle.get_mut(), event) }
+    }
+
+    /// What holds the recovery.
+    pub(crate) fn handle(&self) -> *mut ffi::Handle {
+        self.handle.get()
     }
 
     /// What a reply in numbers says.
     #[inline]
-    fn read(&self, reply: ffi::Reply) -> Result<Answer, Refusal> {
+    pub(crate) fn read(&self, reply: ffi::Reply) -> Result<Answer, Refusal> {
         let ffi::Reply {
             kind,
             refusal,

@@ -9,8 +9,8 @@ use std::time::Duration;
 
 /// An event that owns what it holds.
 pub struct Line {
-    words: Vec<String>,
-    items: Vec<u64>,
+    pub words: Vec<String>,
+    pub items: Vec<u64>,
     ids: Vec<IssuedCid>,
 }
 
@@ -43,33 +43,33 @@ impl Line {
         Line { words, items, ids }
     }
 
-    fn number(&self, at: usize) -> u64 {
+    pub fn number(&self, at: usize) -> u64 {
         self.words[at].parse().unwrap()
     }
 
-    fn short(&self, at: usize) -> u16 {
+    pub fn short(&self, at: usize) -> u16 {
         self.words[at].parse().unwrap()
     }
 
-    fn flag(&self, at: usize) -> bool {
+    pub fn flag(&self, at: usize) -> bool {
         self.words[at] == "1"
     }
 
-    fn moment(&self, at: usize) -> Instant {
+    pub fn moment(&self, at: usize) -> Instant {
         Instant::from_nanos(self.number(at))
     }
 
-    fn span(&self, at: usize) -> Duration {
+    pub fn span(&self, at: usize) -> Duration {
         let nanos: u128 = self.words[at].parse().unwrap();
         let billion = 1_000_000_000;
         Duration::new((nanos / billion) as u64, (nanos % billion) as u32)
     }
 
-    fn largest(&self, at: usize) -> Option<u64> {
+    pub fn largest(&self, at: usize) -> Option<u64> {
         self.words[at].parse().ok()
     }
 
-    fn space(&self, at: usize) -> SpaceId {
+    pub fn space(&self, at: usize) -> SpaceId {
         let found = SPACES.iter().find(|it| it.0 == self.words[at]);
         found.unwrap().1
     }
@@ -304,8 +304,8 @@ pub fn written(reply: &Result<Answer, Refusal>) -> String {
     }
 }
 
-/// A recovery as the program makes it with this seed and this window.
-pub fn fresh(seed: Option<u64>, window: Option<u64>) -> Recovery {
+/// The settings of the programs with this seed and this window.
+pub fn config(seed: Option<u64>, window: Option<u64>) -> RecoveryConfig {
     let mut config = RecoveryConfig {
         skips: seed.map_or(Skips::Disabled, Skips::Drawn),
         ..RecoveryConfig::default()
@@ -313,7 +313,12 @@ pub fn fresh(seed: Option<u64>, window: Option<u64>) -> Recovery {
     if let Some(window) = window {
         config.transport.congestion = Congestion::Fixed(window);
     }
-    Recovery::new(&config, Instant::from_nanos(0)).unwrap()
+    config
+}
+
+/// A recovery as the program makes it with this seed and this window.
+pub fn fresh(seed: Option<u64>, window: Option<u64>) -> Recovery {
+    Recovery::new(&config(seed, window), Instant::from_nanos(0)).unwrap()
 }
 
 /// What a recovery answers to lines.

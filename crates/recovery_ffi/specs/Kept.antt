@@ -1,0 +1,96 @@
+-- The recovery that a stack keeps: one that stands alone, or one of a sender.
+use Rattle.std.specs.Prelude.{◌≡◌, ℕ, Bool, List, [], Option, Some, None, Result, Ok, Err, if◌then◌else◌}
+use Rattle.rand_core.specs.Stream.{Stream}
+use Rattle.recovery_events.specs.declared.event.Answer.{Answer}
+use Rattle.recovery_events.specs.declared.event.Event.{Event}
+use Rattle.recovery_sender.specs.Calls.{Begins, Passes, Takes}
+use Rattle.recovery_sender.specs.Senders.{parts_in}
+use Rattle.recovery_sender.specs.declared.sender.acks.Acknowledged.{Acknowledged}
+use Rattle.recovery_sender.specs.declared.sender.acks.EcnEnd.TheVariants.{Quiet}
+use Rattle.recovery_sender.specs.declared.sender.Refused.{Refused}
+use Rattle.recovery_sender.specs.declared.sender.Refused.TheVariants as refused
+use Rattle.recovery_sender.specs.declared.sender.Side.{Side}
+use Rattle.quic_recovery.specs.History as History
+use Rattle.quic_recovery.specs.Parts.{Parts}
+use Rattle.quic_recovery.specs.Past.{Extends, Extended, Reached}
+use Rattle.quic_recovery.specs.State.{parts_of, known_to, Transition, InFlightLeft}
+use Rattle.quic_recovery.specs.declared.driver.Recovery.{Recovery}
+use Rattle.quic_recovery.specs.declared.driver.RecoveryConfig.{RecoveryConfig}
+use Rattle.recovery_ffi.specs.Settings.{beginning}
+use Rattle.recovery_ffi.specs.declared.controllers.Chosen.{Chosen}
+use Rattle.recovery_ffi.specs.declared.controllers.ChosenConfig.{ChosenConfig}
+use Rattle.recovery_ffi.specs.declared.kept.Kept.{Kept}
+use Rattle.recovery_ffi.specs.declared.kept.Kept.TheVariants.{Alone, Sends}
+
+abbrev pub ItemEvent : Type 0
+ItemEvent = Event (List ℕ) (Unit {0}) (Unit {0}) (List ℕ)
+
+-- what can be read of it
+abbrev pub parts_kept : Kept → Parts Chosen (List ℕ) (Unit {0})
+parts_kept (Alone recovery) = parts_of recovery.recovery
+parts_kept (Sends sending) = parts_in sending.sender
+
+-- ---- events
+
+-- one that stands alone takes each event, and a sender those that pass
+abbrev pub Lets : Kept → ItemEvent → Type 0
+Lets (Alone recovery) event = Unit {0}
+Lets (Sends sending) event = Passes event
+
+-- all that `LiveRecovery::apply` says of an event and its reply, whatever came before
+pub record Applies {F Q R C K S M P : Type 0} {f : _} {c : _} {q : _} {m : _} {r : _}
+    (old : Recovery F Q R C K S M P f c q m r) (event : Event Q S M P) (reply : History.Reply Q)
+    (new : Recovery F Q R C K S M P f c q m r) : Type 0 where
+  pub changes : Transition event old reply new
+  pub in_flight : let new = parts_of new in InFlightLeft (known_to new) new.paths
+  pub extends : Extends old event reply new
+  pub extended : ∥ Extended old event reply new ∥₁
+
+-- the reply as a sender gives it
+abbrev pub by_sender : {Q : Type 0} → History.Reply Q → Result (Answer Q) Refused
+by_sender (Ok answer) = Ok answer
+by_sender (Err refusal) = Err (refused.Event refusal)
+
+-- one that stands alone does as `LiveRecovery::apply` says, one of a sender as `Sender::on_event`
+abbrev pub Comes : Kept → ItemEvent → History.Reply (List ℕ) → Kept → Type 0
+Comes (Alone old) event reply (Alone new) = Applies old.recovery event reply new.recovery
+Comes (Sends old) event reply (Sends new) =
+    Takes event old.sender new.sender (by_sender reply) × (new.told ≡ old.told)
+Comes (Alone old) event reply (Sends new) = ⊥
+Comes (Sends old) event reply (Alone new) = ⊥
+
+-- ---- what is made
+
+-- no ACK frame was told yet, and no loss
+pub record IsNothing (told : Acknowledged) : Type 0 where
+  pub numbers : told.numbers.items ≡ []
+  pub lost : told.losses.numbers.items ≡ []
+  pub probe : told.losses.probe ≡ None
+  pub congestion : told.losses.congestion ≡ None
+  pub ecn : told.ecn ≡ Quiet
+
+-- nothing has happened to one that stands alone
+abbrev pub IsFreshAlone : RecoveryConfig ChosenConfig → ℕ → Stream → Kept → Type 0
+IsFreshAlone config now words (Alone recovery) = Reached (beginning config now words) [] (parts_of recovery.recovery)
+IsFreshAlone config now words (Sends sending) = ⊥
+
+-- nor to one of a sender
+abbrev pub IsFreshSender : Side → RecoveryConfig ChosenConfig → ℕ → Stream → Kept → Type 0
+IsFreshSender side config now words (Sends sending) =
+    Begins side config now words sending.sender × IsNothing sending.told
+IsFreshSender side config now words (Alone recovery) = ⊥
+
+-- of a sender of this side, if there is one
+abbrev pub IsFresh : Option Side → RecoveryConfig ChosenConfig → ℕ → Stream → Kept → Type 0
+IsFresh None config now words kept = IsFreshAlone config now words kept
+IsFresh (Some side) config now words kept = IsFreshSender side config now words kept
+
+-- ---- what was told last
+
+-- the numbers that are newly acknowledged, or those that are lost
+abbrev pub numbers_of : Bool → Acknowledged → List ℕ
+numbers_of lost told = if lost then told.losses.numbers.items else told.numbers.items
+
+abbrev pub numbers_told : Bool → Kept → List ℕ
+numbers_told lost (Alone recovery) = []
+numbers_told lost (Sends sending) = numbers_of lost sending.told

@@ -1,0 +1,234 @@
+-- What a call of a sender comes to, in numbers.
+use Rattle.std.specs.Prelude.{◌≡◌, ◌⊎◌, ℕ, ◌+◌, ◌≤◌, Bool, true, false, List, [], length, map, Option, None, Some, is_some, option_map, option_and_then, Result, Ok, Err, IfOk, OnOk, OnErr, Vec, ◌∷◌, if◌then◌else◌}
+use Rattle.std.specs.Global.{Global}
+use Rattle.std.specs.Option.{option_map_or}
+use Rattle.recovery_base.specs.declared.below.SpaceId.{SpaceId}
+use Rattle.recovery_events.specs.declared.event.Answer.TheVariants.{Done}
+use Rattle.recovery_events.specs.declared.event.Event.TheVariants.{DiscardSpace}
+use Rattle.recovery_ledger.specs.Spaces.{space_of}
+use Rattle.recovery_sender.specs.Acking.{OnAck}
+use Rattle.recovery_sender.specs.Calls.{begun_anew, bytes_in_flight, discard_reply, is_checked, transmit_reply, transmit_steps, window_of}
+use Rattle.recovery_sender.specs.Senders.{parts_in}
+use Rattle.recovery_sender.specs.Steps as Steps
+use Rattle.recovery_sender.specs.Steps.{Does}
+use Rattle.recovery_sender.specs.Timeouts.{TimesOut}
+use Rattle.recovery_sender.specs.declared.frames.Ack.{Ack}
+use Rattle.recovery_sender.specs.declared.sender.acks.Acknowledged.{Acknowledged}
+use Rattle.recovery_sender.specs.declared.sender.acks.EcnEnd.{EcnEnd}
+use Rattle.recovery_sender.specs.declared.sender.acks.EcnEnd.TheVariants.{Quiet, Marked, Failed}
+use Rattle.recovery_sender.specs.declared.sender.packets.Transmission.{Transmission}
+use Rattle.recovery_sender.specs.declared.sender.packets.Transmission.TheVariants.{Transmitted, Blocked, Full, Delayed}
+use Rattle.recovery_sender.specs.declared.sender.probes.Timeout.{Timeout}
+use Rattle.recovery_sender.specs.declared.sender.probes.Timeout.TheVariants.{Nothing, Lost, Probe}
+use Rattle.recovery_sender.specs.declared.sender.Refused.{Refused}
+use Rattle.recovery_sender.specs.declared.sender.Refused.TheVariants as refused
+use Rattle.recovery_sender.specs.declared.sender.Variables.{Variables}
+use Rattle.recovery_ffi.specs.Answers.{IsBad, HadNoMemory}
+use Rattle.recovery_ffi.specs.Codes.{counts, space_coded, space_number, span}
+use Rattle.recovery_ffi.specs.Controllers.{chosen_words}
+use Rattle.recovery_ffi.specs.Replies.{no_recovery, no_sender, plain, refusal_spelled}
+use Rattle.recovery_ffi.specs.declared.kept.Kept.{Kept}
+use Rattle.recovery_ffi.specs.declared.kept.Kept.TheVariants.{Alone, Sends}
+use Rattle.recovery_ffi.specs.declared.numbers.TheConstants.{ANSWER_ACKNOWLEDGED, ANSWER_BLOCKED, ANSWER_DELAYED, ANSWER_DONE, ANSWER_FULL, ANSWER_LOSSES, ANSWER_NOTHING, ANSWER_PROBES, ANSWER_REFUSED, ANSWER_TRANSMITTED, ECN_FAILED, ECN_MARKED, ECN_QUIET, REFUSAL_UNSENT}
+use Rattle.recovery_ffi.specs.declared.sender.AckFrame.{AckFrame}
+use Rattle.recovery_ffi.specs.declared.sender.AckRange.{AckRange}
+use Rattle.recovery_ffi.specs.declared.sending.Call.{Call}
+use Rattle.recovery_ffi.specs.declared.sending.Call.TheVariants.{Transmit, TakeAck, Expire, Discard, HandshakeKeys, HandshakeConfirmed, PeerDelay}
+use Rattle.recovery_ffi.specs.declared.sending.Sending.{Sending}
+use Rattle.recovery_ffi.specs.declared.sending.ToldView.{ToldView}
+use Rattle.recovery_ffi.specs.declared.stack.Reply.{Reply}
+use Rattle.recovery_ffi.specs.declared.stack.Stack.{Stack}
+
+-- ---- answers in numbers
+
+abbrev pub refused_spelled : Refused → Reply
+refused_spelled (refused.Event refusal) = refusal_spelled refusal
+refused_spelled refused.Unsent = record (plain ANSWER_REFUSED) { refusal = REFUSAL_UNSENT }
+
+abbrev pub spelled_by : {T : Type 0} → (T → Reply) → Result T Refused → Reply
+spelled_by spell (Ok answer) = spell answer
+spelled_by spell (Err refusal) = refused_spelled refusal
+
+abbrev pub transmission_spelled : Transmission → Reply
+transmission_spelled Transmitted = plain ANSWER_TRANSMITTED
+transmission_spelled Blocked = plain ANSWER_BLOCKED
+transmission_spelled Full = plain ANSWER_FULL
+transmission_spelled (Delayed until) = record (plain ANSWER_DELAYED) { first = until }
+
+abbrev pub timeout_spelled : Timeout → Reply
+timeout_spelled Nothing = plain ANSWER_NOTHING
+timeout_spelled (Lost losses) = plain ANSWER_LOSSES
+timeout_spelled (Probe space count) = record (plain ANSWER_PROBES) { first = space_number space; second = count }
+
+-- ---- what a call comes to
+
+-- a datagram goes out, or does not (RFC 9002, 7; RFC 9000, 8.1)
+pub record Transmits (now bytes : ℕ) (space : SpaceId) (in_flight : Bool) (old : Sending) (spelling : Reply)
+    (new : Sending) : Type 0 where
+  pub reply : Result Transmission Refused
+  pub is : reply ≡ transmit_reply chosen_words (parts_in old.sender) now bytes space in_flight
+  pub window : reply ≡ Ok Transmitted → in_flight ≡ true
+      → (space_of space (parts_in old.sender).spaces).loss_probes ≡ 0
+      → bytes_in_flight (parts_in old.sender) + bytes ≤ window_of chosen_words (parts_in old.sender)
+  pub steps : IfOk reply (λ sent. let checked = is_checked (parts_in old.sender) space in_flight in
+      Does (transmit_steps now bytes checked sent) old.sender.variables old.sender new.sender)
+  pub stays : OnErr reply (new.sender ≡ old.sender)
+  pub spells : spelling ≡ spelled_by transmission_spelled reply
+  pub told : new.told ≡ old.told
+
+-- an ACK frame: what it comes to is kept, to be read (RFC 9002, A.7)
+abbrev pub told_by_ack : Result Acknowledged Refused → Acknowledged → Acknowledged
+told_by_ack (Ok acked) told = acked
+told_by_ack (Err refusal) told = told
+
+pub record Acks (space : SpaceId) (now : ℕ) (ranges : List (ℕ × ℕ)) (ack : Ack) (old : Sending) (spelling : Reply)
+    (new : Sending) : Type 0 where
+  pub reply : Result Acknowledged Refused
+  pub comes : OnAck space now ranges ack old.sender new.sender reply
+  pub spells : spelling ≡ spelled_by (λ acked. plain ANSWER_ACKNOWLEDGED) reply
+  pub told : new.told ≡ told_by_ack reply old.told
+
+-- a timeout: so are losses that it finds (RFC 9002, A.9)
+abbrev pub IsToldByTimeout : Result Timeout Refused → Acknowledged → Acknowledged → Type 0
+IsToldByTimeout (Ok (Lost losses)) old new = (new.numbers.items ≡ []) × (new.losses ≡ losses) × (new.ecn ≡ Quiet)
+IsToldByTimeout reply old new = new ≡ old
+
+pub record Expires (now : ℕ) (immediate : Bool) (old : Sending) (spelling : Reply) (new : Sending) : Type 0 where
+  pub reply : Result Timeout Refused
+  pub comes : TimesOut now immediate (tt {0}) (tt {0}) old.sender new.sender reply
+  pub spells : spelling ≡ spelled_by timeout_spelled reply
+  pub told : IsToldByTimeout reply old.told new.told
+
+-- a space ends (RFC 9002, 6.2.2, 6.4 and A.11)
+pub record Discards (space : SpaceId) (now : ℕ) (old : Sending) (spelling : Reply) (new : Sending) : Type 0 where
+  pub reply : Result (Unit {0}) Refused
+  pub is : reply ≡ discard_reply (parts_in old.sender) space
+  pub steps : OnOk reply (Does (Steps.told (DiscardSpace space) (Ok Done) ∷ []) (begun_anew now old.sender.variables)
+      old.sender new.sender)
+  pub stays : OnErr reply (new.sender ≡ old.sender)
+  pub spells : spelling ≡ spelled_by (λ done. plain ANSWER_DONE) reply
+  pub told : new.told ≡ old.told
+
+-- something is said of the connection, and the timer set
+pub record IsSaid (change : Variables → Variables) (old : Sending) (spelling : Reply) (new : Sending) : Type 0 where
+  pub does : Does [] (change old.sender.variables) old.sender new.sender
+  pub spells : spelling ≡ plain ANSWER_DONE
+  pub told : new.told ≡ old.told
+
+-- there are keys of Handshake packets (RFC 9002, A.8)
+abbrev pub keyed : Variables → Variables
+keyed variables = record variables { has_handshake_keys = true }
+
+-- the handshake is confirmed (RFC 9001, 4.1.2)
+abbrev pub confirmed : Variables → Variables
+confirmed variables = record variables { is_handshake_confirmed = true; is_address_known = true }
+
+-- the peer delays its ACKs at most so long (RFC 9000, 18.2)
+abbrev pub delayed_by : ℕ → Variables → Variables
+delayed_by span variables = record variables { max_ack_delay = span }
+
+abbrev pub Says : Call → Sending → Reply → Sending → Type 0
+Says (Transmit now bytes space in_flight) old spelling new = Transmits now bytes space in_flight old spelling new
+Says (TakeAck space now ranges ack) old spelling new = Acks space now ranges.items ack old spelling new
+Says (Expire now immediate) old spelling new = Expires now immediate old spelling new
+Says (Discard space now) old spelling new = Discards space now old spelling new
+Says HandshakeKeys old spelling new = IsSaid keyed old spelling new
+Says HandshakeConfirmed old spelling new = IsSaid confirmed old spelling new
+Says (PeerDelay span) old spelling new = IsSaid (delayed_by span) old spelling new
+
+-- ---- of what a handle holds
+
+-- a recovery that stands alone refuses a call of a sender, and stays
+abbrev pub OfSender : Call → Kept → Reply → Kept → Type 0
+OfSender call (Alone old) spelling new = (spelling ≡ no_sender) × (new ≡ Alone old)
+OfSender call (Sends old) spelling (Sends new) = Says call old spelling new
+OfSender call (Sends old) spelling (Alone new) = ⊥
+
+pub record AsksStack (call : Call) (was : Stack) (spelling : Reply) (is : Stack) : Type 0 where
+  pub comes : OfSender call was.kept spelling is.kept
+  pub taken : is.taken ≡ was.taken
+  pub token : is.token ≡ was.token
+
+pub record HandsOn (was : Stack) (call : Call) (spelling : Reply) (new : Option Stack) : Type 0 where
+  pub is : Stack
+  pub holds : new ≡ Some is
+  pub asks : AsksStack call was spelling is
+
+-- where a handle holds none, the call is refused
+abbrev pub Asks : Option Stack → Call → Reply → Option Stack → Type 0
+Asks None call spelling new = (spelling ≡ no_recovery) × (new ≡ None)
+Asks (Some was) call spelling new = HandsOn was call spelling new
+
+-- the call of what an argument names, where it names something
+abbrev pub AsksTo : {C : Type 0} → Option C → (C → Call) → Option Stack → Reply → Option Stack → Type 0
+AsksTo None call old spelling new = IsBad old spelling new
+AsksTo (Some named) call old spelling new = Asks old (call named) spelling new
+
+-- ---- an ACK frame as it is given
+
+abbrev pub range_given : AckRange → ℕ × ℕ
+range_given range = (range.first, range.last)
+
+abbrev pub ack_with : AckFrame → ℕ → Ack
+ack_with frame delay = record {
+  delay = delay;
+  ecn = (if frame.has_ecn then Some (counts frame.ect0 frame.ect1 frame.ce) else None);
+  app_limited = frame.app_limited;
+}
+
+-- the delay has fewer nanoseconds than a second
+abbrev pub ack_given : AckFrame → Option Ack
+ack_given frame = option_map (ack_with frame) (span frame.delay_secs frame.delay_nanos)
+
+abbrev pub frame_given : ℕ → AckFrame → Option (SpaceId × Ack)
+frame_given space frame =
+    option_and_then (λ space. option_map (λ ack. (space, ack)) (ack_given frame)) (space_coded space)
+
+pub record TakesFrame (old : Option Stack) (named : SpaceId × Ack) (now : ℕ) (given : List AckRange) (spelling : Reply)
+    (new : Option Stack) : Type 0 where
+  pub ranges : Vec (ℕ × ℕ) Global
+  pub are : ranges.items ≡ map range_given given
+  pub asks : Asks old (TakeAck named.0 now ranges named.1) spelling new
+
+-- it is taken, or there was no memory to hand in its ranges
+abbrev pub AsksAck : Option (SpaceId × Ack) → ℕ → List AckRange → Option Stack → Reply → Option Stack → Type 0
+AsksAck None now given old spelling new = IsBad old spelling new
+AsksAck (Some named) now given old spelling new =
+    TakesFrame old named now given spelling new ⊎ HadNoMemory given old spelling new
+
+-- ---- what was told last, in numbers
+
+abbrev pub ecn_number : EcnEnd → ℕ
+ecn_number Quiet = ECN_QUIET
+ecn_number Marked = ECN_MARKED
+ecn_number Failed = ECN_FAILED
+
+abbrev pub told_shown : Acknowledged → ToldView
+told_shown told = record {
+  acked = length told.numbers.items;
+  lost = length told.losses.numbers.items;
+  probe = option_map_or (λ number. number) told.losses.probe 0;
+  congestion = option_map_or (λ bytes. bytes) told.losses.congestion 0;
+  ecn = ecn_number told.ecn;
+  has_probe = is_some told.losses.probe;
+  has_congestion = is_some told.losses.congestion;
+  is_persistent = told.losses.is_persistent;
+  is_black_hole = told.losses.is_black_hole;
+}
+
+abbrev pub no_told : ToldView
+no_told = record {
+  acked = 0;
+  lost = 0;
+  probe = 0;
+  congestion = 0;
+  ecn = ECN_QUIET;
+  has_probe = false;
+  has_congestion = false;
+  is_persistent = false;
+  is_black_hole = false;
+}
+
+abbrev pub told_view : Kept → ToldView
+told_view (Alone recovery) = no_told
+told_view (Sends sending) = told_shown sending.told

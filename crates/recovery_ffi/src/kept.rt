@@ -1,0 +1,168 @@
+//! The recovery that a stack keeps: one that stands alone, or one of a sender.
+ghost use Rattle.std.specs.Prelude.{◌≡◌, ◌≤◌, ◌^◌, Decides, IfOk};
+ghost use Rattle.rand_core.specs.Steps.{stream_of, steps_u32};
+ghost use Rattle.rand_pcg.specs.Pcg.{pcg32};
+ghost use Rattle.quic_recovery.specs.State.{parts_of};
+ghost use Rattle.recovery_skips.specs.Skips.{IsSkips};
+ghost use Rattle.recovery_ffi.specs.Kept.{numbers_told, parts_kept, Comes, IsFreshAlone, IsFreshSender, IsFresh, Lets};
+ghost use Rattle.recovery_ffi.specs.Sending.{told_view, OfSender};
+ghost use Rattle.recovery_ffi.specs.Views.{IsWritten};
+
+use crate::codes::copy_numbers;
+use crate::controllers::ChosenConfig;
+use crate::sending::{Call, Sending, ToldView, nothing_told};
+use crate::stack::Reply;
+use quic_recovery::below::NoMemory;
+use quic_recovery::{Answer, Event, LiveRecovery, Recovery, RecoveryConfig, Refusal};
+use rand_pcg::Pcg32;
+use recovery_base::time::Instant;
+use recovery_queue::items::ItemQueue;
+use recovery_sender::{Refused, Sender, Side, passes};
+use std::alloc::Global;
+
+/// A recovery over a chosen controller, whose packets carry numbered items and whose skips are drawn by PCG32.
+pub type ItemRecovery = LiveRecovery<ChosenConfig, ItemQueue, Pcg32>;
+
+/// A sender over such a one.
+pub type ItemSender = Sender<ChosenConfig, ItemQueue, Pcg32>;
+
+/// The recovery of a stack.
+#[derive(Drop)]
+pub enum Kept {
+    /// It takes each event.
+    Alone(ItemRecovery),
+    /// It takes the events that its sender lets pass, and those of the sender's calls.
+    Sends(Sending),
+}
+
+impl Kept {
+    /// A recovery to which nothing has happened yet: of a sender of this side, if there is one.
+    pub fn new(
+        alloc: Global,
+        side: Option<Side>,
+        config: RecoveryConfig<ChosenConfig>,
+        rng: Pcg32,
+        now: Instant,
+    ) -> Result<Kept, NoMemory>
+        requires issued { config.issued ≤ 2 ^ 62 }
+        requires skips { IsSkips config.skips }
+        ensures { IfOk result
+            (λ kept. IsFresh side config now (stream_of (steps_u32 pcg32) rng) kept) }
+    {
+        match side {
+            Some(side) => Kept::sends(alloc, side, config, rng, now),
+            None => Kept::alone(alloc, config, rng, now),
+        }
+    }
+
+    fn alone(
+        alloc: Global,
+        config: RecoveryConfig<ChosenConfig>,
+        rng: Pcg32,
+        now: Instant,
+    ) -> Result<Kept, NoMemory>
+        requires issued { config.issued ≤ 2 ^ 62 }
+        requires skips { IsSkips config.skips }
+        ensures { IfOk result
+            (λ kept. IsFreshAlone config now (stream_of (steps_u32 pcg32) rng) kept) }
+    {
+        let recovery = LiveRecovery::new(alloc, config, rng, now)?;
+        Ok(Kept::Alone(recovery))
+    }
+
+    fn sends(
+        alloc: Global,
+        side: Side,
+        config: RecoveryConfig<ChosenConfig>,
+        rng: Pcg32,
+        now: Instant,
+    ) -> Result<Kept, NoMemory>
+        requires issued { config.issued ≤ 2 ^ 62 }
+        requires skips { IsSkips config.skips }
+        ensures { IfOk result
+            (λ kept. IsFreshSender side config now (stream_of (steps_u32 pcg32) rng) kept) }
+    {
+        let sender = Sender::new(alloc, side, config, rng, now)?;
+        Ok(Kept::Sends(Sending {
+            sender,
+            told: nothing_told(alloc),
+        }))
+    }
+
+    /// The recovery, to look at.
+    pub fn recovery(&self) -> &Recovery<ChosenConfig, ItemQueue, Pcg32>
+        ensures { parts_of result.now ≡ parts_kept self.now }
+    {
+        match self {
+            Kept::Alone(recovery) => recovery.recovery(),
+            Kept::Sends(sending) => sending.sender.recovery(),
+        }
+    }
+
+    /// Whether it takes an event: a sender decides some itself.
+    #[inline(always)]
+    pub fn lets(&self, event: &Event<ItemQueue>) -> bool
+        ensures { Decides result (Lets self.now event.now) }
+    {
+        match self {
+            Kept::Alone(_) => true,
+            Kept::Sends(_) => passes(event),
+        }
+    }
+
+    /// One event that it takes.
+    #[inline(always)]
+    pub fn apply(&mut self, event: Event<ItemQueue>) -> Result<Answer<ItemQueue>, Refusal>
+        requires { Lets self.old event }
+        ensures { Comes self.old event result self.new }
+    {
+        match self {
+            Kept::Alone(recovery) => recovery.apply(event),
+            Kept::Sends(sending) => match sending.sender.on_event(event) {
+                Ok(answer) => Ok(answer),
+                Err(Refused::Event(refusal)) => Err(refusal),
+                Err(Refused::Unsent) => unreachable!(),
+            },
+        }
+    }
+
+    /// The numbers that the last ACK frame newly acknowledged, or those that it or the last timeout found lost.
+    fn numbers(&self, lost: bool) -> &[u64]
+        ensures { result.now ≡ numbers_told lost self.now }
+    {
+        match self {
+            Kept::Alone(_) => &[],
+            Kept::Sends(sending) => sending.numbers(lost),
+        }
+    }
+
+    /// How many of these there are; they are written where there is room for all.
+    pub fn copy_numbers(&self, lost: bool, out: &mut [u64]) -> usize
+        ensures { IsWritten (numbers_told lost self.now) out.old result out.new }
+    {
+        copy_numbers(self.numbers(lost), out)
+    }
+
+    /// What was told last by a sender.
+    pub fn told(&self) -> ToldView
+        ensures { result ≡ told_view self.now }
+    {
+        match self {
+            Kept::Alone(_) => ToldView::none(),
+            Kept::Sends(sending) => ToldView::of(&sending.told),
+        }
+    }
+
+    /// One call of a sender; refused where there is none.
+    pub fn ask(&mut self, alloc: Global, call: Call) -> Reply
+        ensures { OfSender call self.old result self.new }
+    {
+        match self {
+            Kept::Alone(_) => {
+                drop(call);
+                Reply::no_sender()
+            }
+            Kept::Sends(sending) => sending.ask(alloc, call),
+        }
+    }
+}

@@ -1,0 +1,306 @@
+//! The sending half of a connection (RFC 9002, Appendices A and B): which packets are lost, when to probe, and whether
+//! a datagram may go out. An export for each call of it that is no event; events that pass it takes as a recovery does.
+ghost use Rattle.std.specs.Prelude.{◌≡◌, ◌<◌, Some, IfOk, OnErr, length, map};
+ghost use Rattle.recovery_ffi.specs.Answers.{Reads};
+ghost use Rattle.recovery_ffi.specs.Codes.{side_coded, space_coded, span};
+ghost use Rattle.recovery_ffi.specs.Kept.{numbers_told};
+ghost use Rattle.recovery_ffi.specs.Made.{NewOr};
+ghost use Rattle.recovery_ffi.specs.Sending.{ack_given, frame_given, no_told, range_given, told_view, Asks, AsksAck, AsksTo};
+ghost use Rattle.recovery_ffi.specs.Views.{IsWritten};
+ghost use Rattle.recovery_ffi.specs.declared.sending.Call.TheVariants.{Transmit, Expire, Discard, HandshakeKeys, HandshakeConfirmed, PeerDelay};
+
+use crate::begin;
+use crate::codes::{Address, space_coded, span};
+use crate::handle::Handle;
+use crate::sending::{Call, ToldView};
+use crate::settings::Settings;
+use crate::stack::Reply;
+use quic_recovery::time::Instant;
+use recovery_base::below::{EcnCounts, NoMemory, SpaceId};
+use recovery_sender::{Ack, Side};
+use std::alloc::Global;
+
+/// A range of numbers that an ACK frame acknowledges (RFC 9000, 19.3.1).
+#[repr(C)]
+#[derive(Clone, Copy)]
+pub struct AckRange {
+    /// The first number.
+    pub first: u64,
+    /// The last number.
+    pub last: u64,
+}
+
+/// What an ACK frame says beside its ranges, and what the stack knows at its arrival.
+#[repr(C)]
+#[derive(Clone, Copy)]
+pub struct AckFrame {
+    /// How long the peer says that it delayed the ACK, in whole seconds.
+    pub delay_secs: u64,
+    /// The count of ECT(0), where the frame has counts (RFC 9000, 19.3.2).
+    pub ect0: u64,
+    /// The count of ECT(1).
+    pub ect1: u64,
+    /// The count of ECN-CE.
+    pub ce: u64,
+    /// The nanoseconds of that delay beside its seconds, below 10^9.
+    pub delay_nanos: u32,
+    /// Whether the frame has counts of ECN.
+    pub has_ecn: bool,
+    /// Whether the sender had too little to send to fill its window (RFC 9002, 7.8).
+    pub app_limited: bool,
+}
+
+/// Ranges as the sender takes them, in the same order; where there are none, it takes no memory.
+fn ranges_of(alloc: Global, given: &[AckRange]) -> Result<Vec<(u64, u64)>, NoMemory>
+    ensures ranges { IfOk result (λ ranges. ranges.items ≡ map range_given given.now) }
+    ensures memory { OnErr result (0 < length given.now) }
+{
+    let mut ranges = Vec::new(alloc);
+    ranges.reserve_exact(given.len())?;
+    for range in given {
+        ranges.push_reserved((range.first, range.last));
+    }
+    Ok(ranges)
+}
+
+/// What a frame says, where its delay has fewer nanoseconds than a second.
+fn ack_of(given: &AckFrame) -> Option<Ack>
+    ensures { result ≡ ack_given given.now }
+{
+    let delay = span(given.delay_secs, given.delay_nanos)?;
+    let counts = EcnCounts {
+        ect0: given.ect0,
+        ect1: given.ect1,
+        ce: given.ce,
+    };
+    Some(Ack {
+        delay,
+        ecn: if given.has_ecn { Some(counts) } else { None },
+        app_limited: given.app_limited,
+    })
+}
+
+/// Its space and what it says.
+fn frame_of(space: u8, given: &AckFrame) -> Option<(SpaceId, Ack)>
+    ensures { result ≡ frame_given space given.now }
+{
+    Some((space_coded(space)?, ack_of(given)?))
+}
+
+fn side_of(client: bool) -> Side
+    ensures { result ≡ side_coded client }
+{
+    if client { Side::Client } else { Side::Server }
+}
+
+/// Makes a recovery of a sender, of the client or else of the server, whose peer is at this address and has this id of
+/// at most 20 bytes. A client's first path is validated, whatever the settings say (RFC 9000, 8.1). The answer is
+/// `NEW_MADE`, or the number of what is wrong; the handle then holds what it held.
+#[unsafe(no_mangle)]
+pub extern "C" fn recovery_ffi_sender_new(
+    alloc: Global,
+    handle: &mut Handle,
+    client: bool,
+    settings: &Settings,
+    remote: &Address,
+    initial_cid: &[u8],
+    now: u64,
+) -> u8
+    ensures { NewOr (Some (side_coded client)) result settings.now remote.now initial_cid.now now
+        handle.old.slot.held handle.new.slot.held }
+{
+    begin(
+        alloc,
+        handle,
+        Some(side_of(client)),
+        settings,
+        remote,
+        initial_cid,
+        now,
+    )
+}
+
+/// Whether a datagram of so many bytes goes out now, with packets of a space: `ANSWER_TRANSMITTED`, and it is counted;
+/// `ANSWER_BLOCKED` by the limit against amplification (RFC 9000, 8.1); `ANSWER_FULL` where the window has no room (RFC
+/// 9002, 7); `ANSWER_DELAYED` by the pacer, until `first` (RFC 9002, 7.7). Where nothing in it counts in flight, or a
+/// probe is due in the space, the limit alone is asked. The packets in it are told by `recovery_ffi_send` before the
+/// next datagram is asked for. Refused by `REFUSAL_SPACE_DISCARDED`, then by `REFUSAL_OVERFLOW`.
+#[unsafe(no_mangle)]
+pub extern "C" fn recovery_ffi_sender_transmit(
+    alloc: Global,
+    handle: &mut Handle,
+    now: u64,
+    bytes: u16,
+    space: u8,
+    in_flight: bool,
+) -> Reply
+    ensures { AsksTo (space_coded space) (λ space. Transmit now bytes space in_flight)
+        handle.old.slot.held result handle.new.slot.held }
+{
+    let Some(space) = space_coded(space) else {
+        return Reply::bad_argument();
+    };
+    handle.ask(
+        alloc,
+        Call::Transmit {
+            now: Instant::from_nanos(now),
+            bytes,
+            space,
+            in_flight,
+        },
+    )
+}
+
+/// An ACK frame came in (RFC 9002, A.7), with its ranges, the highest first, as on the wire: `ANSWER_ACKNOWLEDGED`.
+/// What it newly acknowledges, and what is lost by it, `recovery_ffi_told` and `recovery_ffi_told_numbers` say.
+/// Refused, and nothing changes, by `REFUSAL_SPACE_DISCARDED`, by `REFUSAL_BAD_RANGE` where there is no range, one ends
+/// before it begins, or two have no number between them (RFC 9000, 19.3.1), by `REFUSAL_UNSENT`, by
+/// `REFUSAL_SKIPPED_ACKED` (RFC 9000, 21.4), or by `REFUSAL_NO_MEMORY`.
+#[unsafe(no_mangle)]
+pub extern "C" fn recovery_ffi_sender_ack(
+    alloc: Global,
+    handle: &mut Handle,
+    space: u8,
+    now: u64,
+    frame: &AckFrame,
+    ranges: &[AckRange],
+) -> Reply
+    ensures { AsksAck (frame_given space frame.now) now ranges.now
+        handle.old.slot.held result handle.new.slot.held }
+{
+    let Some((space, ack)) = frame_of(space, frame) else {
+        return Reply::bad_argument();
+    };
+    match ranges_of(alloc, ranges) {
+        Ok(ranges) => handle.ask(
+            alloc,
+            Call::TakeAck {
+                space,
+                now: Instant::from_nanos(now),
+                ranges,
+                ack,
+            },
+        ),
+        Err(_) => Reply::no_memory(),
+    }
+}
+
+/// The timer for losses may be due (RFC 9002, A.9): `ANSWER_NOTHING` where it is not; `ANSWER_LOSSES` where packets
+/// were looked for that are lost, which `recovery_ffi_told` and `recovery_ffi_told_numbers` say; or `ANSWER_PROBES`,
+/// with the space in `first` and in `second` how many are to be sent, 1 or 2. `immediate_ack` asks for an IMMEDIATE_ACK
+/// frame in a probe. Refused by `REFUSAL_NO_MEMORY` where the first probe finds none; then nothing changed.
+#[unsafe(no_mangle)]
+pub extern "C" fn recovery_ffi_sender_timeout(
+    alloc: Global,
+    handle: &mut Handle,
+    now: u64,
+    immediate_ack: bool,
+) -> Reply
+    ensures { Asks handle.old.slot.held (Expire now immediate_ack) result handle.new.slot.held }
+{
+    handle.ask(
+        alloc,
+        Call::Expire {
+            now: Instant::from_nanos(now),
+            immediate_ack,
+        },
+    )
+}
+
+/// The keys of a space are dropped, and with them all that it tracks; probe timeouts are counted anew (RFC 9002, 6.2.2,
+/// 6.4 and A.11): `ANSWER_DONE`. Refused by `REFUSAL_SPACE_DISCARDED`.
+#[unsafe(no_mangle)]
+pub extern "C" fn recovery_ffi_sender_discard(
+    alloc: Global,
+    handle: &mut Handle,
+    space: u8,
+    now: u64,
+) -> Reply
+    ensures { AsksTo (space_coded space) (λ space. Discard space now)
+        handle.old.slot.held result handle.new.slot.held }
+{
+    let Some(space) = space_coded(space) else {
+        return Reply::bad_argument();
+    };
+    handle.ask(
+        alloc,
+        Call::Discard {
+            space,
+            now: Instant::from_nanos(now),
+        },
+    )
+}
+
+/// There are keys of Handshake packets (RFC 9002, A.8): `ANSWER_DONE`.
+#[unsafe(no_mangle)]
+pub extern "C" fn recovery_ffi_sender_handshake_keys(alloc: Global, handle: &mut Handle) -> Reply
+    ensures { Asks handle.old.slot.held HandshakeKeys result handle.new.slot.held }
+{
+    handle.ask(alloc, Call::HandshakeKeys)
+}
+
+/// The handshake is confirmed (RFC 9001, 4.1.2): packets of 1-RTT keys are probed for from now on, and a client knows
+/// its address validated (RFC 9002, 6.2.1 and 6.2.2.1): `ANSWER_DONE`.
+#[unsafe(no_mangle)]
+pub extern "C" fn recovery_ffi_sender_handshake_confirmed(
+    alloc: Global,
+    handle: &mut Handle,
+) -> Reply
+    ensures { Asks handle.old.slot.held HandshakeConfirmed result handle.new.slot.held }
+{
+    handle.ask(alloc, Call::HandshakeConfirmed)
+}
+
+/// The peer delays its ACKs of 1-RTT packets at most so long (RFC 9000, 18.2: max_ack_delay): `ANSWER_DONE`. There are
+/// fewer than 10^9 nanoseconds.
+#[unsafe(no_mangle)]
+pub extern "C" fn recovery_ffi_sender_peer_delay(
+    alloc: Global,
+    handle: &mut Handle,
+    secs: u64,
+    nanos: u32,
+) -> Reply
+    ensures { AsksTo (span secs nanos) (λ span. PeerDelay span)
+        handle.old.slot.held result handle.new.slot.held }
+{
+    match span(secs, nanos) {
+        Some(span) => handle.ask(alloc, Call::PeerDelay(span)),
+        None => Reply::bad_argument(),
+    }
+}
+
+/// What was told last: by an ACK frame that was not refused, or by a timeout that looked for losses. Nothing before it,
+/// and where there is no sender.
+#[unsafe(no_mangle)]
+pub extern "C" fn recovery_ffi_told(alloc: Global, handle: &mut Handle) -> ToldView
+    ensures { Reads handle.old.slot.held handle.new.slot.held (λ stack.
+        result ≡ told_view stack.kept) (result ≡ no_told) }
+{
+    let Some(stack) = handle.take(alloc) else {
+        return ToldView::none();
+    };
+    let view = stack.kept.told();
+    handle.put(stack);
+    view
+}
+
+/// How many numbers were newly acknowledged as something was told last, or, with `lost`, how many were found lost,
+/// without that of the MTU's probe; they are written, rising, where there is room for all.
+#[unsafe(no_mangle)]
+pub extern "C" fn recovery_ffi_told_numbers(
+    alloc: Global,
+    handle: &mut Handle,
+    lost: bool,
+    out: &mut [u64],
+) -> usize
+    ensures { Reads handle.old.slot.held handle.new.slot.held (λ stack.
+        IsWritten (numbers_told lost stack.kept) out.old result out.new)
+        ((result ≡ 0) × (out.new ≡ out.old)) }
+{
+    let Some(stack) = handle.take(alloc) else {
+        return 0;
+    };
+    let count = stack.kept.copy_numbers(lost, out);
+    handle.put(stack);
+    count
+}

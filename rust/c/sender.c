@@ -1,0 +1,66 @@
+// A sender from C: four packets go out, the last one is acknowledged, and the others are lost: the first by its number, two by
+// their age (RFC 9002, 6.1). What they carried is to be sent again.
+#include "recovery_ffi.h"
+#include <inttypes.h>
+#include <stdio.h>
+
+static const unsigned space = RECOVERY_SPACE_DATA;
+
+static void numbers(struct recovery_handle *sender, const char *what, bool lost) {
+    uint64_t out[8];
+    size_t count = recovery_ffi_told_numbers(sender, lost, out, 8);
+    printf(" %s", what);
+    for (size_t at = 0; at < count && count <= 8; at++) {
+        printf(" %" PRIu64, out[at]);
+    }
+}
+
+static void timer(struct recovery_handle *sender) {
+    struct recovery_momentview moment = recovery_ffi_timer(sender, RECOVERY_TIMER_LOSS_DETECTION);
+    if (moment.some) {
+        printf(", timer %" PRIu64 "\n", moment.nanos);
+    } else {
+        printf(", no timer\n");
+    }
+}
+
+static void tell(struct recovery_handle *sender, struct recovery_reply reply) {
+    printf("%u:", reply.kind);
+    if (reply.kind == RECOVERY_ANSWER_ACKNOWLEDGED || reply.kind == RECOVERY_ANSWER_LOSSES) {
+        struct recovery_toldview told = recovery_ffi_told(sender);
+        numbers(sender, "acked", false);
+        numbers(sender, "lost", true);
+        printf(" of %" PRIu64 " bytes", told.has_congestion ? told.congestion : 0);
+    }
+    timer(sender);
+}
+
+int main(void) {
+    struct recovery_handle sender = {0};
+    struct recovery_settings settings = recovery_ffi_default_settings();
+    struct recovery_address remote = {.octets = {192, 0, 2, 1}, .port = 4433};
+    uint8_t id[8] = {255, 255, 255, 255, 255, 255, 255, 255};
+    if (recovery_ffi_sender_new(&sender, false, &settings, &remote, id, sizeof id, 0) != RECOVERY_NEW_MADE) {
+        printf("no sender was made\n");
+        return 1;
+    }
+    tell(&sender, recovery_ffi_validated(&sender, false));
+    tell(&sender, recovery_ffi_sender_handshake_confirmed(&sender));
+    for (uint64_t number = 0; number < 4; number++) {
+        uint64_t now = number * 1000000, item = number + 1;
+        tell(&sender, recovery_ffi_send(&sender, space, now, 1000, true, false, 0, &item, 1));
+    }
+    struct recovery_ackframe frame = {.delay_secs = 0};
+    struct recovery_ackrange ranges[1] = {{.first = 3, .last = 3}};
+    tell(&sender, recovery_ffi_sender_ack(&sender, space, 103000000, &frame, ranges, 1));
+    tell(&sender, recovery_ffi_sender_timeout(&sender, 113499999, false));
+    tell(&sender, recovery_ffi_sender_timeout(&sender, 113500000, false));
+    tell(&sender, recovery_ffi_sender_timeout(&sender, 114500000, false));
+    if (recovery_ffi_take_pending(&sender, space).kind == RECOVERY_ANSWER_QUEUE) {
+        uint64_t taken[8];
+        size_t count = recovery_ffi_taken(&sender, taken, 8);
+        printf("%zu items to be sent again: %" PRIu64 ", %" PRIu64 " and %" PRIu64 "\n", count, taken[0], taken[1], taken[2]);
+    }
+    recovery_ffi_drop(&sender);
+    return 0;
+}

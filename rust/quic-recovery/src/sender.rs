@@ -1,0 +1,431 @@
+//! The sending half of a connection, behind its safe interface.
+use crate::config::{ConfigError, RecoveryConfig};
+use crate::event::{Answer, Event, Refusal};
+use crate::ffi;
+use crate::recovery::Recovery;
+use crate::timer::Timer;
+use crate::types::{EcnCounts, Instant, PathName, SpaceId};
+use std::error::Error;
+use std::fmt;
+use std::time::Duration;
+
+/// Which end of a connection this is.
+#[derive(Clone, Copy, Debug, PartialEq, Eq, Hash)]
+pub enum Side {
+    /// The end that began the connection.
+    Client,
+    /// The other end.
+    Server,
+}
+
+/// Why a call of a sender is refused; after it all is as it was before.
+#[derive(Clone, Copy, Debug, PartialEq, Eq, Hash)]
+#[non_exhaustive]
+pub enum Refused {
+    /// As an event of a recovery is.
+    Event(Refusal),
+    /// A number was acknowledged that was never sent (RFC 9000, 13.1).
+    Unsent,
+    /// The sender decides the event itself: it is not handed in around it.
+    Decided,
+}
+
+impl From<Refusal> for Refused {
+    fn from(refusal: Refusal) -> Self {
+        Refused::Event(refusal)
+    }
+}
+
+impl fmt::Display for Refused {
+    fn fmt(&self, f: &mut fmt::Formatter<'_>) -> fmt::Result {
+        match self {
+            Refused::Event(refusal) => refusal.fmt(f),
+            Refused::Unsent => f.write_str("a number was acknowledged that was never sent"),
+            Refused::Decided => f.write_str("the sender decides the event itself"),
+        }
+    }
+}
+
+impl Error for Refused {}
+
+/// Whether a datagram goes out.
+#[derive(Clone, Copy, Debug, PartialEq, Eq)]
+pub enum Transmission {
+    /// It does, and is counted.
+    Transmitted,
+    /// The limit against amplification forbids it (RFC 9000, 8.1).
+    Blocked,
+    /// The window has no room for it (RFC 9002, 7).
+    Full,
+    /// The pacer wants it later: it is to be asked for again at this moment (RFC 9002, 7.7).
+    Delayed(Instant),
+}
+
+/// A packet that goes out.
+#[derive(Clone, Copy, Debug, PartialEq, Eq)]
+pub struct Sent {
+    /// Its number.
+    pub number: u64,
+    /// The number of a packet that was tracked no longer for it: one that elicits no ACK, of too many of them.
+    pub forgotten: Option<u64>,
+}
+
+/// A probe of the path's MTU that goes out (RFC 8899).
+#[derive(Clone, Copy, Debug, PartialEq, Eq)]
+pub struct MtuProbe {
+    /// The packet's number.
+    pub number: u64,
+    /// The datagram's size in bytes.
+    pub size: u16,
+}
+
+/// What an ACK frame says beside its ranges, and what the stack knows at its arrival.
+#[derive(Clone, Copy, Debug, Default, PartialEq, Eq)]
+pub struct Ack {
+    /// How long the peer says that it delayed the ACK.
+    pub delay: Duration,
+    /// The counts of ECN, where the frame has them (RFC 9000, 19.3.2).
+    pub ecn: Option<EcnCounts>,
+    /// Whether the sender had too little to send to fill its window (RFC 9002, 7.8).
+    pub app_limited: bool,
+}
+
+/// What the counts of ECN of a frame come to (RFC 9000, 13.4.2.1).
+#[derive(Clone, Copy, Debug, Default, PartialEq, Eq)]
+pub enum EcnEnd {
+    /// Nothing.
+    #[default]
+    Quiet,
+    /// More packets were marked: there is congestion (RFC 9002, 7.1).
+    Marked,
+    /// The check failed: packets are marked no more on the path.
+    Failed,
+}
+
+/// What a look for losses found.
+#[derive(Clone, Debug, Default, PartialEq, Eq)]
+pub struct Losses {
+    /// The numbers that are lost, rising; without that of the MTU's probe.
+    pub numbers: Vec<u64>,
+    /// The number of the MTU's probe, where that is lost: no sign of congestion (RFC 9000, 14.4).
+    pub probe: Option<u64>,
+    /// The bytes lost on the path in use, where there is congestion (RFC 9002, 7.3.2).
+    pub congestion: Option<u64>,
+    /// Whether congestion is persistent (RFC 9002, 7.6).
+    pub is_persistent: bool,
+    /// Whether a black hole was reported (RFC 8899, 4.3).
+    pub is_black_hole: bool,
+}
+
+/// What an ACK frame comes to.
+#[derive(Clone, Debug, Default, PartialEq, Eq)]
+pub struct Acknowledged {
+    /// The numbers that it newly acknowledges, rising.
+    pub numbers: Vec<u64>,
+    /// What was found lost.
+    pub losses: Losses,
+    /// What its counts of ECN come to.
+    pub ecn: EcnEnd,
+}
+
+/// What a timeout comes to.
+#[derive(Clone, Debug, PartialEq, Eq)]
+pub enum Timeout {
+    /// The timer is not due.
+    Nothing,
+    /// These packets were found lost.
+    Lost(Losses),
+    /// So many probes are to be sent in a space, 1 or 2.
+    Probe {
+        /// The space.
+        space: SpaceId,
+        /// How many.
+        count: u8,
+    },
+}
+
+/// The sending half of a connection (RFC 9002, Appendices A and B): which packets are lost, when to probe, and whether a
+/// datagram may go out. It holds one [`Recovery`], of which all can be read, and decides what that leaves to the layer
+/// above. One call takes an ACK frame, one the timer.
+///
+/// What a call answers and does is proved, and all that is promised of a recovery holds too. A refused call changes
+/// nothing, but for the number of an ACK_FREQUENCY frame that is refused by `DelayTooSmall`, which is kept. After each
+/// call [`Sender::timer`] is when [`Sender::on_timeout`] is to be called. Sums of moments and spans stop at their
+/// greatest values.
+#[derive(Debug)]
+pub struct Sender {
+    /// Its handle holds the recovery of a sender.
+    recovery: Recovery,
+    /// The ranges of the last ACK frame, as the library takes them: kept for their memory.
+    ranges: Vec<ffi::AckRange>,
+}
+
+/// A reply, or why it is a refusal.
+fn taken(reply: ffi::Reply) -> Result<ffi::Reply, Refused> {
+    match (reply.kind, reply.refusal) {
+        (ffi::ANSWER_REFUSED, ffi::REFUSAL_UNSENT) => Err(Refused::Unsent),
+        (ffi::ANSWER_REFUSED, ffi::REFUSAL_DECIDED) => Err(Refused::Decided),
+        (ffi::ANSWER_REFUSED, number) => {
+            Err(Refused::Event(Refusal::from_number(number, reply.first)))
+        }
+        _ => Ok(reply),
+    }
+}
+
+impl Sender {
+    /// A sender to which nothing has happened yet, made at the moment `now`. The first path of a client is validated,
+    /// whatever the settings say (RFC 9000, 8.1). Settings that the library does not take are refused.
+    pub fn new(side: Side, config: &RecoveryConfig, now: Instant) -> Result<Self, ConfigError> {
+        Ok(Sender {
+            recovery: Recovery::of(Some(side), config, now)?,
+            ranges: Vec::new(),
+        })
+    }
+
+    /// The recovery, to look at: paths, spaces, ranges to be acknowledged, ids, timers, items that were taken.
+    pub fn recovery(&self) -> &Recovery {
+        &self.recovery
+    }
+
+    /// When the timer for losses is due, as the last call left it (RFC 9002, A.8).
+    pub fn timer(&self) -> Option<Instant> {
+        self.recovery.timer(Timer::LossDetection)
+    }
+
+    /// Whether a datagram of so many bytes goes out now, with packets of a space. What goes is counted; the packets in it
+    /// are told by [`Sender::send`] before the next datagram is asked for. Where nothing in it counts in flight
+    /// (`in_flight` is false: it holds ACKs or a close alone, or the MTU's probe), or a probe is due in the space, the
+    /// limit against amplification alone is asked (RFC 9002, 7, 7.5 and 7.7). Refused by `SpaceDiscarded`, then by
+    /// `Overflow` where the bytes transmitted on the path would pass `u64::MAX`.
+    pub fn transmit(
+        &mut self,
+        now: Instant,
+        bytes: u16,
+        space: SpaceId,
+        in_flight: bool,
+    ) -> Result<Transmission, Refused> {
+        let (handle, now) = (self.recovery.handle(), now.as_nanos());
+        // SAFETY: the handle holds a recovery, and `self` is borrowed alone.
+        let reply = unsafe {
+            ffi::recovery_ffi_sender_transmit(handle, now, bytes, space as u8, in_flight)
+        };
+        let reply = taken(reply)?;
+        Ok(match reply.kind {
+            ffi::ANSWER_BLOCKED => Transmission::Blocked,
+            ffi::ANSWER_FULL => Transmission::Full,
+            ffi::ANSWER_DELAYED => Transmission::Delayed(Instant::from_nanos(reply.first)),
+            _ => Transmission::Transmitted,
+        })
+    }
+
+    /// A packet goes out with these items, as [`Event::Send`] has it, and is refused. What has no size counts for no
+    /// probe timeout (RFC 9002, A.5).
+    pub fn send(
+        &mut self,
+        space: SpaceId,
+        now: Instant,
+        size: u16,
+        ack_eliciting: bool,
+        largest_acked: Option<u64>,
+        queue: &[u64],
+    ) -> Result<Sent, Refused> {
+        let reply = taken(self.recovery.reply_to(Event::Send {
+            space,
+            now,
+            size,
+            ack_eliciting,
+            largest_acked,
+            queue,
+        }))?;
+        Ok(Sent {
+            number: reply.first,
+            forgotten: reply.flag.then_some(reply.second),
+        })
+    }
+
+    /// A probe of the MTU goes out, where one is due, as [`Event::PollMtu`] has it, and is refused. The window is not
+    /// asked: a probe of the MTU is let pass it (RFC 9000, 14.4).
+    pub fn poll_mtu(&mut self, now: Instant) -> Result<Option<MtuProbe>, Refused> {
+        let reply = taken(self.recovery.reply_to(Event::PollMtu { now }))?;
+        Ok((reply.kind == ffi::ANSWER_PROBE).then_some(MtuProbe {
+            number: reply.first,
+            size: reply.size,
+        }))
+    }
+
+    /// An ACK frame came in (RFC 9002, A.7), with the first and last number of each of its ranges, the highest range
+    /// first, as on the wire. What it newly acknowledges is told, the round-trip time sampled, and losses are looked for.
+    ///
+    /// Refused by `SpaceDiscarded`; by `BadRange` where there is no range, one ends before it begins, or two have no
+    /// number between them (RFC 9000, 19.3.1); by [`Refused::Unsent`] where a number was never sent (RFC 9000, 13.1); by
+    /// `SkippedAcked` where it holds the number that was skipped last (RFC 9000, 21.4); by `NoMemory`. Where memory is
+    /// missing for the answer alone, the frame is taken: then [`Sender::told`] says what it came to. It costs its ranges,
+    /// what it newly acknowledges and what is lost or lies below the largest acknowledged, each with a logarithm.
+    pub fn on_ack(
+        &mut self,
+        space: SpaceId,
+        now: Instant,
+        ack: &Ack,
+        ranges: &[(u64, u64)],
+    ) -> Result<Acknowledged, Refused> {
+        let mut told = Acknowledged::default();
+        self.on_ack_into(space, now, ack, ranges, &mut told)?;
+        Ok(told)
+    }
+
+    /// As [`Sender::on_ack`], into vectors that the caller keeps: they are filled anew, and take memory only where they
+    /// grow.
+    pub fn on_ack_into(
+        &mut self,
+        space: SpaceId,
+        now: Instant,
+        ack: &Ack,
+        ranges: &[(u64, u64)],
+        told: &mut Acknowledged,
+    ) -> Result<(), Refused> {
+        self.ranges.clear();
+        self.ranges
+            .try_reserve(ranges.len())
+            .map_err(|_| Refusal::NoMemory)?;
+        let given = ranges
+            .iter()
+            .map(|&(first, last)| ffi::AckRange { first, last });
+        self.ranges.extend(given);
+        let counts = ack.ecn.unwrap_or_default();
+        let frame = ffi::AckFrame {
+            delay_secs: ack.delay.as_secs(),
+            ect0: counts.ect0,
+            ect1: counts.ect1,
+            ce: counts.ce,
+            delay_nanos: ack.delay.subsec_nanos(),
+            has_ecn: ack.ecn.is_some(),
+            app_limited: ack.app_limited,
+        };
+        // SAFETY: the handle holds a recovery, `self` is borrowed alone, and the ranges are a slice.
+        let reply = unsafe {
+            ffi::recovery_ffi_sender_ack(
+                self.recovery.handle(),
+                space as u8,
+                now.as_nanos(),
+                &frame,
+                self.ranges.as_ptr(),
+                self.ranges.len(),
+            )
+        };
+        taken(reply)?;
+        Ok(self.told(told)?)
+    }
+
+    /// The timer for losses may be due (RFC 9002, A.9): losses are looked for, or probes are to be sent, with an
+    /// IMMEDIATE_ACK frame where `immediate_ack` asks for one. Nothing, where it is not due. Refused by `NoMemory` where
+    /// the first probe finds none. Where memory is missing for the answer alone, [`Sender::told`] says what was lost.
+    pub fn on_timeout(&mut self, now: Instant, immediate_ack: bool) -> Result<Timeout, Refused> {
+        let (handle, now) = (self.recovery.handle(), now.as_nanos());
+        // SAFETY: the handle holds a recovery, and `self` is borrowed alone.
+        let reply = unsafe { ffi::recovery_ffi_sender_timeout(handle, now, immediate_ack) };
+        let reply = taken(reply)?;
+        Ok(match reply.kind {
+            ffi::ANSWER_LOSSES => {
+                let mut told = Acknowledged::default();
+                self.told(&mut told)?;
+                Timeout::Lost(told.losses)
+            }
+            ffi::ANSWER_PROBES => {
+                let space = SpaceId::VALUES
+                    .into_iter()
+                    .find(|it| *it as u64 == reply.first)
+                    .unwrap_or(SpaceId::Data);
+                let count = u8::from(reply.second > 1) + 1;
+                Timeout::Probe { space, count }
+            }
+            _ => Timeout::Nothing,
+        })
+    }
+
+    /// A datagram of so many bytes came in on the path in use: what may be sent grows where its address is not validated,
+    /// so that the timer may be due at once (RFC 9000, 8.1; RFC 9002, A.6). Refused by `Overflow`.
+    pub fn on_datagram(&mut self, bytes: u64) -> Result<(), Refused> {
+        let path = PathName::Current;
+        taken(self.recovery.reply_to(Event::DatagramIn { path, bytes }))?;
+        Ok(())
+    }
+
+    /// There are keys of Handshake packets (RFC 9002, A.8).
+    pub fn on_handshake_keys(&mut self) {
+        // SAFETY: the handle holds a recovery, and `self` is borrowed alone.
+        unsafe { ffi::recovery_ffi_sender_handshake_keys(self.recovery.handle()) };
+    }
+
+    /// The handshake is confirmed (RFC 9001, 4.1.2): packets of 1-RTT keys are probed for from now on, and a client knows
+    /// its address validated (RFC 9002, 6.2.1 and 6.2.2.1).
+    pub fn on_handshake_confirmed(&mut self) {
+        // SAFETY: the handle holds a recovery, and `self` is borrowed alone.
+        unsafe { ffi::recovery_ffi_sender_handshake_confirmed(self.recovery.handle()) };
+    }
+
+    /// The peer was seen to receive at the address of the path in use (RFC 9000, 8.1 and 8.2).
+    pub fn on_address_validated(&mut self) {
+        let path = PathName::Current;
+        self.recovery.reply_to(Event::Validated { path });
+    }
+
+    /// The peer delays its ACKs of 1-RTT packets at most so long (RFC 9000, 18.2: max_ack_delay); 25 ms until it is told.
+    pub fn set_peer_max_ack_delay(&mut self, span: Duration) {
+        let (secs, nanos) = (span.as_secs(), span.subsec_nanos());
+        // SAFETY: the handle holds a recovery, and `self` is borrowed alone.
+        unsafe { ffi::recovery_ffi_sender_peer_delay(self.recovery.handle(), secs, nanos) };
+    }
+
+    /// The keys of a space are dropped, and with them all that it tracks; probe timeouts are counted anew (RFC 9002,
+    /// 6.2.2, 6.4 and A.11). Refused by `SpaceDiscarded`.
+    pub fn discard(&mut self, space: SpaceId, now: Instant) -> Result<(), Refused> {
+        let (handle, now) = (self.recovery.handle(), now.as_nanos());
+        // SAFETY: the handle holds a recovery, and `self` is borrowed alone.
+        let reply = unsafe { ffi::recovery_ffi_sender_discard(handle, space as u8, now) };
+        taken(reply)?;
+        Ok(())
+    }
+
+    /// An event, as [`Recovery::apply`] does it, and it is refused as there. The sender decides itself what is acknowledged
+    /// and lost and what follows of it, what is probed for, what is transmitted, which spaces end, and when the timer for
+    /// losses is due: such an event is refused by [`Refused::Decided`]. These are `Acked`, `Lost`, `LossesDone`, `Sample`,
+    /// `EndAcks`, `Congestion`, `Ecn`, `QueueProbe`, `Transmit`, `DiscardSpace`, and `SetTimer` and `StopTimer` of
+    /// [`Timer::LossDetection`].
+    pub fn on_event(&mut self, event: Event<'_>) -> Result<Answer, Refused> {
+        let reply = taken(self.recovery.reply_to(event))?;
+        Ok(self.recovery.read(reply)?)
+    }
+
+    /// What was told last, by an ACK frame that was not refused or by a timeout that looked for losses; nothing before.
+    /// Refused by `NoMemory` alone, where the vectors have to grow.
+    pub fn told(&self, into: &mut Acknowledged) -> Result<(), Refusal> {
+        // SAFETY: the handle holds a recovery, and no other call runs.
+        let view = unsafe { ffi::recovery_ffi_told(self.recovery.handle()) };
+        self.numbers(false, view.acked, &mut into.numbers)?;
+        self.numbers(true, view.lost, &mut into.losses.numbers)?;
+        into.losses.probe = view.has_probe.then_some(view.probe);
+        into.losses.congestion = view.has_congestion.then_some(view.congestion);
+        into.losses.is_persistent = view.is_persistent;
+        into.losses.is_black_hole = view.is_black_hole;
+        into.ecn = match view.ecn {
+            ffi::ECN_MARKED => EcnEnd::Marked,
+            ffi::ECN_FAILED => EcnEnd::Failed,
+            _ => EcnEnd::Quiet,
+        };
+        Ok(())
+    }
+
+    /// The numbers that were acknowledged, or those that were lost, in place of what a vector held.
+    fn numbers(&self, lost: bool, count: u64, into: &mut Vec<u64>) -> Result<(), Refusal> {
+        let count = usize::try_from(count).map_err(|_| Refusal::NoMemory)?;
+        into.clear();
+        into.try_reserve(count).map_err(|_| Refusal::NoMemory)?;
+        into.resize(count, 0);
+        if count > 0 {
+            let (handle, out) = (self.recovery.handle(), into.as_mut_ptr());
+            // SAFETY: the handle holds a recovery, no other call runs, and so many numbers are there.
+            unsafe { ffi::recovery_ffi_told_numbers(handle, lost, out, count) };
+        }
+        Ok(())
+    }
+}

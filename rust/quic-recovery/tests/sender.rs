@@ -1,0 +1,368 @@
+//! A sender through the crate: the rows and recordings of calls that the repository has, and what the lines do not show.
+mod common;
+
+use common::{config, root, written, Line};
+use quic_recovery::*;
+use std::fs;
+use std::time::Duration;
+
+fn at(millis: u64) -> Instant {
+    Instant::from_nanos(millis * 1_000_000)
+}
+
+fn numbers(list: &[u64]) -> String {
+    list.iter().map(|it| format!(" {it}")).collect()
+}
+
+/// What was lost, as it is written behind other words.
+fn lost(losses: &Losses) -> String {
+    let mut text = format!("lost{}", numbers(&losses.numbers));
+    text += &losses.probe.map_or(String::new(), |it| format!(" {it}"));
+    if text == "lost" {
+        text += " none";
+    }
+    let kind = if losses.is_persistent {
+        "persistent"
+    } else {
+        "congestion"
+    };
+    text += &losses
+        .congestion
+        .map_or(String::new(), |it| format!(" {kind} {it}"));
+    text + if losses.is_black_hole {
+        " black-hole"
+    } else {
+        ""
+    }
+}
+
+fn acked(found: &Acknowledged) -> String {
+    if found.numbers.is_empty() {
+        return "acked none".into();
+    }
+    let mut text = format!("acked{}", numbers(&found.numbers));
+    if !found.losses.numbers.is_empty() || found.losses.probe.is_some() {
+        text += &format!(" {}", lost(&found.losses));
+    }
+    text + match found.ecn {
+        EcnEnd::Quiet => "",
+        EcnEnd::Marked => " ecn-congestion",
+        EcnEnd::Failed => " ecn-failed",
+    }
+}
+
+/// An ACK frame of a line: its ranges, and what it says beside.
+fn frame(line: &Line) -> (Vec<(u64, u64)>, Ack) {
+    let end = line.words.iter().position(|it| it == "ecn");
+    let last = end.unwrap_or(line.words.len());
+    let ranges = (5..last).step_by(2);
+    let ranges = ranges.map(|it| (line.number(it), line.number(it + 1)));
+    let ecn = end.map(|it| EcnCounts {
+        ect0: line.number(it + 1),
+        ect1: line.number(it + 2),
+        ce: line.number(it + 3),
+    });
+    let ack = Ack {
+        delay: line.span(3),
+        ecn,
+        app_limited: line.flag(4),
+    };
+    (ranges.collect(), ack)
+}
+
+fn transmitted(sent: Transmission) -> String {
+    match sent {
+        Transmission::Transmitted => "transmitted".into(),
+        Transmission::Blocked => "blocked".into(),
+        Transmission::Full => "full".into(),
+        Transmission::Delayed(until) => format!("delayed {}", until.as_nanos()),
+    }
+}
+
+fn timed_out(timeout: Timeout) -> String {
+    match timeout {
+        Timeout::Nothing => "nothing".into(),
+        Timeout::Lost(losses) => lost(&losses),
+        Timeout::Probe { space, count } => {
+            format!("probe {} {count}", space.to_string().to_lowercase())
+        }
+    }
+}
+
+fn sent(packet: Sent) -> String {
+    let forgot = packet.forgotten.map(|it| format!(" forgot {it}"));
+    format!("sent {}{}", packet.number, forgot.unwrap_or_default())
+}
+
+/// What a line says of the connection, if it does: that is never refused.
+fn said(sender: &mut Sender, line: &Line) -> bool {
+    match (line.words[0].as_str(), line.words.len()) {
+        ("keys", _) => sender.on_handshake_keys(),
+        ("confirmed", _) => sender.on_handshake_confirmed(),
+        ("validated", 1) => sender.on_address_validated(),
+        ("peer-delay", _) => sender.set_peer_max_ack_delay(line.span(1)),
+        _ => return false,
+    }
+    true
+}
+
+/// What a call of a line comes to.
+fn called(sender: &mut Sender, line: &Line) -> Result<String, Refused> {
+    let done = |()| String::from("done");
+    if said(sender, line) {
+        return Ok("done".into());
+    }
+    match line.words[0].as_str() {
+        "transmit" => sender
+            .transmit(line.moment(2), line.short(3), line.space(1), line.flag(4))
+            .map(transmitted),
+        "send" => sender
+            .send(
+                line.space(1),
+                line.moment(2),
+                line.short(3),
+                line.flag(4),
+                line.largest(5),
+                &line.items,
+            )
+            .map(sent),
+        "poll-mtu" => sender.poll_mtu(line.moment(1)).map(|it| match it {
+            Some(probe) => format!("probe {} {}", probe.number, probe.size),
+            None => "no probe".into(),
+        }),
+        "ack" => {
+            let (ranges, ack) = frame(line);
+            sender
+                .on_ack(line.space(1), line.moment(2), &ack, &ranges)
+                .map(|it| acked(&it))
+        }
+        "timeout" => sender.on_timeout(line.moment(1), false).map(timed_out),
+        "datagram" => sender.on_datagram(line.number(1)).map(done),
+        "discard" => sender.discard(line.space(1), line.moment(2)).map(done),
+        _ => sender.on_event(line.event()).map(|it| written(&Ok(it))),
+    }
+}
+
+/// A line of the program `recovery-sender`, with the timer behind what is no refusal.
+fn answer(sender: &mut Sender, line: &str) -> String {
+    let reply = called(sender, &Line::new(line));
+    let timer = sender.timer().map(|it| it.as_nanos().to_string());
+    let timer = timer.unwrap_or("none".into());
+    match reply {
+        Ok(text) => format!("{text} timer {timer}"),
+        Err(Refused::Event(refusal)) => written(&Err(refusal)),
+        Err(Refused::Unsent) => "refused 21 Unsent".into(),
+        Err(other) => panic!("{line}: {other}"),
+    }
+}
+
+/// A sender with the arguments of the program.
+fn sender_of(words: &[&str]) -> Sender {
+    let number = |at: usize| words.get(at).and_then(|it| it.parse().ok());
+    let side = match words[0] {
+        "client" => Side::Client,
+        _ => Side::Server,
+    };
+    Sender::new(side, &config(number(1), number(2)), at(0)).unwrap()
+}
+
+/// The rows of the repository, whose answers come of an independent model: each line with its answer.
+#[test]
+fn rows() {
+    let text = fs::read_to_string(root().join("tests/sender/rows.txt")).unwrap();
+    let (mut sender, mut seen) = (sender_of(&["server"]), 0);
+    for (at, row) in text.lines().enumerate() {
+        if let Some(words) = row.strip_prefix("recovery-sender ") {
+            sender = sender_of(&words.split(' ').collect::<Vec<_>>());
+        } else if let Some((line, wanted)) = row.split_once(" => ") {
+            assert_eq!(answer(&mut sender, line), wanted, "row {}", at + 1);
+            seen += 1;
+        }
+    }
+    assert!(seen > 400, "{seen} rows");
+}
+
+/// Real connections that were recorded, a client's and a server's.
+#[test]
+fn recordings() {
+    for (side, name) in [("client", "handshakes-client"), ("server", "losses-server")] {
+        let file =
+            |kind| fs::read_to_string(root().join(format!("tests/sender/{name}.{kind}"))).unwrap();
+        let mut sender = sender_of(&[side]);
+        let (script, wanted) = (file("txt"), file("out"));
+        for (at, (line, wanted)) in script.lines().zip(wanted.lines()).enumerate() {
+            assert_eq!(answer(&mut sender, line), wanted, "{name}, line {}", at + 1);
+        }
+    }
+}
+
+/// A server whose handshake is confirmed, with the first packets sent a millisecond after another.
+fn with_packets(count: u64) -> Sender {
+    let mut sender = sender_of(&["server"]);
+    sender.on_address_validated();
+    sender.on_handshake_confirmed();
+    for number in 0..count {
+        let sent = sender.send(SpaceId::Data, at(number), 1000, true, None, &[number]);
+        let wanted = Sent {
+            number,
+            forgotten: None,
+        };
+        assert_eq!(sent, Ok(wanted));
+    }
+    sender
+}
+
+fn ack(sender: &mut Sender, millis: u64, ranges: &[(u64, u64)], into: &mut Acknowledged) {
+    let now = at(millis);
+    let done = sender.on_ack_into(SpaceId::Data, now, &Ack::default(), ranges, into);
+    assert_eq!(done, Ok(()));
+}
+
+/// The vectors of an answer are filled anew, and take no other memory where they need not grow.
+#[test]
+fn vectors_that_are_kept() {
+    let mut sender = with_packets(8);
+    let mut told = Acknowledged::default();
+    told.numbers.reserve(8);
+    told.losses.numbers.reserve(8);
+    let held = |it: &Acknowledged| (it.numbers.as_ptr(), it.losses.numbers.as_ptr());
+    let before = held(&told);
+    ack(&mut sender, 110, &[(7, 7), (4, 5)], &mut told);
+    assert_eq!(told.numbers, [4, 5, 7]);
+    assert_eq!(told.losses.numbers, [0, 1, 2, 3]);
+    assert_eq!(told.losses.congestion, Some(4000));
+    assert_eq!(held(&told), before);
+    let mut again = Acknowledged::default();
+    assert_eq!(sender.told(&mut again), Ok(()));
+    assert_eq!(again, told);
+    ack(&mut sender, 111, &[(6, 7)], &mut told);
+    assert_eq!(told.numbers, [6]);
+    assert!(told.losses.numbers.is_empty() && told.losses.congestion.is_none());
+    assert_eq!(held(&told), before);
+}
+
+/// All that can be read of a recovery can be read of a sender's; contents that were lost wait there.
+#[test]
+fn the_recovery_can_be_read() {
+    let mut sender = with_packets(4);
+    let path = sender.recovery().path(PathName::Current).unwrap();
+    assert_eq!((path.in_flight, path.validated), (4000, true));
+    assert_eq!(sender.recovery().next_packet_number(SpaceId::Data), Some(4));
+    ack(&mut sender, 103, &[(3, 3)], &mut Acknowledged::default());
+    let space = SpaceId::Data;
+    let can_send = sender.recovery().space(space).unwrap().can_send;
+    assert!(can_send.other);
+    let pending = sender.on_event(Event::TakePending { space });
+    assert_eq!(pending, Ok(Answer::Queue(vec![0])));
+    assert_eq!(sender.recovery().taken(), Ok(vec![0]));
+    let loss = sender.recovery().timer(Timer::LossDetection);
+    assert!(loss.is_some() && loss == sender.timer());
+    let marks = sender.recovery().marks(PathName::Current).unwrap();
+    // the number behind those that were sent as the sample came (RFC 9002, 7.6.2)
+    assert_eq!(marks.first_packet_after_rtt_sample, Some((space, 4)));
+}
+
+/// The events that a sender decides itself.
+fn decided() -> Vec<Event<'static>> {
+    let (space, now, number) = (SpaceId::Data, at(200), 1);
+    let (delay, timer) = (Duration::ZERO, Timer::LossDetection);
+    let counts = EcnCounts::default();
+    vec![
+        Event::Acked {
+            space,
+            now,
+            number,
+            app_limited: false,
+        },
+        Event::Lost { space, number },
+        Event::LossesDone { now },
+        Event::Sample { delay, rtt: delay },
+        Event::EndAcks {
+            now,
+            app_limited: false,
+            largest: None,
+        },
+        Event::Congestion {
+            now,
+            sent: now,
+            persistent: false,
+            bytes: 1,
+        },
+        Event::Ecn {
+            space,
+            newly_acked: 0,
+            counts,
+        },
+        Event::QueueProbe {
+            space,
+            immediate_ack: false,
+        },
+        Event::Transmit {
+            now,
+            bytes: 1,
+            checked: true,
+        },
+        Event::DiscardSpace { space },
+        Event::SetTimer { timer, time: now },
+        Event::StopTimer { timer },
+    ]
+}
+
+/// What can be read of a sender, as it is shown.
+fn seen(sender: &Sender) -> String {
+    let (recovery, path) = (sender.recovery(), PathName::Current);
+    let space = recovery.space(SpaceId::Data);
+    let kept = (recovery.path(path), space, recovery.marks(path));
+    format!("{kept:?} {:?}", sender.timer())
+}
+
+/// What is refused, by its name, changes nothing.
+#[test]
+fn refusals() {
+    let mut sender = with_packets(4);
+    let before = seen(&sender);
+    for event in decided() {
+        assert_eq!(sender.on_event(event), Err(Refused::Decided), "{event:?}");
+    }
+    let rows: [(&[(u64, u64)], Refused); 4] = [
+        (&[], Refusal::BadRange.into()),
+        (&[(3, 2)], Refusal::BadRange.into()),
+        (&[(1, 1), (3, 3)], Refusal::BadRange.into()),
+        (&[(0, 4)], Refused::Unsent),
+    ];
+    let now = at(200);
+    for (ranges, wanted) in rows {
+        let found = sender.on_ack(SpaceId::Data, now, &Ack::default(), ranges);
+        assert_eq!(found, Err(wanted), "{ranges:?}");
+    }
+    assert_eq!(seen(&sender), before);
+    let space = SpaceId::Initial;
+    assert_eq!(sender.discard(space, now), Ok(()));
+    let gone = Refused::Event(Refusal::SpaceDiscarded);
+    assert_eq!(sender.discard(space, now), Err(gone));
+    assert_eq!(sender.transmit(now, 1200, space, true), Err(gone));
+    assert_eq!(sender.send(space, now, 1, true, None, &[]), Err(gone));
+    let found = sender.on_ack(space, now, &Ack::default(), &[(0, 0)]);
+    assert_eq!(found, Err(gone));
+    let far = sender.on_datagram(u64::MAX);
+    assert_eq!(far, Ok(()));
+    assert_eq!(sender.on_datagram(1), Err(Refusal::Overflow.into()));
+}
+
+/// Settings that no recovery is made of make no sender.
+#[test]
+fn settings() {
+    let mut config = RecoveryConfig::default();
+    config.transport.min_mtu = 0;
+    let made = Sender::new(Side::Client, &config, at(0));
+    assert_eq!(made.err(), Some(ConfigError::ZeroMtu));
+}
+
+/// A sender may move to another thread.
+#[test]
+fn moves() {
+    let sender = with_packets(2);
+    let timer = sender.timer();
+    let other = std::thread::spawn(move || sender.timer()).join().unwrap();
+    assert_eq!(other, timer);
+}
