@@ -29,7 +29,8 @@ DO = ("what is the same for many events is a last line of a table (specs/Table.a
 WRITTEN = "it by tests/rust.py --write, once the library has its export"
 LISTS = [
     ("crates/recovery_lines/specs/Lines.antt", r'codes "{line}"', "the form of its line, its place in forms_without_items, and its line of saying"),
-    ("crates/recovery_lines/src/lines.rt", r'is_name\(name, "{line}"\)', "the reader of its line, and an arm of push_behind"),
+    ("crates/recovery_lines/src/forms.rt", r"ghost form = \{{ {export} \}}|\(reading {export}\)", "the LineForm of its line"),
+    ("crates/recovery_lines/src/lines.rt", r'is_name\(name, "{line}"\)', "an arm of put_behind, at the arm of its name's length"),
     ("crates/recovery_trace/src/faults.rt", r'"{line}{example}"', "an example of its line, a word for each field of its form (Lines.antt)"),
     ("crates/recovery_ffi/src/*.rt", r"fn recovery_ffi_{export}\(", "its export, with the clause `Answers`"),
     ("crates/recovery_embedding/src/*.rt", r"\bEvent::{name}\b", "a place of the program that hands it in, which hands in all"),

@@ -5,8 +5,8 @@ use Rattle.std.specs.List.{AllByRecursion}
 use Rattle.std.proofs.lemmas.Slice.Eq.{bytes_eq-Decides}
 use Rattle.std.proofs.lemmas.List.Elements.{All-from_recursion}
 use Rattle.recovery_events.specs.declared.event.Event.TheVariants.{Received}
-use Rattle.recovery_lines.specs.declared.lines.Line.{Line}
-use Rattle.recovery_lines.specs.declared.lines.Line.TheVariants.{Said, Ids, Path}
+use Rattle.recovery_lines.specs.declared.forms.Line.{Line}
+use Rattle.recovery_lines.specs.declared.forms.Line.TheVariants.{Said, Ids, Path}
 use Rattle.recovery_lines.specs.Fields.{Field, Tail, no_tail, an_item_tail, Values, words_for, AllFit}
 use Rattle.recovery_lines.specs.Lines.{ItemEvent, Means, Form, FormValues, send, issue_ids, new_path, forms, saying, words_said, spelling, IsWithinTypes}
 use Rattle.recovery_lines.specs.Reading.{◌>>=◌, field, value_of, items_read, fields_read, all_read, reading, form_named, line_at, line_behind, TakesMemory}

@@ -4,8 +4,8 @@ use Rattle.std.proofs.Common.{IsSomeAnd, ◌≡◌, ◌≢◌, ℕ, ◌≤◌, L
 use Rattle.std.proofs.lemmas.Bool.Decides.{nat_tests}
 use Rattle.std.specs.List.{All, join_with_byte}
 use Rattle.recovery_events.specs.declared.event.Event.TheVariants.{Send}
-use Rattle.recovery_lines.specs.declared.lines.Line.{Line}
-use Rattle.recovery_lines.specs.declared.lines.Line.TheVariants.{Said, Ids, Path}
+use Rattle.recovery_lines.specs.declared.forms.Line.{Line}
+use Rattle.recovery_lines.specs.declared.forms.Line.TheVariants.{Said, Ids, Path}
 use Rattle.recovery_lines.specs.Words.{words_of}
 use Rattle.recovery_lines.specs.Lines.{ItemEvent, Means, saying, spelling, IsWithinTypes, Spells, IsSame, HoldsList}
 use Rattle.recovery_lines.specs.Reading.{whole, line_at, line_of, TakesMemory, TookAll}

@@ -7,7 +7,7 @@ use Rattle.std.proofs.lemmas.List.Sums.{position_or_len_is, prefix_len-le-length
 use Rattle.std.proofs.lemmas.Slice.Eq.{bytes_eq-Decides}
 use Rattle.core.specs.Slice.Scan.{little_endian}
 use Rattle.core.proofs.cmp.Settled.{same_word}
-use Rattle.recovery_lines.specs.Reading.{◌>>=◌, first_word, field, named, largest_of, number_of}
+use Rattle.recovery_lines.specs.Reading.{◌>>=◌, first_word, field, named, largest_of, number_of, TakesName}
 use Rattle.std.proofs.lemmas.Bool.{cases_lt}
 use lib.Chars.{codes}
 use lib.Seq.{ext_get_or}
@@ -116,6 +116,27 @@ field_unnamed names [] other = refl
 field_unnamed [] (word ∷ words) other = refl
 field_unnamed ((name, value) ∷ names) (word ∷ words) other =
     let rest = field_unnamed names (word ∷ words) other.1 in rw (other.0) rest
+
+-- A field of two names, the first of which is tried before the second: its value is that of the name as which the next
+-- word was taken, and there is none where it was taken as neither.
+pub record OfTwo {A : Type 0} (name other : List ℕ) (value last : A) (words : List (List ℕ)) : Type 0 where
+  pub first : (left : List (List ℕ)) → TakesName name true words left
+      → field (named ((name, value) ∷ (other, last) ∷ [])) words ≡ Some (value, left)
+  pub second : (between left : List (List ℕ)) → TakesName name false words between → TakesName other true between left
+      → field (named ((name, value) ∷ (other, last) ∷ [])) words ≡ Some (last, left)
+  pub neither : (between left : List (List ℕ)) → TakesName name false words between → TakesName other false between left
+      → field (named ((name, value) ∷ (other, last) ∷ [])) words ≡ None
+
+pub of_two : {A : Type 0} (name other : List ℕ) (value last : A) → bytes_eq other name ≡ false
+    → (words : List (List ℕ)) → OfTwo name other value last words
+of_two {A = A} name other value last differ words =
+    let names : List (List ℕ × A) = (name, value) ∷ (other, last) ∷ [] in record {
+      first = λ left taken. field_named (named names) words left name value taken
+          (grind (arith, bytes_eq-Decides name name));
+      second = λ between left passed taken. rw (← passed.0) (field_named (named names) between left other last taken
+          (grind (arith, differ, bytes_eq-Decides other other)));
+      neither = λ between left passed also. field_unnamed names words (passed.1, (rw (passed.0) at also.1, tt));
+    }
 
 -- where the next word is not the one for no number, it is read as a number is
 pub largest_as : (words : List (List ℕ)) → IfSome (first_word words) (λ first. bytes_eq first.0 (codes "-") ≡ false)

@@ -25,8 +25,8 @@ use Rattle.recovery_events.specs.declared.event.Event.TheVariants.{Ecn, CheckAck
 use Rattle.recovery_events.specs.declared.event.Event.TheVariants.{QueueProbe, TakePending}
 use Rattle.recovery_events.specs.declared.event.Event.TheVariants.{NewPath, ResetPath, DropPrevious}
 use Rattle.recovery_base.specs.declared.timer.Timer.TheVariants.{Idle}
-use Rattle.recovery_lines.specs.declared.lines.Line.{Line}
-use Rattle.recovery_lines.specs.declared.lines.Line.TheVariants.{Said, Ids, Path}
+use Rattle.recovery_lines.specs.declared.forms.Line.{Line}
+use Rattle.recovery_lines.specs.declared.forms.Line.TheVariants.{Said, Ids, Path}
 use Rattle.recovery_lines.specs.Fields.{Field, Values, words_for, AllFit}
 use Rattle.recovery_lines.specs.Fields.{Tail, no_tail, an_item_tail}
 use Rattle.recovery_lines.specs.Fields.{a_space, a_timer, a_path, a_flag, a_largest}

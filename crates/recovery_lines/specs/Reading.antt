@@ -12,8 +12,8 @@ use Rattle.recovery_base.specs.declared.below.SpaceId.TheVariants.{Initial, Hand
 use Rattle.recovery_base.specs.Timers.{timer_named}
 use Rattle.recovery_events.specs.declared.event.PathName.{PathName}
 use Rattle.recovery_events.specs.declared.event.PathName.TheVariants.{Current, Previous}
-use Rattle.recovery_lines.specs.declared.lines.Line.{Line}
-use Rattle.recovery_lines.specs.declared.lines.Line.TheVariants.{Said, Ids, Path}
+use Rattle.recovery_lines.specs.declared.forms.Line.{Line}
+use Rattle.recovery_lines.specs.declared.forms.Line.TheVariants.{Said, Ids, Path}
 use Rattle.recovery_lines.specs.declared.words.Words.{Words}
 use Rattle.recovery_lines.specs.Fields.{Field, Value, Values}
 use Rattle.recovery_lines.specs.Fields.{Tail, TailValue, no_tail, an_item_tail}

@@ -3,6 +3,7 @@
 
 mod blanks;
 mod digits;
+mod forms;
 pub mod laws;
 pub mod lines;
 pub mod words;

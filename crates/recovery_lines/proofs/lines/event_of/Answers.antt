@@ -1,6 +1,6 @@
 use Rattle.std.proofs.Common.{refl, subst, sym, rules}
 use Rattle.recovery_events.specs.declared.event.Event.TheVariants.{IssueIds}
-use Rattle.recovery_lines.specs.declared.lines.Line.{Line}
+use Rattle.recovery_lines.specs.declared.forms.Line.{Line}
 use Rattle.recovery_lines.specs.Lines.{Means}
 use Rattle.recovery_lines.proofs.lines.event_of.Goals as goal
 
