@@ -1,8 +1,15 @@
 -- How the program ends: its status, and what is told.
 use Rattle.std.specs.Prelude.{ℕ, List, [], ◌++◌, decimal}
 use lib.Chars.{codes}
+use Rattle.recovery_replay.specs.declared.reading.Unread.{Unread}
+use Rattle.recovery_replay.specs.declared.reading.Unread.TheVariants as reasons
 use Rattle.recovery_sender_program.specs.declared.outcome.Outcome.{Outcome}
 use Rattle.recovery_sender_program.specs.declared.outcome.Outcome.TheVariants.{Ended, BadLine, ReadFailed, WriteFailed, Closed, OutOfMemory, WrongArguments}
+
+-- where no line was read
+abbrev pub outcome_of : Unread → Outcome
+outcome_of reasons.ReadFailed = ReadFailed
+outcome_of reasons.OutOfMemory = OutOfMemory
 
 -- the exit status
 abbrev pub status_of : Outcome → ℕ

@@ -9,7 +9,6 @@ mod lines;
 mod outcome;
 mod pages;
 mod play;
-mod reading;
 
 use choice::{Choice, choice_of};
 use outcome::Outcome;

@@ -1,9 +1,10 @@
 //! How the program ends.
 ghost use Rattle.std.specs.Prelude.{◌≡◌};
-ghost use Rattle.recovery_sender_program.specs.Outcomes.{error_text, status_of};
+ghost use Rattle.recovery_sender_program.specs.Outcomes.{error_text, outcome_of, status_of};
 
 use arrayvec::ArrayString;
 use itoa::Buffer;
+use recovery_replay::reading::Unread;
 
 /// How the program ends.
 #[derive(Clone, Copy)]
@@ -22,6 +23,17 @@ pub enum Outcome {
     OutOfMemory,
     /// The arguments are wrong; nothing was read or written.
     WrongArguments,
+}
+
+impl From<Unread> for Outcome {
+    ghost from_gives = { λ unread outcome. outcome ≡ outcome_of unread };
+
+    fn from(unread: Unread) -> Self {
+        match unread {
+            Unread::ReadFailed => Outcome::ReadFailed,
+            Unread::OutOfMemory => Outcome::OutOfMemory,
+        }
+    }
 }
 
 impl Outcome {

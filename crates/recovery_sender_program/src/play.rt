@@ -4,7 +4,6 @@ use crate::calls::reply_to;
 use crate::choice::Choice;
 use crate::lines::call_in;
 use crate::outcome::Outcome;
-use crate::reading::{Next, next_line};
 use quic_recovery::below::NoMemory;
 use quic_recovery::congestion::{ControllerFactory, NewRenoConfig};
 use quic_recovery::time::Instant;
@@ -12,6 +11,7 @@ use rand_core::SeedableRng;
 use rand_pcg::Pcg32;
 use recovery_lines::lines::peer_at;
 use recovery_queue::items::ItemQueue;
+use recovery_replay::reading::{Next, next_line};
 use recovery_replay::replay::{FIRST_PORT, config, skips};
 use recovery_replay::writing::deliver;
 use recovery_sender::Sender;
@@ -90,7 +90,7 @@ where
         let next = match next_line(input, &mut line) {
             Ok(Some(next)) => next,
             Ok(None) => return Outcome::Ended,
-            Err(outcome) => return outcome,
+            Err(unread) => return Outcome::from(unread),
         };
         if let Err(outcome) = take_turn(alloc, sender, &line, number, &mut text, output) {
             return outcome;

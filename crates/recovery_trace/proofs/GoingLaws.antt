@@ -1,24 +1,26 @@
 -- The loop over the lines of a trace: what `run` has at each.
-use Rattle.std.proofs.Common.{◌≡◌, ℕ, ◌+◌, ◌<◌, ◌≤◌, ◌⊎◌, inl, inr, true, false, List, [], ◌∷◌, ◌++◌, length, reverse, take, All, Option, None, Some, refl, sym, ap, subst, ◌∙◌, arith, append-nil}
-use Rattle.std.proofs.lemmas.List.Elements.{All-nil, All-cons}
-use Rattle.std.specs.List.{flat_map}
-use Rattle.std.specs.Io.KnownBytes.{Consumes, IsAtEnd}
+use Rattle.std.proofs.Common.{◌≡◌, ℕ, ◌+◌, ◌≤◌, inl, true, false, List, [], ◌∷◌, ◌++◌, length, reverse, Option, None, Some, refl, sym, ap, subst, arith, append-nil}
+use Rattle.std.proofs.lemmas.List.Elements.{All-nil}
+use Rattle.std.specs.Io.KnownBytes.{Consumes}
 use Rattle.std.proofs.KnownBytes.{Appends-nil, Consumes-nil, Consumes-trans}
 use Rattle.rand_core.specs.Stream.{Stream}
 use Rattle.quic_recovery.specs.declared.driver.Recovery.{Recovery}
 use Rattle.quic_recovery.specs.declared.driver.RecoveryConfig.{RecoveryConfig}
 use Rattle.quic_recovery.specs.Past.{Reached}
 use Rattle.quic_recovery.specs.State.{parts_of}
-use Rattle.recovery_replay.specs.Script.{NoFeed, ended, lines_of}
+use Rattle.recovery_replay.specs.declared.reading.Next.{Next}
+use Rattle.recovery_replay.specs.declared.reading.Next.TheVariants.{Line, Last}
+use Rattle.recovery_replay.specs.declared.reading.Unread.{Unread}
+use Rattle.recovery_replay.specs.declared.reading.Unread.TheVariants as reasons
+use Rattle.recovery_replay.specs.Reading.{BreaksOff, IsLine, Kept}
+use Rattle.recovery_replay.specs.Script.{lines_of}
 use Rattle.recovery_replay.proofs.ScriptLaws.{line_then}
 use Rattle.recovery_trace.specs.declared.outcome.Outcome.{Outcome}
 use Rattle.recovery_trace.specs.declared.outcome.Outcome.TheVariants.{Ended, BadLine, ReadFailed, OutOfMemory}
-use Rattle.recovery_trace.specs.declared.reading.Next.{Next}
-use Rattle.recovery_trace.specs.declared.reading.Next.TheVariants.{Line, Last}
 use Rattle.recovery_trace.specs.declared.requests.Choice.{Choice}
 use Rattle.recovery_trace.specs.declared.turn.Turn.TheVariants.{Done, Bad, Over}
-use Rattle.recovery_trace.specs.Reading.{BreaksOff, IsLine, Kept}
-use Rattle.recovery_trace.specs.Trace.{ItemBeginning, Streams, origin, streams_of, Takes, TakesAlso, Traces, TracesFrom}
+use Rattle.recovery_trace.specs.Outcomes.{outcome_of}
+use Rattle.recovery_trace.specs.Trace.{ItemBeginning, Streams, origin, streams_of, Traces, TracesFrom}
 use Rattle.recovery_trace.specs.Turns.{ItemParts, Turns}
 use Rattle.recovery_trace.proofs.TraceLaws.{Made, SoFar, Taken, also_taken, bad_line, bad_one, done_fine, ends_bad, ends_cut, ends_so, fine_more, nothing_taken, one_line, takes_last, takes_whole, taken_more, turn_bad, turn_done, turn_over}
 
@@ -104,12 +106,12 @@ module _ {F R C K : Type 0} {f : _} {c : _} {q : _} {m : _} {r : _} (choice : Ch
         g.lines g.made outcome g.so_far
         (whole.0, rw append-nil at (Consumes-trans unread now left whole.0 [] whole.1 nothing.0), whole.2) nothing.1
 
-    pub cut_off : (broken : Outcome) → BreaksOff now left broken
+    pub cut_off : (why : Unread) → BreaksOff now left why → (broken : Outcome) → broken ≡ outcome_of why
         → TracesFrom first choice (streams_of unread left before mid unsaid now_said) broken
-    cut_off broken breaks config start random came =
+    cut_off why breaks broken is config start random came =
         let g = going config start random came in
-        ends_cut (origin first config start random) choice unread left before mid unsaid now_said (parts_of old)
-        g.lines g.made now outcome broken g.so_far g.taken breaks
+        rw is (ends_cut (origin first config start random) choice unread left before mid unsaid now_said (parts_of old)
+        g.lines g.made now outcome why g.so_far g.taken breaks)
 
     module _ (new : Recovery F (List ℕ) R C K (Unit {0}) (Unit {0}) (List ℕ) f c q m r) (kept items : List ℕ)
         (same : kept ≡ items) (next : Next) (found : Option Next) (found_is : found ≡ Some next)
@@ -217,7 +219,7 @@ module _ {F R C K : Type 0} {f : _} {c : _} {q : _} {m : _} {r : _} (choice : Ch
     too_many config start random came =
         let g = going config start random came in
         ends_cut (origin first config start random) choice unread now before mid unsaid now_said (parts_of old) g.lines
-        g.made now outcome ReadFailed g.so_far g.taken ([], All-nil _, Consumes-nil now, inl refl)
+        g.made now outcome reasons.ReadFailed g.so_far g.taken ([], All-nil _, Consumes-nil now, inl refl)
 
 -- memory was refused before anything was read
 pub refused : {F K : Type 0} (beginning : ItemBeginning F K) (choice : Choice) (unread before unsaid : Option (List ℕ))

@@ -1,6 +1,6 @@
 pub mod FaultLaws
 pub mod GoingLaws
-pub mod ReadingLaws
+pub mod KeptLaws
 pub mod StateTextLaws
 pub mod TellingLaws
 pub mod TraceLaws

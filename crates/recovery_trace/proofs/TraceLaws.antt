@@ -1,5 +1,5 @@
 -- One line more of a trace, and its ends: `run` rests on it.
-use Rattle.std.proofs.Common.{◌≡◌, ℕ, suc, ◌+◌, ◌<◌, ◌≤◌, ◌⊎◌, inl, inr, Bool, true, false, List, [], ◌∷◌, ◌++◌, length, reverse, take, All, Option, refl, sym, ap, subst, true≢false, ◌∙◌, arith, append-nil, append_assoc}
+use Rattle.std.proofs.Common.{◌≡◌, ℕ, suc, ◌+◌, ◌<◌, ◌≤◌, inl, inr, true, false, List, [], ◌∷◌, ◌++◌, length, reverse, take, All, Option, refl, sym, ap, subst, true≢false, ◌∙◌, arith, append-nil, append_assoc}
 use Rattle.std.specs.List.{Any, flat_map}
 use Rattle.std.proofs.lemmas.List.{reverse-append}
 use Rattle.std.proofs.lemmas.List.Concat.{flat_map-append}
@@ -13,17 +13,20 @@ use Rattle.quic_recovery.specs.Past.{Reached, ExtendsFrom}
 use Rattle.quic_recovery.specs.State.{parts_of}
 use Rattle.recovery_answers.specs.Answers.{Reply}
 use Rattle.recovery_lines.specs.Lines.{ItemEvent, Spells}
+use Rattle.recovery_replay.specs.declared.reading.Unread.{Unread}
+use Rattle.recovery_replay.specs.Reading.{BreaksOff, Kept}
 use Rattle.recovery_replay.specs.Script.{NoFeed, ended, lines_of}
 use Rattle.recovery_replay.specs.Writing.{AppendsFront}
+use Rattle.recovery_replay.proofs.ReadingLaws.{kept_spells}
 use Rattle.recovery_replay.proofs.ScriptLaws.{last_line, line_then}
 use Rattle.recovery_trace.specs.declared.outcome.Outcome.{Outcome}
-use Rattle.recovery_trace.specs.declared.outcome.Outcome.TheVariants.{Ended, BadLine, ReadFailed, WriteFailed, Closed, OutOfMemory}
+use Rattle.recovery_trace.specs.declared.outcome.Outcome.TheVariants.{Ended, BadLine, WriteFailed, Closed, OutOfMemory}
 use Rattle.recovery_trace.specs.declared.requests.Choice.{Choice}
 use Rattle.recovery_trace.specs.declared.turn.Turn.TheVariants.{Done, Bad, Over}
-use Rattle.recovery_trace.specs.Reading.{BreaksOff, Kept}
+use Rattle.recovery_trace.specs.Outcomes.{outcome_of}
 use Rattle.recovery_trace.specs.Telling.{Tells}
 use Rattle.recovery_trace.specs.Turns.{DoesEvent, IsBad, IsFine, IsSilent, ItemParts, Passes, Turns, turn_text}
-use Rattle.recovery_trace.proofs.ReadingLaws.{kept_passes, kept_silent, kept_speaks, kept_spells, kept_tells}
+use Rattle.recovery_trace.proofs.KeptLaws.{kept_passes, kept_silent, kept_speaks, kept_tells}
 use Rattle.recovery_trace.specs.Trace.{AllOut, AreAllowed, EndsBad, FrontOut, ItemBeginning, ItemHistory, SpelledBy, Streams, origin, streams_of, Takes, TakesAlso, Traced, Traces}
 
 -- ---- bytes and lines
@@ -313,15 +316,15 @@ module _ {F K : Type 0} (beginning : ItemBeginning F K) (choice : Choice)
   ends_so outcome so_far takes over = absurd so_far
 
   -- a read fails, or memory is refused, on the way to the end of a line
-  pub ends_cut : (now : Option (List ℕ)) (so_far outcome : Outcome) → SoFar beginning choice so_far lines
-      → Taken unread now lines → BreaksOff now left outcome → Traces beginning choice ends outcome
-  ends_cut now so_far outcome is_so_far taken (cut, no_feed, consumed, inl is) = rw is (
+  pub ends_cut : (now : Option (List ℕ)) (so_far : Outcome) (why : Unread) → SoFar beginning choice so_far lines
+      → Taken unread now lines → BreaksOff now left why → Traces beginning choice ends (outcome_of why)
+  ends_cut now so_far why is_so_far taken (cut, no_feed, consumed, inl is) = rw is (
     lines,
     (cut, no_feed, also_taken unread now left lines taken cut consumed),
     allowed beginning choice so_far lines is_so_far,
     all_out,
   )
-  ends_cut now so_far outcome is_so_far taken (cut, no_feed, consumed, inr is) = rw is (
+  ends_cut now so_far why is_so_far taken (cut, no_feed, consumed, inr is) = rw is (
     lines,
     (cut, one_line cut no_feed, also_taken unread now left lines taken cut consumed),
     allowed beginning choice so_far lines is_so_far,

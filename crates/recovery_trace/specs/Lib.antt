@@ -1,6 +1,5 @@
 pub mod Faults
 pub mod Outcomes
-pub mod Reading
 pub mod States
 pub mod Telling
 pub mod Trace

@@ -4,7 +4,6 @@
 
 mod faults;
 mod outcome;
-mod reading;
 mod requests;
 mod states;
 mod telling;

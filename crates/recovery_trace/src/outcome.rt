@@ -1,8 +1,9 @@
 //! How a trace ends.
 ghost use Rattle.std.specs.Prelude.{◌≡◌};
-ghost use Rattle.recovery_trace.specs.Outcomes.{error_text, status_of};
+ghost use Rattle.recovery_trace.specs.Outcomes.{error_text, outcome_of, status_of};
 
 use crate::requests::USAGE;
+use recovery_replay::reading::Unread;
 
 /// How a trace ends.
 #[derive(Clone, Copy)]
@@ -21,6 +22,17 @@ pub enum Outcome {
     OutOfMemory,
     /// The arguments are wrong; nothing was read or written.
     WrongArguments,
+}
+
+impl From<Unread> for Outcome {
+    ghost from_gives = { λ unread outcome. outcome ≡ outcome_of unread };
+
+    fn from(unread: Unread) -> Self {
+        match unread {
+            Unread::ReadFailed => Outcome::ReadFailed,
+            Unread::OutOfMemory => Outcome::OutOfMemory,
+        }
+    }
 }
 
 impl Outcome {

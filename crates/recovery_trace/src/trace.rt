@@ -2,7 +2,6 @@
 ghost use Rattle.recovery_trace.specs.Trace.{streams_of, TracesAs, TracesFrom, TracesOver};
 
 use crate::outcome::Outcome;
-use crate::reading::{Next, next_line};
 use crate::requests::Choice;
 use crate::turn::{Turn, take_turn};
 use quic_recovery::LiveRecovery;
@@ -12,6 +11,7 @@ use rand_core::SeedableRng;
 use rand_pcg::Pcg32;
 use recovery_lines::lines::peer_at;
 use recovery_queue::items::ItemQueue;
+use recovery_replay::reading::{Next, next_line};
 use recovery_replay::replay::{FIRST_PORT, config, skips};
 use std::alloc::Global;
 use std::io::{Read, Write};
@@ -43,7 +43,7 @@ where
         let next = match next_line(input, &mut line) {
             Ok(Some(next)) => next,
             Ok(None) => return ended,
-            Err(outcome) => return outcome,
+            Err(unread) => return Outcome::from(unread),
         };
         match take_turn(
             alloc,

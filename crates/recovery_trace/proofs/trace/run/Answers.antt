@@ -19,7 +19,8 @@ pub returns-in-Err : goal.returns-in-Err
 returns-in-Err g c =
     cut_off c.args.choice c.args.live.now.recovery _ _ (g.R.Read.remaining c.next_line.new.input) _ _
     (g.W.Write.contents c.loop-number.output) _ _ (g.E.Write.contents c.loop-number.errors) c.loop-number.live.recovery
-    c.loop-number.ended c.loop-number.number c.loop-number.invariant c.in-Err.outcome c.in-Err.ensures
+    c.loop-number.ended c.loop-number.number c.loop-number.invariant c.in-Err.unread c.in-Err.ensures
+    c.from.result c.from.ensures
 
 pub returns-in-Bad : goal.returns-in-Bad
 returns-in-Bad g c =

@@ -2,10 +2,10 @@
 use Rattle.std.specs.Prelude.{◌≡◌, ℕ, ◌<◌, ◌⊎◌, List, [], ◌∷◌, ◌++◌, length, take, Option, None, Some}
 use Rattle.std.specs.Io.KnownBytes.{Consumes, IsAtEnd}
 use Rattle.recovery_replay.specs.Script.{NoFeed}
-use Rattle.recovery_trace.specs.declared.outcome.Outcome.{Outcome}
-use Rattle.recovery_trace.specs.declared.outcome.Outcome.TheVariants.{OutOfMemory, ReadFailed}
-use Rattle.recovery_trace.specs.declared.reading.Next.{Next}
-use Rattle.recovery_trace.specs.declared.reading.Next.TheVariants.{Line, Last}
+use Rattle.recovery_replay.specs.declared.reading.Next.{Next}
+use Rattle.recovery_replay.specs.declared.reading.Next.TheVariants.{Line, Last}
+use Rattle.recovery_replay.specs.declared.reading.Unread.{Unread}
+use Rattle.recovery_replay.specs.declared.reading.Unread.TheVariants.{OutOfMemory, ReadFailed}
 
 -- one byte was taken, or the input is over
 abbrev pub IsByte : Option (List ℕ) → Option (List ℕ) → Option ℕ → Type 0
@@ -25,6 +25,6 @@ IsLine before after kept (Some Last) =
 IsLine before after kept None = Consumes before after [] × IsAtEnd after
 
 -- a read failed, or memory was refused, behind bytes of a line that goes on
-abbrev pub BreaksOff : Option (List ℕ) → Option (List ℕ) → Outcome → Type 0
-BreaksOff before after outcome =
-    (cut : List ℕ) × NoFeed cut × Consumes before after cut × ((outcome ≡ ReadFailed) ⊎ (outcome ≡ OutOfMemory))
+abbrev pub BreaksOff : Option (List ℕ) → Option (List ℕ) → Unread → Type 0
+BreaksOff before after unread =
+    (cut : List ℕ) × NoFeed cut × Consumes before after cut × ((unread ≡ ReadFailed) ⊎ (unread ≡ OutOfMemory))

@@ -1,6 +1,6 @@
 use Rattle.std.proofs.Common.{inr, rules}
-use Rattle.recovery_trace.proofs.ReadingLaws.{line_over, one_more, short, stopped}
-use Rattle.recovery_trace.proofs.reading.next_line.Goals as goal
+use Rattle.recovery_replay.proofs.ReadingLaws.{line_over, one_more, short, stopped}
+use Rattle.recovery_replay.proofs.reading.next_line.Goals as goal
 
 pub returns-in-Ok-Some-eq10 : goal.returns-in-Ok-Some-eq10
 returns-in-Ok-Some-eq10 g c =
@@ -20,5 +20,5 @@ loop-preserved g c =
 pub returns-in-Err-keep : goal.returns-in-Err-keep
 returns-in-Err-keep g c =
     stopped (g.R.Read.remaining c.args.input.now) (g.R.Read.remaining c.loop.input)
-    (g.R.Read.remaining c.next_byte.new.input) c.loop.line.items c.in-Ok-Some.byte c.in-Err-keep.outcome
+    (g.R.Read.remaining c.next_byte.new.input) c.loop.line.items c.in-Ok-Some.byte c.in-Err-keep.unread
     c.loop.invariant (search rules) (search rules) (inr c.in-Err-keep.ensures.memory)

@@ -1,6 +1,6 @@
 use Rattle.std.proofs.Common.{◌∙◌, arith}
-use Rattle.recovery_trace.proofs.ReadingLaws.{kept_all, kept_full}
-use Rattle.recovery_trace.proofs.reading.keep.Goals as goal
+use Rattle.recovery_replay.proofs.ReadingLaws.{kept_all, kept_full}
+use Rattle.recovery_replay.proofs.reading.keep.Goals as goal
 
 pub returns-then-len-gt-LINE_LIMIT : goal.returns-then-len-gt-LINE_LIMIT
 returns-then-len-gt-LINE_LIMIT c = record {

@@ -1,10 +1,9 @@
 //! One line of an input after the other, in memory that does not grow with it.
-ghost use Rattle.std.specs.Prelude.{◌≡◌, ◌≤◌, ◌++◌, ◌∷◌, [], IfErr, IfOk, OnOk, MatchResult, length, take};
+ghost use Rattle.std.specs.Prelude.{◌≡◌, ◌≤◌, ◌++◌, ◌∷◌, [], IfErr, OnOk, MatchResult, length, take};
 ghost use Rattle.std.specs.Io.KnownBytes.{Keeps};
-ghost use Rattle.recovery_trace.specs.declared.outcome.Outcome.TheVariants.{OutOfMemory, ReadFailed};
-ghost use Rattle.recovery_trace.specs.Reading.{BreaksOff, IsByte, IsLine};
+ghost use Rattle.recovery_replay.specs.declared.reading.Unread.TheVariants.{OutOfMemory, ReadFailed};
+ghost use Rattle.recovery_replay.specs.Reading.{BreaksOff, IsByte, IsLine};
 
-use crate::outcome::Outcome;
 use recovery_lines::lines::LINE_LIMIT;
 use std::io::{ErrorKind, Read};
 
@@ -17,10 +16,19 @@ pub enum Next {
     Last,
 }
 
+/// Why no line was read.
+#[derive(Clone, Copy)]
+pub enum Unread {
+    /// A read failed.
+    ReadFailed,
+    /// Memory was refused.
+    OutOfMemory,
+}
+
 /// The next byte; `None` at the end. A read that is interrupted is tried again.
-fn next_byte<R: Read>(input: &mut R) -> Result<Option<u8>, Outcome>
+fn next_byte<R: Read>(input: &mut R) -> Result<Option<u8>, Unread>
     ensures { MatchResult result (IsByte (R.remaining input.old) (R.remaining input.new))
-        (λ outcome. (outcome ≡ ReadFailed)
+        (λ unread. (unread ≡ ReadFailed)
         × Keeps (R.remaining input.old) (R.remaining input.new)) }
 {
     let mut byte = [0u8; 1];
@@ -30,32 +38,33 @@ fn next_byte<R: Read>(input: &mut R) -> Result<Option<u8>, Outcome>
             Ok(_) => return Ok(Some(byte[0])),
             Err(error) => {
                 if error.kind() != ErrorKind::Interrupted {
-                    return Err(Outcome::ReadFailed);
+                    return Err(Unread::ReadFailed);
                 }
             }
         }
     }
-    Err(Outcome::ReadFailed)
+    Err(Unread::ReadFailed)
 }
 
 /// Keeps a byte of a line, unless 4097 of them are kept.
-fn keep(line: &mut Vec<u8>, byte: u8) -> Result<(), Outcome>
+fn keep(line: &mut Vec<u8>, byte: u8) -> Result<(), Unread>
     requires { length line.old.items ≤ 4097 }
     ensures kept { OnOk result (line.new.items ≡ take 4097 (line.old.items ++ byte ∷ [])) }
-    ensures memory { IfErr result (λ outcome. outcome ≡ OutOfMemory) }
+    ensures memory { IfErr result (λ unread. unread ≡ OutOfMemory) }
 {
     if line.len() > LINE_LIMIT {
         return Ok(());
     }
     match line.push(byte) {
         Ok(()) => Ok(()),
-        Err(_) => Err(Outcome::OutOfMemory),
+        Err(_) => Err(Unread::OutOfMemory),
     }
 }
 
 /// Reads one line in place of what `line` held, without its line feed: of a line of more than 4096 bytes the first
-/// 4097, by which it is known to be too long. `None` where the input is over.
-pub fn next_line<R: Read>(input: &mut R, line: &mut Vec<u8>) -> Result<Option<Next>, Outcome>
+/// 4097, by which it is known to be too long. `None` where the input is over. Where a read fails or memory is refused,
+/// what was taken of the line is gone. A read that is interrupted is tried again.
+pub fn next_line<R: Read>(input: &mut R, line: &mut Vec<u8>) -> Result<Option<Next>, Unread>
     ensures { MatchResult result
         (IsLine (R.remaining input.old) (R.remaining input.new) line.new.items)
         (BreaksOff (R.remaining input.old) (R.remaining input.new)) }
@@ -68,10 +77,10 @@ pub fn next_line<R: Read>(input: &mut R, line: &mut Vec<u8>) -> Result<Option<Ne
             Ok(Some(b'\n')) => return Ok(Some(Next::Line)),
             Ok(Some(byte)) => match keep(line, byte) {
                 Ok(()) => {}
-                Err(outcome) => return Err(outcome),
+                Err(unread) => return Err(unread),
             },
-            Err(outcome) => return Err(outcome),
+            Err(unread) => return Err(unread),
         }
     }
-    Err(Outcome::ReadFailed)
+    Err(Unread::ReadFailed)
 }
