@@ -16,7 +16,7 @@ import tree
 from tree import ROOT
 
 PROGRAM = ROOT / "crates" / "recovery_program" / "out" / "recovery_program"
-CAREFUL = ROOT / "tests" / "careful" / "careful.rs"
+CAREFUL = ROOT / "tests" / "careful"
 LAST = 2**64 - 1
 ENDS = [0, 1, 2**62 - 1, 2**62, 2**62 + 1, 2**63, LAST - 1, LAST]
 SIZES = [0, 1, 1199, 1200, 1201, 1252, 1400, 1452, 1500, 9000, 65535]
@@ -132,7 +132,9 @@ class Lines:
 
     def line(self):
         """A line; now and then one that is no event."""
-        line = self.chance.choices(EVENTS, self.weights)[0](self)
+        return self.perhaps_bad(self.chance.choices(EVENTS, self.weights)[0](self))
+
+    def perhaps_bad(self, line):
         if not self.is_rare(2000):
             return line
         return self.one_of(line + " ", line + " 0", " " + line, line.replace(" ", "  ", 1), line[:-1] + "x", line.rpartition(" ")[0], "")
@@ -169,20 +171,21 @@ EVENTS = [
 
 
 def script(seed):
+    """The program's arguments, and the lines."""
     lines = Lines(seed)
-    return [lines.line() for _ in range(lines.one_of(20, 100, 400, 2000))]
+    return [], [lines.line() for _ in range(lines.one_of(20, 100, 400, 2000))]
 
 
-def played(program, lines):
+def played(program, words, lines):
     """The answers line by line, then the error, and the status."""
-    run = subprocess.run([program], input="".join(f"{line}\n" for line in lines), capture_output=True, text=True)
+    run = subprocess.run([program, *words], input="".join(f"{line}\n" for line in lines), capture_output=True, text=True)
     return [*run.stdout.split("\n"), run.stderr, run.returncode]
 
 
-def fault(seed, other):
+def fault(program, other, script, seed):
     """Where the two part, if they do."""
-    lines = script(seed)
-    ours, theirs = played(PROGRAM, lines), played(other, lines)
+    words, lines = script(seed)
+    ours, theirs = played(program, words, lines), played(other, words, lines)
     if ours == theirs:
         return None
     places = zip([*lines, *[None] * 3], ours, theirs)
@@ -190,23 +193,27 @@ def fault(seed, other):
     return "seed {}, line {} ({}): {}, and {} by plain Rust".format(seed, *parted)
 
 
-def main():
-    options = argparse.ArgumentParser(description=__doc__, formatter_class=argparse.RawDescriptionHelpFormatter)
+def main(about, program, source, script):
+    """Plays the scripts of so many seeds on a program and on a source of tests/careful."""
+    options = argparse.ArgumentParser(description=about, formatter_class=argparse.RawDescriptionHelpFormatter)
     options.add_argument("count", nargs="?", type=int, default=300)
     options.add_argument("--seed", type=int, default=0)
-    options.add_argument("--show", type=int, metavar="SEED", help="prints the script of a seed, and plays none")
+    options.add_argument("--show", type=int, metavar="SEED", help="prints the script of a seed, and on standard error the arguments; plays none")
     chosen = options.parse_args()
     if chosen.show is not None:
-        print("\n".join(script(chosen.show)))
+        words, lines = script(chosen.show)
+        print("arguments:", *words, file=sys.stderr)
+        print("\n".join(lines))
         return 0
     with tempfile.TemporaryDirectory() as folder:
         other = pathlib.Path(folder) / "careful"
-        subprocess.run(["rustc", "--edition", "2024", "-C", "opt-level=3", "-C", "panic=abort", CAREFUL, "-o", other], check=True)
-        faults = [it for it in (fault(seed, other) for seed in range(chosen.seed, chosen.seed + chosen.count)) if it]
+        subprocess.run(["rustc", "--edition", "2024", "-C", "opt-level=3", "-C", "panic=abort", CAREFUL / source, "-o", other], check=True)
+        faults = [it for it in (fault(program, other, script, seed) for seed in range(chosen.seed, chosen.seed + chosen.count)) if it]
     for it in faults[:MOST_FAULTS]:
         print(f"alike: {it}", file=sys.stderr)
     print(f"alike: {chosen.count - len(faults)} passed, {len(faults)} failed")
     return 1 if faults else 0
 
 
-sys.exit(main())
+if __name__ == "__main__":
+    sys.exit(main(__doc__, PROGRAM, "careful.rs", script))

@@ -8,10 +8,10 @@ const LINE_LIMIT: usize = 4096;
 
 /// A place in the input, which ends with a line feed. Between fields it stands on the space before the next, or on the line feed.
 pub struct Cursor<'a> {
-    input: &'a [u8],
+    pub input: &'a [u8],
     /// Where the line begins.
     line: usize,
-    at: usize,
+    pub at: usize,
 }
 
 impl<'a> Cursor<'a> {
@@ -26,12 +26,19 @@ impl<'a> Cursor<'a> {
     /// The event that the line says, and on to the next line; `None` where it says none.
     #[inline(always)]
     pub fn event(&mut self) -> Option<Event> {
-        let input = self.input;
-        self.line = self.at;
-        let name = self.rest_of_word().len();
-        let event = read(&input[self.line..self.line + name], self)?;
+        let name = self.name();
+        let event = read(name, self)?;
         self.at += 1;
         Some(event)
+    }
+
+    /// The word that the line begins with.
+    #[inline(always)]
+    pub fn name(&mut self) -> &'a [u8] {
+        let input = self.input;
+        self.line = self.at;
+        let length = self.rest_of_word().len();
+        &input[self.line..self.line + length]
     }
 
     /// Up to the next space or line feed.
@@ -131,7 +138,7 @@ impl Words for Cursor<'_> {
     }
 }
 
-pub struct Bytes(Vec<u8>);
+pub struct Bytes(pub Vec<u8>);
 
 const PAIRS: &[u8; 200] = b"\
     0001020304050607080910111213141516171819\

@@ -36,7 +36,7 @@ const INITIAL_WINDOW: u64 = 12_000;
 const MOST_RANGES: usize = 64;
 const MOST_SILENT: u64 = 1001;
 
-#[derive(Clone, Copy, PartialEq)]
+#[derive(Clone, Copy, PartialEq, PartialOrd)]
 pub enum Space {
     Initial,
     Handshake,
@@ -230,19 +230,19 @@ impl PendingAcks {
 // ---- packets sent
 
 pub struct Packet {
-    generation: u64,
-    time_sent: Moment,
-    size: u16,
-    ack_eliciting: bool,
+    pub generation: u64,
+    pub time_sent: Moment,
+    pub size: u16,
+    pub ack_eliciting: bool,
     largest_acked: Option<u64>,
     items: Vec<u64>,
 }
 
 /// The packets tracked, by number: `first` is that of the first slot, and numbers go on by one.
 #[derive(Default)]
-struct SentPackets {
-    slots: VecDeque<Option<Packet>>,
-    first: u64,
+pub struct SentPackets {
+    pub slots: VecDeque<Option<Packet>>,
+    pub first: u64,
     last_eliciting: Option<u64>,
     silent: u64,
     silent_from: u64,
@@ -341,22 +341,22 @@ impl EcnCounts {
     }
 }
 
-struct PacketSpace {
-    discarded: bool,
+pub struct PacketSpace {
+    pub discarded: bool,
     dedup: Dedup,
     acks: PendingAcks,
     rx_packet: u64,
-    largest_acked: Option<u64>,
-    largest_acked_sent: Moment,
-    last_eliciting_time: Option<Moment>,
-    loss_probes: u32,
+    pub largest_acked: Option<u64>,
+    pub largest_acked_sent: Moment,
+    pub last_eliciting_time: Option<Moment>,
+    pub loss_probes: u32,
     sent_with_keys: u64,
     pending: Vec<u64>,
     ping_pending: bool,
     immediate_ack_pending: bool,
     ecn: EcnCounts,
-    next_number: u64,
-    packets: SentPackets,
+    pub next_number: u64,
+    pub packets: SentPackets,
 }
 
 impl PacketSpace {
@@ -586,10 +586,10 @@ impl LocalIds {
 // ---- paths
 
 #[derive(Clone, Copy)]
-struct Rtt {
-    latest: Span,
+pub struct Rtt {
+    pub latest: Span,
     smoothed: Option<Span>,
-    variance: Span,
+    pub variance: Span,
     min: Span,
 }
 
@@ -603,7 +603,7 @@ impl Rtt {
         }
     }
 
-    fn get(&self) -> Span {
+    pub fn get(&self) -> Span {
         self.smoothed.unwrap_or(self.latest)
     }
 
@@ -623,9 +623,9 @@ impl Rtt {
 }
 
 #[derive(Clone, Copy)]
-struct NewReno {
+pub struct NewReno {
     mtu: u16,
-    window: u64,
+    pub window: u64,
     ssthresh: u64,
     recovery_start: Moment,
     bytes_acked: u64,
@@ -680,12 +680,12 @@ impl NewReno {
 }
 
 #[derive(Clone, Copy)]
-struct Pacer {
+pub struct Pacer {
     capacity: u64,
     last_window: u64,
-    last_mtu: u16,
+    pub last_mtu: u16,
     tokens: u64,
-    prev: Moment,
+    pub prev: Moment,
 }
 
 /// A quotient of spans; where both fit 64 bits they are divided there, which takes a third of the time.
@@ -702,7 +702,7 @@ fn capacity(rtt: Span, window: u64, mtu: u16) -> u64 {
 }
 
 impl Pacer {
-    fn new(rtt: Span, window: u64, mtu: u16, now: Moment) -> Self {
+    pub fn new(rtt: Span, window: u64, mtu: u16, now: Moment) -> Self {
         let capacity = capacity(rtt, window, mtu);
         Pacer {
             capacity,
@@ -738,16 +738,16 @@ impl Pacer {
 }
 
 #[derive(Clone, Copy)]
-struct Probing {
+pub struct Probing {
     lower: u16,
     upper: u16,
     last: u16,
-    in_flight: Option<u64>,
+    pub in_flight: Option<u64>,
     losses: u8,
 }
 
 #[derive(Clone, Copy)]
-enum Phase {
+pub enum Phase {
     Initial,
     Searching(Probing),
     Complete(Moment),
@@ -833,9 +833,9 @@ impl Detector {
 }
 
 #[derive(Clone, Copy)]
-struct MtuDiscovery {
+pub struct MtuDiscovery {
     current: u16,
-    phase: Phase,
+    pub phase: Phase,
     limit: u16,
     detector: Detector,
 }
@@ -946,17 +946,17 @@ fn next_size(probing: &mut Probing) -> Option<u16> {
 }
 
 #[derive(Clone, Copy)]
-struct Path {
-    generation: u64,
-    bytes: u64,
+pub struct Path {
+    pub generation: u64,
+    pub bytes: u64,
     eliciting: u64,
-    rtt: Rtt,
-    congestion: NewReno,
-    pacer: Pacer,
-    validated: bool,
-    total_sent: u64,
-    total_received: u64,
-    mtud: MtuDiscovery,
+    pub rtt: Rtt,
+    pub congestion: NewReno,
+    pub pacer: Pacer,
+    pub validated: bool,
+    pub total_sent: u64,
+    pub total_received: u64,
+    pub mtud: MtuDiscovery,
 }
 
 impl Path {
@@ -1019,8 +1019,8 @@ pub enum Sending {
 }
 
 pub struct Recovery {
-    spaces: [PacketSpace; 3],
-    current: Path,
+    pub spaces: [PacketSpace; 3],
+    pub current: Path,
     previous: Option<Path>,
     peer_limit: Option<u16>,
     last_frequency: Option<u64>,

@@ -1,0 +1,530 @@
+//! The sending half of a connection over the layer (RFC 9002, Appendices A and B): what is lost, when to probe, whether a datagram may
+//! go out. Moments and spans are nanoseconds, and stop at their greatest values.
+use crate::layer::{
+    BAD_RANGE, EcnCounts, Moment, OVERFLOW, Pacer, Packet, Phase, Recovery, Refusal, Rtt, SPACE_DISCARDED, Sending, Space, Span,
+};
+use crate::lines::{Answer, Event, Reply, apply};
+use crate::skips::Skips;
+
+pub const UNSENT: Refusal = "refused 21 Unsent\n";
+pub const SKIPPED_ACKED: Refusal = "refused 16 SkippedAcked\n";
+
+const SPACES: [Space; 3] = [Space::Initial, Space::Handshake, Space::Data];
+const GRANULARITY: Span = 1_000_000;
+const PACKET_THRESHOLD: u64 = 3;
+const MOST_DOUBLINGS: u32 = 16;
+const LOSS_DETECTION: usize = 0;
+
+/// An ACK frame: its ranges have the highest first.
+pub struct Ack {
+    pub delay: Span,
+    pub app_limited: bool,
+    pub ranges: Vec<(u64, u64)>,
+    pub ecn: Option<EcnCounts>,
+}
+
+/// What a look for losses found.
+#[derive(Default)]
+pub struct Losses {
+    /// In the order in which they were told.
+    pub numbers: Vec<u64>,
+    /// The bytes lost, and whether the congestion persists.
+    pub congestion: Option<(u64, bool)>,
+    pub black_hole: bool,
+}
+
+pub enum Ecn {
+    Same,
+    Congestion,
+    Failed,
+}
+
+pub struct Acked {
+    pub numbers: Vec<u64>,
+    pub losses: Losses,
+    pub ecn: Ecn,
+}
+
+pub enum Permit {
+    Transmitted,
+    Blocked,
+    Full,
+    Delayed(Moment),
+}
+
+pub enum Timeout {
+    Nothing,
+    Losses(Losses),
+    Probe(Space, u8),
+}
+
+/// What the timer is set for.
+enum Due {
+    Losses(Space),
+    Probes(Space),
+    /// A probe against a deadlock (6.2.2.1).
+    Probe(Space),
+}
+
+/// A packet that is lost.
+struct Lost {
+    number: u64,
+    sent: Moment,
+    size: u16,
+    eliciting: bool,
+    /// Whether the current path's congestion hears of it (B.8; RFC 9000, 9.4 and 14.4).
+    counts: bool,
+    probe: bool,
+}
+
+pub struct Sender {
+    recovery: Recovery,
+    skips: Option<Skips>,
+    /// A window that nothing changes.
+    window: Option<u64>,
+    peer_delay: Span,
+    pto_count: u32,
+    confirmed: bool,
+    /// Whether the peer is known to have validated this end's address (A.8); of a client's it is always known.
+    knows_validated: bool,
+    handshake_keys: bool,
+    base: Moment,
+    loss_times: [Option<Moment>; 3],
+    /// Of the current path.
+    first_behind_sample: Option<(Space, u64)>,
+    sending_ecn: bool,
+}
+
+fn later(moment: Moment, span: Span) -> Moment {
+    u128::from(moment).saturating_add(span).min(u128::from(u64::MAX)) as u64
+}
+
+/// RFC 9002, 6.1.2.
+fn loss_delay(rtt: &Rtt) -> Span {
+    let longer = rtt.get().max(rtt.latest);
+    (longer + longer / 8).max(GRANULARITY)
+}
+
+/// RFC 9002, 6.2.1, but for max_ack_delay.
+fn probe_timeout(rtt: &Rtt) -> Span {
+    rtt.get() + (4 * rtt.variance).max(GRANULARITY)
+}
+
+impl Sender {
+    pub fn new(is_client: bool, skips: Option<Skips>, window: Option<u64>) -> Self {
+        let mut recovery = Recovery::new();
+        recovery.current.validated = is_client;
+        let mut sender = Sender {
+            recovery,
+            skips,
+            window,
+            peer_delay: 25_000_000,
+            pto_count: 0,
+            confirmed: false,
+            knows_validated: !is_client,
+            handshake_keys: false,
+            base: 0,
+            loss_times: [None; 3],
+            first_behind_sample: None,
+            sending_ecn: true,
+        };
+        sender.begin_window();
+        sender.set_timer();
+        sender
+    }
+
+    /// The moment of the timer for losses.
+    pub fn timer(&self) -> Option<Moment> {
+        self.due().map(|(moment, _)| moment)
+    }
+
+    /// After each call.
+    pub fn set_timer(&mut self) {
+        if let Some(window) = self.window {
+            self.recovery.current.congestion.window = window;
+        }
+        let moment = self.timer();
+        self.recovery.set_timer(LOSS_DETECTION, moment);
+    }
+
+    /// A path that begins with its controller has a pacer for that one's window.
+    fn begin_window(&mut self) {
+        if let Some(window) = self.window {
+            let path = &mut self.recovery.current;
+            path.congestion.window = window;
+            path.pacer = Pacer::new(path.rtt.get(), window, path.pacer.last_mtu, path.pacer.prev);
+        }
+    }
+
+    // ---- what goes out
+
+    pub fn transmit(&mut self, space: Space, now: Moment, bytes: u16, in_flight: bool) -> Result<Permit, Refusal> {
+        let here = &self.recovery.spaces[space as usize];
+        if here.discarded {
+            return Err(SPACE_DISCARDED);
+        }
+        let path = &self.recovery.current;
+        path.total_sent.checked_add(u64::from(bytes)).ok_or(OVERFLOW)?;
+        if !self.may_send(bytes) {
+            return Ok(Permit::Blocked);
+        }
+        let asks = in_flight && here.loss_probes == 0;
+        if asks && u128::from(path.bytes) + u128::from(bytes) > u128::from(path.congestion.window) {
+            return Ok(Permit::Full);
+        }
+        Ok(match self.recovery.transmit(now, bytes, asks)? {
+            Sending::Transmitted => Permit::Transmitted,
+            Sending::Blocked => Permit::Blocked,
+            Sending::Delayed(until) => Permit::Delayed(until),
+        })
+    }
+
+    /// Whether the amplification limit lets so many bytes out (RFC 9000, 8.1).
+    fn may_send(&self, bytes: u16) -> bool {
+        let path = &self.recovery.current;
+        path.validated || u128::from(path.total_sent) + u128::from(bytes) <= 3 * u128::from(path.total_received)
+    }
+
+    /// An event that passes through.
+    pub fn pass(&mut self, event: Event) -> Reply {
+        let sent = match event {
+            Event::Send { now, size, .. } if size > 0 => Some(now),
+            Event::PollMtu { now } => Some(now),
+            _ => None,
+        };
+        let (moves, fresh) = match event {
+            Event::NewPath { fresh, .. } => (true, fresh),
+            Event::ResetPath { .. } => (false, true),
+            _ => (false, false),
+        };
+        let holds_skipped = match event {
+            Event::CheckAck { space, low, high } => self.is_skipped(space, &[(low, high)]),
+            _ => false,
+        };
+        let in_data = matches!(event, Event::Send { space: Space::Data, .. } | Event::PollMtu { .. });
+        let skips = in_data && self.skip();
+        let reply = apply(&mut self.recovery, event);
+        let goes_out = matches!(reply, Ok(Answer::Sent { .. } | Answer::Probe { .. }));
+        if skips {
+            self.end_skip(goes_out);
+        }
+        let answer = reply?;
+        if goes_out && let Some(now) = sent {
+            self.base = now;
+        }
+        if fresh {
+            self.begin_window();
+        }
+        if moves {
+            self.sending_ecn = true;
+            self.first_behind_sample = self.first_behind_sample.filter(|_| !fresh);
+        }
+        if holds_skipped { Err(SKIPPED_ACKED) } else { Ok(answer) }
+    }
+
+    /// Passes over a number that is to be skipped; whether there was one.
+    fn skip(&mut self) -> bool {
+        let here = &mut self.recovery.spaces[Space::Data as usize];
+        if here.discarded || self.skips.as_ref().is_none_or(|skips| skips.next != here.next_number) {
+            return false;
+        }
+        here.next_number += 1;
+        if !here.packets.slots.is_empty() {
+            here.packets.slots.push_back(None);
+        }
+        true
+    }
+
+    /// The number was skipped for good where one behind it went out.
+    fn end_skip(&mut self, goes_out: bool) {
+        let here = &mut self.recovery.spaces[Space::Data as usize];
+        if !goes_out {
+            here.next_number -= 1;
+            here.packets.slots.pop_back();
+        } else if let Some(skips) = &mut self.skips {
+            skips.pass();
+        }
+    }
+
+    // ---- what is acknowledged
+
+    pub fn on_ack(&mut self, space: Space, now: Moment, ack: &Ack) -> Result<Option<Acked>, Refusal> {
+        self.check(space, &ack.ranges)?;
+        let numbers = self.tracked_in(space, &ack.ranges);
+        if numbers.is_empty() {
+            return Ok(None);
+        }
+        let sample = self.sample_of(space, now, ack, &numbers);
+        let before = self.recovery.spaces[space as usize].largest_acked;
+        for number in &numbers {
+            self.recovery.acked(space, *number, ack.app_limited)?;
+        }
+        if let Some((delay, rtt)) = sample {
+            self.recovery.sample(delay, rtt);
+            let next = self.recovery.spaces[space as usize].next_number;
+            self.first_behind_sample.get_or_insert((space, next));
+        }
+        let losses = self.look(space, now, true)?;
+        self.knows_validated |= space == Space::Handshake;
+        if self.knows_validated {
+            self.pto_count = 0;
+        }
+        let rises = self.recovery.spaces[space as usize].largest_acked > before;
+        let ecn = self.mark(space, now, ack.ecn, rises, numbers.len() as u64);
+        self.base = now;
+        Ok(Some(Acked { numbers, losses, ecn }))
+    }
+
+    /// Whether the frame can be right.
+    fn check(&self, space: Space, ranges: &[(u64, u64)]) -> Result<(), Refusal> {
+        let here = &self.recovery.spaces[space as usize];
+        if here.discarded {
+            return Err(SPACE_DISCARDED);
+        }
+        let follows = |pair: &[(u64, u64)]| u128::from(pair[1].1) + 2 <= u128::from(pair[0].0);
+        if ranges.is_empty() || ranges.iter().any(|(first, last)| first > last) || !ranges.windows(2).all(follows) {
+            return Err(BAD_RANGE);
+        }
+        if ranges[0].1 >= here.next_number {
+            return Err(UNSENT);
+        }
+        if self.is_skipped(space, ranges) { Err(SKIPPED_ACKED) } else { Ok(()) }
+    }
+
+    /// Whether the number that was skipped last is in a range (RFC 9000, 21.4).
+    fn is_skipped(&self, space: Space, ranges: &[(u64, u64)]) -> bool {
+        let last = self.skips.as_ref().and_then(|skips| skips.last).filter(|_| space == Space::Data);
+        last.is_some_and(|last| ranges.iter().any(|(low, high)| (*low..=*high).contains(&last)))
+    }
+
+    fn tracked(&self, space: Space, number: u64) -> Option<&Packet> {
+        let packets = &self.recovery.spaces[space as usize].packets;
+        packets.slots.get(number.checked_sub(packets.first)? as usize)?.as_ref()
+    }
+
+    /// The numbers of the ranges that are tracked, rising.
+    fn tracked_in(&self, space: Space, ranges: &[(u64, u64)]) -> Vec<u64> {
+        let packets = &self.recovery.spaces[space as usize].packets;
+        let place = |number: u64| (number.saturating_sub(packets.first)).min(packets.slots.len() as u64) as usize;
+        let mut numbers = Vec::new();
+        for (first, last) in ranges.iter().rev() {
+            let from = place(*first);
+            let to = if *last < packets.first { from } else { place(*last + 1) };
+            let held = packets.slots.range(from..to).enumerate().filter(|(_, slot)| slot.is_some());
+            numbers.extend(held.map(|(step, _)| packets.first + (from + step) as u64));
+        }
+        numbers
+    }
+
+    /// The delay and the round trip that a frame tells of (5.1, 5.3; RFC 9000, 9.4).
+    fn sample_of(&self, space: Space, now: Moment, ack: &Ack, numbers: &[u64]) -> Option<(Span, Span)> {
+        let largest = self.tracked(space, ack.ranges[0].1)?;
+        if largest.generation != self.recovery.current.generation {
+            return None;
+        }
+        numbers.iter().find(|number| self.tracked(space, **number).is_some_and(|packet| packet.ack_eliciting))?;
+        let delay = if space == Space::Data { ack.delay.min(self.peer_delay) } else { 0 };
+        Some((delay, u128::from(now.saturating_sub(largest.time_sent))))
+    }
+
+    /// What the counts of a frame say (7.1; RFC 9000, 13.4.2.1).
+    fn mark(&mut self, space: Space, now: Moment, counts: Option<EcnCounts>, rises: bool, newly: u64) -> Ecn {
+        if !self.sending_ecn {
+            return Ecn::Same;
+        }
+        let Some(counts) = counts else {
+            self.sending_ecn = false;
+            return Ecn::Same;
+        };
+        if !rises {
+            return Ecn::Same;
+        }
+        match self.recovery.ecn(space, newly, counts) {
+            Ok(false) => Ecn::Same,
+            Ok(true) => {
+                let sent = self.recovery.spaces[space as usize].largest_acked_sent;
+                self.recovery.congestion(now, sent, false);
+                Ecn::Congestion
+            }
+            Err(_) => {
+                self.sending_ecn = false;
+                Ecn::Failed
+            }
+        }
+    }
+
+    // ---- what is lost
+
+    /// Looks for losses in a space (A.10), by an ACK or by the timer.
+    fn look(&mut self, space: Space, now: Moment, by_ack: bool) -> Result<Losses, Refusal> {
+        let lost = self.find_lost(space, now);
+        let mut found = Losses::default();
+        for packet in lost.iter().filter(|packet| !packet.probe) {
+            self.recovery.lost(space, packet.number)?;
+            found.numbers.push(packet.number);
+        }
+        if !found.numbers.is_empty() {
+            found.black_hole = self.recovery.losses_done(now);
+        }
+        let counted = || lost.iter().filter(|packet| packet.counts);
+        if let Some(latest) = counted().map(|packet| packet.sent).max() {
+            let persists = by_ack && self.persists(space, &lost);
+            self.recovery.congestion(now, latest, persists);
+            found.congestion = Some((counted().map(|packet| u64::from(packet.size)).sum(), persists));
+        }
+        for packet in lost.iter().filter(|packet| packet.probe) {
+            self.recovery.lost(space, packet.number)?;
+            found.numbers.push(packet.number);
+        }
+        Ok(found)
+    }
+
+    /// The packets that are lost, rising; and the moment of the next look, for those that are not lost yet.
+    fn find_lost(&mut self, space: Space, now: Moment) -> Vec<Lost> {
+        let here = &self.recovery.spaces[space as usize];
+        let path = &self.recovery.current;
+        let delay = loss_delay(&path.rtt);
+        let probe = match path.mtud.phase {
+            Phase::Searching(probing) if space == Space::Data => probing.in_flight,
+            _ => None,
+        };
+        let largest = here.largest_acked.unwrap_or(0);
+        let mut lost = Vec::new();
+        let mut next: Option<Moment> = None;
+        for (number, slot) in (here.packets.first..largest).zip(&here.packets.slots) {
+            let Some(packet) = slot else { continue };
+            let due = later(packet.time_sent, delay);
+            if number + PACKET_THRESHOLD > largest && due > now {
+                next = Some(next.map_or(due, |least| least.min(due)));
+                continue;
+            }
+            let probe = probe == Some(number);
+            lost.push(Lost {
+                number,
+                sent: packet.time_sent,
+                size: packet.size,
+                eliciting: packet.ack_eliciting,
+                counts: !probe && packet.size > 0 && packet.generation == path.generation,
+                probe,
+            });
+        }
+        self.loss_times[space as usize] = next;
+        lost
+    }
+
+    /// Whether congestion persists (7.6): of a run of lost numbers, the earliest that counts and one behind it.
+    fn persists(&self, space: Space, lost: &[Lost]) -> bool {
+        let Some(first) = self.first_behind_sample else {
+            return false;
+        };
+        let period = 3 * (probe_timeout(&self.recovery.current.rtt) + self.peer_delay);
+        let mut run: Option<(u64, Option<Moment>)> = None;
+        for packet in lost {
+            let mut earliest = run.filter(|(last, _)| last + 1 == packet.number).and_then(|(_, earliest)| earliest);
+            if packet.counts && packet.eliciting && (space, packet.number) >= first {
+                if earliest.is_some_and(|earliest| u128::from(packet.sent.saturating_sub(earliest)) > period) {
+                    return true;
+                }
+                earliest = Some(earliest.map_or(packet.sent, |earliest| earliest.min(packet.sent)));
+            }
+            run = Some((packet.number, earliest));
+        }
+        false
+    }
+
+    // ---- the timer
+
+    /// When the timer is due, and for what (A.8). Of equal moments the first space's counts.
+    fn due(&self) -> Option<(Moment, Due)> {
+        let looks = SPACES.iter().filter_map(|space| Some((self.loss_times[*space as usize]?, *space)));
+        if let Some((moment, space)) = looks.min_by_key(|(moment, _)| *moment) {
+            return Some((moment, Due::Losses(space)));
+        }
+        if !self.may_send(1) {
+            return None;
+        }
+        let probes = SPACES.iter().filter_map(|space| Some((self.probe_at(*space)?, *space)));
+        if let Some((moment, space)) = probes.min_by_key(|(moment, _)| *moment) {
+            return Some((moment, Due::Probes(space)));
+        }
+        if self.knows_validated {
+            return None;
+        }
+        let lives = |space: Space| !self.recovery.spaces[space as usize].discarded;
+        let space = if self.handshake_keys && lives(Space::Handshake) { Space::Handshake } else { Space::Initial };
+        lives(space).then(|| (later(self.base, self.probe_span(space)), Due::Probe(space)))
+    }
+
+    /// When a probe is due for what a space has in flight.
+    fn probe_at(&self, space: Space) -> Option<Moment> {
+        if space == Space::Data && !self.confirmed {
+            return None;
+        }
+        let here = &self.recovery.spaces[space as usize];
+        here.packets.slots.iter().flatten().find(|packet| packet.ack_eliciting)?;
+        Some(later(here.last_eliciting_time?, self.probe_span(space)))
+    }
+
+    fn probe_span(&self, space: Space) -> Span {
+        let delay = if space == Space::Data { self.peer_delay } else { 0 };
+        (probe_timeout(&self.recovery.current.rtt) + delay) << self.pto_count.min(MOST_DOUBLINGS)
+    }
+
+    /// A.9.
+    pub fn on_timeout(&mut self, now: Moment) -> Result<Timeout, Refusal> {
+        let Some((_, due)) = self.due().filter(|(moment, _)| *moment <= now) else {
+            return Ok(Timeout::Nothing);
+        };
+        self.base = now;
+        let (space, probes) = match due {
+            Due::Losses(space) => return Ok(Timeout::Losses(self.look(space, now, false)?)),
+            Due::Probes(space) => (space, 2),
+            Due::Probe(space) => (space, 1),
+        };
+        for _ in 0..probes {
+            self.recovery.queue_probe(space, false)?;
+        }
+        self.pto_count = self.pto_count.saturating_add(1);
+        Ok(Timeout::Probe(space, probes))
+    }
+
+    // ---- what is said of the connection
+
+    pub fn on_handshake_keys(&mut self) {
+        self.handshake_keys = true;
+    }
+
+    pub fn on_handshake_confirmed(&mut self) {
+        self.confirmed = true;
+        self.knows_validated = true;
+    }
+
+    pub fn set_peer_delay(&mut self, span: Span) {
+        self.peer_delay = span;
+    }
+
+    pub fn discard(&mut self, space: Space, now: Moment) -> Result<(), Refusal> {
+        self.recovery.discard(space)?;
+        self.begin_anew(space, now);
+        Ok(())
+    }
+
+    /// Gives up what a space has in flight (6.3, 6.4): its numbers.
+    pub fn abandon(&mut self, space: Space, now: Moment) -> Result<Vec<u64>, Refusal> {
+        if self.recovery.spaces[space as usize].discarded {
+            return Err(SPACE_DISCARDED);
+        }
+        let numbers = self.tracked_in(space, &[(0, u64::MAX - 1)]);
+        for number in &numbers {
+            self.recovery.lost(space, *number)?;
+        }
+        self.begin_anew(space, now);
+        Ok(numbers)
+    }
+
+    fn begin_anew(&mut self, space: Space, now: Moment) {
+        self.loss_times[space as usize] = None;
+        self.pto_count = 0;
+        self.base = now;
+    }
+}
