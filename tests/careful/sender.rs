@@ -1,5 +1,5 @@
-//! The program over the calls of a sender, in plain Rust: a line is answered before the next one is read. Its arguments are those of
-//! recovery-sender.
+//! The program over the calls of a sender, in plain Rust: a line is answered before the next one is read. It takes the arguments
+//! of recovery-sender.
 #[allow(dead_code)]
 mod bytes;
 mod layer;
@@ -16,6 +16,8 @@ use std::io::{BufRead, ErrorKind, Write};
 use std::process::ExitCode;
 
 const USAGE: &str = "usage: recovery-sender client|server [SEED [WINDOW]]";
+const HELP: &str = include_str!("../../crates/recovery_sender_program/help.txt");
+const VERSION: &str = concat!("recovery-sender ", include_str!("../../VERSION"));
 
 /// What a line says.
 enum Call {
@@ -156,8 +158,7 @@ fn write_behind(losses: &Losses, out: &mut Bytes) {
 fn play_line(sender: &mut Sender, line: &[u8], out: &mut Bytes) -> Option<()> {
     let call = read_call(&mut Cursor::new(line))?;
     let refused = answer(sender, call, out);
-    sender.set_timer();
-    match (refused, sender.timer()) {
+    match (refused, sender.set_timer()) {
         (Err(refusal), _) => out.text(refusal),
         (Ok(()), Some(moment)) => out.until(" timer ", moment),
         (Ok(()), None) => out.text(" timer none\n"),
@@ -195,12 +196,29 @@ fn fails(status: u8, why: &str) -> ExitCode {
     ExitCode::from(status)
 }
 
+/// Writes, and ends the program where nothing is taken: quietly where nobody reads.
+fn put(output: &mut impl Write, text: &[u8]) -> Result<(), ExitCode> {
+    let written = output.write_all(text).and_then(|()| output.flush());
+    written.map_err(|why| match why.kind() {
+        ErrorKind::BrokenPipe => ExitCode::SUCCESS,
+        _ => fails(1, "sender: write failed"),
+    })
+}
+
 fn main() -> ExitCode {
     let words: Vec<String> = std::env::args().skip(1).collect();
+    let (mut input, mut output) = (std::io::stdin().lock(), std::io::stdout().lock());
+    let page = match words.as_slice() {
+        [word] if word == "--help" => Some(HELP),
+        [word] if word == "--version" => Some(VERSION),
+        _ => None,
+    };
+    if let Some(page) = page {
+        return put(&mut output, page.as_bytes()).err().unwrap_or(ExitCode::SUCCESS);
+    }
     let Some(mut sender) = begun(&words) else {
         return fails(2, USAGE);
     };
-    let (mut input, mut output) = (std::io::stdin().lock(), std::io::stdout().lock());
     let (mut line, mut out) = (Vec::new(), Bytes(Vec::new()));
     for number in 1.. {
         line.clear();
@@ -216,10 +234,8 @@ fn main() -> ExitCode {
         if play_line(&mut sender, &line, &mut out).is_none() {
             return fails(2, &format!("line {number}: cannot be read"));
         }
-        match output.write_all(&out.0).and_then(|()| output.flush()) {
-            Ok(()) => {}
-            Err(why) if why.kind() == ErrorKind::BrokenPipe => break,
-            Err(_) => return fails(1, "sender: write failed"),
+        if let Err(status) = put(&mut output, &out.0) {
+            return status;
         }
     }
     ExitCode::SUCCESS

@@ -1,5 +1,5 @@
-//! The sending half of a connection over the layer (RFC 9002, Appendices A and B): what is lost, when to probe, whether a datagram may
-//! go out. Moments and spans are nanoseconds, and stop at their greatest values.
+//! The sending half of a connection over the layer (RFC 9002, Appendices A and B): what is lost, when to probe, whether a datagram
+//! may go out. Moments and spans are nanoseconds, and stop at their greatest values.
 use crate::layer::{
     BAD_RANGE, EcnCounts, Moment, OVERFLOW, Pacer, Packet, Phase, Recovery, Refusal, Rtt, SPACE_DISCARDED, Sending, Space, Span,
 };
@@ -133,18 +133,14 @@ impl Sender {
         sender
     }
 
-    /// The moment of the timer for losses.
-    pub fn timer(&self) -> Option<Moment> {
-        self.due().map(|(moment, _)| moment)
-    }
-
-    /// After each call.
-    pub fn set_timer(&mut self) {
+    /// Sets the timer for losses, after each call; its moment.
+    pub fn set_timer(&mut self) -> Option<Moment> {
         if let Some(window) = self.window {
             self.recovery.current.congestion.window = window;
         }
-        let moment = self.timer();
+        let moment = self.due().map(|(moment, _)| moment);
         self.recovery.set_timer(LOSS_DETECTION, moment);
+        moment
     }
 
     /// A path that begins with its controller has a pacer for that one's window.
