@@ -166,16 +166,20 @@ fn sender_of(words: &[&str]) -> Sender {
     Sender::new(side, &config(number(1), number(2)), at(0)).unwrap()
 }
 
-/// The rows of the repository, whose answers come of an independent model: each line with its answer.
+/// The rows of the repository, whose answers come of an independent model: each line with its answer; but for scripts
+/// that abandon a space, for which the library has no call.
 #[test]
 fn rows() {
     let text = fs::read_to_string(root().join("tests/sender/rows.txt")).unwrap();
+    let scripts = text
+        .split("\n\n")
+        .filter(|script| !script.contains("\nabandon "));
     let (mut sender, mut seen) = (sender_of(&["server"]), 0);
-    for (at, row) in text.lines().enumerate() {
+    for row in scripts.flat_map(str::lines) {
         if let Some(words) = row.strip_prefix("recovery-sender ") {
             sender = sender_of(&words.split(' ').collect::<Vec<_>>());
         } else if let Some((line, wanted)) = row.split_once(" => ") {
-            assert_eq!(answer(&mut sender, line), wanted, "row {}", at + 1);
+            assert_eq!(answer(&mut sender, line), wanted, "{row}");
             seen += 1;
         }
     }
