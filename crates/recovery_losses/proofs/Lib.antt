@@ -1,3 +1,4 @@
+pub mod FrameLaws
 pub mod LookLaws
 pub mod LossLaws
 pub mod RunLaws

@@ -1,3 +1,5 @@
+pub mod Due
+pub mod Frames
 pub mod Looking
 pub mod Losses
 pub mod Persisting

@@ -3,8 +3,12 @@
 //! holds no packets and tells nobody: the sender does. Begin at `looks.rt`, and at `specs/Losses.antt`.
 #![tactic(auto)]
 
+mod due;
+mod frames;
 mod looks;
 mod tally;
 
+pub use due::{Due, sooner};
+pub use frames::{Ack, are_ranges, is_unsent, largest_of};
 pub use looks::{Candidate, Look, first_of};
 pub use tally::{Run, Tally};

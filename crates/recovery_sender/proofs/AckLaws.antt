@@ -9,8 +9,9 @@ use Rattle.recovery_queue.specs.Slots.{is_from, AreFrom}
 use Rattle.recovery_losses.specs.Losses.{AreRising, IsOneOf}
 use Rattle.recovery_losses.proofs.LookLaws.{among_more, last_among, one_more, rising_more, rising_wider}
 use Rattle.recovery_losses.proofs.LossLaws.{found_from, lowest_from, none_from}
-use Rattle.recovery_sender.specs.Acks.{AreNewly, IsFirstIn, IsWithin, NoneIn, SomeElicits, TakesFrom}
-use Rattle.recovery_sender.proofs.FrameLaws.{AreFine}
+use Rattle.recovery_sender.specs.Acks.{AreNewly, IsFirstIn, NoneIn, SomeElicits, TakesFrom}
+use Rattle.recovery_losses.proofs.FrameLaws.{AreFine}
+use Rattle.recovery_losses.specs.Frames.{IsWithin}
 
 module _ {P M : Type 0} (from last : ℕ) (packets : Packets P M) where
   pub none_in_range : first_from from packets ≡ None → NoneIn packets from last

@@ -7,7 +7,6 @@ pub mod CheckLaws
 pub mod DetectLaws
 pub mod DueLaws
 pub mod FindLaws
-pub mod FrameLaws
 pub mod KeptLaws
 pub mod LeadLaws
 pub mod PastLaws

@@ -23,7 +23,7 @@ use Rattle.quic_recovery.specs.Plain.{Plain}
 use Rattle.quic_recovery.specs.declared.driver.Recovery.{Recovery}
 use Rattle.quic_recovery.specs.Past.{ExtendsOn}
 use Rattle.quic_recovery.specs.State.{Changes, OnlyTells}
-use Rattle.recovery_sender.specs.declared.sender.timer.Due.{Due}
+use Rattle.recovery_losses.specs.declared.due.Due.{Due}
 use Rattle.recovery_sender.specs.declared.sender.Variables.{Variables}
 use Rattle.recovery_sender.specs.Steps.{Leads, told, timed, timer_event}
 use Rattle.recovery_sender.specs.Timer.{due_of, has_eliciting, TimerIsSet}

@@ -14,7 +14,8 @@ use Rattle.recovery_ledger.specs.Packets.{Packet, packet_at}
 use Rattle.recovery_ledger.specs.Spaces.{Space, next_number_of}
 use Rattle.recovery_paths.specs.PathStates.{PathMarks}
 use Rattle.quic_recovery.specs.Parts.{Parts}
-use Rattle.recovery_sender.specs.declared.frames.Ack.{Ack}
+use Rattle.recovery_losses.specs.declared.frames.Ack.{Ack}
+use Rattle.recovery_losses.specs.Frames.{largest_of}
 use Rattle.recovery_sender.specs.declared.sender.acks.Acknowledged.{Acknowledged}
 use Rattle.recovery_sender.specs.declared.sender.acks.EcnEnd.{EcnEnd}
 use Rattle.recovery_sender.specs.declared.sender.acks.EcnEnd.TheVariants.{Quiet, Marked, Failed}
@@ -22,7 +23,7 @@ use Rattle.recovery_sender.specs.declared.sender.Refused.{Refused}
 use Rattle.recovery_sender.specs.declared.sender.Refused.TheVariants as refused
 use Rattle.recovery_sender.specs.declared.sender.Sender.{Sender}
 use Rattle.recovery_sender.specs.declared.sender.Variables.{Variables}
-use Rattle.recovery_sender.specs.Acks.{AckChecked, AreAllowed, AreNewly, AreWhole, WereSent, largest_of}
+use Rattle.recovery_sender.specs.Acks.{AckChecked, AreAllowed, AreNewly, AreWhole, WereSent}
 use Rattle.recovery_sender.specs.Judging.{Detects, congested}
 use Rattle.recovery_sender.specs.Losses.{largest_in, NothingLost}
 use Rattle.recovery_sender.specs.Promises.Acked.{AcksTracked}

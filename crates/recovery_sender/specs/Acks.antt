@@ -1,5 +1,5 @@
--- An ACK frame: its ranges, and what it newly acknowledges (RFC 9000, 13.1 and 19.3; RFC 9002, A.7).
-use Rattle.std.specs.Prelude.{◌≡◌, ◌≢◌, ℕ, ◌+◌, ◌<◌, ◌≤◌, ◌↔◌, ◌⊎◌, ◌&&◌, nat_le, Decides, Bool, IsTrue, true, false, List, [], ◌∷◌, drop, get_or, length, Option, None, Some, IfSome, Result, Ok, Err}
+-- An ACK frame: what it newly acknowledges, and what it is refused for (RFC 9000, 13.1 and 21.4; RFC 9002, A.7).
+use Rattle.std.specs.Prelude.{◌≡◌, ◌≢◌, ℕ, ◌<◌, ◌≤◌, ◌↔◌, ◌⊎◌, Decides, Bool, IsTrue, true, false, List, [], ◌∷◌, drop, get_or, length, None, Some, IfSome, Result, Ok, Err}
 use Rattle.recovery_base.specs.declared.below.SpaceId.{SpaceId}
 use Rattle.recovery_events.specs.declared.event.Answer.TheVariants.{Done}
 use Rattle.recovery_events.specs.declared.event.Event.TheVariants.{CheckAck}
@@ -7,43 +7,12 @@ use Rattle.recovery_events.specs.declared.event.Refusal.TheVariants.{BadRange, S
 use Rattle.recovery_ledger.specs.Discarded.{is_discarded}
 use Rattle.recovery_ledger.specs.Packets.{Packet, Packets, packet_at}
 use Rattle.recovery_ledger.specs.Spaces.{space_of, next_number_of}
+use Rattle.recovery_losses.specs.Frames.{are_ranges, largest_of, IsWithin}
 use Rattle.recovery_losses.specs.Losses.{IsOneOf, AreRising}
 use Rattle.quic_recovery.specs.declared.driver.Recovery.{Recovery}
 use Rattle.quic_recovery.specs.State.{parts_of, OnlyTells}
 use Rattle.recovery_sender.specs.declared.sender.Refused.{Refused}
 use Rattle.recovery_sender.specs.declared.sender.Refused.TheVariants as refused
-
--- ---- ranges, the highest first, as they stand in a frame (RFC 9000, 19.3.1)
-
--- a range ends below another, with a number between them, where there is another
-abbrev pub is_apart : ℕ → Option ℕ → Bool
-is_apart last None = true
-is_apart last (Some above) = nat_le (last + 2) above
-
--- none ends before it begins, and each lies apart from the one above it
-abbrev pub are_apart : Option ℕ → List (ℕ × ℕ) → Bool
-are_apart above [] = true
-are_apart above (range ∷ ranges) =
-    nat_le range.0 range.1 && is_apart range.1 above && are_apart (Some range.0) ranges
-
-abbrev pub are_ranges : List (ℕ × ℕ) → Bool
-are_ranges [] = false
-are_ranges ranges = are_apart None ranges
-
--- the largest number of a frame
-abbrev pub largest_of : List (ℕ × ℕ) → Option ℕ
-largest_of [] = None
-largest_of (range ∷ ranges) = Some range.1
-
--- it is at or above the next number that is given out
-abbrev pub is_unsent : Option ℕ → ℕ → Bool
-is_unsent None next = false
-is_unsent (Some largest) next = nat_le next largest
-
--- a number lies in one of them
-abbrev pub IsWithin : ℕ → List (ℕ × ℕ) → Type 0
-IsWithin number [] = ⊥
-IsWithin number (range ∷ ranges) = (range.0 ≤ number) × (number ≤ range.1) ⊎ IsWithin number ranges
 
 -- ---- what is newly acknowledged
 

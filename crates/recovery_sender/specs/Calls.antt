@@ -26,8 +26,8 @@ use Rattle.recovery_sender.specs.declared.sender.Sender.{Sender}
 use Rattle.recovery_sender.specs.declared.sender.packets.Transmission.{Transmission}
 use Rattle.recovery_sender.specs.declared.sender.packets.Transmission.TheVariants.{Transmitted, Blocked, Full, Delayed}
 use Rattle.recovery_sender.specs.declared.sender.Side.{Side}
-use Rattle.recovery_sender.specs.declared.sender.timer.Due.{Due}
-use Rattle.recovery_sender.specs.declared.sender.timer.Due.TheVariants.{Losses, Probes, AntiDeadlock}
+use Rattle.recovery_losses.specs.declared.due.Due.{Due}
+use Rattle.recovery_losses.specs.declared.due.Due.TheVariants.{Losses, Probes, AntiDeadlock}
 use Rattle.recovery_sender.specs.declared.sender.Variables.{Variables}
 use Rattle.recovery_sender.specs.Senders.{parts_in, fresh}
 use Rattle.recovery_sender.specs.Steps.{Step, told, Goes, Does}

@@ -15,7 +15,7 @@ use Rattle.quic_recovery.specs.Parts.{Parts}
 use Rattle.quic_recovery.specs.Past.{ExtendsOn}
 use Rattle.quic_recovery.specs.State.{Changes}
 use Rattle.recovery_sender.specs.declared.sender.Sender.{Sender}
-use Rattle.recovery_sender.specs.declared.sender.timer.Due.{Due}
+use Rattle.recovery_losses.specs.declared.due.Due.{Due}
 use Rattle.recovery_sender.specs.declared.sender.Variables.{Variables}
 use Rattle.recovery_sender.specs.Promises.Alive.{NeverStalls}
 use Rattle.recovery_sender.specs.Promises.Pasts.{ByPasts}

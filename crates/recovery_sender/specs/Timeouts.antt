@@ -6,7 +6,7 @@ use Rattle.recovery_sender.specs.declared.sender.probes.Timeout.{Timeout}
 use Rattle.recovery_sender.specs.declared.sender.probes.Timeout.TheVariants.{Nothing, Lost, Probe}
 use Rattle.recovery_sender.specs.declared.sender.Refused.{Refused}
 use Rattle.recovery_sender.specs.declared.sender.Sender.{Sender}
-use Rattle.recovery_sender.specs.declared.sender.timer.Due.TheVariants.{Losses as losses_due, Probes, AntiDeadlock}
+use Rattle.recovery_losses.specs.declared.due.Due.TheVariants.{Losses as losses_due, Probes, AntiDeadlock}
 use Rattle.recovery_sender.specs.Calls.{due_now, ProbesOnce, ProbesTwice}
 use Rattle.recovery_sender.specs.Judging.{Detects}
 use Rattle.recovery_sender.specs.Senders.{parts_in}

@@ -1,5 +1,5 @@
 -- When the timer for losses is due, and what for (RFC 9002, 6.2 and A.8), by what can be read of a sender.
-use Rattle.std.specs.Prelude.{◌≡◌, ℕ, ◌+◌, ◌-◌, ◌^◌, ◌||◌, ◌&&◌, not, min, nat_lt, Bool, true, false, Option, None, Some, option_map, if◌then◌else◌}
+use Rattle.std.specs.Prelude.{◌≡◌, ℕ, ◌+◌, ◌-◌, ◌^◌, ◌||◌, ◌&&◌, not, min, Bool, true, false, Option, None, Some, option_map, if◌then◌else◌}
 use Rattle.std.specs.List.{list_any}
 use Rattle.std.specs.Option.{option_and_then, option_or}
 use Rattle.recovery_base.specs.declared.below.SpaceId.{SpaceId}
@@ -12,22 +12,17 @@ use Rattle.recovery_detection.specs.Timeouts.{probe_timeout_of}
 use Rattle.recovery_ledger.specs.Discarded.{is_discarded}
 use Rattle.recovery_ledger.specs.Packets.{Packets}
 use Rattle.recovery_ledger.specs.Spaces.{Space, packets_of}
+use Rattle.recovery_losses.specs.Due.{sooner}
 use Rattle.recovery_paths.specs.PathStates.{is_blocked}
 use Rattle.quic_recovery.specs.Parts.{Parts}
 use Rattle.recovery_sender.specs.declared.sender.Side.{Side}
 use Rattle.recovery_sender.specs.declared.sender.Side.TheVariants.{Client, Server}
-use Rattle.recovery_sender.specs.declared.sender.timer.Due.{Due}
-use Rattle.recovery_sender.specs.declared.sender.timer.Due.TheVariants.{Losses, Probes, AntiDeadlock}
+use Rattle.recovery_losses.specs.declared.due.Due.{Due}
+use Rattle.recovery_losses.specs.declared.due.Due.TheVariants.{Losses, Probes, AntiDeadlock}
 use Rattle.recovery_sender.specs.declared.sender.Variables.{Variables}
 use Rattle.recovery_sender.specs.Senders.{space_in}
 
 -- ---- the least of moments
-
--- the sooner of two, with what is due then; of equal ones the first
-abbrev pub sooner : Option (ℕ × Due) → Option (ℕ × Due) → Option (ℕ × Due)
-sooner None second = second
-sooner first None = first
-sooner (Some one) (Some other) = if nat_lt other.0 one.0 then Some other else Some one
 
 -- the soonest of all spaces
 abbrev pub soonest : (SpaceId → Option (ℕ × Due)) → Option (ℕ × Due)

@@ -3,11 +3,9 @@
 //! `specs/Timer.antt`.
 #![tactic(auto)]
 
-mod frames;
 pub mod sender;
 
-pub use frames::Ack;
+pub use recovery_losses::{Ack, Due};
 pub use sender::{
-    Acknowledged, Due, EcnEnd, Losses, Refused, Sender, Side, Timeout, Transmission, Variables,
-    passes,
+    Acknowledged, EcnEnd, Losses, Refused, Sender, Side, Timeout, Transmission, Variables, passes,
 };

@@ -23,7 +23,6 @@ pub use events::passes;
 pub use losses::Losses;
 pub use packets::Transmission;
 pub use probes::Timeout;
-pub use timer::Due;
 
 /// How late the ACKs of a peer may be that said nothing of it (RFC 9000, 18.2: max_ack_delay), in milliseconds.
 const DEFAULT_MAX_ACK_DELAY: u64 = 25;

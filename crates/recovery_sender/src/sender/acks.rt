@@ -3,7 +3,8 @@ ghost use Rattle.std.specs.Prelude.{◌≡◌, ◌≢◌, ◌∷◌, [], None, �
 ghost use Rattle.recovery_events.specs.declared.event.Event.TheVariants.{CheckAck, EndAcks};
 ghost use Rattle.recovery_losses.specs.Losses.{AreRising, IsOneOf};
 ghost use Rattle.quic_recovery.specs.State.{OnlyTells};
-ghost use Rattle.recovery_sender.specs.Acks.{are_ranges, is_unsent, largest_of, AckChecked, AreAllowed, AreNewly, IsFirstIn, NoneIn, SomeElicits, TakesFrom};
+ghost use Rattle.recovery_losses.specs.Frames.{are_ranges, is_unsent, largest_of};
+ghost use Rattle.recovery_sender.specs.Acks.{AckChecked, AreAllowed, AreNewly, IsFirstIn, NoneIn, SomeElicits, TakesFrom};
 ghost use Rattle.recovery_sender.specs.Losses.{largest_in};
 ghost use Rattle.recovery_sender.specs.Promises.Acked.{AcksTracked};
 ghost use Rattle.recovery_sender.specs.Promises.Pasts.{ByPasts};
@@ -14,7 +15,6 @@ ghost use Rattle.recovery_ledger.specs.Discarded.{is_discarded};
 ghost use Rattle.recovery_ledger.specs.Packets.{packet_at};
 
 use super::{Losses, Refused, Sender, Side, Variables};
-use crate::frames::{Ack, are_ranges, largest_of};
 use quic_recovery::below::{EcnCounts, SpaceId};
 use quic_recovery::congestion::ControllerFactory;
 use quic_recovery::event::PathName;
@@ -23,6 +23,7 @@ use quic_recovery::queue::RetransmitQueue;
 use quic_recovery::time::{Duration, Instant};
 use quic_recovery::{Answer, Event, Refusal};
 use rand_core::Rng;
+use recovery_losses::{Ack, are_ranges, is_unsent, largest_of};
 
 /// What the counts of ECN of a frame come to (RFC 9000, 13.4.2.1).
 #[derive(Clone, Copy)]
@@ -103,16 +104,6 @@ fn lesser(one: Duration, other: Duration) -> Duration
     if other < one { other } else { one }
 }
 
-/// Whether the largest number of a frame was not sent, where this is the next one.
-fn is_unsent(largest: Option<u64>, next: u64) -> bool
-    ensures { result ≡ is_unsent largest next }
-{
-    match largest {
-        Some(largest) => largest >= next,
-        None => false,
-    }
-}
-
 impl<F, Q, R> Sender<F, Q, R>
 where
     F: ControllerFactory + Drop,
@@ -140,10 +131,26 @@ where
     ) -> Result<Acknowledged, Refused>
         ensures { OnAck space now ranges.now ack self.old self.new result }
     {
+        let room = Vec::new(self.alloc);
+        self.on_ack_into(space, now, ranges, ack, room)
+    }
+
+    /// As [`Sender::on_ack`], where the list of what is acknowledged takes the memory of another, in place of what that
+    /// held; it takes more only where it has to grow.
+    pub fn on_ack_into(
+        &mut self,
+        space: SpaceId,
+        now: Instant,
+        ranges: &[(u64, u64)],
+        ack: Ack,
+        room: Vec<u64>,
+    ) -> Result<Acknowledged, Refused>
+        ensures { OnAck space now ranges.now ack self.old self.new result }
+    {
         if let Err(refused) = self.check_ack(space, ranges) {
             return Err(refused);
         }
-        let newly = match self.newly_acked(space, ranges) {
+        let newly = match self.newly_acked(space, ranges, room) {
             Ok(newly) => newly,
             Err(refused) => return Err(refused),
         };
@@ -237,9 +244,14 @@ where
         Ok(())
     }
 
-    /// What a frame newly acknowledges. Refused by `NoMemory`. It costs its ranges and what they newly acknowledge,
-    /// each with a logarithm.
-    fn newly_acked(&self, space: SpaceId, ranges: &[(u64, u64)]) -> Result<Newly, Refused>
+    /// What a frame newly acknowledges, in place of what a list held. Refused by `NoMemory`. It costs its ranges and
+    /// what they newly acknowledge, each with a logarithm.
+    fn newly_acked(
+        &self,
+        space: SpaceId,
+        ranges: &[(u64, u64)],
+        room: Vec<u64>,
+    ) -> Result<Newly, Refused>
         requires there { is_discarded space (parts_in self.now).discarded ≡ false }
         requires whole { are_ranges ranges.now ≡ true }
         requires small { IfSome (largest_of ranges.now) (λ largest. largest + 1 < 2 ^ 64) }
@@ -249,8 +261,10 @@ where
         ensures tracked { IfOk result (λ newly.
             ByPasts self.now (AcksTracked space ranges.now newly.numbers.items)) }
     {
+        let mut numbers = room;
+        numbers.clear();
         let mut newly = Newly {
-            numbers: Vec::new(self.alloc),
+            numbers,
             elicits: false,
         };
         let mut at = ranges.len();

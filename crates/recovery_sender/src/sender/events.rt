@@ -27,6 +27,7 @@ fn config_of<F>(side: Side, config: RecoveryConfig<F>) -> RecoveryConfig<F>
 }
 
 /// When an event is to send what counts in flight.
+#[inline(always)]
 fn to_send<Q: RetransmitQueue>(event: &Event<Q>) -> Option<Instant>
     ensures { result ≡ to_send event.now }
 {
@@ -40,6 +41,7 @@ fn to_send<Q: RetransmitQueue>(event: &Event<Q>) -> Option<Instant>
 /// Whether an event may be handed in by [`Sender::on_event`]: the sender decides itself what is acknowledged and lost
 /// and what follows of it, what is probed for, what is transmitted, which spaces end, and when the timer for losses is
 /// due.
+#[inline(always)]
 pub fn passes<Q: RetransmitQueue>(event: &Event<Q>) -> bool
     ensures { Decides result (Passes event.now) }
 {
@@ -97,6 +99,7 @@ where
 
     /// An event that passes, [`Event::Send`] and [`Event::PollMtu`] among them, as [`LiveRecovery::apply`] does it; and
     /// it is refused as there.
+    #[inline(always)]
     pub fn on_event(&mut self, event: Event<Q>) -> Result<Answer<Q>, Refused>
         requires passes { Passes event }
         ensures { Takes event self.old self.new result }

@@ -7,13 +7,14 @@ ghost use Rattle.recovery_sender.specs.Senders.{parts_in};
 ghost use Rattle.recovery_sender.specs.Steps.{told, Goes, Does};
 ghost use Rattle.recovery_sender.specs.Timeouts.{LosesByTime, TimesOut};
 
-use super::{Due, Losses, Refused, Sender};
+use super::{Losses, Refused, Sender};
 use quic_recovery::below::SpaceId;
 use quic_recovery::congestion::ControllerFactory;
 use quic_recovery::queue::RetransmitQueue;
 use quic_recovery::time::Instant;
 use quic_recovery::{Answer, Event, Refusal};
 use rand_core::Rng;
+use recovery_losses::Due;
 
 /// What a timeout comes to.
 #[derive(Drop)]

@@ -1,12 +1,12 @@
 //! The timer for losses and probes (RFC 9002, 6.2 and A.8).
-ghost use Rattle.std.specs.Prelude.{◌≡◌, ◌∷◌, [], Ok, Err, option_copied, option_map};
+ghost use Rattle.std.specs.Prelude.{◌≡◌, ◌∷◌, [], Ok, Err, option_copied};
 ghost use Rattle.recovery_base.specs.declared.timer.Timer.TheVariants.{LossDetection};
 ghost use Rattle.recovery_base.specs.Timers.{moment};
 ghost use Rattle.recovery_events.specs.declared.event.Refusal.{Refusal};
 ghost use Rattle.recovery_ledger.specs.Spaces.{packets_of};
 ghost use Rattle.quic_recovery.specs.State.{OnlyTells};
 ghost use Rattle.recovery_sender.specs.Senders.{parts_in, space_in};
-ghost use Rattle.recovery_sender.specs.Timer.{ack_delay_in, due_of, has_eliciting, sooner, loss_due, probe_due, probe_in, deadlock_due, deadlock_space, pto_of, is_address_validated};
+ghost use Rattle.recovery_sender.specs.Timer.{ack_delay_in, due_of, has_eliciting, loss_due, probe_due, probe_in, deadlock_due, deadlock_space, pto_of, is_address_validated};
 ghost use Rattle.recovery_sender.specs.Steps.{told, timer_event, Goes, Does};
 
 use super::{Sender, Side};
@@ -20,42 +20,10 @@ use quic_recovery::timer::Timer;
 use quic_recovery::{Answer, Event};
 use rand_core::Rng;
 use recovery_detection::probe_timeout;
+use recovery_losses::{Due, sooner};
 
 /// The most times that a probe timeout is doubled.
 const MOST_DOUBLINGS: u32 = 16;
-
-/// What the timer is for.
-#[derive(Clone, Copy)]
-pub enum Due {
-    /// Packets of a space may be lost.
-    Losses(SpaceId),
-    /// A space is to be probed.
-    Probes(SpaceId),
-    /// A client is to end what may be a deadlock (RFC 9002, 6.2.2.1).
-    AntiDeadlock(SpaceId),
-}
-
-/// The moment at which something is due, where there is one.
-fn time_of(due: &Option<(Instant, Due)>) -> Option<Instant>
-    ensures { result ≡ option_map (λ due. due.0) due.now }
-{
-    match due {
-        Some((time, _)) => Some(*time),
-        None => None,
-    }
-}
-
-/// The sooner of two moments with what is due at them; of equal ones the first.
-fn sooner(first: Option<(Instant, Due)>, second: Option<(Instant, Due)>) -> Option<(Instant, Due)>
-    ensures { result ≡ sooner first second }
-{
-    let is_first = match (time_of(&first), time_of(&second)) {
-        (Some(one), Some(other)) => one <= other,
-        (Some(_), None) => true,
-        _ => false,
-    };
-    if is_first { first } else { second }
-}
 
 /// Whether some packet tracked in a space elicits an ACK (RFC 9002, 2).
 fn has_eliciting<Q>(here: &PacketSpace<Q>) -> bool
@@ -133,6 +101,7 @@ where
     }
 
     /// When packets of a space may be lost.
+    #[inline(always)]
     fn loss_due(&self, space: SpaceId) -> Option<(Instant, Due)>
         ensures { result ≡ loss_due (parts_in self.now) space }
     {
@@ -141,6 +110,7 @@ where
     }
 
     /// When a space is to be probed: that of 1-RTT packets only once the handshake is confirmed (RFC 9002, 6.2.1).
+    #[inline(always)]
     fn probe_due(&self, space: SpaceId) -> Option<(Instant, Due)>
         ensures { result ≡ probe_due (parts_in self.now) self.now.variables space }
     {
@@ -151,6 +121,7 @@ where
     }
 
     /// When it is, by what is kept for it.
+    #[inline(always)]
     fn probe_in(&self, space: SpaceId, here: &PacketSpace<Q>) -> Option<(Instant, Due)>
         ensures { result ≡ probe_in (parts_in self.now) self.now.variables space here.now }
     {

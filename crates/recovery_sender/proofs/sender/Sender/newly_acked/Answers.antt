@@ -2,7 +2,7 @@ use Rattle.std.proofs.Common.{◌-◌, None, sym, subst, ◌∙◌, arith}
 use Rattle.recovery_sender.specs.Acks.{AreNewly}
 use Rattle.recovery_sender.specs.Senders.{parts_in, packets_in}
 use Rattle.recovery_sender.proofs.AckLaws.{newly_on}
-use Rattle.recovery_sender.proofs.FrameLaws.{are_fine, ranges_are, small_all}
+use Rattle.recovery_losses.proofs.FrameLaws.{are_fine, ranges_are, small_all}
 use Rattle.recovery_sender.proofs.PromiseLaws.{acks_tracked}
 use Rattle.recovery_sender.proofs.sender.Sender.newly_acked.Goals as goal
 
@@ -36,9 +36,13 @@ loop-at-preserved g c =
       within = omega (arith, i.within);
     }
 
+pub returns-clause-newly : goal.returns-clause-newly
+returns-clause-newly g c =
+    subst (λ at. AreNewly (packets_in (parts_in c.args.self.now) c.args.space) c.args.ranges.now at
+    c.loop-at.newly.numbers.items c.loop-at.newly.elicits) (omega (arith, c.loop-at-test.false))
+    c.loop-at.invariant.newly
+
 pub returns-clause-tracked : goal.returns-clause-tracked
 returns-clause-tracked g c =
-    let i = c.loop-at.invariant in
     acks_tracked c.args.space c.args.self.now c.requires.there c.args.ranges.now _ c.loop-at.newly.elicits
-    (subst (λ at. AreNewly (packets_in (parts_in c.args.self.now) c.args.space) c.args.ranges.now at
-    c.loop-at.newly.numbers.items c.loop-at.newly.elicits) (omega (arith, c.loop-at-test.false)) i.newly)
+    (returns-clause-newly g c)

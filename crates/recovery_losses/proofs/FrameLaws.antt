@@ -4,7 +4,7 @@ use Rattle.std.proofs.lemmas.Bool.Decides.{leb_tells}
 use Rattle.std.proofs.lemmas.Option.{none-some, same_Some}
 use Rattle.std.specs.Option.{is_some}
 use Rattle.std.proofs.lemmas.List.{drop_all, drop_more}
-use Rattle.recovery_sender.specs.Acks.{are_apart, are_ranges, is_apart, largest_of}
+use Rattle.recovery_losses.specs.Frames.{are_apart, are_ranges, is_apart, largest_of}
 
 -- the ranges from an index on lie apart where all do
 pub record AreSeen (ranges : List (ℕ × ℕ)) (at : ℕ) (above : Option ℕ) : Type 0 where

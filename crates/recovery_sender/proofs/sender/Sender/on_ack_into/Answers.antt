@@ -1,6 +1,6 @@
 use Rattle.std.proofs.Common.{sym, ◌∙◌}
 use Rattle.recovery_sender.proofs.PromiseLaws.{some_left}
-use Rattle.recovery_sender.proofs.sender.Sender.on_ack.Goals as goal
+use Rattle.recovery_sender.proofs.sender.Sender.on_ack_into.Goals as goal
 
 pub returns : goal.returns
 returns g c = let checked = c.in_default.ensures.checked in record {

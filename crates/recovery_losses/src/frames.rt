@@ -1,9 +1,9 @@
 //! ACK frames as they come in (RFC 9000, 19.3).
 ghost use Rattle.std.specs.Prelude.{◌≡◌};
-ghost use Rattle.recovery_sender.specs.Acks.{are_ranges, is_apart, largest_of};
+ghost use Rattle.recovery_losses.specs.Frames.{are_ranges, is_apart, is_unsent, largest_of};
 
-use quic_recovery::below::EcnCounts;
-use quic_recovery::time::Duration;
+use recovery_base::below::EcnCounts;
+use recovery_base::time::Duration;
 
 /// What an ACK frame says beside its ranges, and what the layer above knows at its arrival.
 #[derive(Clone, Copy)]
@@ -18,7 +18,7 @@ pub struct Ack {
 
 /// Whether there is a range, none ends before it begins, and between each and the next lower there is at least one
 /// number (RFC 9000, 19.3.1).
-pub(crate) fn are_ranges(ranges: &[(u64, u64)]) -> bool
+pub fn are_ranges(ranges: &[(u64, u64)]) -> bool
     ensures { result ≡ are_ranges ranges.now }
 {
     let mut above: Option<u64> = None;
@@ -42,11 +42,21 @@ fn is_apart(last: u64, above: Option<u64>) -> bool
 }
 
 /// The largest number of ranges, where there is a range.
-pub(crate) fn largest_of(ranges: &[(u64, u64)]) -> Option<u64>
+pub fn largest_of(ranges: &[(u64, u64)]) -> Option<u64>
     ensures { result ≡ largest_of ranges.now }
 {
     match ranges {
         [(_, last), ..] => Some(*last),
         [] => None,
+    }
+}
+
+/// Whether the largest number of a frame was not sent, where this is the next one.
+pub fn is_unsent(largest: Option<u64>, next: u64) -> bool
+    ensures { result ≡ is_unsent largest next }
+{
+    match largest {
+        Some(largest) => largest >= next,
+        None => false,
     }
 }

@@ -1,0 +1,32 @@
+-- The ranges of an ACK frame, the highest first, as they stand in it (RFC 9000, 19.3.1).
+use Rattle.std.specs.Prelude.{ℕ, ◌+◌, ◌≤◌, ◌⊎◌, ◌&&◌, nat_le, Bool, true, false, List, [], ◌∷◌, Option, None, Some}
+
+-- a range ends below another, with a number between them, where there is another
+abbrev pub is_apart : ℕ → Option ℕ → Bool
+is_apart last None = true
+is_apart last (Some above) = nat_le (last + 2) above
+
+-- none ends before it begins, and each lies apart from the one above it
+abbrev pub are_apart : Option ℕ → List (ℕ × ℕ) → Bool
+are_apart above [] = true
+are_apart above (range ∷ ranges) =
+    nat_le range.0 range.1 && is_apart range.1 above && are_apart (Some range.0) ranges
+
+abbrev pub are_ranges : List (ℕ × ℕ) → Bool
+are_ranges [] = false
+are_ranges ranges = are_apart None ranges
+
+-- the largest number of a frame
+abbrev pub largest_of : List (ℕ × ℕ) → Option ℕ
+largest_of [] = None
+largest_of (range ∷ ranges) = Some range.1
+
+-- it is at or above the next number that is given out
+abbrev pub is_unsent : Option ℕ → ℕ → Bool
+is_unsent None next = false
+is_unsent (Some largest) next = nat_le next largest
+
+-- a number lies in one of them
+abbrev pub IsWithin : ℕ → List (ℕ × ℕ) → Type 0
+IsWithin number [] = ⊥
+IsWithin number (range ∷ ranges) = (range.0 ≤ number) × (number ≤ range.1) ⊎ IsWithin number ranges
