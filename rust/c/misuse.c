@@ -97,8 +97,10 @@ static void senders(struct recovery_handle *alone) {
     refused("an ACK", recovery_ffi_sender_ack(alone, 2, 0, &frame, &range, 1), none);
     refused("a timeout", recovery_ffi_sender_timeout(alone, 0, false), none);
     refused("a discarded space", recovery_ffi_sender_discard(alone, 0, 0), none);
+    refused("an abandoned space", recovery_ffi_sender_abandon(alone, 0, 0), none);
     refused("keys", recovery_ffi_sender_handshake_keys(alone), none);
     refused("a delay", recovery_ffi_sender_peer_delay(alone, 1, 0), none);
+    expect("no probe timeout", recovery_ffi_pto_count(alone) == 0);
     expect("nothing was told", recovery_ffi_told(alone).acked == 0 && recovery_ffi_told_numbers(alone, true, NULL, 0) == 0);
     struct recovery_handle sender = {0};
     struct recovery_settings settings = recovery_ffi_default_settings();

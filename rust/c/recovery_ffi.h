@@ -310,14 +310,6 @@ struct recovery_bucket {
     uint16_t mtu;
 };
 
-// A range of numbers that an ACK frame acknowledges (RFC 9000, 19.3.1).
-struct recovery_ackrange {
-    // The first number.
-    uint64_t first;
-    // The last number.
-    uint64_t last;
-};
-
 // What an ACK frame says beside its ranges, and what the stack knows at its arrival.
 struct recovery_ackframe {
     // How long the peer says that it delayed the ACK, in whole seconds.
@@ -336,9 +328,17 @@ struct recovery_ackframe {
     bool app_limited;
 };
 
-// What was told last: of an ACK frame, or of a timeout that found losses.
+// A range of numbers that an ACK frame acknowledges (RFC 9000, 19.3.1).
+struct recovery_ackrange {
+    // The first number.
+    uint64_t first;
+    // The last number.
+    uint64_t last;
+};
+
+// What was told last: of an ACK frame, of a timeout that found losses, or of an abandoned space.
 struct recovery_toldview {
-    // How many numbers the frame newly acknowledged; of a timeout 0.
+    // How many numbers the frame newly acknowledged; else 0.
     uint64_t acked;
     // How many numbers were found lost, without that of the MTU's probe.
     uint64_t lost;
@@ -722,11 +722,12 @@ uint8_t recovery_ffi_sender_new(struct recovery_handle *handle, bool client, con
 // next datagram is asked for. Refused by `RECOVERY_REFUSAL_SPACE_DISCARDED`, then by `RECOVERY_REFUSAL_OVERFLOW`.
 struct recovery_reply recovery_ffi_sender_transmit(struct recovery_handle *handle, uint64_t now, uint16_t bytes, uint8_t space, bool in_flight);
 
-// An ACK frame came in (RFC 9002, A.7), with its ranges, the highest first, as on the wire: `RECOVERY_ANSWER_ACKNOWLEDGED`.
-// What it newly acknowledges, and what is lost by it, `recovery_ffi_told` and `recovery_ffi_told_numbers` say.
-// Refused, and nothing changes, by `RECOVERY_REFUSAL_SPACE_DISCARDED`, by `RECOVERY_REFUSAL_BAD_RANGE` where there is no range, one ends
-// before it begins, or two have no number between them (RFC 9000, 19.3.1), by `RECOVERY_REFUSAL_UNSENT`, by
-// `RECOVERY_REFUSAL_SKIPPED_ACKED` (RFC 9000, 21.4), or by `RECOVERY_REFUSAL_NO_MEMORY`.
+// An ACK frame came in (RFC 9002, A.7), with its ranges, the highest first, as on the wire: `RECOVERY_ANSWER_ACKNOWLEDGED`,
+// with how many numbers it newly acknowledges in `first`, how many are found lost in `second`, and in `flag` whether
+// `recovery_ffi_told` says more than that; `recovery_ffi_told_numbers` says which they are. Refused, and nothing
+// changes, by `RECOVERY_REFUSAL_SPACE_DISCARDED`, by `RECOVERY_REFUSAL_BAD_RANGE` where there is no range, one ends before it begins, or
+// two have no number between them (RFC 9000, 19.3.1), by `RECOVERY_REFUSAL_UNSENT`, by `RECOVERY_REFUSAL_SKIPPED_ACKED` (RFC 9000,
+// 21.4), or by `RECOVERY_REFUSAL_NO_MEMORY`.
 struct recovery_reply recovery_ffi_sender_ack(struct recovery_handle *handle, uint8_t space, uint64_t now, const struct recovery_ackframe *frame, const struct recovery_ackrange *ranges, size_t ranges_len);
 
 // The timer for losses may be due (RFC 9002, A.9): `RECOVERY_ANSWER_NOTHING` where it is not; `RECOVERY_ANSWER_LOSSES` where packets
@@ -739,6 +740,12 @@ struct recovery_reply recovery_ffi_sender_timeout(struct recovery_handle *handle
 // 6.4 and A.11): `RECOVERY_ANSWER_DONE`. Refused by `RECOVERY_REFUSAL_SPACE_DISCARDED`.
 struct recovery_reply recovery_ffi_sender_discard(struct recovery_handle *handle, uint8_t space, uint64_t now);
 
+// What a space tracks was sent in vain, behind a Retry or where 0-RTT is refused (RFC 9002, 6.3 and 6.4): each packet
+// is lost, which is no congestion, and probe timeouts are counted anew: `RECOVERY_ANSWER_LOSSES`, and
+// `recovery_ffi_told_numbers` says which. Refused by `RECOVERY_REFUSAL_SPACE_DISCARDED`; by `RECOVERY_REFUSAL_NO_MEMORY`, where the same
+// call goes on with what is tracked still.
+struct recovery_reply recovery_ffi_sender_abandon(struct recovery_handle *handle, uint8_t space, uint64_t now);
+
 // There are keys of Handshake packets (RFC 9002, A.8): `RECOVERY_ANSWER_DONE`.
 struct recovery_reply recovery_ffi_sender_handshake_keys(struct recovery_handle *handle);
 
@@ -750,8 +757,12 @@ struct recovery_reply recovery_ffi_sender_handshake_confirmed(struct recovery_ha
 // fewer than 10^9 nanoseconds.
 struct recovery_reply recovery_ffi_sender_peer_delay(struct recovery_handle *handle, uint64_t secs, uint32_t nanos);
 
-// What was told last: by an ACK frame that was not refused, or by a timeout that looked for losses. Nothing before it,
-// and where there is no sender.
+// How many probe timeouts expired in a row, by which the next one is doubled (RFC 9002, 6.2.1); 0 where there is no
+// sender.
+uint32_t recovery_ffi_pto_count(struct recovery_handle *handle);
+
+// What was told last: by an ACK frame that was not refused, by a timeout that looked for losses, or by an abandoned
+// space. Nothing before it, and where there is no sender.
 struct recovery_toldview recovery_ffi_told(struct recovery_handle *handle);
 
 // How many numbers were newly acknowledged as something was told last, or, with `lost`, how many were found lost,
@@ -773,7 +784,7 @@ struct recovery_reply recovery_ffi_stop_timer(struct recovery_handle *handle, ui
 struct recovery_reply recovery_ffi_next_timeout(struct recovery_handle *handle);
 
 // Does nothing; a library of another layout does not have it, and a program with this header does not link with that one.
-void recovery_ffi_layout(void) __asm__("recovery_ffi_layout_b69caf3d");
+void recovery_ffi_layout(void) __asm__("recovery_ffi_layout_41fe944f");
 __attribute__((used)) static void (*const recovery_ffi_has_this_layout)(void) = recovery_ffi_layout;
 
 #ifdef __cplusplus

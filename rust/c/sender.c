@@ -1,5 +1,5 @@
 // A sender from C: four packets go out, the last one is acknowledged, and the others are lost: the first by its number, two by
-// their age (RFC 9002, 6.1). What they carried is to be sent again.
+// their age (RFC 9002, 6.1). What they carried is to be sent again. A fifth packet is abandoned (RFC 9002, 6.4).
 #include "recovery_ffi.h"
 #include <inttypes.h>
 #include <stdio.h>
@@ -61,6 +61,9 @@ int main(void) {
         size_t count = recovery_ffi_taken(&sender, taken, 8);
         printf("%zu items to be sent again: %" PRIu64 ", %" PRIu64 " and %" PRIu64 "\n", count, taken[0], taken[1], taken[2]);
     }
+    uint64_t item = 5;
+    tell(&sender, recovery_ffi_send(&sender, space, 120000000, 1000, true, false, 0, &item, 1));
+    tell(&sender, recovery_ffi_sender_abandon(&sender, space, 121000000));
     recovery_ffi_drop(&sender);
     return 0;
 }

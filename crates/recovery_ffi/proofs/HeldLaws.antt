@@ -7,9 +7,9 @@ use Rattle.recovery_ffi.specs.Answers.{Answers, LetsIn}
 use Rattle.recovery_ffi.specs.Kept.{ItemEvent}
 use Rattle.recovery_ffi.specs.Marks.{MarksStack, SetsMarks}
 use Rattle.recovery_base.specs.declared.below.SpaceId.{SpaceId}
-use Rattle.recovery_sender.specs.declared.frames.Ack.{Ack}
-use Rattle.recovery_ffi.specs.Sending.{range_given, Asks, AsksAck, AsksStack}
-use Rattle.recovery_ffi.specs.declared.sender.AckRange.{AckRange}
+use Rattle.recovery_losses.specs.declared.frames.Ack.{Ack}
+use Rattle.recovery_ffi.specs.Sending.{AsksAck, AsksStack, AsksWith}
+use Rattle.recovery_ffi.specs.declared.sending.AckRange.{AckRange}
 use Rattle.recovery_ffi.specs.declared.sending.Call.{Call}
 use Rattle.recovery_ffi.specs.declared.sending.Call.TheVariants.{TakeAck}
 use Rattle.recovery_ffi.specs.declared.stack.Reply.{Reply}
@@ -21,10 +21,10 @@ answers_held {event} {spelling} {old} {new} was is held holds lets =
     subst (λ (o : Option Stack). Answers o event spelling new) (sym held)
     (record { is = is; holds = holds; lets = lets })
 
-pub asks_held : {call : Call} {spelling : Reply} {old new : Option Stack} (was is : Stack) → old ≡ Some was
-    → new ≡ Some is → AsksStack call was spelling is → Asks old call spelling new
-asks_held {call} {spelling} {old} {new} was is held holds asks =
-    subst (λ (o : Option Stack). Asks o call spelling new) (sym held)
+pub asks_held : {call : Call} {given : List AckRange} {spelling : Reply} {old new : Option Stack} (was is : Stack)
+    → old ≡ Some was → new ≡ Some is → AsksStack call given was spelling is → AsksWith old call given spelling new
+asks_held {call} {given} {spelling} {old} {new} was is held holds asks =
+    subst (λ (o : Option Stack). AsksWith o call given spelling new) (sym held)
     (record { is = is; holds = holds; asks = asks })
 
 pub marks_held : {name : PathName} {marks : PathMarks} {is_set : Bool} {given : Option PathMarks}
@@ -36,12 +36,9 @@ marks_held {name} {marks} {is_set} {given} {old} {new} was is gives held holds c
     (record { is = is; holds = holds; changes = changes }))
 
 pub frame_taken : {named : Option (SpaceId × Ack)} {space : SpaceId} {ack : Ack} {moment now : ℕ}
-    (given : List AckRange) (old : Option Stack) (spelling : Reply) (new : Option Stack) (ranges : Vec (ℕ × ℕ) Global)
-    → Some (space, ack) ≡ named → moment ≡ now → ranges.items ≡ map range_given given
-    → Asks old (TakeAck space moment ranges ack) spelling new → AsksAck named now given old spelling new
-frame_taken {named} {space} {ack} {moment} {now} given old spelling new ranges is at are asks =
-    subst (λ (n : Option (SpaceId × Ack)). AsksAck n now given old spelling new) is (inl (record {
-      ranges = ranges;
-      are = are;
-      asks = subst (λ (m : ℕ). Asks old (TakeAck space m ranges ack) spelling new) at asks;
-    }))
+    (given : List AckRange) (old : Option Stack) (spelling : Reply) (new : Option Stack) → Some (space, ack) ≡ named
+    → moment ≡ now → AsksWith old (TakeAck space moment ack) given spelling new
+    → AsksAck named now given old spelling new
+frame_taken {named} {space} {ack} {moment} {now} given old spelling new is at asks =
+    subst (λ (n : Option (SpaceId × Ack)). AsksAck n now given old spelling new) is
+    (subst (λ (m : ℕ). AsksWith old (TakeAck space m ack) given spelling new) at asks)

@@ -85,6 +85,11 @@ abbrev pub IsFresh : Option Side → RecoveryConfig ChosenConfig → ℕ → Str
 IsFresh None config now words kept = IsFreshAlone config now words kept
 IsFresh (Some side) config now words kept = IsFreshSender side config now words kept
 
+-- probe timeouts of a sender that expired in a row (RFC 9002, 6.2.1)
+abbrev pub pto_count_of : Kept → ℕ
+pto_count_of (Alone recovery) = 0
+pto_count_of (Sends sending) = sending.sender.variables.pto_count
+
 -- ---- what was told last
 
 -- the numbers that are newly acknowledged, or those that are lost

@@ -1,21 +1,23 @@
 -- What a call of a sender comes to, in numbers.
-use Rattle.std.specs.Prelude.{◌≡◌, ◌⊎◌, ℕ, ◌+◌, ◌≤◌, Bool, true, false, List, [], length, map, Option, None, Some, is_some, option_map, option_and_then, Result, Ok, Err, IfOk, OnOk, OnErr, Vec, ◌∷◌, if◌then◌else◌}
+use Rattle.std.specs.Prelude.{◌≡◌, ◌⊎◌, ℕ, ◌+◌, ◌<◌, ◌≤◌, ◌||◌, not, Bool, true, false, List, [], length, map, Option, None, Some, is_some, option_map, option_and_then, Result, Ok, Err, IfOk, OnOk, OnErr, Vec, ◌∷◌, if◌then◌else◌}
 use Rattle.std.specs.Global.{Global}
 use Rattle.std.specs.Option.{option_map_or}
 use Rattle.recovery_base.specs.declared.below.SpaceId.{SpaceId}
 use Rattle.recovery_events.specs.declared.event.Answer.TheVariants.{Done}
 use Rattle.recovery_events.specs.declared.event.Event.TheVariants.{DiscardSpace}
 use Rattle.recovery_ledger.specs.Spaces.{space_of}
+use Rattle.recovery_sender.specs.Abandoning.{Abandons}
 use Rattle.recovery_sender.specs.Acking.{OnAck}
 use Rattle.recovery_sender.specs.Calls.{begun_anew, bytes_in_flight, discard_reply, is_checked, transmit_reply, transmit_steps, window_of}
 use Rattle.recovery_sender.specs.Senders.{parts_in}
 use Rattle.recovery_sender.specs.Steps as Steps
 use Rattle.recovery_sender.specs.Steps.{Does}
 use Rattle.recovery_sender.specs.Timeouts.{TimesOut}
-use Rattle.recovery_sender.specs.declared.frames.Ack.{Ack}
+use Rattle.recovery_losses.specs.declared.frames.Ack.{Ack}
 use Rattle.recovery_sender.specs.declared.sender.acks.Acknowledged.{Acknowledged}
 use Rattle.recovery_sender.specs.declared.sender.acks.EcnEnd.{EcnEnd}
 use Rattle.recovery_sender.specs.declared.sender.acks.EcnEnd.TheVariants.{Quiet, Marked, Failed}
+use Rattle.recovery_sender.specs.declared.sender.losses.Losses.{Losses}
 use Rattle.recovery_sender.specs.declared.sender.packets.Transmission.{Transmission}
 use Rattle.recovery_sender.specs.declared.sender.packets.Transmission.TheVariants.{Transmitted, Blocked, Full, Delayed}
 use Rattle.recovery_sender.specs.declared.sender.probes.Timeout.{Timeout}
@@ -23,17 +25,17 @@ use Rattle.recovery_sender.specs.declared.sender.probes.Timeout.TheVariants.{Not
 use Rattle.recovery_sender.specs.declared.sender.Refused.{Refused}
 use Rattle.recovery_sender.specs.declared.sender.Refused.TheVariants as refused
 use Rattle.recovery_sender.specs.declared.sender.Variables.{Variables}
-use Rattle.recovery_ffi.specs.Answers.{IsBad, HadNoMemory}
+use Rattle.recovery_ffi.specs.Answers.{IsBad}
 use Rattle.recovery_ffi.specs.Codes.{counts, space_coded, space_number, span}
 use Rattle.recovery_ffi.specs.Controllers.{chosen_words}
-use Rattle.recovery_ffi.specs.Replies.{no_recovery, no_sender, plain, refusal_spelled}
+use Rattle.recovery_ffi.specs.Replies.{no_memory, no_recovery, no_sender, plain, refusal_spelled}
 use Rattle.recovery_ffi.specs.declared.kept.Kept.{Kept}
 use Rattle.recovery_ffi.specs.declared.kept.Kept.TheVariants.{Alone, Sends}
 use Rattle.recovery_ffi.specs.declared.numbers.TheConstants.{ANSWER_ACKNOWLEDGED, ANSWER_BLOCKED, ANSWER_DELAYED, ANSWER_DONE, ANSWER_FULL, ANSWER_LOSSES, ANSWER_NOTHING, ANSWER_PROBES, ANSWER_REFUSED, ANSWER_TRANSMITTED, ECN_FAILED, ECN_MARKED, ECN_QUIET, REFUSAL_UNSENT}
 use Rattle.recovery_ffi.specs.declared.sender.AckFrame.{AckFrame}
-use Rattle.recovery_ffi.specs.declared.sender.AckRange.{AckRange}
+use Rattle.recovery_ffi.specs.declared.sending.AckRange.{AckRange}
 use Rattle.recovery_ffi.specs.declared.sending.Call.{Call}
-use Rattle.recovery_ffi.specs.declared.sending.Call.TheVariants.{Transmit, TakeAck, Expire, Discard, HandshakeKeys, HandshakeConfirmed, PeerDelay}
+use Rattle.recovery_ffi.specs.declared.sending.Call.TheVariants.{Transmit, TakeAck, Expire, Discard, Abandon, HandshakeKeys, HandshakeConfirmed, PeerDelay}
 use Rattle.recovery_ffi.specs.declared.sending.Sending.{Sending}
 use Rattle.recovery_ffi.specs.declared.sending.ToldView.{ToldView}
 use Rattle.recovery_ffi.specs.declared.stack.Reply.{Reply}
@@ -60,6 +62,22 @@ timeout_spelled Nothing = plain ANSWER_NOTHING
 timeout_spelled (Lost losses) = plain ANSWER_LOSSES
 timeout_spelled (Probe space count) = record (plain ANSWER_PROBES) { first = space_number space; second = count }
 
+-- a frame: how many numbers are newly acknowledged, how many lost, and whether more is told than these
+abbrev pub is_quiet : EcnEnd → Bool
+is_quiet Quiet = true
+is_quiet end = false
+
+abbrev pub tells_more : Acknowledged → Bool
+tells_more told = is_some told.losses.probe || is_some told.losses.congestion || told.losses.is_black_hole
+    || not (is_quiet told.ecn)
+
+abbrev pub acknowledged_spelled : Acknowledged → Reply
+acknowledged_spelled told = record (plain ANSWER_ACKNOWLEDGED) {
+  first = length told.numbers.items;
+  second = length told.losses.numbers.items;
+  flag = tells_more told;
+}
+
 -- ---- what a call comes to
 
 -- a datagram goes out, or does not (RFC 9002, 7; RFC 9000, 8.1)
@@ -85,8 +103,22 @@ pub record Acks (space : SpaceId) (now : ℕ) (ranges : List (ℕ × ℕ)) (ack 
     (new : Sending) : Type 0 where
   pub reply : Result Acknowledged Refused
   pub comes : OnAck space now ranges ack old.sender new.sender reply
-  pub spells : spelling ≡ spelled_by (λ acked. plain ANSWER_ACKNOWLEDGED) reply
+  pub spells : spelling ≡ spelled_by acknowledged_spelled reply
   pub told : new.told ≡ told_by_ack reply old.told
+
+-- with its ranges as they are given, or there is no memory to hand them in
+abbrev pub range_given : AckRange → ℕ × ℕ
+range_given range = (range.first, range.last)
+
+pub record HadNoRoom (given : List AckRange) (old : Sending) (spelling : Reply) (new : Sending) : Type 0 where
+  pub some : 0 < length given
+  pub spells : spelling ≡ no_memory
+  pub sender : new.sender ≡ old.sender
+  pub told : new.told ≡ old.told
+
+abbrev pub TakesFrame : SpaceId → ℕ → List AckRange → Ack → Sending → Reply → Sending → Type 0
+TakesFrame space now given ack old spelling new =
+    Acks space now (map range_given given) ack old spelling new ⊎ HadNoRoom given old spelling new
 
 -- a timeout: so are losses that it finds (RFC 9002, A.9)
 abbrev pub IsToldByTimeout : Result Timeout Refused → Acknowledged → Acknowledged → Type 0
@@ -109,6 +141,26 @@ pub record Discards (space : SpaceId) (now : ℕ) (old : Sending) (spelling : Re
   pub spells : spelling ≡ spelled_by (λ done. plain ANSWER_DONE) reply
   pub told : new.told ≡ old.told
 
+-- what a space tracks is lost, all of it or what memory lets: so are these numbers kept (RFC 9002, 6.3 and 6.4)
+abbrev pub lost_alone : Vec ℕ Global → Losses
+lost_alone numbers = record {
+  numbers = numbers;
+  probe = None;
+  congestion = None;
+  is_persistent = false;
+  is_black_hole = false;
+}
+
+abbrev pub IsToldLost : Result (Vec ℕ Global) Refused → Acknowledged → Acknowledged → Type 0
+IsToldLost (Ok numbers) old new = (new.numbers.items ≡ []) × (new.losses ≡ lost_alone numbers) × (new.ecn ≡ Quiet)
+IsToldLost (Err refusal) old new = new ≡ old
+
+pub record Forsakes (space : SpaceId) (now : ℕ) (old : Sending) (spelling : Reply) (new : Sending) : Type 0 where
+  pub reply : Result (Vec ℕ Global) Refused
+  pub comes : Abandons space old.sender now new.sender reply
+  pub spells : spelling ≡ spelled_by (λ numbers. plain ANSWER_LOSSES) reply
+  pub told : IsToldLost reply old.told new.told
+
 -- something is said of the connection, and the timer set
 pub record IsSaid (change : Variables → Variables) (old : Sending) (spelling : Reply) (new : Sending) : Type 0 where
   pub does : Does [] (change old.sender.variables) old.sender new.sender
@@ -127,37 +179,45 @@ confirmed variables = record variables { is_handshake_confirmed = true; is_addre
 abbrev pub delayed_by : ℕ → Variables → Variables
 delayed_by span variables = record variables { max_ack_delay = span }
 
-abbrev pub Says : Call → Sending → Reply → Sending → Type 0
-Says (Transmit now bytes space in_flight) old spelling new = Transmits now bytes space in_flight old spelling new
-Says (TakeAck space now ranges ack) old spelling new = Acks space now ranges.items ack old spelling new
-Says (Expire now immediate) old spelling new = Expires now immediate old spelling new
-Says (Discard space now) old spelling new = Discards space now old spelling new
-Says HandshakeKeys old spelling new = IsSaid keyed old spelling new
-Says HandshakeConfirmed old spelling new = IsSaid confirmed old spelling new
-Says (PeerDelay span) old spelling new = IsSaid (delayed_by span) old spelling new
+-- a call, with the ranges of an ACK frame beside it
+abbrev pub Says : Call → List AckRange → Sending → Reply → Sending → Type 0
+Says (Transmit now bytes space in_flight) given old spelling new =
+    Transmits now bytes space in_flight old spelling new
+Says (TakeAck space now ack) given old spelling new = TakesFrame space now given ack old spelling new
+Says (Expire now immediate) given old spelling new = Expires now immediate old spelling new
+Says (Discard space now) given old spelling new = Discards space now old spelling new
+Says (Abandon space now) given old spelling new = Forsakes space now old spelling new
+Says HandshakeKeys given old spelling new = IsSaid keyed old spelling new
+Says HandshakeConfirmed given old spelling new = IsSaid confirmed old spelling new
+Says (PeerDelay span) given old spelling new = IsSaid (delayed_by span) old spelling new
 
 -- ---- of what a handle holds
 
 -- a recovery that stands alone refuses a call of a sender, and stays
-abbrev pub OfSender : Call → Kept → Reply → Kept → Type 0
-OfSender call (Alone old) spelling new = (spelling ≡ no_sender) × (new ≡ Alone old)
-OfSender call (Sends old) spelling (Sends new) = Says call old spelling new
-OfSender call (Sends old) spelling (Alone new) = ⊥
+abbrev pub OfSender : Call → List AckRange → Kept → Reply → Kept → Type 0
+OfSender call given (Alone old) spelling new = (spelling ≡ no_sender) × (new ≡ Alone old)
+OfSender call given (Sends old) spelling (Sends new) = Says call given old spelling new
+OfSender call given (Sends old) spelling (Alone new) = ⊥
 
-pub record AsksStack (call : Call) (was : Stack) (spelling : Reply) (is : Stack) : Type 0 where
-  pub comes : OfSender call was.kept spelling is.kept
+pub record AsksStack (call : Call) (given : List AckRange) (was : Stack) (spelling : Reply) (is : Stack) : Type 0 where
+  pub comes : OfSender call given was.kept spelling is.kept
   pub taken : is.taken ≡ was.taken
   pub token : is.token ≡ was.token
 
-pub record HandsOn (was : Stack) (call : Call) (spelling : Reply) (new : Option Stack) : Type 0 where
-  pub is : Stack
-  pub holds : new ≡ Some is
-  pub asks : AsksStack call was spelling is
+pub record HandsOn (was : Stack) (call : Call) (given : List AckRange) (spelling : Reply) (new : Option Stack) : Type 0
+  where
+    pub is : Stack
+    pub holds : new ≡ Some is
+    pub asks : AsksStack call given was spelling is
 
 -- where a handle holds none, the call is refused
+abbrev pub AsksWith : Option Stack → Call → List AckRange → Reply → Option Stack → Type 0
+AsksWith None call given spelling new = (spelling ≡ no_recovery) × (new ≡ None)
+AsksWith (Some was) call given spelling new = HandsOn was call given spelling new
+
+-- a call of anything but an ACK frame
 abbrev pub Asks : Option Stack → Call → Reply → Option Stack → Type 0
-Asks None call spelling new = (spelling ≡ no_recovery) × (new ≡ None)
-Asks (Some was) call spelling new = HandsOn was call spelling new
+Asks old call spelling new = AsksWith old call [] spelling new
 
 -- the call of what an argument names, where it names something
 abbrev pub AsksTo : {C : Type 0} → Option C → (C → Call) → Option Stack → Reply → Option Stack → Type 0
@@ -165,9 +225,6 @@ AsksTo None call old spelling new = IsBad old spelling new
 AsksTo (Some named) call old spelling new = Asks old (call named) spelling new
 
 -- ---- an ACK frame as it is given
-
-abbrev pub range_given : AckRange → ℕ × ℕ
-range_given range = (range.first, range.last)
 
 abbrev pub ack_with : AckFrame → ℕ → Ack
 ack_with frame delay = record {
@@ -184,17 +241,9 @@ abbrev pub frame_given : ℕ → AckFrame → Option (SpaceId × Ack)
 frame_given space frame =
     option_and_then (λ space. option_map (λ ack. (space, ack)) (ack_given frame)) (space_coded space)
 
-pub record TakesFrame (old : Option Stack) (named : SpaceId × Ack) (now : ℕ) (given : List AckRange) (spelling : Reply)
-    (new : Option Stack) : Type 0 where
-  pub ranges : Vec (ℕ × ℕ) Global
-  pub are : ranges.items ≡ map range_given given
-  pub asks : Asks old (TakeAck named.0 now ranges named.1) spelling new
-
--- it is taken, or there was no memory to hand in its ranges
 abbrev pub AsksAck : Option (SpaceId × Ack) → ℕ → List AckRange → Option Stack → Reply → Option Stack → Type 0
 AsksAck None now given old spelling new = IsBad old spelling new
-AsksAck (Some named) now given old spelling new =
-    TakesFrame old named now given spelling new ⊎ HadNoMemory given old spelling new
+AsksAck (Some named) now given old spelling new = AsksWith old (TakeAck named.0 now named.1) given spelling new
 
 -- ---- what was told last, in numbers
 

@@ -2,9 +2,9 @@
 ghost use Rattle.std.specs.Prelude.{◌≡◌, Some, None, is_some, MatchOption};
 ghost use Rattle.recovery_ffi.specs.Answers.{Answers};
 ghost use Rattle.recovery_ffi.specs.Held.{Holds};
-ghost use Rattle.recovery_ffi.specs.Sending.{Asks};
+ghost use Rattle.recovery_ffi.specs.Sending.{Asks, AsksWith};
 
-use crate::sending::Call;
+use crate::sending::{AckRange, Call};
 use crate::slot::Slot;
 use crate::stack::{Reply, Stack};
 use quic_recovery::Event;
@@ -64,15 +64,21 @@ impl Handle {
         reply
     }
 
-    /// One call of a sender; refused where no stack is held.
+    /// One call of a sender that is no ACK frame; refused where no stack is held.
     pub fn ask(&mut self, alloc: Global, call: Call) -> Reply
         ensures { Asks self.old.slot.held call result self.new.slot.held }
     {
+        self.ask_with(alloc, call, &[])
+    }
+
+    /// One call of a sender, with the ranges of an ACK frame; refused where no stack is held.
+    pub fn ask_with(&mut self, alloc: Global, call: Call, ranges: &[AckRange]) -> Reply
+        ensures { AsksWith self.old.slot.held call ranges.now result self.new.slot.held }
+    {
         let Some(mut stack) = self.take(alloc) else {
-            drop(call);
             return Reply::no_recovery();
         };
-        let reply = stack.ask(alloc, call);
+        let reply = stack.ask(alloc, call, ranges);
         self.put(stack);
         reply
     }

@@ -4,13 +4,13 @@ ghost use Rattle.rand_core.specs.Steps.{stream_of, steps_u32};
 ghost use Rattle.rand_pcg.specs.Pcg.{pcg32};
 ghost use Rattle.quic_recovery.specs.State.{parts_of};
 ghost use Rattle.recovery_skips.specs.Skips.{IsSkips};
-ghost use Rattle.recovery_ffi.specs.Kept.{numbers_told, parts_kept, Comes, IsFreshAlone, IsFreshSender, IsFresh, Lets};
+ghost use Rattle.recovery_ffi.specs.Kept.{numbers_told, parts_kept, pto_count_of, Comes, IsFreshAlone, IsFreshSender, IsFresh, Lets};
 ghost use Rattle.recovery_ffi.specs.Sending.{told_view, OfSender};
 ghost use Rattle.recovery_ffi.specs.Views.{IsWritten};
 
 use crate::codes::copy_numbers;
 use crate::controllers::ChosenConfig;
-use crate::sending::{Call, Sending, ToldView, nothing_told};
+use crate::sending::{AckRange, Call, Sending, ToldView, nothing_told};
 use crate::stack::Reply;
 use quic_recovery::below::NoMemory;
 use quic_recovery::{Answer, Event, LiveRecovery, Recovery, RecoveryConfig, Refusal};
@@ -86,6 +86,8 @@ impl Kept {
         Ok(Kept::Sends(Sending {
             sender,
             told: nothing_told(alloc),
+            ranges: Vec::new(alloc),
+            room: Vec::new(alloc),
         }))
     }
 
@@ -126,7 +128,17 @@ impl Kept {
         }
     }
 
-    /// The numbers that the last ACK frame newly acknowledged, or those that it or the last timeout found lost.
+    /// How many probe timeouts of a sender expired in a row.
+    pub fn pto_count(&self) -> u32
+        ensures { result ≡ pto_count_of self.now }
+    {
+        match self {
+            Kept::Alone(_) => 0,
+            Kept::Sends(sending) => sending.sender.variables().pto_count,
+        }
+    }
+
+    /// The numbers that the last ACK frame newly acknowledged, or those that were lost as something was told last.
     fn numbers(&self, lost: bool) -> &[u64]
         ensures { result.now ≡ numbers_told lost self.now }
     {
@@ -154,15 +166,12 @@ impl Kept {
     }
 
     /// One call of a sender; refused where there is none.
-    pub fn ask(&mut self, alloc: Global, call: Call) -> Reply
-        ensures { OfSender call self.old result self.new }
+    pub fn ask(&mut self, alloc: Global, call: Call, ranges: &[AckRange]) -> Reply
+        ensures { OfSender call ranges.now self.old result self.new }
     {
         match self {
-            Kept::Alone(_) => {
-                drop(call);
-                Reply::no_sender()
-            }
-            Kept::Sends(sending) => sending.ask(alloc, call),
+            Kept::Alone(_) => Reply::no_sender(),
+            Kept::Sends(sending) => sending.ask(alloc, call, ranges),
         }
     }
 }

@@ -1,34 +1,24 @@
 //! The sending half of a connection (RFC 9002, Appendices A and B): which packets are lost, when to probe, and whether
 //! a datagram may go out. An export for each call of it that is no event; events that pass it takes as a recovery does.
-ghost use Rattle.std.specs.Prelude.{◌≡◌, ◌<◌, Some, IfOk, OnErr, length, map};
+ghost use Rattle.std.specs.Prelude.{◌≡◌, Some};
 ghost use Rattle.recovery_ffi.specs.Answers.{Reads};
 ghost use Rattle.recovery_ffi.specs.Codes.{side_coded, space_coded, span};
-ghost use Rattle.recovery_ffi.specs.Kept.{numbers_told};
+ghost use Rattle.recovery_ffi.specs.Kept.{numbers_told, pto_count_of};
 ghost use Rattle.recovery_ffi.specs.Made.{NewOr};
-ghost use Rattle.recovery_ffi.specs.Sending.{ack_given, frame_given, no_told, range_given, told_view, Asks, AsksAck, AsksTo};
+ghost use Rattle.recovery_ffi.specs.Sending.{ack_given, frame_given, no_told, told_view, Asks, AsksAck, AsksTo};
 ghost use Rattle.recovery_ffi.specs.Views.{IsWritten};
-ghost use Rattle.recovery_ffi.specs.declared.sending.Call.TheVariants.{Transmit, Expire, Discard, HandshakeKeys, HandshakeConfirmed, PeerDelay};
+ghost use Rattle.recovery_ffi.specs.declared.sending.Call.TheVariants.{Transmit, Expire, Discard, Abandon, HandshakeKeys, HandshakeConfirmed, PeerDelay};
 
 use crate::begin;
 use crate::codes::{Address, space_coded, span};
 use crate::handle::Handle;
-use crate::sending::{Call, ToldView};
+use crate::sending::{AckRange, Call, ToldView};
 use crate::settings::Settings;
 use crate::stack::Reply;
 use quic_recovery::time::Instant;
-use recovery_base::below::{EcnCounts, NoMemory, SpaceId};
+use recovery_base::below::{EcnCounts, SpaceId};
 use recovery_sender::{Ack, Side};
 use std::alloc::Global;
-
-/// A range of numbers that an ACK frame acknowledges (RFC 9000, 19.3.1).
-#[repr(C)]
-#[derive(Clone, Copy)]
-pub struct AckRange {
-    /// The first number.
-    pub first: u64,
-    /// The last number.
-    pub last: u64,
-}
 
 /// What an ACK frame says beside its ranges, and what the stack knows at its arrival.
 #[repr(C)]
@@ -48,19 +38,6 @@ pub struct AckFrame {
     pub has_ecn: bool,
     /// Whether the sender had too little to send to fill its window (RFC 9002, 7.8).
     pub app_limited: bool,
-}
-
-/// Ranges as the sender takes them, in the same order; where there are none, it takes no memory.
-fn ranges_of(alloc: Global, given: &[AckRange]) -> Result<Vec<(u64, u64)>, NoMemory>
-    ensures ranges { IfOk result (λ ranges. ranges.items ≡ map range_given given.now) }
-    ensures memory { OnErr result (0 < length given.now) }
-{
-    let mut ranges = Vec::new(alloc);
-    ranges.reserve_exact(given.len())?;
-    for range in given {
-        ranges.push_reserved((range.first, range.last));
-    }
-    Ok(ranges)
 }
 
 /// What a frame says, where its delay has fewer nanoseconds than a second.
@@ -151,11 +128,12 @@ pub extern "C" fn recovery_ffi_sender_transmit(
     )
 }
 
-/// An ACK frame came in (RFC 9002, A.7), with its ranges, the highest first, as on the wire: `ANSWER_ACKNOWLEDGED`.
-/// What it newly acknowledges, and what is lost by it, `recovery_ffi_told` and `recovery_ffi_told_numbers` say.
-/// Refused, and nothing changes, by `REFUSAL_SPACE_DISCARDED`, by `REFUSAL_BAD_RANGE` where there is no range, one ends
-/// before it begins, or two have no number between them (RFC 9000, 19.3.1), by `REFUSAL_UNSENT`, by
-/// `REFUSAL_SKIPPED_ACKED` (RFC 9000, 21.4), or by `REFUSAL_NO_MEMORY`.
+/// An ACK frame came in (RFC 9002, A.7), with its ranges, the highest first, as on the wire: `ANSWER_ACKNOWLEDGED`,
+/// with how many numbers it newly acknowledges in `first`, how many are found lost in `second`, and in `flag` whether
+/// `recovery_ffi_told` says more than that; `recovery_ffi_told_numbers` says which they are. Refused, and nothing
+/// changes, by `REFUSAL_SPACE_DISCARDED`, by `REFUSAL_BAD_RANGE` where there is no range, one ends before it begins, or
+/// two have no number between them (RFC 9000, 19.3.1), by `REFUSAL_UNSENT`, by `REFUSAL_SKIPPED_ACKED` (RFC 9000,
+/// 21.4), or by `REFUSAL_NO_MEMORY`.
 #[unsafe(no_mangle)]
 pub extern "C" fn recovery_ffi_sender_ack(
     alloc: Global,
@@ -171,18 +149,15 @@ pub extern "C" fn recovery_ffi_sender_ack(
     let Some((space, ack)) = frame_of(space, frame) else {
         return Reply::bad_argument();
     };
-    match ranges_of(alloc, ranges) {
-        Ok(ranges) => handle.ask(
-            alloc,
-            Call::TakeAck {
-                space,
-                now: Instant::from_nanos(now),
-                ranges,
-                ack,
-            },
-        ),
-        Err(_) => Reply::no_memory(),
-    }
+    handle.ask_with(
+        alloc,
+        Call::TakeAck {
+            space,
+            now: Instant::from_nanos(now),
+            ack,
+        },
+        ranges,
+    )
 }
 
 /// The timer for losses may be due (RFC 9002, A.9): `ANSWER_NOTHING` where it is not; `ANSWER_LOSSES` where packets
@@ -231,6 +206,32 @@ pub extern "C" fn recovery_ffi_sender_discard(
     )
 }
 
+/// What a space tracks was sent in vain, behind a Retry or where 0-RTT is refused (RFC 9002, 6.3 and 6.4): each packet
+/// is lost, which is no congestion, and probe timeouts are counted anew: `ANSWER_LOSSES`, and
+/// `recovery_ffi_told_numbers` says which. Refused by `REFUSAL_SPACE_DISCARDED`; by `REFUSAL_NO_MEMORY`, where the same
+/// call goes on with what is tracked still.
+#[unsafe(no_mangle)]
+pub extern "C" fn recovery_ffi_sender_abandon(
+    alloc: Global,
+    handle: &mut Handle,
+    space: u8,
+    now: u64,
+) -> Reply
+    ensures { AsksTo (space_coded space) (λ space. Abandon space now)
+        handle.old.slot.held result handle.new.slot.held }
+{
+    let Some(space) = space_coded(space) else {
+        return Reply::bad_argument();
+    };
+    handle.ask(
+        alloc,
+        Call::Abandon {
+            space,
+            now: Instant::from_nanos(now),
+        },
+    )
+}
+
 /// There are keys of Handshake packets (RFC 9002, A.8): `ANSWER_DONE`.
 #[unsafe(no_mangle)]
 pub extern "C" fn recovery_ffi_sender_handshake_keys(alloc: Global, handle: &mut Handle) -> Reply
@@ -269,8 +270,23 @@ pub extern "C" fn recovery_ffi_sender_peer_delay(
     }
 }
 
-/// What was told last: by an ACK frame that was not refused, or by a timeout that looked for losses. Nothing before it,
-/// and where there is no sender.
+/// How many probe timeouts expired in a row, by which the next one is doubled (RFC 9002, 6.2.1); 0 where there is no
+/// sender.
+#[unsafe(no_mangle)]
+pub extern "C" fn recovery_ffi_pto_count(alloc: Global, handle: &mut Handle) -> u32
+    ensures { Reads handle.old.slot.held handle.new.slot.held (λ stack.
+        result ≡ pto_count_of stack.kept) (result ≡ 0) }
+{
+    let Some(stack) = handle.take(alloc) else {
+        return 0;
+    };
+    let count = stack.kept.pto_count();
+    handle.put(stack);
+    count
+}
+
+/// What was told last: by an ACK frame that was not refused, by a timeout that looked for losses, or by an abandoned
+/// space. Nothing before it, and where there is no sender.
 #[unsafe(no_mangle)]
 pub extern "C" fn recovery_ffi_told(alloc: Global, handle: &mut Handle) -> ToldView
     ensures { Reads handle.old.slot.held handle.new.slot.held (λ stack.

@@ -1,10 +1,10 @@
 //! A sender, and what it told last.
-ghost use Rattle.std.specs.Prelude.{◌≡◌, []};
+ghost use Rattle.std.specs.Prelude.{◌≡◌, ◌<◌, [], length, map, true, false};
 ghost use Rattle.recovery_sender.specs.declared.sender.acks.EcnEnd.TheVariants.{Quiet};
 ghost use Rattle.recovery_sender.specs.declared.sender.probes.Timeout.TheVariants.{Probe};
 ghost use Rattle.recovery_ffi.specs.Kept.{numbers_of, IsNothing};
 ghost use Rattle.recovery_ffi.specs.Replies.{plain};
-ghost use Rattle.recovery_ffi.specs.Sending.{confirmed, delayed_by, ecn_number, keyed, no_told, refused_spelled, timeout_spelled, told_shown, transmission_spelled, Acks, Discards, Expires, IsSaid, Says, Transmits};
+ghost use Rattle.recovery_ffi.specs.Sending.{acknowledged_spelled, confirmed, delayed_by, ecn_number, is_quiet, keyed, lost_alone, no_told, range_given, refused_spelled, timeout_spelled, tells_more, told_shown, transmission_spelled, Acks, Discards, Expires, Forsakes, IsSaid, Says, TakesFrame, Transmits};
 
 use crate::codes::space_number;
 use crate::kept::ItemSender;
@@ -18,17 +18,32 @@ use quic_recovery::time::{Duration, Instant};
 use recovery_base::below::SpaceId;
 use recovery_sender::{Ack, Acknowledged, EcnEnd, Losses, Refused, Timeout, Transmission};
 use std::alloc::Global;
+use std::mem;
+
+/// A range of numbers that an ACK frame acknowledges (RFC 9000, 19.3.1).
+#[repr(C)]
+#[derive(Clone, Copy)]
+pub struct AckRange {
+    /// The first number.
+    pub first: u64,
+    /// The last number.
+    pub last: u64,
+}
 
 /// A sender, and what it told last.
 #[derive(Drop)]
 pub struct Sending {
     pub sender: ItemSender,
-    /// What the last ACK frame or timeout came to that told something; nothing before the first.
+    /// What the last ACK frame, timeout or abandoned space came to that told something; nothing before the first.
     pub told: Acknowledged,
+    /// What takes the ranges of an ACK frame, kept for its memory.
+    pub ranges: Vec<(u64, u64)>,
+    /// What takes the numbers that one newly acknowledges, likewise.
+    pub room: Vec<u64>,
 }
 
-/// A call of a sender.
-#[derive(Drop)]
+/// A call of a sender; the ranges of an ACK frame stand beside it.
+#[derive(Clone, Copy)]
 pub enum Call {
     /// A datagram is to go out.
     Transmit {
@@ -41,7 +56,6 @@ pub enum Call {
     TakeAck {
         space: SpaceId,
         now: Instant,
-        ranges: Vec<(u64, u64)>,
         ack: Ack,
     },
     /// The timer for losses may be due.
@@ -54,6 +68,11 @@ pub enum Call {
         space: SpaceId,
         now: Instant,
     },
+    /// What a space tracks was sent in vain.
+    Abandon {
+        space: SpaceId,
+        now: Instant,
+    },
     /// There are keys of Handshake packets.
     HandshakeKeys,
     /// The handshake is confirmed.
@@ -62,11 +81,11 @@ pub enum Call {
     PeerDelay(Duration),
 }
 
-/// What was told last: of an ACK frame, or of a timeout that found losses.
+/// What was told last: of an ACK frame, of a timeout that found losses, or of an abandoned space.
 #[repr(C)]
 #[derive(Clone, Copy)]
 pub struct ToldView {
-    /// How many numbers the frame newly acknowledged; of a timeout 0.
+    /// How many numbers the frame newly acknowledged; else 0.
     pub acked: u64,
     /// How many numbers were found lost, without that of the MTU's probe.
     pub lost: u64,
@@ -86,7 +105,7 @@ pub struct ToldView {
     pub is_black_hole: bool,
 }
 
-/// Of a timeout: what it found lost.
+/// Of a timeout, or of an abandoned space: what is lost.
 fn told_lost(alloc: Global, losses: Losses) -> Acknowledged
     ensures numbers { result.numbers.items ≡ [] }
     ensures losses { result.losses ≡ losses }
@@ -99,20 +118,24 @@ fn told_lost(alloc: Global, losses: Losses) -> Acknowledged
     }
 }
 
+/// These are lost, and nothing more is said of them.
+fn lost_alone(numbers: Vec<u64>) -> Losses
+    ensures { result ≡ lost_alone numbers }
+{
+    Losses {
+        numbers,
+        probe: None,
+        congestion: None,
+        is_persistent: false,
+        is_black_hole: false,
+    }
+}
+
 /// Nothing was told yet. It takes no memory.
 pub fn nothing_told(alloc: Global) -> Acknowledged
     ensures { IsNothing result }
 {
-    told_lost(
-        alloc,
-        Losses {
-            numbers: Vec::new(alloc),
-            probe: None,
-            congestion: None,
-            is_persistent: false,
-            is_black_hole: false,
-        },
-    )
+    told_lost(alloc, lost_alone(Vec::new(alloc)))
 }
 
 fn ecn_number(ecn: EcnEnd) -> u8
@@ -162,6 +185,37 @@ impl ToldView {
     }
 }
 
+fn is_quiet(ecn: EcnEnd) -> bool
+    ensures { result ≡ is_quiet ecn }
+{
+    match ecn {
+        EcnEnd::Quiet => true,
+        _ => false,
+    }
+}
+
+/// Whether more is told of an ACK frame than numbers.
+fn tells_more(told: &Acknowledged) -> bool
+    ensures { result ≡ tells_more told.now }
+{
+    let losses = &told.losses;
+    losses.probe.is_some()
+        || losses.congestion.is_some()
+        || losses.is_black_hole
+        || !is_quiet(told.ecn)
+}
+
+fn spell_acknowledged(told: &Acknowledged) -> Reply
+    ensures { result ≡ acknowledged_spelled told.now }
+{
+    Reply {
+        first: told.numbers.len() as u64,
+        second: told.losses.numbers.len() as u64,
+        flag: tells_more(told),
+        ..Reply::plain(ANSWER_ACKNOWLEDGED)
+    }
+}
+
 fn spell_refused(refused: Refused) -> Reply
     ensures { result ≡ refused_spelled refused }
 {
@@ -196,6 +250,21 @@ fn spell_probes(space: SpaceId, count: u8) -> Reply
     }
 }
 
+/// Ranges as the sender takes them, in the same order, in place of what a list held; false, where there is no memory.
+fn fill(ranges: &mut Vec<(u64, u64)>, given: &[AckRange]) -> bool
+    ensures ranges { result ≡ true → ranges.new.items ≡ map range_given given.now }
+    ensures memory { result ≡ false → 0 < length given.now }
+{
+    ranges.clear();
+    if ranges.reserve(given.len()).is_err() {
+        return false;
+    }
+    for range in given {
+        ranges.push_reserved((range.first, range.last));
+    }
+    true
+}
+
 impl Sending {
     /// The numbers that were newly acknowledged, or those that were lost.
     pub fn numbers(&self, lost: bool) -> &[u64]
@@ -209,8 +278,8 @@ impl Sending {
     }
 
     /// One call.
-    pub fn ask(&mut self, alloc: Global, call: Call) -> Reply
-        ensures { Says call self.old result self.new }
+    pub fn ask(&mut self, alloc: Global, call: Call, ranges: &[AckRange]) -> Reply
+        ensures { Says call ranges.now self.old result self.new }
     {
         match call {
             Call::Transmit {
@@ -219,14 +288,10 @@ impl Sending {
                 space,
                 in_flight,
             } => self.transmit(now, bytes, space, in_flight),
-            Call::TakeAck {
-                space,
-                now,
-                ranges,
-                ack,
-            } => self.take_ack(space, now, &ranges, ack),
+            Call::TakeAck { space, now, ack } => self.take_frame(alloc, space, now, ranges, ack),
             Call::Expire { now, immediate_ack } => self.expire(alloc, now, immediate_ack),
             Call::Discard { space, now } => self.discard(space, now),
+            Call::Abandon { space, now } => self.abandon(alloc, space, now),
             Call::HandshakeKeys => self.handshake_keys(),
             Call::HandshakeConfirmed => self.handshake_confirmed(),
             Call::PeerDelay(span) => self.peer_delay(span),
@@ -242,13 +307,43 @@ impl Sending {
         }
     }
 
-    fn take_ack(&mut self, space: SpaceId, now: Instant, ranges: &[(u64, u64)], ack: Ack) -> Reply
+    fn take_frame(
+        &mut self,
+        alloc: Global,
+        space: SpaceId,
+        now: Instant,
+        given: &[AckRange],
+        ack: Ack,
+    ) -> Reply
+        ensures { TakesFrame space now given.now ack self.old result self.new }
+    {
+        if !fill(&mut self.ranges, given) {
+            return Reply::no_memory();
+        }
+        let ranges = mem::replace(&mut self.ranges, Vec::new(alloc));
+        let reply = self.take_ack(alloc, space, now, &ranges, ack);
+        self.ranges = ranges;
+        reply
+    }
+
+    /// A frame with these ranges.
+    fn take_ack(
+        &mut self,
+        alloc: Global,
+        space: SpaceId,
+        now: Instant,
+        ranges: &[(u64, u64)],
+        ack: Ack,
+    ) -> Reply
         ensures { Acks space now ranges.now ack self.old result self.new }
     {
-        match self.sender.on_ack(space, now, ranges, ack) {
+        let room = mem::replace(&mut self.room, Vec::new(alloc));
+        match self.sender.on_ack_into(space, now, ranges, ack, room) {
             Ok(acknowledged) => {
-                self.told = acknowledged;
-                Reply::plain(ANSWER_ACKNOWLEDGED)
+                let reply = spell_acknowledged(&acknowledged);
+                let before = mem::replace(&mut self.told, acknowledged);
+                self.room = before.numbers;
+                reply
             }
             Err(refused) => spell_refused(refused),
         }
@@ -273,6 +368,18 @@ impl Sending {
     {
         match self.sender.discard(space, now) {
             Ok(()) => Reply::plain(ANSWER_DONE),
+            Err(refused) => spell_refused(refused),
+        }
+    }
+
+    fn abandon(&mut self, alloc: Global, space: SpaceId, now: Instant) -> Reply
+        ensures { Forsakes space now self.old result self.new }
+    {
+        match self.sender.abandon(space, now) {
+            Ok(numbers) => {
+                self.told = told_lost(alloc, lost_alone(numbers));
+                Reply::plain(ANSWER_LOSSES)
+            }
             Err(refused) => spell_refused(refused),
         }
     }

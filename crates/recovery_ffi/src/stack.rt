@@ -20,7 +20,7 @@ use crate::numbers::{
     FAULT_ECT0_FALLS, FAULT_ECT1_FALLS, REFUSAL_BAD_ARGUMENT, REFUSAL_DECIDED, REFUSAL_NO_RECOVERY,
     REFUSAL_NO_SENDER,
 };
-use crate::sending::Call;
+use crate::sending::{AckRange, Call};
 use quic_recovery::below::{NoMemory, ResetToken};
 use quic_recovery::paths::PathData;
 use quic_recovery::spaces::PacketSpace;
@@ -204,10 +204,10 @@ impl Stack {
     }
 
     /// One call of a sender; refused where there is none.
-    pub fn ask(&mut self, alloc: Global, call: Call) -> Reply
-        ensures { AsksStack call self.old result self.new }
+    pub fn ask(&mut self, alloc: Global, call: Call, ranges: &[AckRange]) -> Reply
+        ensures { AsksStack call ranges.now self.old result self.new }
     {
-        self.kept.ask(alloc, call)
+        self.kept.ask(alloc, call, ranges)
     }
 }
 

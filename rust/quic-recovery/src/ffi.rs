@@ -285,16 +285,6 @@ pub struct Bucket {
     pub mtu: u16,
 }
 
-/// A range of numbers that an ACK frame acknowledges (RFC 9000, 19.3.1).
-#[repr(C)]
-#[derive(Clone, Copy, Debug, PartialEq, Eq)]
-pub struct AckRange {
-    /// The first number.
-    pub first: u64,
-    /// The last number.
-    pub last: u64,
-}
-
 /// What an ACK frame says beside its ranges, and what the stack knows at its arrival.
 #[repr(C)]
 #[derive(Clone, Copy, Debug, PartialEq, Eq)]
@@ -315,11 +305,21 @@ pub struct AckFrame {
     pub app_limited: bool,
 }
 
-/// What was told last: of an ACK frame, or of a timeout that found losses.
+/// A range of numbers that an ACK frame acknowledges (RFC 9000, 19.3.1).
+#[repr(C)]
+#[derive(Clone, Copy, Debug, PartialEq, Eq)]
+pub struct AckRange {
+    /// The first number.
+    pub first: u64,
+    /// The last number.
+    pub last: u64,
+}
+
+/// What was told last: of an ACK frame, of a timeout that found losses, or of an abandoned space.
 #[repr(C)]
 #[derive(Clone, Copy, Debug, PartialEq, Eq)]
 pub struct ToldView {
-    /// How many numbers the frame newly acknowledged; of a timeout 0.
+    /// How many numbers the frame newly acknowledged; else 0.
     pub acked: u64,
     /// How many numbers were found lost, without that of the MTU's probe.
     pub lost: u64,
@@ -515,7 +515,7 @@ pub struct IdsView {
 
 unsafe extern "C" {
     /// Does nothing; a library of another layout does not have it.
-    #[link_name = "recovery_ffi_layout_b69caf3d"]
+    #[link_name = "recovery_ffi_layout_41fe944f"]
     pub fn recovery_ffi_layout();
 
     /// Makes a recovery, whose peer is at this address and has this id of at most 20 bytes. The answer is `NEW_MADE`, or
@@ -822,11 +822,12 @@ unsafe extern "C" {
         in_flight: bool,
     ) -> Reply;
 
-    /// An ACK frame came in (RFC 9002, A.7), with its ranges, the highest first, as on the wire: `ANSWER_ACKNOWLEDGED`.
-    /// What it newly acknowledges, and what is lost by it, `recovery_ffi_told` and `recovery_ffi_told_numbers` say.
-    /// Refused, and nothing changes, by `REFUSAL_SPACE_DISCARDED`, by `REFUSAL_BAD_RANGE` where there is no range, one ends
-    /// before it begins, or two have no number between them (RFC 9000, 19.3.1), by `REFUSAL_UNSENT`, by
-    /// `REFUSAL_SKIPPED_ACKED` (RFC 9000, 21.4), or by `REFUSAL_NO_MEMORY`.
+    /// An ACK frame came in (RFC 9002, A.7), with its ranges, the highest first, as on the wire: `ANSWER_ACKNOWLEDGED`,
+    /// with how many numbers it newly acknowledges in `first`, how many are found lost in `second`, and in `flag` whether
+    /// `recovery_ffi_told` says more than that; `recovery_ffi_told_numbers` says which they are. Refused, and nothing
+    /// changes, by `REFUSAL_SPACE_DISCARDED`, by `REFUSAL_BAD_RANGE` where there is no range, one ends before it begins, or
+    /// two have no number between them (RFC 9000, 19.3.1), by `REFUSAL_UNSENT`, by `REFUSAL_SKIPPED_ACKED` (RFC 9000,
+    /// 21.4), or by `REFUSAL_NO_MEMORY`.
     pub fn recovery_ffi_sender_ack(
         handle: *mut Handle,
         space: u8,
@@ -847,6 +848,12 @@ unsafe extern "C" {
     /// 6.4 and A.11): `ANSWER_DONE`. Refused by `REFUSAL_SPACE_DISCARDED`.
     pub fn recovery_ffi_sender_discard(handle: *mut Handle, space: u8, now: u64) -> Reply;
 
+    /// What a space tracks was sent in vain, behind a Retry or where 0-RTT is refused (RFC 9002, 6.3 and 6.4): each packet
+    /// is lost, which is no congestion, and probe timeouts are counted anew: `ANSWER_LOSSES`, and
+    /// `recovery_ffi_told_numbers` says which. Refused by `REFUSAL_SPACE_DISCARDED`; by `REFUSAL_NO_MEMORY`, where the same
+    /// call goes on with what is tracked still.
+    pub fn recovery_ffi_sender_abandon(handle: *mut Handle, space: u8, now: u64) -> Reply;
+
     /// There are keys of Handshake packets (RFC 9002, A.8): `ANSWER_DONE`.
     pub fn recovery_ffi_sender_handshake_keys(handle: *mut Handle) -> Reply;
 
@@ -858,8 +865,12 @@ unsafe extern "C" {
     /// fewer than 10^9 nanoseconds.
     pub fn recovery_ffi_sender_peer_delay(handle: *mut Handle, secs: u64, nanos: u32) -> Reply;
 
-    /// What was told last: by an ACK frame that was not refused, or by a timeout that looked for losses. Nothing before it,
-    /// and where there is no sender.
+    /// How many probe timeouts expired in a row, by which the next one is doubled (RFC 9002, 6.2.1); 0 where there is no
+    /// sender.
+    pub fn recovery_ffi_pto_count(handle: *mut Handle) -> u32;
+
+    /// What was told last: by an ACK frame that was not refused, by a timeout that looked for losses, or by an abandoned
+    /// space. Nothing before it, and where there is no sender.
     pub fn recovery_ffi_told(handle: *mut Handle) -> ToldView;
 
     /// How many numbers were newly acknowledged as something was told last, or, with `lost`, how many were found lost,

@@ -18,7 +18,7 @@ pub enum Side {
     Server,
 }
 
-/// Why a call of a sender is refused; after it all is as it was before.
+/// Why a call of a sender is refused; after it all is as it was before, but as [`Sender::abandon`] says.
 #[derive(Clone, Copy, Debug, PartialEq, Eq, Hash)]
 #[non_exhaustive]
 pub enum Refused {
@@ -117,6 +117,17 @@ pub struct Losses {
     pub is_black_hole: bool,
 }
 
+impl Losses {
+    /// Nothing is lost; the vector keeps its memory.
+    fn be_none(&mut self) {
+        self.numbers.clear();
+        self.probe = None;
+        self.congestion = None;
+        self.is_persistent = false;
+        self.is_black_hole = false;
+    }
+}
+
 /// What an ACK frame comes to.
 #[derive(Clone, Debug, Default, PartialEq, Eq)]
 pub struct Acknowledged {
@@ -190,6 +201,12 @@ impl Sender {
     /// When the timer for losses is due, as the last call left it (RFC 9002, A.8).
     pub fn timer(&self) -> Option<Instant> {
         self.recovery.timer(Timer::LossDetection)
+    }
+
+    /// How many probe timeouts expired in a row, by which the next one is doubled (RFC 9002, 6.2.1).
+    pub fn pto_count(&self) -> u32 {
+        // SAFETY: the handle holds a recovery, and no other call runs.
+        unsafe { ffi::recovery_ffi_pto_count(self.recovery.handle()) }
     }
 
     /// Whether a datagram of so many bytes goes out now, with packets of a space. What goes is counted; the packets in it
@@ -312,8 +329,15 @@ impl Sender {
                 self.ranges.len(),
             )
         };
-        taken(reply)?;
-        Ok(self.told(told)?)
+        let reply = taken(reply)?;
+        if reply.second > 0 || reply.flag {
+            self.told(told)?;
+        } else {
+            told.losses.be_none();
+            told.ecn = EcnEnd::Quiet;
+            self.numbers(false, reply.first, &mut told.numbers)?;
+        }
+        Ok(())
     }
 
     /// The timer for losses may be due (RFC 9002, A.9): losses are looked for, or probes are to be sent, with an
@@ -386,6 +410,20 @@ impl Sender {
         Ok(())
     }
 
+    /// What a space tracks was sent in vain, behind a Retry or where 0-RTT is refused (RFC 9002, 6.3 and 6.4): each packet
+    /// is lost, which is no congestion, what it carried waits to be sent again, and probe timeouts are counted anew. The
+    /// numbers, rising. Refused by `SpaceDiscarded`; by `NoMemory`, where the same call goes on with what is tracked still.
+    /// Where memory is missing for the answer alone, [`Sender::told`] says what was lost.
+    pub fn abandon(&mut self, space: SpaceId, now: Instant) -> Result<Vec<u64>, Refused> {
+        let (handle, now) = (self.recovery.handle(), now.as_nanos());
+        // SAFETY: the handle holds a recovery, and `self` is borrowed alone.
+        let reply = unsafe { ffi::recovery_ffi_sender_abandon(handle, space as u8, now) };
+        taken(reply)?;
+        let mut told = Acknowledged::default();
+        self.told(&mut told)?;
+        Ok(told.losses.numbers)
+    }
+
     /// An event, as [`Recovery::apply`] does it, and it is refused as there. The sender decides itself what is acknowledged
     /// and lost and what follows of it, what is probed for, what is transmitted, which spaces end, and when the timer for
     /// losses is due: such an event is refused by [`Refused::Decided`]. These are `Acked`, `Lost`, `LossesDone`, `Sample`,
@@ -396,7 +434,8 @@ impl Sender {
         Ok(self.recovery.read(reply)?)
     }
 
-    /// What was told last, by an ACK frame that was not refused or by a timeout that looked for losses; nothing before.
+    /// What was told last, by an ACK frame that was not refused, by a timeout that looked for losses, or by an abandoned
+    /// space; nothing before.
     /// Refused by `NoMemory` alone, where the vectors have to grow.
     pub fn told(&self, into: &mut Acknowledged) -> Result<(), Refusal> {
         // SAFETY: the handle holds a recovery, and no other call runs.

@@ -36,6 +36,14 @@ fn lost(losses: &Losses) -> String {
     }
 }
 
+/// What was lost with its space.
+fn abandoned(numbers: Vec<u64>) -> String {
+    lost(&Losses {
+        numbers,
+        ..Losses::default()
+    })
+}
+
 fn acked(found: &Acknowledged) -> String {
     if found.numbers.is_empty() {
         return "acked none".into();
@@ -139,6 +147,7 @@ fn called(sender: &mut Sender, line: &Line) -> Result<String, Refused> {
         "timeout" => sender.on_timeout(line.moment(1), false).map(timed_out),
         "datagram" => sender.on_datagram(line.number(1)).map(done),
         "discard" => sender.discard(line.space(1), line.moment(2)).map(done),
+        "abandon" => sender.abandon(line.space(1), line.moment(2)).map(abandoned),
         _ => sender.on_event(line.event()).map(|it| written(&Ok(it))),
     }
 }
@@ -166,16 +175,12 @@ fn sender_of(words: &[&str]) -> Sender {
     Sender::new(side, &config(number(1), number(2)), at(0)).unwrap()
 }
 
-/// The rows of the repository, whose answers come of an independent model: each line with its answer; but for scripts
-/// that abandon a space, for which the library has no call.
+/// The rows of the repository, whose answers come of an independent model: each line with its answer.
 #[test]
 fn rows() {
     let text = fs::read_to_string(root().join("tests/sender/rows.txt")).unwrap();
-    let scripts = text
-        .split("\n\n")
-        .filter(|script| !script.contains("\nabandon "));
     let (mut sender, mut seen) = (sender_of(&["server"]), 0);
-    for row in scripts.flat_map(str::lines) {
+    for row in text.lines() {
         if let Some(words) = row.strip_prefix("recovery-sender ") {
             sender = sender_of(&words.split(' ').collect::<Vec<_>>());
         } else if let Some((line, wanted)) = row.split_once(" => ") {
@@ -243,6 +248,19 @@ fn vectors_that_are_kept() {
     assert_eq!(told.numbers, [6]);
     assert!(told.losses.numbers.is_empty() && told.losses.congestion.is_none());
     assert_eq!(held(&told), before);
+}
+
+/// Probe timeouts are counted until the peer is heard (RFC 9002, 6.2.1).
+#[test]
+fn probe_timeouts() {
+    let mut sender = with_packets(1);
+    let (now, space) = (sender.timer().unwrap(), SpaceId::Data);
+    let probes = Timeout::Probe { space, count: 2 };
+    assert_eq!(sender.pto_count(), 0);
+    assert_eq!(sender.on_timeout(now, false), Ok(probes));
+    assert_eq!(sender.pto_count(), 1);
+    ack(&mut sender, 2000, &[(0, 0)], &mut Acknowledged::default());
+    assert_eq!(sender.pto_count(), 0);
 }
 
 /// All that can be read of a recovery can be read of a sender's; contents that were lost wait there.

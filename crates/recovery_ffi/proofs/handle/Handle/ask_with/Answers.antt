@@ -1,6 +1,6 @@
 use Rattle.std.proofs.Common.{Some, ap, sym, ◌∙◌}
 use Rattle.recovery_ffi.proofs.HeldLaws.{asks_held}
-use Rattle.recovery_ffi.proofs.handle.Handle.ask.Goals as goal
+use Rattle.recovery_ffi.proofs.handle.Handle.ask_with.Goals as goal
 
 pub returns : goal.returns
 returns c =
