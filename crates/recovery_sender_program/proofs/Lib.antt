@@ -1,1 +1,2 @@
+pub mod GivingLaws
 pub mod WordLaws

@@ -1,10 +1,10 @@
 //! What is written for each call: one line.
-use crate::calls::Reply;
 use itoa::Buffer;
 use quic_recovery::below::SpaceId;
 use quic_recovery::time::Instant;
 use quic_recovery::{Answer, Refusal};
 use recovery_answers::answers::write_reply;
+use recovery_calls::{Reply, Said};
 use recovery_queue::items::ItemQueue;
 use recovery_sender::{Acknowledged, EcnEnd, Losses, Refused, Timeout, Transmission};
 use std::alloc::{AllocError, Global};
@@ -130,7 +130,7 @@ fn push_timer(text: &mut String, timer: Option<Instant>) -> Result<(), AllocErro
     }
 }
 
-fn push_reply(alloc: Global, text: &mut String, reply: Reply) -> Result<(), AllocError> {
+fn push_reply(alloc: Global, text: &mut String, reply: Reply<ItemQueue>) -> Result<(), AllocError> {
     match reply {
         Reply::Transmission(transmission) => push_transmission(text, transmission),
         Reply::Acknowledged(acknowledged) => push_acknowledged(text, &acknowledged),
@@ -138,16 +138,17 @@ fn push_reply(alloc: Global, text: &mut String, reply: Reply) -> Result<(), Allo
         Reply::Abandoned(numbers) => push_abandoned(text, &numbers),
         Reply::Answer(answer) => push_answer(alloc, text, &Ok(answer)),
         Reply::Done => text.push_str("done"),
+        Reply::Decided => text.push_str("decided"),
     }
 }
 
 /// Appends the line of a call, with the timer for losses behind what is no refusal.
-pub fn write_call(
+pub fn write_said(
     alloc: Global,
     text: &mut String,
-    reply: Result<Reply, Refused>,
-    timer: Option<Instant>,
+    said: Said<ItemQueue>,
 ) -> Result<(), AllocError> {
+    let Said { reply, timer } = said;
     match reply {
         Ok(reply) => {
             push_reply(alloc, text, reply)?;

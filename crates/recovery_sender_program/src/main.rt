@@ -3,7 +3,6 @@
 #![tactic(auto)]
 
 mod answers;
-mod calls;
 mod choice;
 mod lines;
 mod outcome;

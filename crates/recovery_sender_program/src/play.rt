@@ -1,6 +1,7 @@
 //! Calls in, answers out: each line is answered before the next is read.
-use crate::answers::write_call;
-use crate::calls::reply_to;
+ghost use Rattle.recovery_sender_program.specs.Giving.{Gives};
+
+use crate::answers::write_said;
 use crate::choice::Choice;
 use crate::lines::call_in;
 use crate::outcome::Outcome;
@@ -9,6 +10,8 @@ use quic_recovery::congestion::{ControllerFactory, NewRenoConfig};
 use quic_recovery::time::Instant;
 use rand_core::SeedableRng;
 use rand_pcg::Pcg32;
+use recovery_calls::{Call, Said, run_over};
+use recovery_events::feeding::{Sink, Source};
 use recovery_lines::lines::peer_at;
 use recovery_queue::items::ItemQueue;
 use recovery_replay::reading::{Next, next_line};
@@ -18,98 +21,94 @@ use recovery_sender::Sender;
 use std::alloc::Global;
 use std::io::{ErrorKind, Read, Write};
 
-/// Does the call of a line, and puts what is written for it in place of the text; false, and no text, where it spells
-/// none.
-fn answer<F>(
+/// The lines of an input as calls, up to the first that is none.
+#[derive(Drop)]
+struct Lines<'a, R> {
     alloc: Global,
-    sender: &mut Sender<F, ItemQueue, Pcg32>,
-    line: &[u8],
-    text: &mut String,
-) -> Result<bool, NoMemory>
-where
-    F: ControllerFactory + Drop,
-    F::Controller: Drop,
-{
-    text.clear();
-    let Some(call) = call_in(alloc, line)? else {
-        return Ok(false);
-    };
-    let reply = reply_to(sender, call);
-    match write_call(alloc, text, reply, sender.loss_detection_timer()) {
-        Ok(()) => Ok(true),
-        Err(_) => Err(NoMemory),
+    input: &'a mut R,
+    /// How the input ended.
+    outcome: Outcome,
+}
+
+impl<'a, R: Read> Source<Call<ItemQueue>> for Lines<'a, R> {
+    ghost gives = { λ old calls new. Unit {0} };
+
+    fn feed<S: Sink<Call<ItemQueue>>>(&mut self, sink: &mut S) {
+        self.outcome = give_all(self.alloc, self.input, sink);
     }
 }
 
-/// Writes a text and flushes.
-fn write_out<W: Write>(output: &mut W, text: &str) -> Result<(), Outcome> {
-    match deliver(output, text.as_bytes()) {
-        Ok(()) => Ok(()),
-        Err(error) if error.kind() == ErrorKind::BrokenPipe => Err(Outcome::Closed),
-        Err(_) => Err(Outcome::WriteFailed),
-    }
-}
-
-/// One line: its call is done, and its answer written.
-fn take_turn<F, W>(
+/// Gives the calls of an input to a sink, as long as that asks for another: how the input ended.
+fn give_all<R: Read, S: Sink<Call<ItemQueue>>>(
     alloc: Global,
-    sender: &mut Sender<F, ItemQueue, Pcg32>,
-    line: &[u8],
-    number: u64,
-    text: &mut String,
-    output: &mut W,
-) -> Result<(), Outcome>
-where
-    F: ControllerFactory + Drop,
-    F::Controller: Drop,
-    W: Write,
-{
-    match answer(alloc, sender, line, text) {
-        Ok(true) => write_out(output, text),
-        Ok(false) => Err(Outcome::BadLine(number)),
-        Err(_) => Err(Outcome::OutOfMemory),
-    }
-}
-
-/// The lines of an input, up to the first that is no call.
-fn run<F, R, W>(
-    alloc: Global,
-    sender: &mut Sender<F, ItemQueue, Pcg32>,
     input: &mut R,
-    output: &mut W,
+    sink: &mut S,
 ) -> Outcome
-where
-    F: ControllerFactory + Drop,
-    F::Controller: Drop,
-    R: Read,
-    W: Write,
+    ensures { Gives S.takes sink.old sink.new }
 {
     let mut line = Vec::new(alloc);
-    let mut text = String::new(alloc);
     for number in 1..u64::MAX {
         let next = match next_line(input, &mut line) {
             Ok(Some(next)) => next,
             Ok(None) => return Outcome::Ended,
             Err(unread) => return Outcome::from(unread),
         };
-        if let Err(outcome) = take_turn(alloc, sender, &line, number, &mut text, output) {
-            return outcome;
-        }
-        if let Next::Last = next {
-            return Outcome::Ended;
+        let goes_on = match call_in(alloc, &line) {
+            Ok(Some(call)) => sink.put(call),
+            Ok(None) => return Outcome::BadLine(number),
+            Err(_) => return Outcome::OutOfMemory,
+        };
+        match next {
+            Next::Line if goes_on => {}
+            _ => return Outcome::Ended,
         }
     }
     Outcome::ReadFailed
 }
 
-/// The same, from a sender on to which nothing has happened.
+/// The answers to calls, each written as it comes.
+#[derive(Drop)]
+struct Answers<'a, W> {
+    alloc: Global,
+    text: String,
+    output: &'a mut W,
+    /// Why no more are written, where that is so.
+    broken: Option<Outcome>,
+}
+
+impl<'a, W: Write> Answers<'a, W> {
+    fn write(&mut self, said: Said<ItemQueue>) -> Result<(), Outcome> {
+        self.text.clear();
+        if write_said(self.alloc, &mut self.text, said).is_err() {
+            return Err(Outcome::OutOfMemory);
+        }
+        match deliver(self.output, self.text.as_bytes()) {
+            Ok(()) => Ok(()),
+            Err(error) if error.kind() == ErrorKind::BrokenPipe => Err(Outcome::Closed),
+            Err(_) => Err(Outcome::WriteFailed),
+        }
+    }
+}
+
+impl<'a, W: Write> Sink<Said<ItemQueue>> for Answers<'a, W> {
+    ghost takes = { λ old said new. Unit {0} };
+
+    fn put(&mut self, said: Said<ItemQueue>) -> bool {
+        if self.broken.is_none() {
+            self.broken = self.write(said).err();
+        }
+        self.broken.is_none()
+    }
+}
+
+/// The calls of an input, from a sender on to which nothing has happened.
 fn play_over<F, R, W>(
     alloc: Global,
     factory: F,
     choice: Choice,
     input: &mut R,
     output: &mut W,
-) -> Outcome
+) -> Result<Outcome, NoMemory>
 where
     F: ControllerFactory + Drop,
     F::Controller: Drop,
@@ -118,10 +117,20 @@ where
 {
     let config = config(factory, peer_at(FIRST_PORT), skips(choice.seed));
     let rng = Pcg32::seed_from_u64(choice.seed.unwrap_or(0));
-    match Sender::new(alloc, choice.side, config, rng, Instant::from_nanos(0)) {
-        Ok(mut sender) => run(alloc, &mut sender, input, output),
-        Err(_) => Outcome::OutOfMemory,
-    }
+    let sender = Sender::new(alloc, choice.side, config, rng, Instant::from_nanos(0))?;
+    let mut calls = Lines {
+        alloc,
+        input,
+        outcome: Outcome::Ended,
+    };
+    let answers = Answers {
+        alloc,
+        text: String::new(alloc),
+        output,
+        broken: None,
+    };
+    let (_, answers) = run_over(sender, &mut calls, answers);
+    Ok(answers.broken.unwrap_or(calls.outcome))
 }
 
 /// Reads calls and answers each before it reads the next.
@@ -131,8 +140,9 @@ pub fn play<R: Read, W: Write>(
     input: &mut R,
     output: &mut W,
 ) -> Outcome {
-    match choice.fixed {
+    let played = match choice.fixed {
         Some(factory) => play_over(alloc, factory, choice, input, output),
         None => play_over(alloc, NewRenoConfig::default(), choice, input, output),
-    }
+    };
+    played.unwrap_or(Outcome::OutOfMemory)
 }

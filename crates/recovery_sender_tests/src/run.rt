@@ -1,0 +1,77 @@
+//! A run of a sender over a list of calls.
+use quic_recovery::Event;
+use quic_recovery_rows::config::{settings, words};
+use quic_recovery_rows::events::at;
+use quic_recovery_rows::tally::Tally;
+use recovery_base::below::SpaceId;
+use recovery_base::time::Duration;
+use recovery_calls::{Call, Frame, Reply, Said, run};
+use recovery_sender::{Ack, Side};
+use std::alloc::Global;
+
+/// A packet of 1-RTT keys goes out.
+fn send(now: u64) -> Call<Tally> {
+    Call::Event(Event::Send {
+        space: SpaceId::Data,
+        now: at(now),
+        size: 1000,
+        ack_eliciting: true,
+        largest_acked: None,
+        queue: Tally { bytes: 0 },
+        stream_frames: 0,
+    })
+}
+
+/// It is acknowledged, alone.
+fn ack(alloc: Global, now: u64) -> Call<Tally> {
+    let mut ranges = Vec::new(alloc);
+    let _room = ranges.push((0, 0));
+    Call::Ack(Frame {
+        space: SpaceId::Data,
+        now: at(now),
+        ranges,
+        ack: Ack {
+            delay: Duration::ZERO,
+            ecn: None,
+            app_limited: false,
+        },
+    })
+}
+
+/// What is said to it, and the timer behind it.
+fn is_said(said: &[Said<Tally>], place: usize, wanted: Option<u64>, acked: usize) -> bool {
+    match said.get(place) {
+        Some(Said { reply, timer }) => {
+            let found = match reply {
+                Ok(Reply::Acknowledged(acknowledged)) => acknowledged.numbers.len(),
+                _ => 0,
+            };
+            *timer == wanted.map(at) && found == acked
+        }
+        None => false,
+    }
+}
+
+/// A server whose handshake is confirmed sends a packet: the timer is a probe timeout behind it, 333 ms, four times
+/// half of that, and the peer's 25 ms (RFC 9002, 6.2.1 and 6.2.2). It is acknowledged, and no timer is left.
+#[test]
+fn calls_one_after_another(rt: HostRuntime) {
+    let alloc = rt.alloc();
+    let mut calls = Vec::new(alloc);
+    let _room = calls.push(Call::AddressValidated);
+    let _room = calls.push(Call::HandshakeConfirmed);
+    let _room = calls.push(send(0));
+    let _room = calls.push(ack(alloc, 100_000_000));
+    let ran = run(alloc, Side::Server, settings(8), words(), at(0), calls);
+    let is_right = match ran {
+        Ok((sender, said)) => {
+            said.len() == 4
+                && is_said(&said, 1, None, 0)
+                && is_said(&said, 2, Some(1_024_000_000), 0)
+                && is_said(&said, 3, None, 1)
+                && sender.loss_detection_timer().is_none()
+        }
+        Err(_) => false,
+    };
+    assert!(rt; is_right, "a run");
+}
