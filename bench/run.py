@@ -31,6 +31,7 @@ from typing import Callable, Iterator
 
 ROOT = pathlib.Path(__file__).resolve().parent.parent
 sys.path.insert(0, str(ROOT / "tests"))
+import alike  # noqa: E402
 import tree  # noqa: E402
 
 SCRIPT = ROOT / "recovery-replay"
@@ -353,6 +354,37 @@ def in_pairs(first, second):
         yield from lines
 
 
+# ---- lines of all kinds at random, as tests/alike.py draws them
+
+# which are ten times as frequent as the others; no space is discarded, since nothing would happen in it any more
+KINDS = {
+    "all": [],
+    "acks": ["received", "acks-sent", "ack-delay-timeout", "ack-frequency", "check-ack"],
+    "hostile": ["received", "acked", "check-ack", "ecn", "new-id", "peer-retired"],
+    "ids": ["new-id", "next-id", "issue-ids", "peer-retired", "id-timeout"],
+    "ledger": ["send", "acked", "lost", "in-flight", "end-acks", "congestion"],
+    "mtu": ["poll-mtu", "acked", "lost", "losses-done", "peer-limit", "reset-path"],
+    "pacing": ["transmit", "pacer-check", "datagram-in", "sample", "validated"],
+    "queues": ["send", "lost", "queue-probe", "take-pending"],
+    "silent": ["send"],
+}
+
+
+class Sensible(alike.Lines):
+    """Without what is rare: moments that step back, numbers at the ends of their ranges."""
+
+    def is_rare(self, one_in):
+        return False
+
+
+def at_random_of(kind):
+    """Numbers are as they come, so that lines grow with the input."""
+    lines = (alike.Lines if kind == "hostile" else Sensible)(77)
+    weights = [0 if name == "discard" else 10 if name in KINDS[kind] else 1 for name in alike.EVENTS]
+    while True:
+        yield lines.chance.choices(alike.MAKERS, weights)[0](lines)
+
+
 # ---- all inputs: an event that joins gets a function above, and its lines here
 
 def of_numbers(name, numbers, step=1, quick=False):
@@ -393,6 +425,7 @@ INPUTS = [
     Input("all_events", all_events, beginning=2, quick=True),
     Input("timers", timers, quick=True),
     Input("mixed", lambda: in_pairs(received_each(in_blocks, 1), timers())),
+    *(Input(f"random_{kind}", lambda kind=kind: at_random_of(kind)) for kind in KINDS),
 ]
 
 

@@ -132,7 +132,7 @@ class Lines:
 
     def line(self):
         """A line; now and then one that is no event."""
-        return self.perhaps_bad(self.chance.choices(EVENTS, self.weights)[0](self))
+        return self.perhaps_bad(self.chance.choices(MAKERS, self.weights)[0](self))
 
     def perhaps_bad(self, line):
         if not self.is_rare(2000):
@@ -140,34 +140,44 @@ class Lines:
         return self.one_of(line + " ", line + " 0", " " + line, line.replace(" ", "  ", 1), line[:-1] + "x", line.rpartition(" ")[0], "")
 
 
-EVENTS = [
-    Lines.receive, Lines.send, Lines.acked, Lines.lost, Lines.discard, Lines.new_id, Lines.issue_ids, Lines.ack_frequency,
-    Lines.sample, Lines.ecn, Lines.check_ack,
-    lambda it: "next-id",
-    lambda it: f"initial-id {it.below(256)}",
-    lambda it: "id-timeout",
-    lambda it: f"peer-retired {it.near(it.issued, 10)} {it.one_of(0, 1, 2, 3, 8, LAST)}",
-    lambda it: f"acks-sent {it.space()}",
-    lambda it: f"ack-delay-timeout {it.space()}",
-    lambda it: f"set-timer {it.one_of(*TIMERS)} {it.moment()}",
-    lambda it: f"stop-timer {it.one_of(*TIMERS)}",
-    lambda it: "next-timeout",
-    lambda it: f"in-flight {it.path()}",
-    lambda it: f"datagram-in {it.path()} {it.one_of(0, 1, 1200, 1500, it.below(3000), it.near(7, 5))}",
-    lambda it: f"validated {it.path()}",
-    lambda it: f"transmit {it.moment()} {it.size()} {it.flag()}",
-    lambda it: f"pacer-check {it.moment()} {it.one_of(0, 1, 1200, 12000, 10**6, LAST, it.below(20000))}",
-    lambda it: f"congestion {it.moment()} {it.near(it.now, SECOND)} {it.one_of(0, 0, 0, 1)} {it.below(3000)}",
-    lambda it: f"end-acks {it.moment()} {it.flag()} {it.largest()}",
-    lambda it: f"poll-mtu {it.moment()}",
-    lambda it: f"peer-limit {it.size()}",
-    lambda it: f"losses-done {it.moment()}",
-    lambda it: f"queue-probe {it.space()} {it.flag()}",
-    lambda it: f"take-pending {it.space()}",
-    lambda it: f"new-path {it.moment()} {it.below(65536)} {it.flag()}",
-    lambda it: f"reset-path {it.moment()}",
-    lambda it: "drop-previous",
-]
+EVENTS = {
+    "received": Lines.receive,
+    "send": Lines.send,
+    "acked": Lines.acked,
+    "lost": Lines.lost,
+    "discard": Lines.discard,
+    "new-id": Lines.new_id,
+    "issue-ids": Lines.issue_ids,
+    "ack-frequency": Lines.ack_frequency,
+    "sample": Lines.sample,
+    "ecn": Lines.ecn,
+    "check-ack": Lines.check_ack,
+    "next-id": lambda it: "next-id",
+    "initial-id": lambda it: f"initial-id {it.below(256)}",
+    "id-timeout": lambda it: "id-timeout",
+    "peer-retired": lambda it: f"peer-retired {it.near(it.issued, 10)} {it.one_of(0, 1, 2, 3, 8, LAST)}",
+    "acks-sent": lambda it: f"acks-sent {it.space()}",
+    "ack-delay-timeout": lambda it: f"ack-delay-timeout {it.space()}",
+    "set-timer": lambda it: f"set-timer {it.one_of(*TIMERS)} {it.moment()}",
+    "stop-timer": lambda it: f"stop-timer {it.one_of(*TIMERS)}",
+    "next-timeout": lambda it: "next-timeout",
+    "in-flight": lambda it: f"in-flight {it.path()}",
+    "datagram-in": lambda it: f"datagram-in {it.path()} {it.one_of(0, 1, 1200, 1500, it.below(3000), it.near(7, 5))}",
+    "validated": lambda it: f"validated {it.path()}",
+    "transmit": lambda it: f"transmit {it.moment()} {it.size()} {it.flag()}",
+    "pacer-check": lambda it: f"pacer-check {it.moment()} {it.one_of(0, 1, 1200, 12000, 10**6, LAST, it.below(20000))}",
+    "congestion": lambda it: f"congestion {it.moment()} {it.near(it.now, SECOND)} {it.one_of(0, 0, 0, 1)} {it.below(3000)}",
+    "end-acks": lambda it: f"end-acks {it.moment()} {it.flag()} {it.largest()}",
+    "poll-mtu": lambda it: f"poll-mtu {it.moment()}",
+    "peer-limit": lambda it: f"peer-limit {it.size()}",
+    "losses-done": lambda it: f"losses-done {it.moment()}",
+    "queue-probe": lambda it: f"queue-probe {it.space()} {it.flag()}",
+    "take-pending": lambda it: f"take-pending {it.space()}",
+    "new-path": lambda it: f"new-path {it.moment()} {it.below(65536)} {it.flag()}",
+    "reset-path": lambda it: f"reset-path {it.moment()}",
+    "drop-previous": lambda it: "drop-previous",
+}
+MAKERS = list(EVENTS.values())
 
 
 def script(seed):

@@ -132,7 +132,7 @@ class Calls(Lines):
     def other(self):
         """Another event that passes."""
         while True:
-            line = self.chance.choices(alike.EVENTS, self.weights)[0](self)
+            line = self.chance.choices(alike.MAKERS, self.weights)[0](self)
             if line.split()[0] not in APART and "loss-detection" not in line:
                 return line
 
