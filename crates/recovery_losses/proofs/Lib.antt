@@ -1,3 +1,4 @@
 pub mod LookLaws
 pub mod LossLaws
 pub mod RunLaws
+mod TimeoutRows

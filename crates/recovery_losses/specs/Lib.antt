@@ -1,3 +1,4 @@
 pub mod Looking
 pub mod Losses
 pub mod Persisting
+pub mod Timeouts

@@ -5,6 +5,8 @@
 
 mod looks;
 mod tally;
+mod timeouts;
 
 pub use looks::{Candidate, Look, first_of};
 pub use tally::{Run, Tally};
+pub use timeouts::{loss_delay, probe_timeout};

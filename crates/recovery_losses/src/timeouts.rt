@@ -1,10 +1,8 @@
-//! How long to wait before a packet is lost and before a probe goes out (RFC 9002, 6.1.2 and 6.2), and the next timeout
-//! of all spaces.
+//! How long to wait before a packet is lost and before a probe goes out (RFC 9002, 6.1.2 and 6.2.1).
 ghost use Rattle.std.specs.Prelude.{◌≡◌};
-ghost use Rattle.recovery_detection.specs.Timeouts.{loss_delay_of, probe_timeout_of, up_to_longest, IsEarliest, IsNextTimeout};
+ghost use Rattle.recovery_losses.specs.Timeouts.{loss_delay_of, probe_timeout_of, up_to_longest};
 
-use recovery_base::time::{Duration, Instant};
-use recovery_base::timer::earlier;
+use recovery_base::time::Duration;
 
 /// The least span that timers keep: a millisecond (RFC 9002, 6.1.2: kGranularity), in nanoseconds.
 const GRANULARITY: u128 = 1_000_000;
@@ -36,27 +34,5 @@ fn up_to_longest(nanos: u128) -> Duration
     match Duration::checked_from_nanos(nanos) {
         Some(span) => span,
         None => Duration::MAX,
-    }
-}
-
-/// The earliest of some moments, where there are any.
-fn earliest(moments: &[Option<Instant>]) -> Option<Instant>
-    ensures { IsEarliest moments.now result }
-{
-    let mut least: Option<Instant> = None;
-    for moment in moments {
-        least = earlier(least, *moment);
-    }
-    least
-}
-
-/// What `Timer::LossDetection` is set to: the earliest loss time of the spaces, or else the earliest moment of a probe
-/// (RFC 9002, A.8). Where there is neither, the timer is stopped.
-pub fn next_timeout(losses: &[Option<Instant>], probes: &[Option<Instant>]) -> Option<Instant>
-    ensures { IsNextTimeout losses.now probes.now result }
-{
-    match earliest(losses) {
-        Some(loss) => Some(loss),
-        None => earliest(probes),
     }
 }
