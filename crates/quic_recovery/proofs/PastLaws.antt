@@ -16,6 +16,7 @@ use Rattle.quic_recovery.proofs.CountedLaws.{counts_in_flight}
 use Rattle.quic_recovery.proofs.ContentsLaws.{loses_nothing}
 use Rattle.quic_recovery.proofs.DutyLaws.{keeps_duty}
 use Rattle.quic_recovery.proofs.FewLaws.{few_told}
+use Rattle.quic_recovery.proofs.ForgottenLaws.{forgets_oldest}
 use Rattle.quic_recovery.proofs.HolesLaws.{holes_told}
 use Rattle.quic_recovery.proofs.LeftLaws.{changes_by_logs, left_after}
 use Rattle.quic_recovery.proofs.MtuLaws.{mtu_told}
@@ -27,6 +28,7 @@ use Rattle.quic_recovery.proofs.PacingLaws.{delayed, rate, soon, named}
 use Rattle.quic_recovery.proofs.PeerIdsLaws.{accepts_ids}
 use Rattle.quic_recovery.proofs.RefusedLaws.{refuses_rightly}
 use Rattle.quic_recovery.proofs.SizesLaws.{sizes_told}
+use Rattle.quic_recovery.proofs.SkippedLaws.{keeps_next, keeps_skipped, sends_unless}
 use Rattle.quic_recovery.proofs.ThreefoldLaws.{sends_threefold}
 use Rattle.quic_recovery.proofs.PlainLaws.{timers_told}
 use Rattle.quic_recovery.proofs.ToldLaws.{told_by_logs}
@@ -71,6 +73,10 @@ module _ {F K Q S M P : Type 0} (beginning : Beginning F K Q S M P) where
         contents = loses_nothing beginning now all;
         duty = (keeps_duty beginning now all).0;
         to_acknowledge = keeps_to_acknowledge beginning now all;
+        next = (keeps_next beginning now all).0;
+        skipped = (keeps_skipped beginning now all).0;
+        sends = (sends_unless beginning now all).0;
+        forgotten = (forgets_oldest beginning now all).0;
       }
 
   -- from every past by which it came here it goes on: each clause of whole runs, at the event that is put behind it

@@ -16,6 +16,7 @@ use Rattle.quic_recovery.specs.Promises.Counted.{CountsInFlight}
 use Rattle.quic_recovery.specs.Promises.Fates.{HaveOneFate}
 use Rattle.quic_recovery.specs.Promises.Duty.{KeepsDuty}
 use Rattle.quic_recovery.specs.Promises.Few.{ProbesFew}
+use Rattle.quic_recovery.specs.Promises.Forgotten.{ForgetsOldest}
 use Rattle.quic_recovery.specs.Promises.Holes.{ReportsAtFour}
 use Rattle.quic_recovery.specs.Promises.Mtu.{UsesMtu}
 use Rattle.quic_recovery.specs.Promises.Near.{EndsNearBy}
@@ -25,7 +26,9 @@ use Rattle.quic_recovery.specs.Promises.OwnIds.{IssuesIds}
 use Rattle.quic_recovery.specs.Promises.PeerIds.{AcceptsIds}
 use Rattle.quic_recovery.specs.Promises.Refused.{RefusesRightly}
 use Rattle.quic_recovery.specs.Promises.Rising.{GivesRising}
+use Rattle.quic_recovery.specs.Promises.Sends.{SendsUnless}
 use Rattle.quic_recovery.specs.Promises.Sizes.{ProbesWithin}
+use Rattle.quic_recovery.specs.Promises.Skipped.{GivesNext, ChecksAcks}
 use Rattle.quic_recovery.specs.Promises.Threefold.{KeepsThreefold}
 use Rattle.quic_recovery.specs.Promises.Timeouts.{TellsTimers}
 use Rattle.quic_recovery.specs.Promises.Turns.{SearchesInTurn}
@@ -120,6 +123,18 @@ module _ {F K Q S M P : Type 0} (beginning : Beginning F K Q S M P) where
     -- acknowledged since they came, and those that came to lie below the 64 highest ranges (RFC 9000, 13.2.3 and
     -- 13.2.4).
     pub to_acknowledge : KeepsToAcknowledge beginning ((event, reply) ∷ before)
+    -- A packet goes out under the first number above all that were given out in its space, or, of 1-RTT packets, under
+    -- the one behind that (RFC 9000, 12.3 and 21.4).
+    pub next : GivesNext before event reply
+    -- The ACK of a range is refused exactly where it holds the last number that was skipped, or is no range of numbers
+    -- below 2^62 (RFC 9000, 12.3 and 21.4).
+    pub skipped : ChecksAcks before event reply
+    -- A packet is refused exactly where it carries an ACK of a number that is none, where no number is left for it,
+    -- and where what is in flight would pass its counters (RFC 9000, 12.3; RFC 9002, B.2).
+    pub sends : SendsUnless before event reply
+    -- A silent packet, with 1001 others tracked since the last that elicits an ACK, makes the oldest of them be
+    -- forgotten, and no other packet does (RFC 9002, 2 and A.1).
+    pub forgotten : ForgetsOldest before event reply
 
   -- from a past to that past with one event more
   pub record ExtendsFrom (past : History Q S M P) (event : Event Q S M P) (reply : Reply Q) (new : Parts K P M) : Type 0

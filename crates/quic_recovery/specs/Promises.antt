@@ -10,6 +10,7 @@ pub mod Datagrams
 pub mod Duty
 pub mod Fates
 pub mod Few
+pub mod Forgotten
 pub mod GivenIds
 pub mod Holes
 pub mod Measures
@@ -23,7 +24,9 @@ pub mod PeerIds
 pub mod Probes
 pub mod Refused
 pub mod Rising
+pub mod Sends
 pub mod Sizes
+pub mod Skipped
 pub mod Threefold
 pub mod Timeouts
 pub mod Tracked

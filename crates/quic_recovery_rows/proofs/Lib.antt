@@ -4,6 +4,7 @@ mod FateRows
 mod FlowRows
 mod IdRows
 mod LogRows
+mod NumberRows
 mod PromiseRows
 mod RowLaws
 mod RowStart
