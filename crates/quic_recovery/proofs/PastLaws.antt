@@ -27,8 +27,10 @@ use Rattle.quic_recovery.proofs.OwnIdsLaws.{issues_ids}
 use Rattle.quic_recovery.proofs.PacingLaws.{delayed, rate, soon, named}
 use Rattle.quic_recovery.proofs.PeerIdsLaws.{accepts_ids}
 use Rattle.quic_recovery.proofs.RefusedLaws.{refuses_rightly}
+use Rattle.quic_recovery.proofs.SendableLaws.{finds_to_send}
 use Rattle.quic_recovery.proofs.SizesLaws.{sizes_told}
 use Rattle.quic_recovery.proofs.SkippedLaws.{keeps_next, keeps_skipped, sends_unless}
+use Rattle.quic_recovery.proofs.StartsLaws.{starts_timer}
 use Rattle.quic_recovery.proofs.ThreefoldLaws.{sends_threefold}
 use Rattle.quic_recovery.proofs.PlainLaws.{timers_told}
 use Rattle.quic_recovery.proofs.ToldLaws.{told_by_logs}
@@ -77,6 +79,8 @@ module _ {F K Q S M P : Type 0} (beginning : Beginning F K Q S M P) where
         skipped = (keeps_skipped beginning now all).0;
         sends = (sends_unless beginning now all).0;
         forgotten = (forgets_oldest beginning now all).0;
+        starts = (starts_timer beginning now all).0;
+        sendable = finds_to_send beginning before event reply all;
       }
 
   -- from every past by which it came here it goes on: each clause of whole runs, at the event that is put behind it

@@ -26,9 +26,11 @@ use Rattle.quic_recovery.specs.Promises.OwnIds.{IssuesIds}
 use Rattle.quic_recovery.specs.Promises.PeerIds.{AcceptsIds}
 use Rattle.quic_recovery.specs.Promises.Refused.{RefusesRightly}
 use Rattle.quic_recovery.specs.Promises.Rising.{GivesRising}
+use Rattle.quic_recovery.specs.Promises.Sendable.{FindsToSend}
 use Rattle.quic_recovery.specs.Promises.Sends.{SendsUnless}
 use Rattle.quic_recovery.specs.Promises.Sizes.{ProbesWithin}
 use Rattle.quic_recovery.specs.Promises.Skipped.{GivesNext, ChecksAcks}
+use Rattle.quic_recovery.specs.Promises.Starts.{StartsTimer}
 use Rattle.quic_recovery.specs.Promises.Threefold.{KeepsThreefold}
 use Rattle.quic_recovery.specs.Promises.Timeouts.{TellsTimers}
 use Rattle.quic_recovery.specs.Promises.Turns.{SearchesInTurn}
@@ -135,6 +137,12 @@ module _ {F K Q S M P : Type 0} (beginning : Beginning F K Q S M P) where
     -- A silent packet, with 1001 others tracked since the last that elicits an ACK, makes the oldest of them be
     -- forgotten, and no other packet does (RFC 9002, 2 and A.1).
     pub forgotten : ForgetsOldest before event reply
+    -- The timer for a late ACK starts exactly at a new ack-eliciting packet, where it does not run and no ACK is
+    -- required at once (RFC 9000, 13.2.1 and 13.2.2).
+    pub starts : StartsTimer beginning before event reply
+    -- A probe finds something to send that elicits an ACK; and an ACK exactly where one is required and some number is
+    -- to be acknowledged (RFC 9002, 6.2.4).
+    pub sendable : FindsToSend beginning before event reply
 
   -- from a past to that past with one event more
   pub record ExtendsFrom (past : History Q S M P) (event : Event Q S M P) (reply : Reply Q) (new : Parts K P M) : Type 0
