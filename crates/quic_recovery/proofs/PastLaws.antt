@@ -15,8 +15,11 @@ use Rattle.quic_recovery.proofs.BlockedLaws.{blocks_exactly}
 use Rattle.quic_recovery.proofs.CountedLaws.{counts_in_flight}
 use Rattle.quic_recovery.proofs.ContentsLaws.{loses_nothing}
 use Rattle.quic_recovery.proofs.DutyLaws.{keeps_duty}
+use Rattle.quic_recovery.proofs.EcnLaws.{checks_ecn}
 use Rattle.quic_recovery.proofs.FewLaws.{few_told}
 use Rattle.quic_recovery.proofs.ForgottenLaws.{forgets_oldest}
+use Rattle.quic_recovery.proofs.FrequencyLaws.{takes_newest}
+use Rattle.quic_recovery.proofs.FullLaws.{overflows_full}
 use Rattle.quic_recovery.proofs.HolesLaws.{holes_told}
 use Rattle.quic_recovery.proofs.LeftLaws.{changes_by_logs, left_after}
 use Rattle.quic_recovery.proofs.MtuLaws.{mtu_told}
@@ -81,6 +84,9 @@ module _ {F K Q S M P : Type 0} (beginning : Beginning F K Q S M P) where
         forgotten = (forgets_oldest beginning now all).0;
         starts = (starts_timer beginning now all).0;
         sendable = finds_to_send beginning before event reply all;
+        ecn = checks_ecn beginning before event reply all.0;
+        frequency = (takes_newest beginning now all).0;
+        full = (overflows_full beginning now all).0;
       }
 
   -- from every past by which it came here it goes on: each clause of whole runs, at the event that is put behind it

@@ -15,8 +15,11 @@ use Rattle.quic_recovery.specs.Promises.Contents.{LosesNothing}
 use Rattle.quic_recovery.specs.Promises.Counted.{CountsInFlight}
 use Rattle.quic_recovery.specs.Promises.Fates.{HaveOneFate}
 use Rattle.quic_recovery.specs.Promises.Duty.{KeepsDuty}
+use Rattle.quic_recovery.specs.Promises.Ecn.{ChecksEcn}
 use Rattle.quic_recovery.specs.Promises.Few.{ProbesFew}
 use Rattle.quic_recovery.specs.Promises.Forgotten.{ForgetsOldest}
+use Rattle.quic_recovery.specs.Promises.Frequency.{TakesNewest}
+use Rattle.quic_recovery.specs.Promises.Full.{OverflowsFull}
 use Rattle.quic_recovery.specs.Promises.Holes.{ReportsAtFour}
 use Rattle.quic_recovery.specs.Promises.Mtu.{UsesMtu}
 use Rattle.quic_recovery.specs.Promises.Near.{EndsNearBy}
@@ -143,6 +146,15 @@ module _ {F K Q S M P : Type 0} (beginning : Beginning F K Q S M P) where
     -- A probe finds something to send that elicits an ACK; and an ACK exactly where one is required and some number is
     -- to be acknowledged (RFC 9002, 6.2.4).
     pub sendable : FindsToSend beginning before event reply
+    -- Counts of ECN are refused exactly where they fail the check against the last ones of their space that were taken
+    -- (RFC 9000, 13.4.2.1).
+    pub ecn : ChecksEcn before event reply
+    -- A request for fewer ACKs is taken exactly where it is the newest and asks for a millisecond or more
+    -- (draft-ietf-quic-ack-frequency-04, section 4).
+    pub frequency : TakesNewest before event reply
+    -- A datagram that comes in, and a path that is made, overflow exactly where their counter would come to 2^64 (RFC
+    -- 9000, 8.1 and 9.3).
+    pub full : OverflowsFull before event reply
 
   -- from a past to that past with one event more
   pub record ExtendsFrom (past : History Q S M P) (event : Event Q S M P) (reply : Reply Q) (new : Parts K P M) : Type 0

@@ -8,9 +8,12 @@ pub mod Contents
 pub mod Counted
 pub mod Datagrams
 pub mod Duty
+pub mod Ecn
 pub mod Fates
 pub mod Few
 pub mod Forgotten
+pub mod Frequency
+pub mod Full
 pub mod GivenIds
 pub mod Holes
 pub mod Measures

@@ -1,4 +1,5 @@
 mod AckRows
+mod AskedRows
 mod ContentsRows
 mod FateRows
 mod FlowRows
