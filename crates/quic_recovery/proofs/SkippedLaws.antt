@@ -331,7 +331,7 @@ module _ {F K Q S M P : Type 0} (beginning : Beginning F K Q S M P) where
 -- ---- packets that are refused
 
 -- a counter would come to 2^64
-abbrev Passes : ℕ → ℕ → ℕ → Bool → Type 0
+abbrev pub Passes : ℕ → ℕ → ℕ → Bool → Type 0
 Passes bytes count size eliciting = (2 ^ 64 ≤ bytes + size) ⊎ (2 ^ 64 ≤ count + (if eliciting then 1 else 0))
 
 same_passes : (bytes count b c size : ℕ) (eliciting : Bool) → bytes ≡ b → count ≡ c
@@ -342,28 +342,30 @@ module _ {F K Q S M P : Type 0} (beginning : Beginning F K Q S M P) where
   abbrev Both : History Q S M P → Type 0
   Both history = AllGiven beginning history × Kept beginning history
 
+  -- the history and the table tell overflow alike
+  pub same_cause : (before : History Q S M P) → Kept beginning before → (size : ℕ) (eliciting : Bool)
+      → (let now = current_in_flight (known_by beginning before) in
+      Overfills before size eliciting ↔ Passes now.bytes now.ack_eliciting size eliciting)
+  same_cause before kept size eliciting =
+      let flight = flight_now beginning before kept.1 in
+      let now = current_in_flight (known_by beginning before) in
+      same_passes _ _ now.bytes now.ack_eliciting size eliciting flight.0 flight.1
+
   module _ (before : History Q S M P) (both : Both before) where
     abbrev known_now : Known K P M
     known_now = known_by beginning before
 
-    same_cause : (size : ℕ) (eliciting : Bool) → Overfills before size eliciting
-        ↔ Passes (current_in_flight known_now).bytes (current_in_flight known_now).ack_eliciting size eliciting
-    same_cause size eliciting =
-        let flight = flight_now beginning before both.1.1 in
-        let now = current_in_flight known_now in
-        same_passes _ _ now.bytes now.ack_eliciting size eliciting flight.0 flight.1
-
     unless_told : (event : Event Q S M P) (reply : Reply Q) → Told beginning before event reply
         → SendsUnless before event reply
     unless_told (Send space now size eliciting largest queue frames) (Ok (answers.Sent number forgotten)) told =
-        let behind = told.1.1 in (told.1.0, λ over. behind.1.0 ((same_cause size eliciting).0 over))
+        let behind = told.1.1 in (told.1.0, λ over. behind.1.0 ((same_cause before both.1 size eliciting).0 over))
     unless_told (Send space now size eliciting largest queue frames) (Ok answer) told = let is = past_four told in cc
     unless_told (Send space now size eliciting largest queue frames) (Err SpaceDiscarded) told = tt
     unless_told (Send space now size eliciting largest queue frames) (Err NumberTooLarge) told = told.1
     unless_told (Send space now size eliciting largest queue frames) (Err NumbersExhausted) told =
         (told.1.0, (number_in known_now space, is_next beginning before both.0 space, told.1.1))
     unless_told (Send space now size eliciting largest queue frames) (Err Overflow) told =
-        let behind = told.1.1 in (told.1.0, (same_cause size eliciting).1 behind.1)
+        let behind = told.1.1 in (told.1.0, (same_cause before both.1 size eliciting).1 behind.1)
     unless_told (Send space now size eliciting largest queue frames) (Err NoMemory) told = tt
     unless_told (Send space now size eliciting largest queue frames) (Err other) told = absurd (past_four told)
     unless_told (PollMtu now) (Err NumbersExhausted) told =

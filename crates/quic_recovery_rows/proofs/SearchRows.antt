@@ -1,6 +1,6 @@
 -- Worked rows of the promises of searches for the MTU and of black holes, computed: with the right answer each holds,
 -- and with a wrong one it does not. Nothing rests on them.
-use Rattle.std.proofs.Common.{◌≡◌, ℕ, ◌<◌, ◌≤◌, zero, suc, true, false, [], ◌∷◌, None, Some, Ok, Err, refl, arith}
+use Rattle.std.proofs.Common.{◌≡◌, ℕ, ◌<◌, ◌≤◌, zero, suc, true, false, [], ◌∷◌, None, Some, Ok, Err, inl, inr, refl, arith}
 use Rattle.std.specs.Prelude.{All}
 use Rattle.std.specs.declared.net.socket_addr.SocketAddr.{SocketAddr}
 use Rattle.rand_core.specs.Stream.{Stream}
@@ -114,6 +114,12 @@ module _ (remote : SocketAddr) (random : Stream) where
 
   above_the_bound : ¬ Fits [] 1453
   above_the_bound = λ fits. let within = fits.1 in omega (arith, within)
+
+  it_does_not_overflow : ¬ ProbesWithin (row_start remote random 8 Disabled) [] (event.PollMtu 9) (Err refusal.Overflow)
+  it_does_not_overflow = λ over. let small = over.1 in elim over.2 [
+    | inl many ↦ omega (arith, small, many)
+    | inr often ↦ omega (arith, often)
+  ]
 
   -- the peer takes 1400
   abbrev told : RowHistory
