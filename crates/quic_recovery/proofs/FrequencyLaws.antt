@@ -1,7 +1,6 @@
 -- A request for fewer ACKs is taken where the history says that it is the newest: the clause `frequency` of `run`.
 use Rattle.std.proofs.lemmas.Bool.Decides.{nat_tests}
-use Rattle.std.proofs.lemmas.Bool.{cases_lt}
-use Rattle.std.proofs.Common.{◌≡◌, ◌<◌, ◌^◌, ℕ, ◌&&◌, ◌↔◌, not, nat_lt, Bool, true, false, ◌∷◌, Option, None, Some, Ok, Err, inl, inr, refl, arith, if◌then◌else◌, IsTrue}
+use Rattle.std.proofs.Common.{◌≡◌, ◌<◌, ◌^◌, ℕ, ◌&&◌, ◌↔◌, not, nat_lt, Bool, true, false, ◌∷◌, Option, None, Some, Ok, Err, refl, arith, if◌then◌else◌, IsTrue}
 use Rattle.recovery_base.specs.declared.below.SpaceId.TheVariants.{Data}
 use Rattle.recovery_acks.specs.AckFrequencies.{IsStale, delay_of}
 use Rattle.recovery_ledger.specs.Packets.{is_above}
@@ -27,27 +26,11 @@ above_or_stale (Some m) n = grind (arith, nat_tests)
 module _ (last : Option ℕ) (sequence n : ℕ) (newest : Bool) (same : newest ≡ is_above last n) where
   -- a newer frame came
   newer_came : ¬ IsStale last sequence → (nat_lt sequence n && newest) ≡ is_above (Some sequence) n
-  newer_came newer = go last same newer
-    where
-      go : (found : Option ℕ) → newest ≡ is_above found n → ¬ IsStale found sequence
-          → (nat_lt sequence n && newest) ≡ nat_lt sequence n
-      go None is newer = grind (arith, is)
-      go (Some m) is newer = elim (cases_lt m sequence) [
-        | inl less ↦ grind (arith, nat_tests, is, less)
-        | inr up ↦ absurd (newer up)
-      ]
+  newer_came newer = grind (arith, nat_tests, same, newer)
 
   -- one came that is no newer
   older_came : ¬ (¬ IsStale last sequence) → (nat_lt sequence n && newest) ≡ is_above last n
-  older_came older = go last same older
-    where
-      go : (found : Option ℕ) → newest ≡ is_above found n → ¬ (¬ IsStale found sequence)
-          → (nat_lt sequence n && newest) ≡ is_above found n
-      go None is older = absurd (older (λ stale. stale))
-      go (Some m) is older = elim (cases_lt m sequence) [
-        | inl less ↦ absurd (older (λ stale. omega (arith, less, stale)))
-        | inr up ↦ grind (arith, nat_tests, is, up)
-      ]
+  older_came older = grind (arith, nat_tests, same, older)
 
 -- ---- one reply
 
@@ -60,10 +43,6 @@ by_tests : {Q : Type 0} (discarded newest small : Bool) (Newer Small : Type 0) �
     else if not newest then Ok (Flag false)
     else if small then Err DelayTooSmall
     else Ok (Flag true))
-by_tests discarded newest small Newer Small news smalls (Ok (Flag true)) told = grind (arith, told, news, smalls)
-by_tests discarded newest small Newer Small news smalls (Ok (Flag false)) told = grind (arith, told, news, smalls)
-by_tests discarded newest small Newer Small news smalls (Err SpaceDiscarded) told = grind (arith, told, news, smalls)
-by_tests discarded newest small Newer Small news smalls (Err DelayTooSmall) told = grind (arith, told, news, smalls)
 by_tests discarded newest small Newer Small news smalls reply told = grind (arith, told, news, smalls)
 
 module _ {F K Q S M P : Type 0} (beginning : Beginning F K Q S M P) where

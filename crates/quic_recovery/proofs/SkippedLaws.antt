@@ -52,15 +52,7 @@ module _ (skip : ℕ → Bool) (next n count : ℕ) (here : Gives skip next n co
       let is : n ≡ next = grind (arith, goes.1, below, up) in rw is (grind (arith, goes.1, below, up))
 
   gives_more : (number : ℕ) → MayGo skip next number → Gives skip (number + 1) n (more_if (number == n) count)
-  gives_more number goes = record {
-    given = λ below free. elim (cases_lt n next) [
-      | inl less ↦ (let some = here.given less free in grind (arith, nat_tests, some))
-      | inr up ↦ grind (arith, nat_tests, between_skipped number goes, below, free, up)
-    ];
-    left_out = λ is. (let none = here.left_out is in grind (arith, nat_tests, goes.0, is, none));
-    last = λ is. (let same : n ≡ number = omega (arith, is) in rw same goes.0);
-    late = λ up. (let none = here.late in grind (arith, nat_tests, none, goes.1, up));
-  }
+  gives_more number goes = grind (arith, nat_tests, here, goes, between_skipped number goes)
 
 module _ (skip : ℕ → Bool) (next : ℕ) (count : ℕ → ℕ) (all : (n : ℕ) → Gives skip next n (count n)) where
   abbrev Above : ℕ → Type 0
@@ -72,11 +64,7 @@ module _ (skip : ℕ → Bool) (next : ℕ) (count : ℕ → ℕ) (all : (n : �
   -- what lies above all that were given out is not below the next number
   not_below : (m : ℕ) → Above m → next ≤ m
   not_below m above = elim (cases_lt m next) [
-    | inl less ↦ (
-        let some = last_given (next - 1) (omega (arith, less)) in
-        let none = above (next - 1) (omega (arith, less)) in
-        absurd (omega (arith, some, none))
-        )
+    | inl less ↦ grind (arith, less, last_given (next - 1), above (next - 1))
     | inr up ↦ up
   ]
 
@@ -95,27 +83,10 @@ module _ (skip : ℕ → Bool) (next : ℕ) (count : ℕ → ℕ) (all : (n : �
   to_skipped n below is =
       let last : next - 1 + 1 ≡ next = omega (arith, below) in
       let free = (all (next - 1)).last last in
-      ((all n).left_out is, (next - 1, other (next - 1) (omega (arith, below)) free, last_given (next - 1) last))
-    where
-      other : (k : ℕ) → n ≤ k → skip k ≡ false → n < k
-      other k up free = elim (cases_lt n k) [
-        | inl less ↦ less
-        | inr down ↦ (let same : n ≡ k = omega (arith, up, down) in absurd (grind (arith, same, is, free)))
-      ]
+      ((all n).left_out is, (next - 1, grind (arith, below, is, free), last_given (next - 1) last))
 
   from_skipped : (n : ℕ) → Skipped n → (n < next) × (skip n ≡ true)
-  from_skipped n was =
-      let later = was.1.0 in
-      let some = was.1.2 in
-      let below : n < next = elim (cases_lt n next) [
-        | inl less ↦ less
-        | inr up ↦ (let none = (all later).late (omega (arith, up, was.1.1)) in absurd (omega (arith, some, none)))
-      ] in
-      (below, skips (skip n) refl below)
-    where
-      skips : (b : Bool) → skip n ≡ b → n < next → b ≡ true
-      skips true is below = refl
-      skips false is below = let some = (all n).given below is in absurd (omega (arith, was.0, some))
+  from_skipped n was = grind (arith, was, all n, all was.1.0)
 
   -- the greatest below the next number, where there is one
   abbrev IsGreatest : Option ℕ → Type 0
@@ -126,14 +97,7 @@ module _ (skip : ℕ → Bool) (next : ℕ) (count : ℕ → ℕ) (all : (n : �
   Holds low high = (n : ℕ) × Skipped n × ((m : ℕ) → Skipped m → m ≤ n) × (low ≤ n) × (n ≤ high)
 
   at_most : (s : ℕ) → IsGreatest (Some s) → (m : ℕ) → Skipped m → m ≤ s
-  at_most s greatest m was = elim (cases_lt s m) [
-    | inl above ↦ (
-        let is = from_skipped m was in
-        let free = greatest.2 m above is.0 in
-        absurd (grind (arith, is.1, free))
-        )
-    | inr down ↦ down
-  ]
+  at_most s greatest m was = grind (arith, greatest, from_skipped m was)
 
   holds_to : (found : Option ℕ) → IsGreatest found → (low high : ℕ)
       → IsSomeAnd found (λ s. (low ≤ s) × (s ≤ high)) → Holds low high
@@ -143,13 +107,9 @@ module _ (skip : ℕ → Bool) (next : ℕ) (count : ℕ → ℕ) (all : (n : �
 
   holds_from : (found : Option ℕ) → IsGreatest found → (low high : ℕ) → Holds low high
       → IsSomeAnd found (λ s. (low ≤ s) × (s ≤ high))
-  holds_from None greatest low high holds =
-      let is = from_skipped holds.0 holds.1 in
-      let free = greatest holds.0 is.0 in absurd (grind (arith, is.1, free))
+  holds_from None greatest low high holds = grind (arith, greatest, from_skipped holds.0 holds.1)
   holds_from (Some s) greatest low high holds =
-      let up = holds.2 s (to_skipped s greatest.0 greatest.1) in
-      let down = at_most s greatest holds.0 holds.1 in
-      (omega (arith, holds.3, up, down), omega (arith, holds.4, up, down))
+      grind (arith, holds, to_skipped s greatest.0 greatest.1, at_most s greatest holds.0 holds.1)
 
 -- ---- what an event does to them
 
@@ -236,12 +196,7 @@ module _ {F K Q S M P : Type 0} (beginning : Beginning F K Q S M P) where
   keeps_given before event reply told all = λ space n. reply_gives before space n (all space n) event reply told
 
   pub none_given : AllGiven []
-  none_given = λ space n. record {
-    given = λ below. absurd (omega (arith, below));
-    left_out = λ is. refl;
-    last = λ is. absurd (omega (arith, is));
-    late = λ up. refl;
-  }
+  none_given = λ space n. grind arith
 
   module _ (before : History Q S M P) (all : AllGiven before) where
     pub is_next : (space : SpaceId) → IsNext space (number_in (known_by beginning before) space) before

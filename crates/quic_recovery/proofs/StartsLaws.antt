@@ -1,6 +1,6 @@
 -- The timer for a late ACK starts exactly where the history says so: the clause `starts` of `run`.
 use Rattle.std.proofs.lemmas.Bool.Decides.{nat_tests}
-use Rattle.std.proofs.Common.{◌≡◌, ℕ, ◌||◌, ◌↔◌, Bool, true, false, cond, List, ◌∷◌, Option, None, Some, Ok, Err, inl, inr, refl, arith}
+use Rattle.std.proofs.Common.{◌≡◌, ℕ, ◌||◌, ◌↔◌, Bool, true, false, cond, List, ◌∷◌, Option, None, Some, Ok, Err, inr, refl, arith}
 use Rattle.recovery_base.specs.declared.below.SpaceId.{SpaceId}
 use Rattle.recovery_base.specs.declared.below.SpaceId.TheVariants.{Initial, Handshake, Data}
 use Rattle.recovery_base.specs.Spaces.{same_space}
@@ -89,31 +89,7 @@ module _ {F K Q S M P : Type 0} (beginning : Beginning F K Q S M P) where
         go : (b : Bool) → b ≡ true → (arm ≡ true) ↔ ((eliciting ≡ true) × (timer_runs space before ≡ false)
             × ¬ IsRequired (onto (cond b (Some (heard now number eliciting)) None)
             ((logs_of beginning before).spaces space)))
-        go true is =
-            let receipt = told.1.1 in
-            let started = (both.0 space).started in (
-              λ on. (
-                  let arms = receipt.1.0 on in (
-                    arms.0,
-                    not_true (timer_runs space before) (λ runs. arms.1 (both.1 space runs)),
-                    λ required. elim required [
-                      | inl earlier ↦ arms.2 (inl earlier)
-                      | inr asks ↦ arms.2 (inr asks.1)
-                    ],
-                  )
-                  ),
-              λ all. receipt.1.1 (
-                all.0,
-                (λ was. elim (started was) [
-                  | inl earlier ↦ all.2 (inl earlier)
-                  | inr runs ↦ (let stopped = all.1 in cc)
-                ]),
-                (λ either. elim either [
-                  | inl earlier ↦ all.2 (inl earlier)
-                  | inr asks ↦ all.2 (inr (all.0, asks))
-                ]),
-              ),
-            )
+        go true is = grind (arith, nat_tests, told.1.1, (both.0 space).started, both.1 space)
         go false is = cc
     timer_told event reply told = tt
 
