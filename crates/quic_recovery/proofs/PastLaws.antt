@@ -38,6 +38,7 @@ use Rattle.quic_recovery.proofs.ThreefoldLaws.{sends_threefold}
 use Rattle.quic_recovery.proofs.PlainLaws.{timers_told}
 use Rattle.quic_recovery.proofs.ToldLaws.{told_by_logs}
 use Rattle.quic_recovery.proofs.TrackedLaws.{keeps_rising}
+use Rattle.quic_recovery.proofs.TriesLaws.{tries_told}
 use Rattle.quic_recovery.proofs.TurnsLaws.{turns_told}
 
 module _ {F K Q S M P : Type 0} (beginning : Beginning F K Q S M P) where
@@ -87,6 +88,7 @@ module _ {F K Q S M P : Type 0} (beginning : Beginning F K Q S M P) where
         ecn = checks_ecn beginning before event reply all.0;
         frequency = (takes_newest beginning now all).0;
         full = (overflows_full beginning now all).0;
+        tries = (tries_told beginning now all).0;
       }
 
   -- from every past by which it came here it goes on: each clause of whole runs, at the event that is put behind it

@@ -36,6 +36,7 @@ use Rattle.quic_recovery.specs.Promises.Skipped.{GivesNext, ChecksAcks}
 use Rattle.quic_recovery.specs.Promises.Starts.{StartsTimer}
 use Rattle.quic_recovery.specs.Promises.Threefold.{KeepsThreefold}
 use Rattle.quic_recovery.specs.Promises.Timeouts.{TellsTimers}
+use Rattle.quic_recovery.specs.Promises.Tries.{TriesThrice}
 use Rattle.quic_recovery.specs.Promises.Turns.{SearchesInTurn}
 use Rattle.quic_recovery.specs.State.{PartsLeft, parts_of}
 use Rattle.quic_recovery.specs.Told.{Told}
@@ -155,6 +156,9 @@ module _ {F K Q S M P : Type 0} (beginning : Beginning F K Q S M P) where
     -- A datagram that comes in, and a path that is made, overflow exactly where their counter would come to 2^64 (RFC
     -- 9000, 8.1 and 9.3).
     pub full : OverflowsFull before event reply
+    -- Where paths are searched with a least change of at least 3, a search probes each size three times at most (RFC
+    -- 8899, 5.1.2).
+    pub tries : TriesThrice beginning before event reply
 
   -- from a past to that past with one event more
   pub record ExtendsFrom (past : History Q S M P) (event : Event Q S M P) (reply : Reply Q) (new : Parts K P M) : Type 0

@@ -35,4 +35,5 @@ pub mod Starts
 pub mod Threefold
 pub mod Timeouts
 pub mod Tracked
+pub mod Tries
 pub mod Turns
