@@ -4,6 +4,8 @@ mod NamedMomentRows
 pub mod PacerLogLaws
 mod PacerLogRows
 mod PacingRows
+pub mod PaidLogLaws
+mod PaidLogRows
 pub mod ProgressLaws
 pub mod RenoCounts
 pub mod RttLaws

@@ -6,6 +6,7 @@ pub mod NewReno
 pub mod PacerLog
 pub mod PacerView
 pub mod Pacing
+pub mod PaidLog
 pub mod Progress
 pub mod RenoConfigView
 pub mod RenoLaws
