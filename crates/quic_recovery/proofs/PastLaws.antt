@@ -23,7 +23,7 @@ use Rattle.quic_recovery.proofs.NearLaws.{near_told}
 use Rattle.quic_recovery.proofs.NewNumbersLaws.{numbers_told}
 use Rattle.quic_recovery.proofs.OneFateLaws.{have_one_fate, leave_once}
 use Rattle.quic_recovery.proofs.OwnIdsLaws.{issues_ids}
-use Rattle.quic_recovery.proofs.PacingLaws.{delayed, rate, soon, named}
+use Rattle.quic_recovery.proofs.PacingLaws.{delayed, rate, soon, named, covered, paid}
 use Rattle.quic_recovery.proofs.PeerIdsLaws.{accepts_ids}
 use Rattle.quic_recovery.proofs.RefusedLaws.{refuses_rightly}
 use Rattle.quic_recovery.proofs.SizesLaws.{sizes_told}
@@ -59,6 +59,8 @@ module _ {F K Q S M P : Type 0} (beginning : Beginning F K Q S M P) where
         rate = (rate beginning now all).0;
         soon = (soon beginning now all).0;
         named = (named beginning now all).0;
+        covered = (covered beginning now all).0;
+        paid = (paid beginning now all).0;
         mtu = (mtu_told beginning small now all).0;
         turns = (turns_told beginning small now all).0;
         sizes = (sizes_told beginning small now all).0;

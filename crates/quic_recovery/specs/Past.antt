@@ -7,7 +7,7 @@ use Rattle.quic_recovery.specs.declared.driver.Recovery.{Recovery}
 use Rattle.quic_recovery.specs.declared.driver.RecoveryConfig.{RecoveryConfig}
 use Rattle.recovery_events.specs.declared.event.Event.{Event}
 use Rattle.quic_recovery.specs.History.{Beginning, History, Reply, QueueMeaning, AtEach, begins, queue_meaning}
-use Rattle.quic_recovery.specs.Pacing.{DelaysByBalance, KeepsPace, PassesSoon, PassesWhenNamed}
+use Rattle.quic_recovery.specs.Pacing.{DelaysByBalance, DelaysExactly, KeepsPace, PassesSoon, PassesWhenNamed, PaysAtRate}
 use Rattle.quic_recovery.specs.Parts.{Parts}
 use Rattle.quic_recovery.specs.Promises.Acknowledged.{KeepsToAcknowledge}
 use Rattle.quic_recovery.specs.Promises.Blocked.{BlocksExactly}
@@ -80,6 +80,12 @@ module _ {F K Q S M P : Type 0} (beginning : Beginning F K Q S M P) where
     -- It passes at that moment too, though others ask in between and nothing goes out, where the bucket has room for a
     -- byte for each question and for what comes in four nanoseconds (RFC 9002, 7.7).
     pub named : PassesWhenNamed beginning before event reply
+    -- Whatever went out unchecked, a call is delayed exactly where it is paced (a window within 32 bits, an RTT above
+    -- zero) and the balance of what was paid for, after its own refill, is below the bytes asked (RFC 9002, 7.7).
+    pub covered : DelaysExactly beginning before event reply
+    -- What passes where it is paced is paid for in full, and what is paid for from each point on beyond the balance
+    -- there is at most five fourths of a window for each RTT since (RFC 9002, 7.7).
+    pub paid : PaysAtRate beginning before event reply
     -- The MTU in use is the size of the probe that was acknowledged last, where neither a limit of the peer nor a
     -- report of a black hole nor a reset lowered it since (RFC 9000, 14.3).
     pub mtu : UsesMtu beginning before event reply
