@@ -6,4 +6,5 @@ mod PacerLogRows
 mod PacingRows
 pub mod ProgressLaws
 pub mod RenoCounts
+pub mod RoundLaws
 pub mod RttLaws

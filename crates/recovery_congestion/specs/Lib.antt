@@ -10,4 +10,5 @@ pub mod Progress
 pub mod RenoConfigView
 pub mod RenoLaws
 pub mod RenoSettings
+pub mod Rounds
 pub mod Rtt
