@@ -1,6 +1,6 @@
 #!/usr/bin/env python3
 """Reads docs/EMBEDDING.md beside the program that it walks through: each block of code stands in a source of the program, and each event is
-handed in by the program and named on the page."""
+handed in by the program, or by the sender that it calls, and named on the page."""
 import pathlib
 import re
 import sys
@@ -9,6 +9,7 @@ import textwrap
 ROOT = pathlib.Path(__file__).resolve().parent.parent
 PAGE = ROOT / "docs" / "EMBEDDING.md"
 PROGRAM = ROOT / "crates" / "recovery_embedding" / "src"
+SENDER = ROOT / "crates" / "recovery_sender" / "src"
 EVENTS = ROOT / "crates" / "recovery_events" / "src" / "event.rt"
 
 
@@ -33,14 +34,21 @@ def events():
     return re.findall(r"^    ([A-Z]\w*)", body, re.M)
 
 
+def is_handed_in(event, sources):
+    """By its variant, or as the method of the recovery that asks the same."""
+    method = re.sub(r"(?<!^)(?=[A-Z])", "_", event).lower()
+    return any(re.search(rf"\bEvent::{event}\b|\.recovery\(\)\s*\.{method}\(", text) for text in sources)
+
+
 def main():
     page = PAGE.read_text()
     sources = [it.read_text() for it in sorted(PROGRAM.glob("*.rt"))]
     found = blocks(page)
     faults = [f"docs/EMBEDDING.md shows code from {block.splitlines()[0]!r} on that stands so in no source of crates/recovery_embedding: show it as it is now"
               for block in found if not any(stands_in(block, it) for it in sources)]
-    faults += [f"crates/recovery_embedding/src hands in no Event::{it}: it is the example that hands in every event"
-               for it in events() if not any(re.search(rf"\bEvent::{it}\b", text) for text in sources)]
+    callers = sources + [it.read_text() for it in sorted(SENDER.rglob("*.rt"))]
+    faults += [f"crates/recovery_embedding/src hands in no Event::{it}, nor does the sender: it is the example that hands in every event"
+               for it in events() if not is_handed_in(it, callers)]
     faults += [f"docs/EMBEDDING.md does not name `{it}`: it has a row in All events" for it in events() if f"`{it}`" not in page]
     faults += [] if found else ["the page has no block of code"]
     for fault in faults:

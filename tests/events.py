@@ -11,7 +11,7 @@ import sys
 import tree
 from tree import ROOT
 
-APART = re.compile(r"_tests$|_(rows|refused_memory)$|^recovery_(embedding|pictures|detection|ffi|trace|sender)$")
+APART = re.compile(r"_tests$|_(rows|refused_memory)$|^recovery_(embedding|pictures|ffi|trace|sender)$")
 ROWS = re.compile(r"Rows$|^RowStart$")
 IMPORT = re.compile(r"\bEvent\.TheVariants\.\{([^}]*)\}")
 RENAMED = re.compile(r"\bEvent\.TheVariants as (\w+)")
@@ -33,7 +33,8 @@ LISTS = [
     ("crates/recovery_lines/src/lines.rt", r'is_name\(name, "{line}"\)', "an arm of put_behind, at the arm of its name's length"),
     ("crates/recovery_trace/src/faults.rt", r'"{line}{example}"', "an example of its line, a word for each field of its form (Lines.antt)"),
     ("crates/recovery_ffi/src/*.rt", r"fn recovery_ffi_{export}\(", "its export, with the clause `Answers`"),
-    ("crates/recovery_embedding/src/*.rt", r"\bEvent::{name}\b", "a place of the program that hands it in, which hands in all"),
+    ("crates/recovery_embedding/src/*.rt crates/recovery_sender/src/sender/*.rt", r"\bEvent::{name}\b|\.recovery\(\)\.{export}\(",
+     "a place of the program that hands it in, which hands in all that its sender does not"),
     ("rust/c/recovery_ffi.h", r"\brecovery_ffi_{export}\(", WRITTEN),
     ("rust/quic-recovery/src/event.rs", r"^    {name}\b", WRITTEN),
     ("rust/quic-recovery/src/recovery.rs", r"\bEvent::{name}\b", "its arm, a call of the export"),
@@ -72,7 +73,7 @@ def missing(events):
     """The lists that an event is missing from."""
     every = fields()
     for place, form, wanted in LISTS:
-        text = "\n".join(it.read_text() for it in sorted(ROOT.glob(place)))
+        text = "\n".join(it.read_text() for some in place.split() for it in sorted(ROOT.glob(some)))
         for name in events:
             line = LINES.get(name) or re.sub(r"(?<!^)(?=[A-Z])", "-", name).lower()
             example, row = ("".join(f" {WORDS.get(kind, NUMBER)[at]}" for kind in every.get(line, [])) for at in range(2))

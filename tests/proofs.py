@@ -7,7 +7,7 @@ import re
 import sys
 
 ROOT = pathlib.Path(__file__).resolve().parent.parent
-APART = re.compile(r"_tests$|_(rows|refused_memory)$|^recovery_(embedding|pictures|detection|ffi|trace)$")
+APART = re.compile(r"_tests$|_(rows|refused_memory)$|^recovery_(embedding|pictures|ffi|trace)$")
 ROWS = re.compile(r"Rows$|^Row(Start|Laws)$")
 OF_FUNCTIONS = {"Answers", "Invariants", "Lib"}
 IMPORT = re.compile(r"(ghost )?(pub )?use ")

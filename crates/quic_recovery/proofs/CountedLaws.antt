@@ -24,7 +24,7 @@ use Rattle.quic_recovery.specs.Entries.{here}
 use Rattle.quic_recovery.specs.Table.{answered, entries_of}
 use Rattle.quic_recovery.specs.Told.{logs_of, known_by, Told}
 use Rattle.quic_recovery.specs.History.{Beginning, History, Reply}
-use Rattle.quic_recovery.specs.Known.{Known, number_in, packet_now, in_flight_on}
+use Rattle.quic_recovery.specs.Known.{Known, number_in, packet_now, in_flight_on, current_in_flight}
 use Rattle.quic_recovery.specs.Logs.{onto}
 use Rattle.quic_recovery.specs.Replies.{AlwaysAnswers}
 use Rattle.quic_recovery.specs.PartReplies.{Is, OnPath}
@@ -39,21 +39,21 @@ use Rattle.quic_recovery.proofs.TrackedLaws.{at_itself, AllTracked, keeps_tracke
 -- ---- sums over tracked packets, but for the numbers that are gone
 
 -- a number is gone too
-abbrev gone_too : (ℕ → Bool) → ℕ → ℕ → Bool
+abbrev pub gone_too : (ℕ → Bool) → ℕ → ℕ → Bool
 gone_too gone number n = number == n || gone n
 
 -- one is perhaps forgotten, in this space or in another one
-abbrev gone_with : Bool → Option ℕ → (ℕ → Bool) → ℕ → Bool
+abbrev pub gone_with : Bool → Option ℕ → (ℕ → Bool) → ℕ → Bool
 gone_with b None gone n = gone n
 gone_with b (Some m) gone n = (b && m == n) || gone n
 
 module _ {P M : Type 0} (weigh : ℕ → Bool → ℕ) (generation : ℕ) where
-  abbrev weigh_in : (ℕ → Bool) → ℕ × Packet P M → ℕ
+  abbrev pub weigh_in : (ℕ → Bool) → ℕ × Packet P M → ℕ
   weigh_in gone entry =
       if entry.1.path_generation == generation then (if gone entry.0 then 0 else weigh entry.1.size
       entry.1.ack_eliciting) else 0
 
-  abbrev sum_in : (ℕ → Bool) → Packets P M → ℕ
+  abbrev pub sum_in : (ℕ → Bool) → Packets P M → ℕ
   sum_in gone packets = sum_by (weigh_in gone) packets
 
   -- where all numbers are gone
@@ -122,7 +122,7 @@ spaces_same f g same = omega (arith, same Initial, same Handshake, same Data)
 -- ---- the table
 
 -- what spaces track weighs as much as the history says, whatever numbers are gone
-abbrev Counts : {F K Q S M P : Type 0} → Beginning F K Q S M P → History Q S M P → Type 0
+abbrev pub Counts : {F K Q S M P : Type 0} → Beginning F K Q S M P → History Q S M P → Type 0
 Counts beginning history = (weigh : ℕ → Bool → ℕ) (generation : ℕ) (gone : SpaceId → ℕ → Bool)
     → sum_on weigh generation gone history ≡ over_spaces
     (λ space. sum_in weigh generation (gone space) (sent_in beginning history space).tracked)
@@ -254,7 +254,7 @@ module _ {F K Q S M P : Type 0} (beginning : Beginning F K Q S M P) (before : Hi
 -- ---- what is told of it
 
 module _ {F K Q S M P : Type 0} (beginning : Beginning F K Q S M P) where
-  abbrev Kept : History Q S M P → Type 0
+  abbrev pub Kept : History Q S M P → Type 0
   Kept history = AllTracked beginning history × Counts beginning history
 
   module _ (before : History Q S M P) (counts : Counts beginning before) where
@@ -282,6 +282,16 @@ module _ {F K Q S M P : Type 0} (beginning : Beginning F K Q S M P) where
     count_same generation = counts (λ size eliciting. if eliciting then 1 else 0) generation (λ space n. false)
         ∙ spaces_same _ _ (λ space. eliciting_same generation (sent_in beginning before space).tracked)
 
+    -- what is in flight on the path in use
+    pub flight_now : (sum_on (λ size eliciting. size) (paths_made before) (λ space n. false) before
+        ≡ (current_in_flight known_then).bytes)
+        × (sum_on (λ size eliciting. if eliciting then 1 else 0) (paths_made before) (λ space n. false) before
+        ≡ (current_in_flight known_then).ack_eliciting)
+    flight_now =
+        let generation = known_then.paths.current.generation in
+        let made : paths_made before ≡ generation = (let told = generation_told beginning before Current in cc) in
+        rw made (counts (λ size eliciting. size) generation (λ space n. false), count_same generation)
+
     tally : (path : Option (PathKnown K)) (reply : Reply Q)
         → OnPath path (λ there. AlwaysAnswers (Is (answers.InFlight (in_flight_on known_then there).bytes
         (in_flight_on known_then there).ack_eliciting))) reply
@@ -302,12 +312,15 @@ module _ {F K Q S M P : Type 0} (beginning : Beginning F K Q S M P) where
   holds before event reply told kept = tt
 
   -- throughout a run
+  pub keeps_counts : (before : History Q S M P) (event : Event Q S M P) (reply : Reply Q)
+      → Told beginning before event reply → Kept before → Kept ((event, reply) ∷ before)
+  keeps_counts before event reply here kept = (
+    keeps_tracked beginning before event reply here kept.0,
+    λ weigh generation gone. reply_counts beginning before kept.0 kept.1 weigh generation gone event reply here,
+  )
+
+  pub none_counted : Kept []
+  none_counted = (none_tracked beginning, λ weigh generation gone. refl)
+
   pub counts_in_flight : AllAlong beginning CountsInFlight
-  counts_in_flight =
-      throughout_kept beginning Kept CountsInFlight
-      (λ before event reply here kept. (
-        keeps_tracked beginning before event reply here kept.0,
-        λ weigh generation gone. reply_counts beginning before kept.0 kept.1 weigh generation gone event reply here,
-      ))
-      holds
-      (none_tracked beginning, λ weigh generation gone. refl)
+  counts_in_flight = throughout_kept beginning Kept CountsInFlight keeps_counts holds none_counted

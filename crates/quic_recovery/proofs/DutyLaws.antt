@@ -1,7 +1,7 @@
 -- While an ack-eliciting packet waits, an ACK is required at once or the timer was started, by what each event is told:
 -- the clause `duty` of `run`.
 use Rattle.std.proofs.lemmas.Bool.Decides.{nat_tests}
-use Rattle.std.proofs.Common.{◌≡◌, ◌<◌, ℕ, Bool, true, false, ◌||◌, cond, List, ◌∷◌, Option, None, Some, Ok, Err, ◌⊎◌, refl, arith}
+use Rattle.std.proofs.Common.{◌≡◌, ◌<◌, ℕ, Bool, true, false, ◌||◌, cond, List, [], ◌∷◌, Option, None, Some, Ok, Err, ◌⊎◌, refl, arith}
 use Rattle.recovery_base.specs.declared.below.SpaceId.{SpaceId}
 use Rattle.recovery_base.specs.Spaces.{same_space}
 use Rattle.recovery_ledger.specs.Acks.{IsRequired, StartedAt, counts_by, acks_by}
@@ -49,7 +49,7 @@ module _ {P M S : Type 0} (words : QueueWords P S) (waiting running : Bool) (log
 -- ---- what an event does
 
 -- nothing that an ACK has to do with
-abbrev is_silent : SpaceKind → Bool
+abbrev pub is_silent : SpaceKind → Bool
 is_silent hearing = false
 is_silent answering = false
 is_silent delaying = false
@@ -102,21 +102,23 @@ module _ {F K Q S M P : Type 0} (beginning : Beginning F K Q S M P) (before : Hi
 -- ---- throughout a run
 
 module _ {F K Q S M P : Type 0} (beginning : Beginning F K Q S M P) where
-  abbrev AllAttended : History Q S M P → Type 0
+  abbrev pub AllAttended : History Q S M P → Type 0
   AllAttended history = (space : SpaceId)
       → AttendsTo beginning.queue.words (waits space history) (timer_runs space history)
       ((logs_of beginning history).spaces space)
 
-  after_one : Keeps (Told beginning) AllAttended
+  pub after_one : Keeps (Told beginning) AllAttended
   after_one before event reply told all = λ space. reply_attends beginning before space (all space) event reply told
+
+  pub none_attended : AllAttended []
+  none_attended = λ space. record {
+    counts = λ is. cc;
+    armed = λ started. absurd started.1;
+    started = λ started. absurd started.1;
+    duty = λ is. cc;
+  }
 
   pub keeps_duty : AllAlong beginning (KeepsDuty beginning)
   keeps_duty =
       throughout_kept beginning AllAttended (KeepsDuty beginning) after_one
-      (λ before event reply here all space. (after_one before event reply here all space).duty)
-      (λ space. record {
-        counts = λ is. cc;
-        armed = λ started. absurd started.1;
-        started = λ started. absurd started.1;
-        duty = λ is. cc;
-      })
+      (λ before event reply here all space. (after_one before event reply here all space).duty) none_attended

@@ -1,12 +1,14 @@
--- Each pacer delays by its balance and keeps its rate, throughout a run: the clauses `delayed`, `rate`, `soon` and
--- `named` of `run`.
+-- Each pacer delays by its balance and keeps its rate, throughout a run: the clauses `delayed`, `rate`, `soon`,
+-- `named`, `covered` and `paid` of `run`.
 use Rattle.std.proofs.Common.{arith, ℕ, true, ◌∷◌, Option, Ok, refl}
 use Rattle.recovery_congestion.specs.PacerLog.{AreChecked, KeepsRate}
 use Rattle.recovery_congestion.specs.Pacing.{PacerCall}
 use Rattle.recovery_congestion.specs.NamedMoment.{PassesAtMoment}
+use Rattle.recovery_congestion.specs.PaidLog.{DelaysUncovered, PaysInFull}
 use Rattle.recovery_congestion.specs.Progress.{PassesBehind}
 use Rattle.recovery_congestion.proofs.PacerLogLaws.{delays_by, keeps_rate}
 use Rattle.recovery_congestion.proofs.NamedMomentLaws.{passes_at_moment}
+use Rattle.recovery_congestion.proofs.PaidLogLaws.{delays_uncovered, pays_in_full, pays_rate}
 use Rattle.recovery_congestion.proofs.ProgressLaws.{passes_behind}
 use Rattle.recovery_paths.specs.PathLog.{OnEachPath, PathPast, state_of}
 use Rattle.recovery_paths.specs.PathStates.{pacer_call, path_delay}
@@ -15,7 +17,7 @@ use Rattle.recovery_events.specs.declared.event.Event.{Event}
 use Rattle.recovery_events.specs.declared.event.Event.TheVariants.{Transmit, PacerCheck}
 use Rattle.quic_recovery.specs.Told.{logs_of, pasts_of, known_by, first_path, settings_of, Told}
 use Rattle.quic_recovery.specs.History.{Beginning, History, Reply}
-use Rattle.quic_recovery.specs.Pacing.{IsByBalance, OnCall, AtCalls, DelaysByBalance, PassesSoon, PassesWhenNamed, KeepsPace}
+use Rattle.quic_recovery.specs.Pacing.{IsByBalance, OnCall, AtCalls, DelaysByBalance, DelaysExactly, PassesSoon, PassesWhenNamed, KeepsPace, PaysAtRate}
 use Rattle.quic_recovery.proofs.Runs.{AllAlong, throughout_kept}
 use Rattle.quic_recovery.proofs.AmplificationLaws.{is_allowed}
 use Rattle.quic_recovery.proofs.SearchSaid.{Follows, Keeps}
@@ -86,3 +88,22 @@ module _ {F K Q S M P : Type 0} (beginning : Beginning F K Q S M P) where
   named = paced (PassesWhenNamed beginning) (λ before event reply told passed.
       at_calls (λ past. PassesAtMoment past.kept.pacer past.pacing) before event reply told (λ now bytes.
       passes_at_moment (pacing before).kept.pacer (pacing before).pacing (call before now bytes)))
+
+  -- what the balance does not cover is delayed
+  pub covered : AllAlong beginning (DelaysExactly beginning)
+  covered = paced (DelaysExactly beginning) (λ before event reply told passed.
+      at_calls (λ past. DelaysUncovered past.kept.pacer past.pacing) before event reply told (λ now bytes.
+      delays_uncovered (pacing before).kept.pacer (pacing before).pacing (call before now bytes) passed.0.0))
+
+  -- what passes is paid for in full, and what is paid for keeps the rate
+  pub paid : AllAlong beginning (PaysAtRate beginning)
+  paid = paced (PaysAtRate beginning) (λ before event reply told passed.
+      let after = passed_one before event reply told passed in
+      let now = pacing ((event, reply) ∷ before) in (
+        at_calls (λ past. PaysInFull past.kept.pacer past.pacing) before event reply told (λ now bytes.
+            pays_in_full (pacing before).kept.pacer (pacing before).pacing (call before now bytes) passed.0.0),
+        (
+          pays_rate now.kept.pacer now.pacing after.0.0,
+          λ past is. pays_rate past.kept.pacer past.pacing (after.1 past is).0,
+        ),
+      ))

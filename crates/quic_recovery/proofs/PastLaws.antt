@@ -15,7 +15,11 @@ use Rattle.quic_recovery.proofs.BlockedLaws.{blocks_exactly}
 use Rattle.quic_recovery.proofs.CountedLaws.{counts_in_flight}
 use Rattle.quic_recovery.proofs.ContentsLaws.{loses_nothing}
 use Rattle.quic_recovery.proofs.DutyLaws.{keeps_duty}
+use Rattle.quic_recovery.proofs.EcnLaws.{checks_ecn}
 use Rattle.quic_recovery.proofs.FewLaws.{few_told}
+use Rattle.quic_recovery.proofs.ForgottenLaws.{forgets_oldest}
+use Rattle.quic_recovery.proofs.FrequencyLaws.{takes_newest}
+use Rattle.quic_recovery.proofs.FullLaws.{overflows_full}
 use Rattle.quic_recovery.proofs.HolesLaws.{holes_told}
 use Rattle.quic_recovery.proofs.LeftLaws.{changes_by_logs, left_after}
 use Rattle.quic_recovery.proofs.MtuLaws.{mtu_told}
@@ -23,14 +27,18 @@ use Rattle.quic_recovery.proofs.NearLaws.{near_told}
 use Rattle.quic_recovery.proofs.NewNumbersLaws.{numbers_told}
 use Rattle.quic_recovery.proofs.OneFateLaws.{have_one_fate, leave_once}
 use Rattle.quic_recovery.proofs.OwnIdsLaws.{issues_ids}
-use Rattle.quic_recovery.proofs.PacingLaws.{delayed, rate, soon, named}
+use Rattle.quic_recovery.proofs.PacingLaws.{delayed, rate, soon, named, covered, paid}
 use Rattle.quic_recovery.proofs.PeerIdsLaws.{accepts_ids}
 use Rattle.quic_recovery.proofs.RefusedLaws.{refuses_rightly}
+use Rattle.quic_recovery.proofs.SendableLaws.{finds_to_send}
 use Rattle.quic_recovery.proofs.SizesLaws.{sizes_told}
+use Rattle.quic_recovery.proofs.SkippedLaws.{keeps_next, keeps_skipped, sends_unless}
+use Rattle.quic_recovery.proofs.StartsLaws.{starts_timer}
 use Rattle.quic_recovery.proofs.ThreefoldLaws.{sends_threefold}
 use Rattle.quic_recovery.proofs.PlainLaws.{timers_told}
 use Rattle.quic_recovery.proofs.ToldLaws.{told_by_logs}
 use Rattle.quic_recovery.proofs.TrackedLaws.{keeps_rising}
+use Rattle.quic_recovery.proofs.TriesLaws.{tries_told}
 use Rattle.quic_recovery.proofs.TurnsLaws.{turns_told}
 
 module _ {F K Q S M P : Type 0} (beginning : Beginning F K Q S M P) where
@@ -59,6 +67,8 @@ module _ {F K Q S M P : Type 0} (beginning : Beginning F K Q S M P) where
         rate = (rate beginning now all).0;
         soon = (soon beginning now all).0;
         named = (named beginning now all).0;
+        covered = (covered beginning now all).0;
+        paid = (paid beginning now all).0;
         mtu = (mtu_told beginning small now all).0;
         turns = (turns_told beginning small now all).0;
         sizes = (sizes_told beginning small now all).0;
@@ -71,6 +81,16 @@ module _ {F K Q S M P : Type 0} (beginning : Beginning F K Q S M P) where
         contents = loses_nothing beginning now all;
         duty = (keeps_duty beginning now all).0;
         to_acknowledge = keeps_to_acknowledge beginning now all;
+        next = (keeps_next beginning now all).0;
+        skipped = (keeps_skipped beginning now all).0;
+        sends = (sends_unless beginning now all).0;
+        forgotten = (forgets_oldest beginning now all).0;
+        starts = (starts_timer beginning now all).0;
+        sendable = finds_to_send beginning before event reply all;
+        ecn = checks_ecn beginning before event reply all.0;
+        frequency = (takes_newest beginning now all).0;
+        full = (overflows_full beginning now all).0;
+        tries = (tries_told beginning now all).0;
       }
 
   -- from every past by which it came here it goes on: each clause of whole runs, at the event that is put behind it

@@ -61,15 +61,15 @@ module _ {P M : Type 0} (n : ℕ) where
     pub once : given ≤ 1
     pub late : sent.next ≤ n → given ≡ 0
 
-  abbrev counts : ℕ × Packet P M → ℕ
+  abbrev pub counts : ℕ × Packet P M → ℕ
   counts entry = one_if_same entry.0 n
 
   -- a number stands nowhere where it is not found, and else once at least
-  abbrev Stands : Option (Packet P M) → ℕ → Type 0
+  abbrev pub Stands : Option (Packet P M) → ℕ → Type 0
   Stands None count = count ≡ 0
   Stands (Some packet) count = 1 ≤ count
 
-  stands : (packets : Packets P M) → Stands (packet_at packets n) (times n packets)
+  pub stands : (packets : Packets P M) → Stands (packet_at packets n) (times n packets)
   stands [] = refl
   stands (entry ∷ packets) =
       grind (

@@ -1,10 +1,11 @@
 -- Pacing at each moment of a run (RFC 9002, 7.7): what is delayed and until when, and the rate of what goes out. Both
--- are said of a pacer as long as all transmissions since it was made were checked, at windows within 32 bits and RTTs
--- above zero.
+-- are said of what tokens pay for, with no premise; and of all that goes out, as long as all transmissions since the
+-- pacer was made were checked, at windows within 32 bits and RTTs above zero.
 use Rattle.std.specs.Prelude.{ℕ, true, ◌∷◌, Option, None, Some, Ok}
 use Rattle.recovery_congestion.specs.PacerLog.{asked, AreChecked, DelaysBy, KeepsRate}
 use Rattle.recovery_congestion.specs.Pacing.{PacerCall}
 use Rattle.recovery_congestion.specs.NamedMoment.{PassesAtMoment}
+use Rattle.recovery_congestion.specs.PaidLog.{DelaysUncovered, PaysInFull, PaysRate}
 use Rattle.recovery_congestion.specs.Progress.{PassesBehind}
 use Rattle.recovery_paths.specs.PathLog.{OnEachPath, PathPast, state_of}
 use Rattle.recovery_paths.specs.PathStates.{pacer_call}
@@ -54,3 +55,15 @@ module _ {F K Q S M P : Type 0} (beginning : Beginning F K Q S M P) where
   abbrev pub KeepsPace : History Q S M P → Event Q S M P → Reply Q → Type 0
   KeepsPace history event reply = OnEachPath (λ past. AreChecked past.pacing → KeepsRate past.kept.pacer past.pacing)
       (pasts_of beginning ((event, reply) ∷ history))
+
+  -- ---- with no premise
+
+  -- what the balance of what was paid for covers is not delayed, and the rest is
+  abbrev pub DelaysExactly : History Q S M P → Event Q S M P → Reply Q → Type 0
+  DelaysExactly = AtCalls (λ past. DelaysUncovered past.kept.pacer past.pacing)
+
+  -- what passes where it is paced is paid for in full; and after an event, the pacer of each path that lives pays
+  -- within its rate
+  abbrev pub PaysAtRate : History Q S M P → Event Q S M P → Reply Q → Type 0
+  PaysAtRate history event reply = AtCalls (λ past. PaysInFull past.kept.pacer past.pacing) history event reply
+      × OnEachPath (λ past. PaysRate past.kept.pacer past.pacing) (pasts_of beginning ((event, reply) ∷ history))

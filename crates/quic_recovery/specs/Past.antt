@@ -7,7 +7,7 @@ use Rattle.quic_recovery.specs.declared.driver.Recovery.{Recovery}
 use Rattle.quic_recovery.specs.declared.driver.RecoveryConfig.{RecoveryConfig}
 use Rattle.recovery_events.specs.declared.event.Event.{Event}
 use Rattle.quic_recovery.specs.History.{Beginning, History, Reply, QueueMeaning, AtEach, begins, queue_meaning}
-use Rattle.quic_recovery.specs.Pacing.{DelaysByBalance, KeepsPace, PassesSoon, PassesWhenNamed}
+use Rattle.quic_recovery.specs.Pacing.{DelaysByBalance, DelaysExactly, KeepsPace, PassesSoon, PassesWhenNamed, PaysAtRate}
 use Rattle.quic_recovery.specs.Parts.{Parts}
 use Rattle.quic_recovery.specs.Promises.Acknowledged.{KeepsToAcknowledge}
 use Rattle.quic_recovery.specs.Promises.Blocked.{BlocksExactly}
@@ -15,7 +15,11 @@ use Rattle.quic_recovery.specs.Promises.Contents.{LosesNothing}
 use Rattle.quic_recovery.specs.Promises.Counted.{CountsInFlight}
 use Rattle.quic_recovery.specs.Promises.Fates.{HaveOneFate}
 use Rattle.quic_recovery.specs.Promises.Duty.{KeepsDuty}
+use Rattle.quic_recovery.specs.Promises.Ecn.{ChecksEcn}
 use Rattle.quic_recovery.specs.Promises.Few.{ProbesFew}
+use Rattle.quic_recovery.specs.Promises.Forgotten.{ForgetsOldest}
+use Rattle.quic_recovery.specs.Promises.Frequency.{TakesNewest}
+use Rattle.quic_recovery.specs.Promises.Full.{OverflowsFull}
 use Rattle.quic_recovery.specs.Promises.Holes.{ReportsAtFour}
 use Rattle.quic_recovery.specs.Promises.Mtu.{UsesMtu}
 use Rattle.quic_recovery.specs.Promises.Near.{EndsNearBy}
@@ -25,9 +29,14 @@ use Rattle.quic_recovery.specs.Promises.OwnIds.{IssuesIds}
 use Rattle.quic_recovery.specs.Promises.PeerIds.{AcceptsIds}
 use Rattle.quic_recovery.specs.Promises.Refused.{RefusesRightly}
 use Rattle.quic_recovery.specs.Promises.Rising.{GivesRising}
+use Rattle.quic_recovery.specs.Promises.Sendable.{FindsToSend}
+use Rattle.quic_recovery.specs.Promises.Sends.{SendsUnless}
 use Rattle.quic_recovery.specs.Promises.Sizes.{ProbesWithin}
+use Rattle.quic_recovery.specs.Promises.Skipped.{GivesNext, ChecksAcks}
+use Rattle.quic_recovery.specs.Promises.Starts.{StartsTimer}
 use Rattle.quic_recovery.specs.Promises.Threefold.{KeepsThreefold}
 use Rattle.quic_recovery.specs.Promises.Timeouts.{TellsTimers}
+use Rattle.quic_recovery.specs.Promises.Tries.{TriesThrice}
 use Rattle.quic_recovery.specs.Promises.Turns.{SearchesInTurn}
 use Rattle.quic_recovery.specs.State.{PartsLeft, parts_of}
 use Rattle.quic_recovery.specs.Told.{Told}
@@ -80,6 +89,12 @@ module _ {F K Q S M P : Type 0} (beginning : Beginning F K Q S M P) where
     -- It passes at that moment too, though others ask in between and nothing goes out, where the bucket has room for a
     -- byte for each question and for what comes in four nanoseconds (RFC 9002, 7.7).
     pub named : PassesWhenNamed beginning before event reply
+    -- Whatever went out unchecked, a call is delayed exactly where it is paced (a window within 32 bits, an RTT above
+    -- zero) and the balance of what was paid for, after its own refill, is below the bytes asked (RFC 9002, 7.7).
+    pub covered : DelaysExactly beginning before event reply
+    -- What passes where it is paced is paid for in full, and what is paid for from each point on beyond the balance
+    -- there is at most five fourths of a window for each RTT since (RFC 9002, 7.7).
+    pub paid : PaysAtRate beginning before event reply
     -- The MTU in use is the size of the probe that was acknowledged last, where neither a limit of the peer nor a
     -- report of a black hole nor a reset lowered it since (RFC 9000, 14.3).
     pub mtu : UsesMtu beginning before event reply
@@ -120,6 +135,36 @@ module _ {F K Q S M P : Type 0} (beginning : Beginning F K Q S M P) where
     -- acknowledged since they came, and those that came to lie below the 64 highest ranges (RFC 9000, 13.2.3 and
     -- 13.2.4).
     pub to_acknowledge : KeepsToAcknowledge beginning ((event, reply) ∷ before)
+    -- A packet goes out under the first number above all that were given out in its space, or, of 1-RTT packets, under
+    -- the one behind that (RFC 9000, 12.3 and 21.4).
+    pub next : GivesNext before event reply
+    -- The ACK of a range is refused exactly where it holds the last number that was skipped, or is no range of numbers
+    -- below 2^62 (RFC 9000, 12.3 and 21.4).
+    pub skipped : ChecksAcks before event reply
+    -- A packet is refused exactly where it carries an ACK of a number that is none, where no number is left for it,
+    -- and where what is in flight would pass its counters (RFC 9000, 12.3; RFC 9002, B.2).
+    pub sends : SendsUnless before event reply
+    -- A silent packet, with 1001 others tracked since the last that elicits an ACK, makes the oldest of them be
+    -- forgotten, and no other packet does (RFC 9002, 2 and A.1).
+    pub forgotten : ForgetsOldest before event reply
+    -- The timer for a late ACK starts exactly at a new ack-eliciting packet, where it does not run and no ACK is
+    -- required at once (RFC 9000, 13.2.1 and 13.2.2).
+    pub starts : StartsTimer beginning before event reply
+    -- A probe finds something to send that elicits an ACK; and an ACK exactly where one is required and some number is
+    -- to be acknowledged (RFC 9002, 6.2.4).
+    pub sendable : FindsToSend beginning before event reply
+    -- Counts of ECN are refused exactly where they fail the check against the last ones of their space that were taken
+    -- (RFC 9000, 13.4.2.1).
+    pub ecn : ChecksEcn before event reply
+    -- A request for fewer ACKs is taken exactly where it is the newest and asks for a millisecond or more
+    -- (draft-ietf-quic-ack-frequency-04, section 4).
+    pub frequency : TakesNewest before event reply
+    -- A datagram that comes in, and a path that is made, overflow exactly where their counter would come to 2^64 (RFC
+    -- 9000, 8.1 and 9.3).
+    pub full : OverflowsFull before event reply
+    -- Where paths are searched with a least change of at least 3, a search probes each size three times at most (RFC
+    -- 8899, 5.1.2).
+    pub tries : TriesThrice beginning before event reply
 
   -- from a past to that past with one event more
   pub record ExtendsFrom (past : History Q S M P) (event : Event Q S M P) (reply : Reply Q) (new : Parts K P M) : Type 0

@@ -15,6 +15,8 @@ use Rattle.quic_recovery.specs.Told.{logs_of}
 use Rattle.quic_recovery.specs.History.{Beginning, History, Reply}
 use Rattle.quic_recovery.specs.Promises.Acknowledged.{HasCome, WasDropped, largest_in}
 use Rattle.quic_recovery.specs.Promises.Duty.{AcknowledgesInTime, timer_runs, waits}
+use Rattle.quic_recovery.specs.Promises.Sendable.{StaysFull, FindsToSend}
+use Rattle.quic_recovery.specs.Promises.Starts.{StartsTimer}
 
 -- ---- ranges
 
@@ -222,3 +224,50 @@ module _ {F K Q S M P : Type 0} (beginning : Beginning F K Q S M P) where
   not_of_another_space : timer_runs Data ((event.AckDelayTimeout Initial, Ok answer.Done) ∷ elicits 1 true ∷ acked)
       ≡ true
   not_of_another_space = refl
+
+  -- ---- the timer: it starts at the first one that waits, and not again
+
+  first_starts : StartsTimer beginning acked (event.Received Data 6 1 true) (Ok (answer.New true))
+  first_starts = (
+    λ on. (
+      refl,
+      refl,
+      λ required. elim required [
+        | inl none ↦ none
+        | inr asks ↦ asks_nothing _ (Some 0) (Some 0) 1 (omega arith) (omega arith) 0 (Some (0, 5)) asks.1
+      ],
+    ),
+    λ all. refl,
+  )
+
+  first_without_is_wrong : ¬ StartsTimer beginning acked (event.Received Data 6 1 true) (Ok (answer.New false))
+  first_without_is_wrong starts = let on = starts.1 (
+    refl,
+    refl,
+    λ required. elim required [
+      | inl none ↦ none
+      | inr asks ↦ asks_nothing _ (Some 0) (Some 0) 1 (omega arith) (omega arith) 0 (Some (0, 5)) asks.1
+    ],
+  ) in cc
+
+  again_is_wrong : ¬ StartsTimer beginning (elicits 1 true ∷ acked) (event.Received Data 6 2 true)
+      (Ok (answer.New true))
+  again_is_wrong starts = let stopped = (starts.0 refl).1 in cc
+
+  silent_is_wrong : ¬ StartsTimer beginning acked (event.Received Data 6 1 false) (Ok (answer.New true))
+  silent_is_wrong starts = let eliciting = (starts.0 refl).0 in cc
+
+  -- ---- what a probe finds: nothing came, so that there is no ACK, but a PING
+
+  an_ack_is_wrong : (streams : S) (other : Bool) → ¬ FindsToSend beginning [] (event.QueueProbe Data false streams)
+      (Ok (answer.Sendable (record { acks = true; other = other })))
+  an_ack_is_wrong streams other finds = (finds.0.0 refl).0
+
+  nothing_is_wrong : (streams : S) (acks : Bool) → StaysFull beginning.queue.words streams
+      → ¬ FindsToSend beginning [] (event.QueueProbe Data false streams)
+      (Ok (answer.Sendable (record { acks = acks; other = false })))
+  nothing_is_wrong streams acks full finds = let is = finds.1 full in cc
+
+  a_ping : (streams : S) → FindsToSend beginning [] (event.QueueProbe Data false streams)
+      (Ok (answer.Sendable (record { acks = false; other = true })))
+  a_ping streams = ((λ on. cc, λ due. absurd due.0), λ full. refl)

@@ -1,9 +1,11 @@
 mod AckRows
+mod AskedRows
 mod ContentsRows
 mod FateRows
 mod FlowRows
 mod IdRows
 mod LogRows
+mod NumberRows
 mod PromiseRows
 mod RowLaws
 mod RowStart

@@ -1,6 +1,7 @@
 -- Worked rows of the promises of searches for the MTU and of black holes, computed: with the right answer each holds,
 -- and with a wrong one it does not. Nothing rests on them.
-use Rattle.std.proofs.Common.{◌≡◌, ℕ, ◌<◌, ◌≤◌, zero, suc, true, false, [], ◌∷◌, None, Some, Ok, Err, refl, arith}
+use Rattle.std.proofs.lemmas.Bool.Decides.{nat_tests}
+use Rattle.std.proofs.Common.{◌≡◌, ℕ, ◌<◌, ◌≤◌, zero, suc, true, false, [], ◌∷◌, None, Some, Ok, Err, inl, inr, refl, arith}
 use Rattle.std.specs.Prelude.{All}
 use Rattle.std.specs.declared.net.socket_addr.SocketAddr.{SocketAddr}
 use Rattle.rand_core.specs.Stream.{Stream}
@@ -19,6 +20,7 @@ use Rattle.quic_recovery.specs.Promises.Mtu.{mtu}
 use Rattle.quic_recovery.specs.Promises.Near.{IsNear, next, start}
 use Rattle.quic_recovery.specs.Promises.Probes.{acked_probes, lost_probes}
 use Rattle.quic_recovery.specs.Promises.Sizes.{ProbesWithin}
+use Rattle.quic_recovery.specs.Promises.Tries.{TriesThrice}
 use Rattle.quic_recovery.specs.Promises.Turns.{SearchesInTurn}
 use Rattle.quic_recovery.specs.Search.{discovery_settings}
 use Rattle.quic_recovery_rows.proofs.RowStart.{RowHistory, row_start}
@@ -46,6 +48,13 @@ module _ {F K Q S M P : Type 0} (beginning : Beginning F K Q S M P) (settings : 
   after_its_end : ProbesFew beginning ((event.PollMtu 50, Ok answer.NoProbe) ∷ polls 48 (λ n. 1300)) (event.PollMtu 60)
       (Ok (answer.Probe 60 1301))
   after_its_end = λ own same wide. (omega arith, omega arith)
+
+  -- a third try of a size, and a fourth one
+  third_try : TriesThrice beginning (polls 2 (λ n. 1300)) (event.PollMtu 60) (Ok (answer.Probe 60 1300))
+  third_try = λ own same wide size. grind (arith, nat_tests)
+
+  fourth_try : ¬ TriesThrice beginning (polls 3 (λ n. 1300)) (event.PollMtu 60) (Ok (answer.Probe 60 1300))
+  fourth_try = λ thrice. let many = thrice settings is change 1300 in omega (arith, many)
 
 one_all : (Holds : ℕ → Type 0) (n : ℕ) → Holds n → All Holds (n ∷ [])
 one_all Holds n holds zero d below = holds
@@ -114,6 +123,12 @@ module _ (remote : SocketAddr) (random : Stream) where
 
   above_the_bound : ¬ Fits [] 1453
   above_the_bound = λ fits. let within = fits.1 in omega (arith, within)
+
+  it_does_not_overflow : ¬ ProbesWithin (row_start remote random 8 Disabled) [] (event.PollMtu 9) (Err refusal.Overflow)
+  it_does_not_overflow = λ over. let small = over.1 in elim over.2 [
+    | inl many ↦ omega (arith, small, many)
+    | inr often ↦ omega (arith, often)
+  ]
 
   -- the peer takes 1400
   abbrev told : RowHistory

@@ -1,12 +1,22 @@
--- Worked rows of the table of replies, computed: pacing. Nothing rests on them.
-use Rattle.std.proofs.Common.{◌-◌, ◌^◌, true, [], ◌∷◌, drop, Ok, refl, arith}
+-- Worked rows of the table of replies, computed: pacing; and of what it pays for. Nothing rests on them.
+use Rattle.std.proofs.Common.{ℕ, ◌-◌, ◌^◌, true, false, [], ◌∷◌, drop, Ok, refl, arith, ltb-true}
+use Rattle.std.proofs.lemmas.Bool.{eqb-false}
+use Rattle.std.proofs.lemmas.Option.{none-some}
 use Rattle.std.specs.declared.net.socket_addr.SocketAddr.{SocketAddr}
 use Rattle.rand_core.specs.Stream.{Stream}
+use Rattle.recovery_congestion.specs.declared.congestion.new_reno.NewReno.{NewReno}
+use Rattle.recovery_congestion.specs.NewReno.{reno_words}
+use Rattle.recovery_congestion.specs.PacerLog.{balance_in}
+use Rattle.recovery_congestion.specs.Pacing.{PacerCall}
+use Rattle.recovery_congestion.proofs.PaidLogLaws.{delays_uncovered, pays_in_full, pays_rate}
+use Rattle.recovery_paths.specs.PathLog.{PathPast, state_of}
+use Rattle.recovery_paths.specs.PathStates.{pacer_call}
 use Rattle.recovery_paths.specs.declared.path_pair.PathName.TheVariants.{Current, Previous}
 use Rattle.recovery_skips.specs.declared.filter.Skips.TheVariants.{Disabled}
 use Rattle.recovery_events.specs.declared.event.Event.TheVariants as event
 use Rattle.recovery_events.specs.declared.event.Answer.TheVariants as answer
-use Rattle.quic_recovery.specs.Told.{Told}
+use Rattle.quic_recovery.specs.Pacing.{DelaysExactly, PaysAtRate}
+use Rattle.quic_recovery.specs.Told.{Told, pasts_of}
 use Rattle.quic_recovery_rows.proofs.RowStart.{RowEvent, RowReply, RowHistory, row_start, AllTold, ◌⊳◌}
 use Rattle.quic_recovery_rows.proofs.RowLaws.{unrefused, small, unlike, uneven}
 
@@ -184,3 +194,74 @@ module _ (remote : SocketAddr) (random : Stream) where
       ⊳ (small refl, refl)
       ⊳ (small refl, refl)
       ⊳ refl
+
+  -- ---- a probe goes out unchecked, and there are tokens for half of it: no debt is kept
+
+  abbrev overdrawn : RowHistory
+  overdrawn =
+      (event.Transmit 26640000 1200 true, Ok answer.Transmitted)
+      ∷ (event.Transmit 0 1200 true, Ok (answer.Delayed 266400000))
+      ∷ (event.Transmit 0 2400 false, Ok answer.Transmitted)
+      ∷ (event.Transmit 0 10800 true, Ok answer.Transmitted)
+      ∷ (event.Validated Current, Ok answer.Done)
+      ∷ []
+
+  overdrawn_told : TellsAll overdrawn
+  overdrawn_told =
+      tt
+      ⊳ refl
+      ⊳ (small refl, refl)
+      ⊳ (small refl, refl)
+      ⊳ (small refl, refl)
+      ⊳ (small refl, refl)
+
+  debt_is_wrong : ¬ RowTold (drop 2 overdrawn) (event.Transmit 0 1200 true) (Ok (answer.Delayed 293040000))
+  debt_is_wrong = λ told. uneven told.1 refl
+
+  -- the promises say the same of the path in use and its pacer's call
+  abbrev path : RowHistory → PathPast NewReno
+  path history = (pasts_of (row_start remote random 8 Disabled) history).current
+
+  abbrev asks : RowHistory → ℕ → PacerCall
+  asks history now = pacer_call reno_words (state_of (path history)) now 1200
+
+  abbrev probed : RowHistory
+  probed = drop 2 overdrawn
+
+  abbrev waited : RowHistory
+  waited = drop 1 overdrawn
+
+  abbrev RowDelays : RowHistory → RowEvent → RowReply → Type 0
+  RowDelays = DelaysExactly (row_start remote random 8 Disabled)
+
+  abbrev RowPays : RowHistory → RowEvent → RowReply → Type 0
+  RowPays = PaysAtRate (row_start remote random 8 Disabled)
+
+  waits : RowDelays probed (event.Transmit 0 1200 true) (Ok (answer.Delayed 266400000))
+  waits = delays_uncovered _ (path probed).pacing (asks probed 0) refl
+
+  debt_breaks : ¬ RowDelays probed (event.Transmit 0 1200 true) (Ok (answer.Delayed 293040000))
+  unfolding balance_in
+  debt_breaks = λ delays. eqb-false _ _ refl delays.1.1
+
+  passing_breaks : ¬ RowDelays probed (event.Transmit 0 1200 true) (Ok answer.Transmitted)
+  unfolding balance_in
+  passing_breaks = λ delays. delays.1 ((ltb-true _ _ refl, ltb-true _ _ refl), ltb-true _ _ refl)
+
+  unpaid : ¬ RowPays probed (event.Transmit 0 1200 true) (Ok answer.Transmitted)
+  unfolding balance_in
+  unpaid = λ pays. eqb-false _ _ refl (pays.0 refl (ltb-true _ _ refl, ltb-true _ _ refl))
+
+  passes : RowDelays waited (event.Transmit 26640000 1200 true) (Ok answer.Transmitted)
+  passes = delays_uncovered _ (path waited).pacing (asks waited 26640000) refl
+
+  waiting_on_breaks : ¬ RowDelays waited (event.Transmit 26640000 1200 true) (Ok (answer.Delayed 266400000))
+  unfolding balance_in
+  waiting_on_breaks = λ delays. small refl delays.1.0.1
+
+  pays : RowPays waited (event.Transmit 26640000 1200 true) (Ok answer.Transmitted)
+  pays =
+      let after = path ((event.Transmit 26640000 1200 true, Ok answer.Transmitted) ∷ waited) in (
+        pays_in_full _ (path waited).pacing (asks waited 26640000) refl,
+        (pays_rate after.kept.pacer after.pacing refl, λ past is. absurd (none-some _ is)),
+      )

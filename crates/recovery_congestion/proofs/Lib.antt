@@ -4,6 +4,9 @@ mod NamedMomentRows
 pub mod PacerLogLaws
 mod PacerLogRows
 mod PacingRows
+pub mod PaidLogLaws
+mod PaidLogRows
 pub mod ProgressLaws
 pub mod RenoCounts
+pub mod RoundLaws
 pub mod RttLaws

@@ -1,4 +1,4 @@
--- Laws of the balance and of the rate, on histories alone. `PacerLogLaws` rest on it.
+-- Laws of the balance and of the rate, on histories alone. `PacerLogLaws` and `PaidLogLaws` rest on it.
 use Rattle.std.proofs.Common.{◌≡◌, ℕ, ◌+◌, ◌-◌, ◌*◌, ◌≤◌, max, List, [], ◌∷◌, ◌++◌, refl, ap, arith, inl, inr}
 use Rattle.std.specs.List.{AllByRecursion}
 use Rattle.std.proofs.Math.Nat.{mul-le-mul, mul-le-mul_left, mul-add}
@@ -88,16 +88,42 @@ module _ (made : Bucket) where
       (credits_below w r latest later past h.1 e.1)
   credits_below w r latest (_ ∷ later) past h e = grind (arith, credits_below w r latest later past)
 
-  -- the pacing bound
+  -- the pacing bound, from a point on: what was transmitted since is covered by what was there and the credits since
+  bound_from : (there : ℕ) (later past : List PacerMark) (rtt window moment : ℕ) → AreEarned (later ++ past)
+      → AreWithin window rtt moment (refills_in later) → bytes_in later ≤ there + credits_in later
+      → 4 * rtt * (bytes_in later - there) ≤ 5 * window * (moment - greatest_moment made past)
+  bound_from _ later past rtt _ _ earned within covered =
+      bound_at rtt _ _ _ _
+      _ _ _ covered
+      (credits_below _ _ _ later past within earned) (greatest_below _ _ _ later past within)
+
+  -- from a cap point on
   pub rate_bound : (history later past : List PacerMark) (rtt window moment : ℕ) → NoDebt 0 0 history
       → AreEarned history → later ++ past ≡ history → IsCapPoint past → AreWithin window rtt moment (refills_in later)
       → 4 * rtt * (bytes_in later - capacity_in made past) ≤ 5 * window * (moment - greatest_moment made past)
   rate_bound _ later past rtt window moment debt earned is point within =
-      let all : bytes_in later ≤ capacity_in made past + credits_in later =
-      omega (arith, below_each 0 0 later past point (rw is debt)) in
-      bound_at rtt _ _ _ _
-      _ _ _ all
-      (credits_below _ _ _ later past within (rw is earned)) (greatest_below _ _ _ later past within)
+      bound_from (capacity_in made past) later past rtt window moment (rw is earned) within
+      (omega (arith, below_each 0 0 later past point (rw is debt)))
+
+  -- from any point on, by the balance there: credits that come after it add to it, and bytes take from it
+  moves_by : (more taken credits bytes : ℕ) (past : List PacerMark) → NoDebt (credits + more) (bytes + taken) past
+      → balance_from made (credits + more) (bytes + taken) past + taken ≤ balance_from made credits bytes past + more
+  moves_by _ _ _ _ [] h = omega (arith, h)
+  moves_by more taken _ _ (_ ∷ past) h = grind (arith, λ (c b : ℕ). moves_by more taken c b past)
+
+  covered_by : (credits bytes : ℕ) (later past : List PacerMark) → NoDebt credits bytes (later ++ past)
+      → balance_from made credits bytes (later ++ past) + bytes + bytes_in later
+      ≤ balance_from made 0 0 past + credits + credits_in later
+  covered_by credits bytes [] past h = grind (arith, moves_by credits bytes 0 0 past)
+  covered_by _ _ (_ ∷ later) past h = grind (arith, λ (c b : ℕ). covered_by c b later past)
+
+  pub paid_bound : (history later past : List PacerMark) (rtt window moment : ℕ) → NoDebt 0 0 history
+      → AreEarned history → later ++ past ≡ history → AreWithin window rtt moment (refills_in later)
+      → 4 * rtt * (bytes_in later - balance_in made past) ≤ 5 * window * (moment - greatest_moment made past)
+  unfolding balance_in
+  paid_bound _ later past rtt window moment debt earned is within =
+      bound_from (balance_from made 0 0 past) later past rtt window moment (rw is earned) within
+      (omega (arith, covered_by 0 0 later past (rw is debt)))
 
   -- ---- the balance is the least over the cap points
 

@@ -1,15 +1,12 @@
 -- What a pacer holds is what its history says, as long as all that was transmitted was checked. The clauses of `run` on
 -- pacers rest on it.
 use Rattle.std.proofs.lemmas.Bool.Decides.{nat_tests}
-use Rattle.std.proofs.Common.{◌≡◌, ℕ, ◌-◌, ◌^◌, ◌<◌, ◌≤◌, true, false, List, [], ◌∷◌, None, arith}
+use Rattle.std.proofs.Common.{◌≡◌, ℕ, ◌-◌, ◌≤◌, min, true, false, List, [], ◌∷◌, None, arith}
 use Rattle.std.specs.Prelude.{◌&&◌, ◌==◌, if◌then◌else◌}
 use Rattle.recovery_congestion.specs.Pacing.{Bucket, PacerCall, credit_of, resized, refilled, is_unpaced, paced, pacer_delay, less_tokens}
 use Rattle.recovery_congestion.specs.PacerLog.{PacerEntry, asked, took, bucket_by, AreChecked, PacerMark, credited, transmitted, changed, capacity_in, greatest_moment, balance_in, is_as_before, marks_by, marks_asking, DelaysBy, KeepsRate}
+use Rattle.recovery_congestion.specs.PaidLog.{IsPaced}
 use Rattle.recovery_congestion.proofs.PacerBalanceLaws.{NoDebt, AreEarned, credits_more, bytes_more, balance_is, rate_bound}
-
--- the window is within 32 bits, and the RTT above zero
-abbrev IsPaced : PacerCall → Type 0
-IsPaced call = (call.window < 2 ^ 32) × (0 < call.rtt)
 
 -- ---- what was transmitted checked
 
@@ -45,7 +42,7 @@ module _ (made : Bucket) where
     pub earned : AreEarned made past
 
   -- at first it is full
-  tied_made : made.tokens ≡ made.capacity → Tied [] made
+  pub tied_made : made.tokens ≡ made.capacity → Tied [] made
   unfolding balance_in
   tied_made full = grind arith
 
@@ -65,25 +62,25 @@ module _ (made : Bucket) where
       let credit = credit_of call.rtt call.window (call.now - greatest_moment made past) in
       grind (arith, credits_more made 0 0 credit past)
 
-  -- bytes are transmitted that the tokens cover
-  tied_took : (bytes : ℕ) (past : List PacerMark) (bucket : Bucket) → bytes ≤ bucket.tokens → Tied past bucket
-      → Tied (transmitted bytes ∷ past) (less_tokens bytes bucket)
+  -- bytes are transmitted, and paid for as far as the tokens go
+  pub tied_took : (bytes paid : ℕ) (past : List PacerMark) (bucket : Bucket) → paid ≡ min bytes bucket.tokens
+      → Tied past bucket → Tied (transmitted paid ∷ past) (less_tokens bytes bucket)
   unfolding balance_in
-  tied_took bytes past _ low t =
-      grind (arith, bytes_more made 0 0 bytes past)
+  tied_took _ paid past _ is t =
+      grind (arith, bytes_more made 0 0 paid past)
 
 -- a call within the bounds is paced
 is_bounded : (call : PacerCall) → IsPaced call → is_unpaced call ≡ false
 is_bounded _ bounds = grind arith
 
 -- what passes is covered, where the call is paced
-passed_is_covered : (call : PacerCall) (bucket : Bucket) → IsPaced call → pacer_delay call bucket ≡ None
+pub passed_is_covered : (call : PacerCall) (bucket : Bucket) → IsPaced call → pacer_delay call bucket ≡ None
     → call.bytes ≤ bucket.tokens
 passed_is_covered _ _ bounds passes = grind arith
 
 module _ (made : Bucket) where
   -- the law of a call, before its answer
-  tied_asking : (call : PacerCall) (past : List PacerMark) (bucket : Bucket) → Tied made past bucket
+  pub tied_asking : (call : PacerCall) (past : List PacerMark) (bucket : Bucket) → Tied made past bucket
       → Tied made (marks_asking made call past) (paced call bucket)
   tied_asking call past bucket t =
       let changed = tied_change _ call past bucket t in
@@ -99,7 +96,7 @@ module _ (made : Bucket) where
       let bucket = paced call (bucket_by made earlier) in
       let pass = passed.0 checked.0 in
       let low : bytes ≤ bucket.tokens = omega (arith, pass.0, passed_is_covered call bucket checked.1.0 pass.1) in
-      tied_took made bytes (marks_by made (asked call ∷ earlier)) bucket low
+      tied_took made bytes bytes (marks_by made (asked call ∷ earlier)) bucket (omega (arith, low))
       (tied_by (asked call ∷ earlier) full checked.1 passed.1)
   tied_by (took _ _ ∷ _) _ checked passed = absurd (passed.0 checked.0)
 

@@ -6,8 +6,10 @@ pub mod NewReno
 pub mod PacerLog
 pub mod PacerView
 pub mod Pacing
+pub mod PaidLog
 pub mod Progress
 pub mod RenoConfigView
 pub mod RenoLaws
 pub mod RenoSettings
+pub mod Rounds
 pub mod Rtt

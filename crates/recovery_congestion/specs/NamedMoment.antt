@@ -1,4 +1,4 @@
--- The moment that a delayed call was told suffices (RFC 9002, 7.7): a timer that is set to it need not be set again,
+-- The moment that a delayed call was told suffices (RFC 9002, 7.7). A timer that is set to it need not be set again,
 -- whoever asks in between.
 use Rattle.std.specs.Prelude.{◌≡◌, ℕ, ◌+◌, ◌-◌, ◌*◌, ◌^◌, ◌<◌, ◌≤◌, List, ◌∷◌, ◌++◌, map, length, Option, None, Some}
 use Rattle.std.specs.List.{AllByRecursion}

@@ -3,5 +3,6 @@
 #![tactic(auto)]
 
 pub mod congestion;
+pub mod laws;
 pub mod pacing;
 pub mod rtt;

@@ -1,11 +1,11 @@
 //! ACKs that this end sends (RFC 9000, 13.2).
 use crate::connection::Connection;
-use crate::packets::Outgoing;
 use quic_recovery::below::{AckFrequency, SpaceId};
 use quic_recovery::time::Instant;
 use quic_recovery::timer::Timer;
-use quic_recovery::{Answer, Event, Refusal};
+use quic_recovery::{Answer, Event};
 use recovery_queue::items::ItemQueue;
+use recovery_sender::Refused;
 use std::alloc::Global;
 
 /// What a packet that came in asks for.
@@ -23,23 +23,23 @@ pub enum Heard {
 
 impl Connection {
     /// An ack-eliciting packet comes in, before its frames are looked at.
-    pub fn hear(&mut self, space: SpaceId, now: Instant, number: u64) -> Result<Heard, Refusal> {
+    pub fn hear(&mut self, space: SpaceId, now: Instant, number: u64) -> Result<Heard, Refused> {
         let packet = Event::Received {
             space,
             now,
             number,
             ack_eliciting: true,
         };
-        match self.recovery.apply(packet) {
+        match self.sender.on_event(packet) {
             Ok(Answer::New { arm }) => self.plan_ack(space, now, arm),
             Ok(_) => Ok(Heard::Duplicate),
-            Err(refusal) => Err(refusal),
+            Err(refused) => Err(refused),
         }
     }
 
     /// The timer for a late ACK is to start: of 1-RTT packets as late as the peer asked last, while one of Initial and
     /// Handshake packets goes out at once (RFC 9000, 13.2.1).
-    fn plan_ack(&mut self, space: SpaceId, now: Instant, arm: bool) -> Result<Heard, Refusal> {
+    fn plan_ack(&mut self, space: SpaceId, now: Instant, arm: bool) -> Result<Heard, Refused> {
         if arm && space == SpaceId::Data {
             let delay = self.state().ack_frequency().max_ack_delay;
             self.set_timer(Timer::MaxAckDelay, now + delay)?;
@@ -64,7 +64,7 @@ impl Connection {
     }
 
     /// The timer for a late ACK expired: whether one is to be sent.
-    pub fn ack_timer_expired(&mut self) -> Result<bool, Refusal> {
+    pub fn ack_timer_expired(&mut self) -> Result<bool, Refused> {
         self.stop_timer(Timer::MaxAckDelay)?;
         self.tell(Event::AckDelayTimeout {
             space: SpaceId::Data,
@@ -79,15 +79,12 @@ impl Connection {
         alloc: Global,
         space: SpaceId,
         now: Instant,
-    ) -> Result<Option<u64>, Refusal> {
+    ) -> Result<Option<u64>, Refused> {
         let largest = self.largest_heard(space);
-        let packet = Outgoing {
-            space,
-            size: 0,
-            ack_eliciting: false,
-            largest_acked: largest,
-        };
-        self.depart(now, packet, ItemQueue::from_items(Vec::new(alloc)))?;
+        let empty = ItemQueue::from_items(Vec::new(alloc));
+        if let Err(refused) = self.sender.send(space, now, 0, false, largest, empty, ()) {
+            return Err(refused);
+        }
         self.tell(Event::AcksSent { space })?;
         if space == SpaceId::Data {
             self.stop_timer(Timer::MaxAckDelay)?;
@@ -106,11 +103,11 @@ impl Connection {
     }
 
     /// The peer asks for fewer ACKs: whether its frame is newer than the last one, and taken.
-    pub fn ask_fewer_acks(&mut self, frame: AckFrequency) -> Result<bool, Refusal> {
-        match self.recovery.apply(Event::AckFrequencyIn(frame)) {
+    pub fn ask_fewer_acks(&mut self, frame: AckFrequency) -> Result<bool, Refused> {
+        match self.sender.on_event(Event::AckFrequencyIn(frame)) {
             Ok(Answer::Flag(is_newer)) => Ok(is_newer),
             Ok(_) => unreachable!(),
-            Err(refusal) => Err(refusal),
+            Err(refused) => Err(refused),
         }
     }
 }

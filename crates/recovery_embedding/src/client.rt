@@ -2,6 +2,7 @@
 use crate::acks::Heard;
 use crate::at;
 use crate::connection::Connection;
+use crate::paths::Departure;
 use crate::report::Report;
 use quic_recovery::Refusal;
 use quic_recovery::below::{
@@ -11,19 +12,20 @@ use quic_recovery::event::PathName;
 use quic_recovery::time::Duration;
 use quic_recovery::timer::Timer;
 use recovery_queue::items::ItemQueue;
+use recovery_sender::{Acknowledged, EcnEnd, Refused};
 use std::alloc::Global;
 
 /// A queue of one item.
-pub fn item(alloc: Global, number: u64) -> Result<ItemQueue, Refusal> {
+fn item(alloc: Global, number: u64) -> Result<ItemQueue, Refused> {
     let mut items = Vec::new(alloc);
     match items.push(number) {
         Ok(()) => Ok(ItemQueue::from_items(items)),
-        Err(_) => Err(Refusal::NoMemory),
+        Err(_) => Err(Refused::Event(Refusal::NoMemory)),
     }
 }
 
 /// All acts, in order.
-pub fn live(report: &mut Report, client: &mut Connection) -> Result<(), Refusal> {
+pub fn live(report: &mut Report, client: &mut Connection) -> Result<(), Refused> {
     handshake(report, client)?;
     end_handshake(report, client)?;
     peer_ids(report, client)?;
@@ -42,54 +44,86 @@ pub fn live(report: &mut Report, client: &mut Connection) -> Result<(), Refusal>
 }
 
 /// The first packet goes out, and the server answers.
-fn handshake(report: &mut Report, client: &mut Connection) -> Result<(), Refusal> {
-    let gone = client.transmit(at(0), 1200)?;
-    let hello = client.send(SpaceId::Initial, at(0), 1200, item(report.alloc(), 1)?)?;
-    report.packet("Initial", hello, "goes out", &gone);
+fn handshake(report: &mut Report, client: &mut Connection) -> Result<(), Refused> {
+    let hello = say_hello(report, client)?;
     report.wake(client)?;
     let heard = hear_server(client)?;
     report.value("Initial 0 comes in", &heard);
-    arrive(client, SpaceId::Initial, 40, hello)?;
+    ack(client, SpaceId::Initial, 40, (hello, hello), counts(1, 0))?;
     client.acknowledge(report.alloc(), SpaceId::Initial, at(40))?;
     Ok(())
 }
 
-/// The server's first datagram comes in, with its id.
-fn hear_server(client: &mut Connection) -> Result<Heard, Refusal> {
+/// The first packet goes out: its number.
+fn say_hello(report: &mut Report, client: &mut Connection) -> Result<u64, Refused> {
+    let gone = client.transmit(at(0), 1200, SpaceId::Initial)?;
+    let hello = client.send(SpaceId::Initial, at(0), 1200, item(report.alloc(), 1)?)?;
+    report.packet("Initial", hello, "goes out", &gone);
+    Ok(hello)
+}
+
+/// Another connection: the first packet goes out, and a Retry comes (RFC 9000, 8.1.2).
+pub fn try_again(report: &mut Report, client: &mut Connection) -> Result<(), Refused> {
+    say_hello(report, client)?;
+    let packets = client.sent_in_vain(SpaceId::Initial, at(40))?;
+    let items = client.pending(SpaceId::Initial)?;
+    report.pair(
+        "a Retry: ",
+        &packets,
+        " packet was sent in vain; the items ",
+        &items.items(),
+        " wait to be sent again",
+    );
+    Ok(())
+}
+
+/// The server's first datagram comes in, with its id and the keys of Handshake packets.
+fn hear_server(client: &mut Connection) -> Result<Heard, Refused> {
     client.datagram_in(PathName::Current, 1200)?;
     client.server_id(ConnectionId::new(&[7; 8]))?;
+    client.sender.on_handshake_keys();
     client.hear(SpaceId::Initial, at(40), 0)
 }
 
-/// An ACK of one packet comes in, `millis` after the beginning: whether it was a probe of the MTU.
-fn arrive(
+/// An ACK frame with one range comes in, and with these counts of ECN, `millis` after the beginning.
+fn ack(
     client: &mut Connection,
     space: SpaceId,
     millis: u64,
-    number: u64,
-) -> Result<bool, Refusal> {
-    let ranges = [(number, number)];
-    let arrived = client.hear_ack(at(millis), space, &ranges, Duration::ZERO)?;
-    Ok(arrived.probe)
+    range: (u64, u64),
+    ecn: Option<EcnCounts>,
+) -> Result<Acknowledged, Refused> {
+    client.hear_ack(at(millis), space, &[range], Duration::ZERO, ecn)
+}
+
+/// So many packets came with ECT(0), and so many with a mark.
+fn counts(ect0: u64, ce: u64) -> Option<EcnCounts> {
+    Some(EcnCounts { ect0, ect1: 0, ce })
 }
 
 /// Handshake packets, the end of the Initial and Handshake keys, and the peer's transport parameters.
-fn end_handshake(report: &mut Report, client: &mut Connection) -> Result<(), Refusal> {
+fn end_handshake(report: &mut Report, client: &mut Connection) -> Result<(), Refused> {
     confirm(client, item(report.alloc(), 2)?)?;
-    if let Err(refusal) = client.hear(SpaceId::Handshake, at(82), 1) {
-        report.refusal("Handshake 1 comes late", &refusal);
+    if let Err(refused) = client.hear(SpaceId::Handshake, at(82), 1) {
+        report.refusal("Handshake 1 comes late", refused);
     }
     Ok(())
 }
 
 /// The handshake comes to its end.
-fn confirm(client: &mut Connection, items: ItemQueue) -> Result<(), Refusal> {
+fn confirm(client: &mut Connection, items: ItemQueue) -> Result<(), Refused> {
     client.hear(SpaceId::Handshake, at(41), 0)?;
-    client.limit_datagrams(1400)?;
+    client.peer_parameters(1400, Duration::from_millis(25))?;
     let finished = client.send(SpaceId::Handshake, at(41), 300, items)?;
-    client.drop_keys(SpaceId::Initial)?;
-    arrive(client, SpaceId::Handshake, 81, finished)?;
-    client.drop_keys(SpaceId::Handshake)
+    client.sender.discard(SpaceId::Initial, at(41))?;
+    ack(
+        client,
+        SpaceId::Handshake,
+        81,
+        (finished, finished),
+        counts(1, 0),
+    )?;
+    client.confirm(at(81))
 }
 
 /// A NEW_CONNECTION_ID frame of the server.
@@ -103,7 +137,7 @@ fn new_id(sequence: u64) -> NewConnectionId {
 }
 
 /// The server issues an id, and the client uses it.
-fn peer_ids(report: &mut Report, client: &mut Connection) -> Result<(), Refusal> {
+fn peer_ids(report: &mut Report, client: &mut Connection) -> Result<(), Refused> {
     if client.new_id(new_id(1))?.is_none() {
         report.line("the server's id 1 is held");
     }
@@ -118,7 +152,7 @@ fn peer_ids(report: &mut Report, client: &mut Connection) -> Result<(), Refusal>
 }
 
 /// The client issues an id; its first one lasts for ten seconds, and the server retires it.
-fn own_ids(report: &mut Report, client: &mut Connection) -> Result<(), Refusal> {
+fn own_ids(report: &mut Report, client: &mut Connection) -> Result<(), Refused> {
     let number = client.issue_id(report.alloc(), at(9_000), 9)?;
     report.between("id ", &number, " is issued");
     report.wake(client)?;
@@ -132,7 +166,7 @@ fn own_ids(report: &mut Report, client: &mut Connection) -> Result<(), Refusal> 
 }
 
 /// Packets come in: ACKs at once, and late ones.
-fn acknowledge(report: &mut Report, client: &mut Connection) -> Result<(), Refusal> {
+fn acknowledge(report: &mut Report, client: &mut Connection) -> Result<(), Refused> {
     for number in 0..3 {
         let heard = client.hear(SpaceId::Data, at(11_000), number / 2 * 2)?;
         report.packet("packet", number / 2 * 2, "comes in", &heard);
@@ -154,7 +188,7 @@ fn acknowledge(report: &mut Report, client: &mut Connection) -> Result<(), Refus
 }
 
 /// The timer for a late ACK runs for 40 ms.
-fn wait_for_ack(report: &mut Report, client: &mut Connection) -> Result<(), Refusal> {
+fn wait_for_ack(report: &mut Report, client: &mut Connection) -> Result<(), Refused> {
     let is_due = client.has_expired(Timer::MaxAckDelay, at(11_049));
     report.value("an ACK after 39 ms", &is_due);
     let is_sent = client.ack_timer_expired()?;
@@ -174,8 +208,7 @@ fn fewer_acks() -> AckFrequency {
 
 /// Packets go out, marked with ECT(0), until the window is full: the number of the first. Then the pacer has no tokens
 /// left.
-fn fill_window(report: &mut Report, client: &mut Connection) -> Result<Option<u64>, Refusal> {
-    client.mark_packets(true);
+fn fill_window(report: &mut Report, client: &mut Connection) -> Result<Option<u64>, Refused> {
     client.app_limited = false;
     let burst = client.may_burst(at(11_100), 12_000)?;
     report.value("ten packets in a burst", &burst);
@@ -195,13 +228,13 @@ fn fill_window(report: &mut Report, client: &mut Connection) -> Result<Option<u6
 }
 
 /// What the window has room for goes out: the number of the first packet.
-fn send_all(alloc: Global, client: &mut Connection) -> Result<Option<u64>, Refusal> {
+fn send_all(alloc: Global, client: &mut Connection) -> Result<Option<u64>, Refused> {
     let mut first = None;
     for number in 100..120 {
-        if !client.has_room(1200) {
-            break;
+        match client.transmit(at(11_100), 1200, SpaceId::Data)? {
+            Departure::Now => {}
+            _ => break,
         }
-        client.transmit(at(11_100), 1200)?;
         let sent = client.send(SpaceId::Data, at(11_100), 1200, item(alloc, number)?)?;
         first = Some(first.unwrap_or(sent));
     }
@@ -209,37 +242,44 @@ fn send_all(alloc: Global, client: &mut Connection) -> Result<Option<u64>, Refus
 }
 
 /// One ACK comes in, of nine packets behind the first one, which is held for lost (RFC 9002, 6.1.1).
-fn lose(report: &mut Report, client: &mut Connection, first: u64) -> Result<(), Refusal> {
-    let ranges = [(first.saturating_add(1), first.saturating_add(9))];
-    let heard = client.hear_ack(at(11_140), SpaceId::Data, &ranges, Duration::ZERO)?;
-    client.hear_counts(at(11_140), &heard, counts(9, 0))?;
-    report.between("", &heard.packets, " of ten packets arrive");
+fn lose(report: &mut Report, client: &mut Connection, first: u64) -> Result<(), Refused> {
+    let range = (first.saturating_add(1), first.saturating_add(9));
+    let heard = ack(client, SpaceId::Data, 11_140, range, counts(9, 0))?;
+    report.between("", &heard.numbers.len(), " of ten packets arrive");
     report.window(client, "one is lost");
     Ok(())
 }
 
-fn counts(ect0: u64, ce: u64) -> EcnCounts {
-    EcnCounts { ect0, ect1: 0, ce }
-}
-
 /// What was lost goes out again, and arrives with a mark.
-fn send_again(report: &mut Report, client: &mut Connection) -> Result<(), Refusal> {
+fn send_again(report: &mut Report, client: &mut Connection) -> Result<(), Refused> {
     let items = client.pending(SpaceId::Data)?;
     report.between("the items ", &items.items(), " wait to be sent again");
     let again = client.send(SpaceId::Data, at(11_150), 1200, items)?;
     client.app_limited = true;
-    let (_, is_marked) = count(client, 11_190, again, counts(9, 1))?;
-    report.value("packets are marked", &is_marked);
+    let heard = ack(client, SpaceId::Data, 11_190, (again, again), counts(9, 1))?;
+    report.value("packets are marked", &is_marked(&heard));
     report.window(client, "one is marked");
-    let (packets, _) = count(client, 11_195, again, counts(9, 1))?;
-    report.between("the same ACK again: ", &packets, " packets arrive");
+    let heard = ack(client, SpaceId::Data, 11_195, (again, again), counts(9, 1))?;
+    report.between(
+        "the same ACK again: ",
+        &heard.numbers.len(),
+        " packets arrive",
+    );
     Ok(())
 }
 
+/// More packets were marked.
+fn is_marked(heard: &Acknowledged) -> bool {
+    match heard.ecn {
+        EcnEnd::Marked => true,
+        _ => false,
+    }
+}
+
 /// A packet arrives, and the server counts fewer than before.
-fn count_less(report: &mut Report, client: &mut Connection) -> Result<(), Refusal> {
+fn count_less(report: &mut Report, client: &mut Connection) -> Result<(), Refused> {
     let sent = client.send(SpaceId::Data, at(11_156), 1200, item(report.alloc(), 101)?)?;
-    count(client, 11_196, sent, counts(8, 1))?;
+    ack(client, SpaceId::Data, 11_196, (sent, sent), counts(8, 1))?;
     let sending_ecn = client.state().current().sending_ecn;
     report.value(
         "the server counts fewer; packets go out with ECT(0)",
@@ -248,49 +288,58 @@ fn count_less(report: &mut Report, client: &mut Connection) -> Result<(), Refusa
     Ok(())
 }
 
-/// An ACK of one packet comes in with counts of marks, `millis` after the beginning: how many packets arrive by it, and
-/// whether one of them is marked.
-fn count(
-    client: &mut Connection,
-    millis: u64,
-    number: u64,
-    marks: EcnCounts,
-) -> Result<(u64, bool), Refusal> {
-    let ranges = [(number, number)];
-    let heard = client.hear_ack(at(millis), SpaceId::Data, &ranges, Duration::ZERO)?;
-    let is_marked = client.hear_counts(at(millis), &heard, marks)?;
-    Ok((heard.packets, is_marked))
-}
-
 /// An ACK of a packet that was not sent: a stack closes the connection (RFC 9000, 13.1).
-fn mistrust(report: &mut Report, client: &mut Connection) -> Result<(), Refusal> {
-    if let Err(refusal) = arrive(client, SpaceId::Data, 11_198, 1_000) {
-        report.refusal("an ACK of number 1000: refused", &refusal);
+fn mistrust(report: &mut Report, client: &mut Connection) -> Result<(), Refused> {
+    if let Err(refused) = ack(client, SpaceId::Data, 11_198, (1_000, 1_000), None) {
+        report.refusal("an ACK of number 1000: refused", refused);
     }
     Ok(())
 }
 
-/// No ACK comes for a packet: a probe goes out, with what is to be sent again. Its ACK shows that the packet is lost.
-fn probe(report: &mut Report, client: &mut Connection) -> Result<(), Refusal> {
+/// No ACK comes for a packet: probes go out, the first with what is to be sent again. Their ACK shows that the packet
+/// is lost.
+fn probe(report: &mut Report, client: &mut Connection) -> Result<(), Refused> {
     client.send(SpaceId::Data, at(11_200), 600, item(report.alloc(), 200)?)?;
     report.wake(client)?;
     let is_over = client.has_expired(Timer::LossDetection, at(12_000));
-    let is_probe = client.loss_timer_expired(at(12_000))?;
-    let items = client.probe(SpaceId::Data)?;
-    report.expiry(is_over, is_probe, items.items());
-    let probe = send_probe(client, items)?;
-    report.wake(client)?;
-    arrive(client, SpaceId::Data, 12_040, probe)?;
-    report.window(client, "the probe arrives, and the other packet is lost");
-    let items = client.probe(SpaceId::Data)?;
-    report.between("another probe would have the items ", &items.items(), "");
+    report.value("the timer expired", &is_over);
+    if let Some((space, count)) = client.loss_timer_expired(at(12_000))? {
+        send_probes(report, client, space, count)?;
+    }
+    report.window(client, "the probes arrive, and the other packet is lost");
+    let items = client.pending(SpaceId::Data)?;
+    report.between("the items ", &items.items(), " wait to be sent again");
     Ok(())
 }
 
-/// A probe goes out at once: its number.
-fn send_probe(client: &mut Connection, items: ItemQueue) -> Result<u64, Refusal> {
-    client.transmit_at_once(at(12_000), 600)?;
-    client.send(SpaceId::Data, at(12_000), 600, items)
+/// So many probes go out at once, and arrive.
+fn send_probes(
+    report: &mut Report,
+    client: &mut Connection,
+    space: SpaceId,
+    count: u8,
+) -> Result<(), Refused> {
+    let first = send_probe(report, client, space)?;
+    let mut last = first;
+    for _ in 1..count {
+        last = send_probe(report, client, space)?;
+    }
+    report.wake(client)?;
+    ack(client, space, 12_040, (first, last), None)?;
+    Ok(())
+}
+
+/// A probe goes out, with what waits to be sent again, and else as a PING (RFC 9002, 6.2.4): its number. As one is due,
+/// window and pacer are not asked.
+fn send_probe(
+    report: &mut Report,
+    client: &mut Connection,
+    space: SpaceId,
+) -> Result<u64, Refused> {
+    client.transmit(at(12_000), 600, space)?;
+    let items = client.pending(space)?;
+    report.between("a probe goes out with the items ", &items.items(), "");
+    client.send(space, at(12_000), 600, items)
 }
 
 /// The size of datagrams on the path in use.
@@ -300,9 +349,9 @@ fn show_mtu(report: &mut Report, client: &Connection, text: &str) {
 }
 
 /// A larger MTU is found; the probe of the next size is lost, which is no sign of congestion.
-fn grow(report: &mut Report, client: &mut Connection) -> Result<(), Refusal> {
-    if let Some((size, is_probe)) = arrive_large(client)? {
-        report.packet("a probe of", u64::from(size), "bytes arrives", &is_probe);
+fn grow(report: &mut Report, client: &mut Connection) -> Result<(), Refused> {
+    if let Some(size) = arrive_large(client)? {
+        report.between("a probe of ", &size, " bytes arrives");
     }
     if let Some(size) = lose_large(client, item(report.alloc(), 300)?)? {
         report.between("a probe of ", &size, " bytes is lost");
@@ -312,29 +361,31 @@ fn grow(report: &mut Report, client: &mut Connection) -> Result<(), Refusal> {
     Ok(())
 }
 
-/// A probe of the MTU goes out, and arrives: its size, and whether it was tracked as a probe.
-fn arrive_large(client: &mut Connection) -> Result<Option<(u16, bool)>, Refusal> {
+/// A probe of the MTU goes out, and arrives: its size.
+fn arrive_large(client: &mut Connection) -> Result<Option<u16>, Refused> {
     let Some((number, size)) = client.probe_mtu(at(13_000))? else {
         return Ok(None);
     };
-    client.transmit(at(13_000), size)?;
-    let is_probe = arrive(client, SpaceId::Data, 13_040, number)?;
-    Ok(Some((size, is_probe)))
-}
-
-/// A probe of the MTU goes out and is lost, while a small packet behind it arrives: the size of the probe.
-fn lose_large(client: &mut Connection, items: ItemQueue) -> Result<Option<u16>, Refusal> {
-    let Some((_, size)) = client.probe_mtu(at(13_100))? else {
-        return Ok(None);
-    };
-    client.transmit(at(13_100), size)?;
-    let small = client.send(SpaceId::Data, at(13_110), 100, items)?;
-    arrive(client, SpaceId::Data, 13_150, small)?;
+    ack(client, SpaceId::Data, 13_040, (number, number), None)?;
     Ok(Some(size))
 }
 
+/// A probe of the MTU goes out and is lost, while a small packet behind it arrives: the size of the probe.
+fn lose_large(client: &mut Connection, items: ItemQueue) -> Result<Option<u16>, Refused> {
+    let Some((probe, size)) = client.probe_mtu(at(13_100))? else {
+        return Ok(None);
+    };
+    let small = client.send(SpaceId::Data, at(13_110), 100, items)?;
+    let heard = ack(client, SpaceId::Data, 13_150, (small, small), None)?;
+    Ok(if heard.losses.probe == Some(probe) {
+        Some(size)
+    } else {
+        None
+    })
+}
+
 /// Large packets vanish, and small ones arrive.
-fn vanish(report: &mut Report, client: &mut Connection) -> Result<(), Refusal> {
+fn vanish(report: &mut Report, client: &mut Connection) -> Result<(), Refused> {
     for round in 140..144 {
         let large = item(report.alloc(), round)?;
         let small = item(report.alloc(), round)?;
@@ -354,22 +405,22 @@ fn send_both(
     millis: u64,
     large: ItemQueue,
     small: ItemQueue,
-) -> Result<(), Refusal> {
+) -> Result<(), Refused> {
     client.send(SpaceId::Data, at(millis), 1300, large)?;
     let arrived = client.send(SpaceId::Data, at(millis), 1200, small)?;
-    arrive(client, SpaceId::Data, millis.saturating_add(40), arrived)?;
+    let back = millis.saturating_add(40);
+    ack(client, SpaceId::Data, back, (arrived, arrived), None)?;
     client.loss_timer_expired(at(millis.saturating_add(46)))?;
     Ok(())
 }
 
 /// The end.
-fn close(report: &mut Report, client: &mut Connection) -> Result<(), Refusal> {
+fn close(report: &mut Report, client: &mut Connection) -> Result<(), Refused> {
     client.close(at(15_000))?;
     let ends = client.next_timeout()?;
     report.value("closing, until a timer expires", &ends.is_some());
-    client.drop_keys(SpaceId::Data)?;
-    if let Err(refusal) = client.probe(SpaceId::Data) {
-        report.refusal("a probe", &refusal);
+    if let Err(refused) = client.transmit(at(15_000), 1200, SpaceId::Data) {
+        report.refusal("a datagram", refused);
     }
     Ok(())
 }

@@ -1,4 +1,4 @@
-//! An example of a QUIC stack over the recovery: which events it hands in, and what it does with the answers.
+//! An example of a QUIC stack over the sender: which calls it makes, and what it does with the answers.
 //! docs/EMBEDDING.md walks through it.
 #![tactic(auto)]
 
@@ -7,24 +7,22 @@ mod arrivals;
 mod client;
 mod connection;
 mod failure;
-mod flight;
 mod ids;
-mod losses;
 mod mtu;
 mod packets;
 mod paths;
 mod report;
-mod rules;
 mod server;
 mod timers;
 
-use connection::{Connection, Side};
+use connection::Connection;
 use failure::Failure;
+use quic_recovery::Refusal;
 use quic_recovery::below::NoMemory;
 use quic_recovery::time::{Duration, Instant};
-use quic_recovery::{LiveRecovery, Refusal};
 use rand_core::SeedableRng;
 use rand_pcg::Pcg32;
+use recovery_sender::{Refused, Sender, Side};
 use report::Report;
 use std::alloc::Global;
 use std::net::{IpAddr, Ipv4Addr, SocketAddr};
@@ -40,35 +38,43 @@ fn address(host: u8, port: u16) -> SocketAddr {
 }
 
 /// One end of a connection to which nothing has happened yet.
-fn begin(alloc: Global, side: Side) -> Result<Connection, Refusal> {
-    let config = connection::config(side, address(1, 4433));
+fn begin(alloc: Global, side: Side) -> Result<Connection, Refused> {
+    let config = connection::config(address(1, 4433));
     // A program that prints the same each time: a stack seeds a generator that its peers cannot guess.
     let rng = Pcg32::seed_from_u64(0);
-    match LiveRecovery::new(alloc, config, rng, at(0)) {
-        Ok(recovery) => Ok(Connection::new(alloc, recovery)),
-        Err(NoMemory) => Err(Refusal::NoMemory),
+    match Sender::new(alloc, side, config, rng, at(0)) {
+        Ok(sender) => Ok(Connection::new(sender)),
+        Err(NoMemory) => Err(Refused::Event(Refusal::NoMemory)),
     }
 }
 
-fn live_as_client(report: &mut Report) -> Result<(), Refusal> {
+fn live_as_client(report: &mut Report) -> Result<(), Refused> {
     let mut client = begin(report.alloc(), Side::Client)?;
     let lived = client::live(report, &mut client);
     drop(client);
     lived
 }
 
-fn live_as_server(report: &mut Report) -> Result<(), Refusal> {
+fn live_as_server(report: &mut Report) -> Result<(), Refused> {
     let mut server = begin(report.alloc(), Side::Server)?;
     let lived = server::live(report, &mut server);
     drop(server);
     lived
 }
 
-/// Both ends, and the rules: what they show, as far as they come.
-fn live(report: &mut Report) -> Result<(), Refusal> {
+/// A client whose server wants to see its address first.
+fn live_behind_retry(report: &mut Report) -> Result<(), Refused> {
+    let mut client = begin(report.alloc(), Side::Client)?;
+    let lived = client::try_again(report, &mut client);
+    drop(client);
+    lived
+}
+
+/// All of them: what they show, as far as they come.
+fn live(report: &mut Report) -> Result<(), Refused> {
     live_as_client(report)?;
     live_as_server(report)?;
-    rules::show_all(report)
+    live_behind_retry(report)
 }
 
 fn main(rt: HostRuntime) -> Result<(), Failure> {

@@ -1,10 +1,11 @@
 //! What the example prints: lines by their form.
 use crate::connection::Connection;
-use quic_recovery::Refusal;
+use crate::failure::Failure;
 use quic_recovery::below::NoMemory;
 use quic_recovery::congestion::Controller;
+use recovery_sender::Refused;
 use std::alloc::{AllocError, Global};
-use std::fmt::{Debug, Display};
+use std::fmt::Debug;
 
 /// A text that grows by lines. Where memory is refused it is a part: `finish` tells that, and nobody who adds a line
 /// has to ask.
@@ -60,8 +61,9 @@ impl Report {
     }
 
     /// What is done, and why it fails.
-    pub fn refusal(&mut self, text: &str, refusal: &impl Display) {
-        let written = writeln!(self.text, "{text}: {refusal}");
+    pub fn refusal(&mut self, text: &str, refused: Refused) {
+        let failure = Failure::from(refused);
+        let written = writeln!(self.text, "{text}: {failure}");
         self.keep(written);
     }
 
@@ -90,17 +92,8 @@ impl Report {
         self.keep(written);
     }
 
-    /// Whether the timer of the loss detection expired, and what a probe would have.
-    pub fn expiry(&mut self, is_over: bool, is_probe: bool, items: &[u64]) {
-        let written = writeln!(
-            self.text,
-            "the timer expired: {is_over}; a probe is due: {is_probe}, with the items {items:?}"
-        );
-        self.keep(written);
-    }
-
     /// When the stack is to wake up.
-    pub fn wake(&mut self, client: &mut Connection) -> Result<(), Refusal> {
+    pub fn wake(&mut self, client: &mut Connection) -> Result<(), Refused> {
         match client.next_timeout()? {
             Some(nanos) => self.between("wake up at ", &(nanos / 1000), " us"),
             None => self.line("sleep on"),
@@ -114,6 +107,12 @@ impl Report {
         let window = path.congestion.window();
         let bytes = path.in_flight().bytes;
         self.room(why, window, bytes);
+    }
+
+    /// The smoothed round-trip time of the path in use.
+    pub fn round_trip(&mut self, end: &Connection, text: &str) {
+        let micros = end.state().current().rtt.get().as_nanos() / 1000;
+        self.between(text, &micros, " us");
     }
 
     /// A window, and what of it is in flight.

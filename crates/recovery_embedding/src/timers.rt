@@ -1,25 +1,37 @@
 //! Timers: the recovery keeps their moments, and the stack has one clock (RFC 9002, A.8).
 use crate::connection::Connection;
+use quic_recovery::below::SpaceId;
 use quic_recovery::time::Instant;
 use quic_recovery::timer::Timer;
-use quic_recovery::{Answer, Event, Refusal};
+use quic_recovery::{Answer, Event};
+use recovery_sender::{Refused, passes};
 
 impl Connection {
-    pub fn set_timer(&mut self, timer: Timer, time: Instant) -> Result<(), Refusal> {
-        self.tell(Event::SetTimer { timer, time })
+    /// Sets a timer of the stack's own. That for losses the sender sets: it stays.
+    pub fn set_timer(&mut self, timer: Timer, time: Instant) -> Result<(), Refused> {
+        let event = Event::SetTimer { timer, time };
+        if !passes(&event) {
+            return Ok(());
+        }
+        self.tell(event)
     }
 
-    pub fn stop_timer(&mut self, timer: Timer) -> Result<(), Refusal> {
-        self.tell(Event::StopTimer { timer })
+    /// Stops one.
+    pub fn stop_timer(&mut self, timer: Timer) -> Result<(), Refused> {
+        let event = Event::StopTimer { timer };
+        if !passes(&event) {
+            return Ok(());
+        }
+        self.tell(event)
     }
 
     /// When the stack is to wake up, in nanoseconds, if at all.
-    pub fn next_timeout(&mut self) -> Result<Option<u64>, Refusal> {
-        match self.recovery.apply(Event::NextTimeout) {
+    pub fn next_timeout(&mut self) -> Result<Option<u64>, Refused> {
+        match self.sender.on_event(Event::NextTimeout) {
             Ok(Answer::Timeout(Some(moment))) => Ok(Some(moment.as_nanos())),
             Ok(Answer::Timeout(None)) => Ok(None),
             Ok(_) => unreachable!(),
-            Err(refusal) => Err(refusal),
+            Err(refused) => Err(refused),
         }
     }
 
@@ -29,11 +41,12 @@ impl Connection {
     }
 
     /// The connection is closed: only its end is waited for, for three probe timeouts (RFC 9000, 10.2).
-    pub fn close(&mut self, now: Instant) -> Result<(), Refusal> {
+    pub fn close(&mut self, now: Instant) -> Result<(), Refused> {
         for timer in Timer::VALUES {
             self.stop_timer(timer)?;
         }
         let timeout = self.state().current().rtt.pto_base();
-        self.set_timer(Timer::Close, now + timeout + timeout + timeout)
+        self.set_timer(Timer::Close, now + timeout + timeout + timeout)?;
+        self.sender.discard(SpaceId::Data, now)
     }
 }

@@ -2,3 +2,4 @@ pub mod FrameLaws
 pub mod LookLaws
 pub mod LossLaws
 pub mod RunLaws
+mod TimeoutRows

@@ -3,3 +3,4 @@ pub mod Frames
 pub mod Looking
 pub mod Losses
 pub mod Persisting
+pub mod Timeouts

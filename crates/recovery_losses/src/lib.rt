@@ -7,8 +7,10 @@ mod due;
 mod frames;
 mod looks;
 mod tally;
+mod timeouts;
 
 pub use due::{Due, sooner};
 pub use frames::{Ack, are_ranges, is_unsent, largest_of};
 pub use looks::{Candidate, Look, first_of};
 pub use tally::{Run, Tally};
+pub use timeouts::{loss_delay, probe_timeout};

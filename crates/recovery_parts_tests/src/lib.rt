@@ -1,7 +1,7 @@
 //! Tests of the parts, over their public calls: of ids, ACKs, skipped numbers and what is below them; of what controls
 //! the sending, from RTT to settings; of tracked packets in their slots and in flight, a queue of item numbers, and
-//! responses to path challenges; and of the detector of losses. They stand here so that no part is proved a second time
-//! for its tests. Beside them stands a congestion controller that is not NewReno (`halving.rt`).
+//! responses to path challenges; and of the spans of losses and probes. They stand here so that no part is proved a
+//! second time for its tests. Beside them stands a congestion controller that is not NewReno (`halving.rt`).
 #![tactic(auto)]
 
 #[cfg(test)]
@@ -14,8 +14,6 @@ mod config;
 mod conflicts;
 #[cfg(test)]
 mod congestion;
-#[cfg(test)]
-mod detection;
 #[cfg(test)]
 mod ecn;
 pub mod halving;
@@ -39,3 +37,5 @@ mod rtt;
 mod skips;
 #[cfg(test)]
 mod slots;
+#[cfg(test)]
+mod spans;

@@ -14,7 +14,7 @@ use link::Link;
 use picture::draw;
 use quic_recovery::congestion::{ControllerFactory, NewRenoConfig};
 use recovery_replay::fixed_window::FixedWindowConfig;
-use sender::Sender;
+use sender::Burst;
 use settings::Settings;
 use std::alloc::Global;
 
@@ -38,7 +38,7 @@ where
     F::Controller: Drop,
 {
     let rtt = settings.link.there_and_back();
-    let sender = Sender::new(alloc, factory, settings.is_checked, rtt)?;
+    let sender = Burst::new(alloc, factory, settings.is_checked, rtt)?;
     let mut ends = ClosedLoop::new(sender, Link::new(alloc, settings.link), Log::new(alloc));
     let picture = run_and_draw(alloc, settings, &mut ends);
     drop(ends);

@@ -5,7 +5,7 @@ use Rattle.recovery_base.specs.declared.below.SpaceId.{SpaceId}
 use Rattle.recovery_base.specs.declared.below.SpaceId.TheVariants.{Data}
 use Rattle.recovery_base.specs.Spaces.{same_space}
 use Rattle.recovery_congestion.specs.Rtt.{rtt_get, pto_base_of}
-use Rattle.recovery_detection.specs.Timeouts.{loss_delay_of}
+use Rattle.recovery_losses.specs.Timeouts.{loss_delay_of}
 use Rattle.recovery_mtud.specs.Discovery.{probe_of}
 use Rattle.recovery_losses.specs.declared.looks.Look.{Look}
 use Rattle.recovery_losses.specs.Losses.{first_of}

@@ -8,11 +8,11 @@ use Rattle.recovery_base.specs.declared.timer.Timer.TheVariants.{LossDetection}
 use Rattle.recovery_base.specs.Spaces.{same_space}
 use Rattle.recovery_base.specs.Timers.{moment}
 use Rattle.recovery_congestion.specs.Rtt.{pto_base_of}
-use Rattle.recovery_detection.specs.Timeouts.{probe_timeout_of}
 use Rattle.recovery_ledger.specs.Discarded.{is_discarded}
 use Rattle.recovery_ledger.specs.Packets.{Packets}
 use Rattle.recovery_ledger.specs.Spaces.{Space, packets_of}
 use Rattle.recovery_losses.specs.Due.{sooner}
+use Rattle.recovery_losses.specs.Timeouts.{probe_timeout_of}
 use Rattle.recovery_paths.specs.PathStates.{is_blocked}
 use Rattle.quic_recovery.specs.Parts.{Parts}
 use Rattle.recovery_sender.specs.declared.sender.Side.{Side}

@@ -1,15 +1,17 @@
 -- The size of a probe (RFC 8899, 5.1.2 and 5.3; RFC 9000, 14.3 and 18.2): at most what the peer takes, and between the
 -- MTU in use and the upper bound.
-use Rattle.std.specs.Prelude.{◌<◌, ◌≤◌, max, IsSomeAnd, Ok}
+use Rattle.std.specs.Prelude.{ℕ, ◌<◌, ◌≤◌, max, true, IsSomeAnd, Ok, Err}
 use Rattle.recovery_config.specs.Settings.{initial_mtu_of}
 use Rattle.recovery_mtud.specs.Discovery.{limit_or_greatest}
 use Rattle.recovery_events.specs.declared.event.Event.{Event}
 use Rattle.recovery_events.specs.declared.event.Event.TheVariants.{PollMtu}
 use Rattle.recovery_events.specs.declared.event.Answer.TheVariants as answer
+use Rattle.recovery_events.specs.declared.event.Refusal.TheVariants.{Overflow}
 use Rattle.quic_recovery.specs.History.{Beginning, History, Reply}
 use Rattle.quic_recovery.specs.Table.{limit}
 use Rattle.quic_recovery.specs.Promises.Mtu.{mtu_in_use}
 use Rattle.quic_recovery.specs.Promises.Near.{start}
+use Rattle.quic_recovery.specs.Promises.Sends.{Overfills}
 use Rattle.quic_recovery.specs.Search.{WhereSearched, discovery_settings}
 
 module _ {F K Q S M P : Type 0} (beginning : Beginning F K Q S M P) where
@@ -22,4 +24,7 @@ module _ {F K Q S M P : Type 0} (beginning : Beginning F K Q S M P) where
       (size ≤ limit_or_greatest (limit history))
       × IsSomeAnd (discovery_settings beginning) (λ settings. size ≤ max settings.upper_bound began)
       × WhereSearched beginning (λ settings. (mtu_in_use beginning history < size) × (size ≤ settings.upper_bound))
+  -- only one that the peer takes may overflow what is in flight
+  ProbesWithin history (PollMtu now) (Err Overflow) =
+      (size : ℕ) × (size ≤ limit_or_greatest (limit history)) × Overfills history size true
   ProbesWithin history event reply = Unit {0}

@@ -20,6 +20,7 @@ where
     ghost use Rattle.quic_recovery.specs.State.{Transition};
 
     /// The peer asks for fewer ACKs.
+    #[inline(always)]
     pub(super) fn ack_frequency_in(&mut self, frame: AckFrequency) -> Result<Answer<Q>, Refusal>
         ensures { Transition (AckFrequencyIn frame) self.old result self.new }
     {
@@ -37,6 +38,7 @@ where
     }
 
     /// An ACK is sent (RFC 9000, 13.2).
+    #[inline(always)]
     pub(super) fn acks_sent(&mut self, space: SpaceId) -> Result<Answer<Q>, Refusal>
         ensures { Transition (AcksSent space) self.old result self.new }
     {
@@ -48,6 +50,7 @@ where
     }
 
     /// The timer for a late ACK expired (RFC 9000, 13.2.1).
+    #[inline(always)]
     pub(super) fn ack_delay_timeout(&mut self, space: SpaceId) -> Result<Answer<Q>, Refusal>
         ensures { Transition (AckDelayTimeout space) self.old result self.new }
     {

@@ -23,6 +23,7 @@ where
 
     /// Is a probe of the MTU due? The discovery is kept once the probe is tracked, so that a refusal leaves it as it
     /// was.
+    #[inline(always)]
     pub(super) fn poll_mtu(&mut self, now: Instant) -> Result<Answer<Q>, Refusal>
         ensures { Transition (PollMtu now) self.old result self.new }
     {
@@ -50,6 +51,7 @@ where
     }
 
     /// The peer takes datagrams of at most so many bytes.
+    #[inline(always)]
     pub(super) fn limit_by_peer(&mut self, size: u16) -> Result<Answer<Q>, Refusal>
         ensures { Transition (PeerLimit size) self.old result self.new }
     {
@@ -65,6 +67,7 @@ where
     }
 
     /// All losses were told: was there a black hole?
+    #[inline(always)]
     pub(super) fn losses_done(&mut self, now: Instant) -> Result<Answer<Q>, Refusal>
         ensures { Transition (LossesDone now) self.old result self.new }
     {

@@ -29,6 +29,7 @@ where
     ghost use Rattle.quic_recovery.specs.State.{Transition, known_to, parts_of};
 
     /// A packet comes in (RFC 9000, 12.3).
+    #[inline(always)]
     pub(super) fn received(
         &mut self,
         space: SpaceId,
@@ -134,6 +135,7 @@ where
     }
 
     /// The keys of a space are dropped (RFC 9001, 4.9).
+    #[inline(always)]
     pub(super) fn discard(&mut self, space: SpaceId) -> Result<Answer<Q>, Refusal>
         ensures { Transition (DiscardSpace space) self.old result self.new }
     {

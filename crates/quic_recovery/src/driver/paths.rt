@@ -24,6 +24,7 @@ where
     ghost use Rattle.quic_recovery.specs.State.{Transition, OnlyTells};
 
     /// What is in flight on a path? (RFC 9002, B.2)
+    #[inline(always)]
     pub(super) fn in_flight(&self, path: PathName) -> Result<Answer<Q>, Refusal>
         ensures { OnlyTells (InFlight path) self.now result }
     {
@@ -37,6 +38,7 @@ where
     }
 
     /// A sample of the round-trip time (RFC 9002, 5).
+    #[inline(always)]
     pub(super) fn sample(&mut self, delay: Duration, rtt: Duration) -> Result<Answer<Q>, Refusal>
         ensures { Transition (Sample delay rtt) self.old result self.new }
     {
@@ -45,6 +47,7 @@ where
     }
 
     /// A datagram came in (RFC 9000, 8.1).
+    #[inline(always)]
     pub(super) fn datagram_in(&mut self, path: PathName, bytes: u64) -> Result<Answer<Q>, Refusal>
         ensures { Transition (DatagramIn path bytes) self.old result self.new }
     {
@@ -56,6 +59,7 @@ where
     }
 
     /// The peer was seen to receive at an address (RFC 9000, 8).
+    #[inline(always)]
     pub(super) fn validated(&mut self, path: PathName) -> Result<Answer<Q>, Refusal>
         ensures { Transition (Validated path) self.old result self.new }
     {
@@ -67,6 +71,7 @@ where
     }
 
     /// Another path is used from now on (RFC 9000, 9.3).
+    #[inline(always)]
     pub(super) fn new_path(
         &mut self,
         now: Instant,
@@ -99,6 +104,7 @@ where
     }
 
     /// The path in use begins anew (RFC 9000, 9.4).
+    #[inline(always)]
     pub(super) fn reset_path(&mut self, now: Instant) -> Result<Answer<Q>, Refusal>
         ensures { Transition (ResetPath now) self.old result self.new }
     {
@@ -107,6 +113,7 @@ where
     }
 
     /// The previous path is dropped (RFC 9000, 9.3.3).
+    #[inline(always)]
     pub(super) fn drop_previous(&mut self) -> Result<Answer<Q>, Refusal>
         ensures { Transition DropPrevious self.old result self.new }
     {
@@ -118,6 +125,7 @@ where
     }
 
     /// A datagram is to be transmitted (RFC 9000, 8.1; RFC 9002, 7.7).
+    #[inline(always)]
     pub(super) fn transmit(
         &mut self,
         now: Instant,
@@ -143,6 +151,7 @@ where
     }
 
     /// May so many bytes be transmitted now, as far as the pacer goes (RFC 9002, 7.7)?
+    #[inline(always)]
     pub(super) fn pacer_check(&mut self, now: Instant, bytes: u64) -> Result<Answer<Q>, Refusal>
         ensures { Transition (PacerCheck now bytes) self.old result self.new }
     {
@@ -153,6 +162,7 @@ where
     }
 
     /// Packets were lost, or marked (RFC 9002, 7.3).
+    #[inline(always)]
     pub(super) fn congestion(
         &mut self,
         now: Instant,
@@ -169,6 +179,7 @@ where
     }
 
     /// An ACK was told to its end.
+    #[inline(always)]
     pub(super) fn end_acks(
         &mut self,
         now: Instant,

@@ -21,6 +21,7 @@ where
     ghost use Rattle.quic_recovery.specs.State.{Transition, OnlyTells};
 
     /// The counts of ECN of an ACK frame (RFC 9000, 13.4.2).
+    #[inline(always)]
     pub(super) fn ecn(
         &mut self,
         space: SpaceId,
@@ -41,6 +42,7 @@ where
     /// Whether a range of numbers may be acknowledged, as [`Event::CheckAck`](crate::Event::CheckAck) is answered (RFC
     /// 9000, 13.1 and 21.4). Refused by `SpaceDiscarded`, `NumberTooLarge`, `BadRange` or `SkippedAcked`, in this
     /// order. Nothing changes.
+    #[inline(always)]
     pub fn check_ack(&self, space: SpaceId, low: u64, high: u64) -> Result<Answer<Q>, Refusal>
         ensures { OnlyTells (CheckAck space low high) self.now result }
     {
@@ -60,6 +62,7 @@ where
     }
 
     /// A probe packet is to be sent (RFC 9002, 6.2.4).
+    #[inline(always)]
     pub(super) fn queue_probe(
         &mut self,
         space: SpaceId,
@@ -78,6 +81,7 @@ where
     }
 
     /// What is to be sent again is handed out (RFC 9000, 13.3).
+    #[inline(always)]
     pub(super) fn take_pending(&mut self, space: SpaceId) -> Result<Answer<Q>, Refusal>
         ensures { Transition (TakePending space) self.old result self.new }
     {

@@ -21,6 +21,7 @@ where
     ghost use Rattle.quic_recovery.specs.State.{Transition, OnlyTells};
 
     /// A timer is set, or set anew.
+    #[inline(always)]
     pub(super) fn set_timer(&mut self, timer: Timer, time: Instant) -> Result<Answer<Q>, Refusal>
         ensures { Transition (SetTimer timer time) self.old result self.new }
     {
@@ -29,6 +30,7 @@ where
     }
 
     /// A timer is stopped.
+    #[inline(always)]
     pub(super) fn stop_timer(&mut self, timer: Timer) -> Result<Answer<Q>, Refusal>
         ensures { Transition (StopTimer timer) self.old result self.new }
     {
@@ -37,6 +39,7 @@ where
     }
 
     /// When does the next timer expire?
+    #[inline(always)]
     pub(super) fn next_timeout(&self) -> Result<Answer<Q>, Refusal>
         ensures { OnlyTells NextTimeout self.now result }
     {

@@ -2,7 +2,7 @@
 
 use super::bound::{Asked, Bound};
 use super::link::{Link, SIZE};
-use super::sender::{BEGIN, Sender};
+use super::sender::{BEGIN, Burst};
 use crate::failure::Failure;
 use crate::plot::axis::Point;
 use quic_recovery::below::NoMemory;
@@ -82,7 +82,7 @@ impl Log {
 /// The loop.
 #[derive(Drop)]
 pub struct ClosedLoop<F: ControllerFactory> {
-    sender: Sender<F>,
+    sender: Burst<F>,
     /// The link, and what happened at its queue.
     pub link: Link,
     /// What was sent.
@@ -97,7 +97,7 @@ where
     F::Controller: Drop,
 {
     /// A loop in which nothing has happened yet.
-    pub fn new(sender: Sender<F>, link: Link, log: Log) -> Self {
+    pub fn new(sender: Burst<F>, link: Link, log: Log) -> Self {
         ClosedLoop {
             sender,
             link,
@@ -123,20 +123,20 @@ where
         Err(Failure::TooLong)
     }
 
-    /// When something happens next: an ACK is back, the sender may go on, or its probe timer expires, which runs only
-    /// where nothing is on its way.
+    /// When something happens next: an ACK is back, the sender may go on, or its timer expires.
     fn next_moment(&self) -> u64 {
-        match (self.link.next_ack(), self.wake) {
-            (Some(ack), Some(wake)) => ack.min(wake),
-            (Some(moment), None) | (None, Some(moment)) => moment,
-            (None, None) => self.sender.probe_moment(),
+        let mut least = u64::MAX;
+        for moment in [self.link.next_ack(), self.wake, self.sender.timer()] {
+            least = least.min(moment.unwrap_or(u64::MAX));
         }
+        least
     }
 
     fn step(&mut self, now: u64) -> Result<(), Failure> {
         if let Some(number) = self.link.take_ack(now) {
             self.sender.acknowledged(now, number)?;
         }
+        self.sender.expire(now)?;
         self.send(now)
     }
 
@@ -144,7 +144,7 @@ where
     fn send(&mut self, now: u64) -> Result<(), Failure> {
         self.wake = None;
         for _ in 0..AT_ONCE {
-            if !self.may_send(now) {
+            if !self.sender.may_send() {
                 break;
             }
             let asked = self.sender.transmit(now)?;
@@ -160,11 +160,5 @@ where
             self.link.enter(now, number)?;
         }
         Ok(())
-    }
-
-    /// Whether the window has room. A probe goes out beyond it (RFC 9002, 6.2.4).
-    fn may_send(&self, now: u64) -> bool {
-        self.sender.has_room()
-            || (self.link.next_ack().is_none() && now >= self.sender.probe_moment())
     }
 }

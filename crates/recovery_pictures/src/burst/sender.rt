@@ -10,11 +10,11 @@ use quic_recovery::below::{NoMemory, SpaceId};
 use quic_recovery::config::TransportConfig;
 use quic_recovery::congestion::{Controller, ControllerFactory};
 use quic_recovery::time::{Duration, Instant};
-use quic_recovery::{Answer, Event, LiveRecovery, RecoveryConfig, Refusal};
+use quic_recovery::{Answer, Event, RecoveryConfig, Refusal};
 use rand_core::SeedableRng;
 use rand_pcg::Pcg32;
-use recovery_detection::{LossDetector, Sent, loss_delay};
 use recovery_queue::items::ItemQueue;
+use recovery_sender::{Ack, Refused, Sender, Side, Transmission};
 use std::alloc::Global;
 
 /// When it begins, in nanoseconds.
@@ -29,40 +29,59 @@ fn config<F: ControllerFactory>(factory: F, rtt: u64) -> RecoveryConfig<F>
     let mut transport = TransportConfig::with_factory(factory);
     transport.initial_rtt(Duration::from_nanos(rtt));
     let mut config = start::config(transport, None);
-    config.validated(true);
     config.allow_mtud(false);
     config
 }
 
-/// The sender, over controllers of a factory `F`. Moments are nanoseconds since the beginning.
-#[derive(Drop)]
-pub struct Sender<F: ControllerFactory> {
-    alloc: Global,
-    recovery: LiveRecovery<F, ItemQueue, Pcg32>,
-    is_checked: bool,
-    /// The packets that are neither acknowledged nor lost.
-    flight: LossDetector,
-    /// When the last packet was sent.
-    last_sent: u64,
+/// The refusal of an event. No number is acknowledged that was not sent.
+fn refusal_of(refused: Refused) -> Refusal {
+    match refused {
+        Refused::Event(refusal) => refusal,
+        Refused::Unsent => Refusal::NotTracked,
+    }
 }
 
-impl<F> Sender<F>
+/// The moment until which a datagram waits for the pacer, in nanoseconds, if it does.
+fn delayed_to(sent: &Transmission) -> Option<u64> {
+    match sent {
+        Transmission::Delayed(until) => Some(until.as_nanos()),
+        _ => None,
+    }
+}
+
+/// The moment that an answer names, in nanoseconds, where it tells to wait.
+fn named_by(answer: &Answer<ItemQueue>) -> Option<u64> {
+    match answer {
+        Answer::Delayed(until) => Some(until.as_nanos()),
+        _ => None,
+    }
+}
+
+/// The sender of a burst, over controllers of a factory `F`. Moments are nanoseconds since the beginning.
+#[derive(Drop)]
+pub struct Burst<F: ControllerFactory> {
+    alloc: Global,
+    sender: Sender<F, ItemQueue, Pcg32>,
+    is_checked: bool,
+}
+
+impl<F> Burst<F>
 where
     F: ControllerFactory + Drop,
     F::Controller: Drop,
 {
     /// A sender whose transmissions are checked, or which goes on where the pacer tells it to wait, over a path of a
-    /// round-trip time of so many nanoseconds.
+    /// round-trip time of so many nanoseconds, to a peer that delays no ACK.
     pub fn new(alloc: Global, factory: F, is_checked: bool, rtt: u64) -> Result<Self, NoMemory> {
         let rng = Pcg32::seed_from_u64(0);
         let now = Instant::from_nanos(BEGIN);
-        let recovery = LiveRecovery::new(alloc, config(factory, rtt), rng, now)?;
-        Ok(Sender {
+        let mut sender = Sender::new(alloc, Side::Client, config(factory, rtt), rng, now)?;
+        sender.set_peer_max_ack_delay(Duration::ZERO);
+        sender.on_handshake_confirmed();
+        Ok(Burst {
             alloc,
-            recovery,
+            sender,
             is_checked,
-            flight: LossDetector::new(alloc),
-            last_sent: BEGIN,
         })
     }
 
@@ -71,28 +90,47 @@ where
         self.is_checked
     }
 
-    /// Whether the window has room for a packet (RFC 9002, 7).
-    pub fn has_room(&self) -> bool {
-        let path = self.recovery.recovery().current();
+    /// Whether the window has room for a packet (RFC 9002, 7), or a probe is due, which goes out beyond it (7.5).
+    pub fn may_send(&self) -> bool {
+        let path = self.sender.recovery().current();
         let in_flight = path.in_flight().bytes;
-        in_flight.saturating_add(u64::from(SIZE)) <= path.congestion.window()
+        let has_room = in_flight.saturating_add(u64::from(SIZE)) <= path.congestion.window();
+        has_room || self.is_probing()
     }
 
-    /// A probe timeout behind the last packet (RFC 9002, 6.2.1).
-    pub fn probe_moment(&self) -> u64 {
-        let timeout = nanos(self.recovery.recovery().current().rtt.pto_base());
-        self.last_sent.saturating_add(timeout)
+    fn is_probing(&self) -> bool {
+        match self.sender.recovery().space(SpaceId::Data) {
+            Some(here) => here.loss_probes > 0,
+            None => false,
+        }
+    }
+
+    /// When the timer for losses and probes expires, if at all.
+    pub fn timer(&self) -> Option<u64> {
+        let moment = self.sender.loss_detection_timer()?;
+        Some(moment.as_nanos())
+    }
+
+    /// The timer may be due.
+    pub fn expire(&mut self, now: u64) -> Result<(), Refusal> {
+        match self
+            .sender
+            .on_timeout(Instant::from_nanos(now), false, (), ())
+        {
+            Ok(_) => Ok(()),
+            Err(refused) => Err(refusal_of(refused)),
+        }
     }
 
     /// Asks the pacer for a packet, and transmits it: a checked one only where the pacer lets it pass.
     pub fn transmit(&mut self, now: u64) -> Result<Asked, Refusal> {
-        let before = self.recovery.recovery().current().pacing.tokens();
+        let before = self.sender.recovery().current().pacing.tokens();
         let until = if self.is_checked {
-            self.transmit_checked(now)?
+            self.transmit_as(now, true)?
         } else {
             self.transmit_at_once(now)?
         };
-        let path = self.recovery.recovery().current();
+        let path = self.sender.recovery().current();
         let capacity = path.pacing.capacity();
         Ok(Asked {
             now,
@@ -104,145 +142,60 @@ where
         })
     }
 
-    fn transmit_checked(&mut self, now: u64) -> Result<Option<u64>, Refusal> {
-        self.ask(Event::Transmit {
-            now: Instant::from_nanos(now),
-            bytes: SIZE,
-            checked: true,
-        })
+    /// A datagram goes out, or waits until the moment that the pacer names.
+    fn transmit_as(&mut self, now: u64, is_checked: bool) -> Result<Option<u64>, Refusal> {
+        let now = Instant::from_nanos(now);
+        match self.sender.transmit(now, SIZE, SpaceId::Data, is_checked) {
+            Ok(sent) => Ok(delayed_to(&sent)),
+            Err(refused) => Err(refusal_of(refused)),
+        }
     }
 
     /// The pacer is asked, and whatever it tells, the packet goes out.
     fn transmit_at_once(&mut self, now: u64) -> Result<Option<u64>, Refusal> {
-        let until = self.ask(Event::PacerCheck {
-            now: Instant::from_nanos(now),
-            bytes: u64::from(SIZE),
-        })?;
-        self.tell(Event::Transmit {
-            now: Instant::from_nanos(now),
-            bytes: SIZE,
-            checked: false,
-        })?;
+        let until = self.pacer_names(now)?;
+        self.transmit_as(now, false)?;
         Ok(until)
     }
 
-    /// A question to the pacer: the moment that it names, where it tells to wait.
-    fn ask(&mut self, question: Event<ItemQueue>) -> Result<Option<u64>, Refusal> {
-        match self.recovery.apply(question) {
+    /// The moment that the pacer names, where it tells to wait.
+    fn pacer_names(&mut self, now: u64) -> Result<Option<u64>, Refusal> {
+        let asked = Event::PacerCheck {
+            now: Instant::from_nanos(now),
+            bytes: u64::from(SIZE),
+        };
+        match self.sender.on_event(asked) {
             Ok(answer) => Ok(named_by(&answer)),
-            Err(refusal) => Err(refusal),
+            Err(refused) => Err(refusal_of(refused)),
         }
     }
 
     /// The packet that was transmitted is tracked from now on: its number.
     pub fn send(&mut self, now: u64) -> Result<u64, Refusal> {
-        let packet = Event::Send {
-            space: SpaceId::Data,
-            now: Instant::from_nanos(now),
-            size: SIZE,
-            ack_eliciting: true,
-            largest_acked: None,
-            queue: ItemQueue::from_items(Vec::new(self.alloc)),
-            stream_frames: (),
-        };
-        let number = match self.recovery.apply(packet) {
-            Ok(Answer::Sent { number, .. }) => number,
+        let empty = ItemQueue::from_items(Vec::new(self.alloc));
+        let now = Instant::from_nanos(now);
+        match self
+            .sender
+            .send(SpaceId::Data, now, SIZE, true, None, empty, ())
+        {
+            Ok(Answer::Sent { number, .. }) => Ok(number),
             Ok(_) => unreachable!(),
-            Err(refusal) => return Err(refusal),
-        };
-        let packet = Sent {
-            number,
-            sent: Instant::from_nanos(now),
-            size: SIZE,
-            ack_eliciting: true,
-        };
-        if self.flight.on_sent(packet).is_err() {
-            return Err(Refusal::NoMemory);
+            Err(refused) => Err(refusal_of(refused)),
         }
-        self.last_sent = now;
-        Ok(number)
     }
 
-    /// The ACK of a packet comes in (RFC 9002, A.7).
+    /// The ACK of a packet comes in.
     pub fn acknowledged(&mut self, now: u64, number: u64) -> Result<(), Refusal> {
-        let acked = match self.flight.on_ack(number, number) {
-            Ok(acked) => acked,
-            Err(_) => return Err(Refusal::NoMemory),
-        };
-        for packet in &acked {
-            self.arrived(now, packet)?;
-        }
-        self.judge(now)
-    }
-
-    fn arrived(&mut self, now: u64, packet: &Sent) -> Result<(), Refusal> {
-        self.tell(Event::Sample {
+        let ack = Ack {
             delay: Duration::ZERO,
-            rtt: Instant::from_nanos(now) - packet.sent,
-        })?;
-        self.tell(Event::Acked {
-            space: SpaceId::Data,
-            now: Instant::from_nanos(now),
-            number: packet.number,
+            ecn: None,
             app_limited: false,
-        })?;
-        self.tell(Event::EndAcks {
-            now: Instant::from_nanos(now),
-            app_limited: false,
-            largest: Some(packet.number),
-        })
-    }
-
-    /// The packets that are lost now (RFC 9002, 6.1).
-    fn judge(&mut self, now: u64) -> Result<(), Refusal> {
-        let rtt = self.recovery.recovery().current().rtt;
-        let delay = loss_delay(rtt.get(), rtt.latest());
-        let lost = match self.flight.detect_lost(Instant::from_nanos(now), delay) {
-            Ok(lost) => lost,
-            Err(_) => return Err(Refusal::NoMemory),
         };
-        let mut last = None;
-        let mut bytes: u64 = 0;
-        for packet in &lost {
-            self.tell(Event::Lost {
-                space: SpaceId::Data,
-                number: packet.number,
-            })?;
-            last = Some(packet.sent.as_nanos());
-            bytes = bytes.saturating_add(u64::from(packet.size));
-        }
-        match last {
-            Some(sent) => self.congested(now, sent, bytes),
-            None => Ok(()),
-        }
-    }
-
-    /// All that an ACK shows to be lost was told: so many bytes, the last of them sent at that moment.
-    fn congested(&mut self, now: u64, sent: u64, bytes: u64) -> Result<(), Refusal> {
-        self.tell(Event::LossesDone {
-            now: Instant::from_nanos(now),
-        })?;
-        self.tell(Event::Congestion {
-            now: Instant::from_nanos(now),
-            sent: Instant::from_nanos(sent),
-            persistent: false,
-            bytes,
-        })
-    }
-
-    /// An event whose answer asks for nothing.
-    fn tell(&mut self, event: Event<ItemQueue>) -> Result<(), Refusal> {
-        match self.recovery.apply(event) {
+        let ranges = [(number, number)];
+        let now = Instant::from_nanos(now);
+        match self.sender.on_ack(SpaceId::Data, now, &ranges, ack) {
             Ok(_) => Ok(()),
-            Err(refusal) => Err(refusal),
+            Err(refused) => Err(refusal_of(refused)),
         }
-    }
-}
-
-/// The moment that an answer names, in nanoseconds, where it tells to wait.
-fn named_by(answer: &Answer<ItemQueue>) -> Option<u64> {
-    match answer {
-        Answer::Delayed(until) => Some(until.as_nanos()),
-        _ => None,
     }
 }

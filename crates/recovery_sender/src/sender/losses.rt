@@ -16,8 +16,7 @@ use quic_recovery::queue::RetransmitQueue;
 use quic_recovery::time::Instant;
 use quic_recovery::{Answer, Event};
 use rand_core::Rng;
-use recovery_detection::loss_delay;
-use recovery_losses::{Candidate, Look, Tally, first_of};
+use recovery_losses::{Candidate, Look, Tally, first_of, loss_delay};
 use std::alloc::Global;
 
 /// How many probe timeouts make congestion persistent (RFC 9002, 7.6.1: kPersistentCongestionThreshold).

@@ -19,8 +19,7 @@ use quic_recovery::time::{Duration, Instant};
 use quic_recovery::timer::Timer;
 use quic_recovery::{Answer, Event};
 use rand_core::Rng;
-use recovery_detection::probe_timeout;
-use recovery_losses::{Due, sooner};
+use recovery_losses::{Due, probe_timeout, sooner};
 
 /// The most times that a probe timeout is doubled.
 const MOST_DOUBLINGS: u32 = 16;

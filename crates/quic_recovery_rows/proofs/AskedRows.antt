@@ -1,0 +1,95 @@
+-- Worked rows of the promises on counts of ECN, on requests for fewer ACKs and on counters that are full, computed:
+-- with the right answer each holds, and with a wrong one it does not. Nothing rests on them.
+use Rattle.std.proofs.Common.{◌^◌, ◌-◌, ℕ, true, false, [], ◌∷◌, Ok, Err, refl, arith}
+use Rattle.std.specs.declared.net.socket_addr.SocketAddr.{SocketAddr}
+use Rattle.recovery_base.specs.declared.below.SpaceId.TheVariants.{Initial, Data}
+use Rattle.recovery_base.specs.declared.below.frames.EcnCounts.{EcnCounts}
+use Rattle.recovery_paths.specs.declared.path_pair.PathName.TheVariants.{Current, Previous}
+use Rattle.recovery_events.specs.declared.event.Event.TheVariants as event
+use Rattle.recovery_events.specs.declared.event.Answer.TheVariants as answer
+use Rattle.recovery_events.specs.declared.event.Refusal.TheVariants as refusal
+use Rattle.quic_recovery.specs.History.{History}
+use Rattle.quic_recovery.specs.Promises.Ecn.{ChecksEcn}
+use Rattle.quic_recovery.specs.Promises.Frequency.{TakesNewest}
+use Rattle.quic_recovery.specs.Promises.Full.{OverflowsFull}
+use Rattle.quic_recovery_rows.proofs.RowStart.{ack_frame}
+
+module _ (Q S M P : Type 0) (remote : SocketAddr) where
+  -- ---- ECN: of 1-RTT packets two were counted as ECT(0), and then three, of which one is CE
+
+  abbrev ecn : ℕ → ℕ → EcnCounts
+  ecn ect0 ce = record { ect0 = ect0; ect1 = 0; ce = ce }
+
+  abbrev counted : History Q S M P
+  counted =
+      (event.Ecn Data 1 (ecn 2 1), Ok (answer.Flag true))
+      ∷ (event.Ecn Data 2 (ecn 2 0), Ok (answer.Flag false))
+      ∷ []
+
+  one_more : ChecksEcn counted (event.Ecn Data 1 (ecn 3 1)) (Ok (answer.Flag false))
+  one_more = (refl, refl)
+
+  more_congested : ChecksEcn counted (event.Ecn Data 1 (ecn 2 2)) (Ok (answer.Flag true))
+  more_congested = (refl, refl)
+
+  congested_is_told : ¬ ChecksEcn counted (event.Ecn Data 1 (ecn 2 2)) (Ok (answer.Flag false))
+  congested_is_told = λ told. let is = told.1 in cc
+
+  falling_is_refused : ¬ ChecksEcn counted (event.Ecn Data 0 (ecn 2 0)) (Ok (answer.Flag false))
+  falling_is_refused = λ told. let fine = told.0 in cc
+
+  bleached_is_refused : ¬ ChecksEcn counted (event.Ecn Data 2 (ecn 3 1)) (Ok (answer.Flag false))
+  bleached_is_refused = λ told. let fine = told.0 in cc
+
+  another_space : ChecksEcn counted (event.Ecn Initial 0 (ecn 1 0)) (Ok (answer.Flag false))
+  another_space = (refl, refl)
+
+  no_other_cause : ¬ ChecksEcn counted (event.Ecn Data 1 (ecn 3 1)) (Err refusal.Overflow)
+  no_other_cause = λ told. told
+
+  -- ---- requests for fewer ACKs: 5 was taken, and 7 asked for too little
+
+  abbrev asked : History Q S M P
+  asked =
+      (event.AckFrequencyIn (ack_frame 7 999), Err refusal.DelayTooSmall)
+      ∷ (event.AckFrequencyIn (ack_frame 5 1000), Ok (answer.Flag true))
+      ∷ []
+
+  newer : TakesNewest asked (event.AckFrequencyIn (ack_frame 8 1000)) (Ok (answer.Flag true))
+  newer = refl
+
+  too_small : TakesNewest asked (event.AckFrequencyIn (ack_frame 8 999)) (Err refusal.DelayTooSmall)
+  too_small = refl
+
+  refused_counts : TakesNewest asked (event.AckFrequencyIn (ack_frame 6 1000)) (Ok (answer.Flag false))
+  refused_counts = refl
+
+  older_is_not_refused : ¬ TakesNewest asked (event.AckFrequencyIn (ack_frame 7 1)) (Err refusal.DelayTooSmall)
+  older_is_not_refused = λ told. cc
+
+  older_is_not_taken : ¬ TakesNewest asked (event.AckFrequencyIn (ack_frame 7 1000)) (Ok (answer.Flag true))
+  older_is_not_taken = λ told. cc
+
+  discarded : TakesNewest ((event.DiscardSpace Data, Ok answer.Done) ∷ asked) (event.AckFrequencyIn (ack_frame 9 1))
+      (Err refusal.SpaceDiscarded)
+  discarded = refl
+
+  -- ---- counters: 10 bytes came in on the first path, and another one was made
+
+  abbrev moved : History Q S M P
+  moved = (event.NewPath 5 remote true, Ok answer.Done) ∷ (event.DatagramIn Current 10, Ok answer.Done) ∷ []
+
+  full : OverflowsFull moved (event.DatagramIn Previous (2 ^ 64 - 10)) (Err refusal.Overflow)
+  full = omega arith
+
+  has_room : OverflowsFull moved (event.DatagramIn Current (2 ^ 64 - 10)) (Ok answer.Done)
+  has_room = omega arith
+
+  room_is_not_refused : ¬ OverflowsFull moved (event.DatagramIn Previous 1200) (Err refusal.Overflow)
+  room_is_not_refused = λ many. omega (arith, many)
+
+  full_is_not_taken : ¬ OverflowsFull moved (event.DatagramIn Previous (2 ^ 64 - 10)) (Ok answer.Done)
+  full_is_not_taken = λ few. omega (arith, few)
+
+  two_paths_are_few : ¬ OverflowsFull moved (event.NewPath 6 remote true) (Err refusal.Overflow)
+  two_paths_are_few = λ many. omega (arith, many)

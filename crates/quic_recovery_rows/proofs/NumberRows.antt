@@ -1,0 +1,162 @@
+-- Worked rows of the promises on skipped numbers, on packets that are refused, and on silent ones that are forgotten,
+-- computed: with the right answer each holds, and with a wrong one it does not. Nothing rests on them.
+use Rattle.std.proofs.lemmas.Bool.Decides.{nat_tests}
+use Rattle.std.proofs.lemmas.List.{length-append}
+use Rattle.std.proofs.Common.{◌≡◌, ◌≤◌, ◌+◌, ◌-◌, ◌^◌, ℕ, zero, suc, Bool, true, false, List, [], ◌∷◌, ◌++◌, length, None, Some, Ok, Err, inl, inr, refl, ap, ◌∙◌, arith, add-one}
+use Rattle.recovery_base.specs.declared.below.SpaceId.TheVariants.{Initial, Data}
+use Rattle.recovery_events.specs.declared.event.Event.{Event}
+use Rattle.recovery_events.specs.declared.event.Event.TheVariants as event
+use Rattle.recovery_events.specs.declared.event.Answer.TheVariants as answer
+use Rattle.recovery_events.specs.declared.event.Refusal.TheVariants as refusal
+use Rattle.quic_recovery.specs.History.{History, Reply}
+use Rattle.quic_recovery.specs.Promises.Fates.{times, is_given}
+use Rattle.quic_recovery.specs.Promises.Forgotten.{oldest, silent_since, ForgetsOldest}
+use Rattle.quic_recovery.specs.Promises.Sends.{SendsUnless}
+use Rattle.quic_recovery.specs.Promises.Skipped.{IsNext, WasSkipped, ChecksAcks}
+
+module _ (Q S M P : Type 0) (queue : Q) (frames : M) where
+  abbrev send : ℕ → Bool → Event Q S M P
+  send size eliciting = event.Send Data 4 size eliciting None queue frames
+
+  abbrev sent : ℕ → Event Q S M P × Reply Q
+  sent n = (send 1200 true, Ok (answer.Sent n None))
+
+  -- ---- of 1-RTT packets 0, 2, 3 and 5 were given out: 1 and 4 were skipped
+
+  abbrev past : History Q S M P
+  past = sent 5 ∷ (event.PollMtu 3, Ok (answer.Probe 3 1400)) ∷ sent 2 ∷ sent 0 ∷ []
+
+  none_behind : (n : ℕ) → 6 ≤ n → times (is_given Data n) past ≡ 0
+  none_behind = λ n above. grind (arith, nat_tests, above)
+
+  one_skipped : WasSkipped Data 1 past
+  one_skipped = (refl, (5, omega arith, omega arith))
+
+  four_skipped : WasSkipped Data 4 past
+  four_skipped = (refl, (5, omega arith, omega arith))
+
+  four_is_last : (m : ℕ) → WasSkipped Data m past → m ≤ 4
+  four_is_last m was =
+      let later = was.1.0 in
+      let none = none_behind later in
+      let below = was.1.1 in
+      let some = was.1.2 in
+      grind (arith, none, below, some)
+
+  it_is_refused : ChecksAcks past (event.CheckAck Data 3 5) (Err refusal.SkippedAcked)
+  it_is_refused = (omega arith, (4, four_skipped, four_is_last, omega arith, omega arith))
+
+  it_is_not_taken : ¬ ChecksAcks past (event.CheckAck Data 3 5) (Ok answer.Done)
+  it_is_not_taken = λ told. told.3 (4, four_skipped, four_is_last, omega arith, omega arith)
+
+  -- 1 lies before the last one
+  one_is_taken : ChecksAcks past (event.CheckAck Data 0 3) (Ok answer.Done)
+  one_is_taken = (
+    refl,
+    omega arith,
+    omega arith,
+    λ holds. (let up = holds.2 4 four_skipped in let to = holds.4 in omega (arith, up, to)),
+  )
+
+  behind_it_is_not_refused : ¬ ChecksAcks past (event.CheckAck Data 5 9) (Err refusal.SkippedAcked)
+  behind_it_is_not_refused = λ told.
+      let down = four_is_last told.1.0 told.1.1 in let from = told.1.3 in omega (arith, down, from)
+
+  no_other_space_is_refused : ¬ ChecksAcks past (event.CheckAck Initial 0 9) (Err refusal.SkippedAcked)
+  no_other_space_is_refused = λ told. let was = told.1.1 in let some = was.1.2 in omega (arith, some)
+
+  no_range : ChecksAcks past (event.CheckAck Data 5 4) (Err refusal.BadRange)
+  no_range = (omega arith, omega arith)
+
+  large_is_not_a_bad_range : ¬ ChecksAcks past (event.CheckAck Data (2 ^ 62 + 1) (2 ^ 62)) (Err refusal.BadRange)
+  large_is_not_a_bad_range = λ told. let small = told.0 in omega (arith, small)
+
+  -- ---- 6 goes out next, or 7, and then 6 is skipped
+
+  not_five : (m : ℕ) → ((n : ℕ) → m ≤ n → times (is_given Data n) past ≡ 0) → 6 ≤ m
+  not_five m above = let five = above 5 in grind (arith, nat_tests, five)
+
+  six_is_next : IsNext Data 6 past
+  six_is_next = (none_behind, λ m above less. (let up = not_five m above in absurd (omega (arith, up, less))))
+
+  seven_skips_six : IsNext Data 7 past
+  seven_skips_six = (
+    λ n above. none_behind n (omega (arith, above)),
+    λ m above less. (let up = not_five m above in (refl, omega (arith, up, less))),
+  )
+
+  eight_skips_two : ¬ IsNext Data 8 past
+  eight_skips_two = λ next. let is = (next.1 6 none_behind (omega arith)).1 in omega (arith, is)
+
+  five_again : ¬ IsNext Data 5 past
+  five_again = λ next. let none = next.0 5 (omega arith) in omega (arith, none)
+
+  none_skipped_elsewhere : ¬ IsNext Initial 1 past
+  none_skipped_elsewhere = λ next. let is = (next.1 0 (λ m above. refl) (omega arith)).0 in cc
+
+  -- ---- packets that are refused: 1200, 1400, 1200 and 1200 bytes are in flight, and four packets that elicit an ACK
+
+  numbers_are_left : ¬ SendsUnless past (send 1200 true) (Err refusal.NumbersExhausted)
+  numbers_are_left = λ told.
+      let none = told.1 in
+      let many = none.2 in
+      let is = (none.1.1 6 none_behind (omega (arith, many))).1 in omega (arith, is, many)
+
+  polls_too : ¬ SendsUnless past (event.PollMtu 9) (Err refusal.NumbersExhausted)
+  polls_too = λ none.
+      let many = none.2 in
+      let is = (none.1.1 6 none_behind (omega (arith, many))).1 in omega (arith, is, many)
+
+  it_overflows : SendsUnless past (send (2 ^ 64 - 5000) true) (Err refusal.Overflow)
+  it_overflows = (λ large. large, inl (omega arith))
+
+  it_fits : SendsUnless past (send (2 ^ 64 - 5001) true) (Ok (answer.Sent 6 None))
+  it_fits = (λ large. large, λ over. elim over [ inl many ↦ omega (arith, many) | inr often ↦ omega (arith, often) ])
+
+  it_does_not_overflow : ¬ SendsUnless past (send 1200 true) (Err refusal.Overflow)
+  it_does_not_overflow = λ told. elim told.1 [ inl many ↦ omega (arith, many) | inr often ↦ omega (arith, often) ]
+
+  too_large : SendsUnless past (event.Send Data 4 9 true (Some (2 ^ 62)) queue frames) (Err refusal.NumberTooLarge)
+  too_large = omega arith
+
+  no_other_cause : ¬ SendsUnless past (send 1200 true) (Err refusal.NotTracked)
+  no_other_cause = λ told. told
+
+  -- ---- silent packets: the first so many; no abbreviation, so that 1001 of them are not written out
+
+  silents : ℕ → History Q S M P
+  silents zero = []
+  silents (suc n) = (send 40 false, Ok (answer.Sent n None)) ∷ silents n
+
+  abbrev since : ℕ → List ℕ
+  since n = silent_since Data (λ m. false) (silents n)
+
+  as_many : (n : ℕ) → length (since n) ≡ n
+  unfolding silents
+  as_many zero = refl
+  as_many (suc n) = length-append (since n) (n ∷ []) ∙ (ap (λ k. k + 1) (as_many n) ∙ add-one n)
+
+  behind_one : (n : ℕ) (earlier : List ℕ) → oldest earlier ≡ Some 0 → oldest (earlier ++ n ∷ []) ≡ Some 0
+  behind_one n [] is = cc
+  behind_one n (m ∷ earlier) is = is
+
+  zero_first : (n : ℕ) → oldest (since (suc n)) ≡ Some 0
+  unfolding silents
+  zero_first zero = refl
+  zero_first (suc n) = behind_one (suc n) (since (suc n)) (zero_first n)
+
+  zero_is_forgotten : ForgetsOldest (silents 1001) (send 40 false) (Ok (answer.Sent 1001 (Some 0)))
+  zero_is_forgotten = rw (as_many 1001, zero_first 1000) refl
+
+  one_is_not_forgotten : ¬ ForgetsOldest (silents 1001) (send 40 false) (Ok (answer.Sent 1001 (Some 1)))
+  one_is_not_forgotten = λ told. let is = rw (as_many 1001, zero_first 1000) at told in cc
+
+  none_of_a_thousand : ForgetsOldest (silents 1000) (send 40 false) (Ok (answer.Sent 1000 None))
+  none_of_a_thousand = rw (as_many 1000) refl
+
+  -- for a packet that elicits an ACK none is forgotten, nor is one that does
+  none_for_it : ForgetsOldest (silents 1001) (send 40 true) (Ok (answer.Sent 1001 None))
+  none_for_it = refl
+
+  eliciting_is_not_forgotten : ¬ ForgetsOldest (sent 0 ∷ []) (send 40 false) (Ok (answer.Sent 1 (Some 0)))
+  eliciting_is_not_forgotten = λ told. cc

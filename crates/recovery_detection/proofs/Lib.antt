@@ -1,5 +1,0 @@
-pub mod DetectLaws
-mod LossRows
-pub mod MomentLaws
-pub mod DetectorPastLaws
-pub mod DetectorRunLaws
