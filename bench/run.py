@@ -356,7 +356,8 @@ def in_pairs(first, second):
 
 # ---- lines of all kinds at random, as tests/alike.py draws them
 
-# which are ten times as frequent as the others; no space is discarded, since nothing would happen in it any more
+# which are ten times as frequent as the others; no space is discarded, since nothing would happen in it any more, and among
+# hostile ones no ids are issued, whose line may pass the last number and not be read
 KINDS = {
     "all": [],
     "acks": ["received", "acks-sent", "ack-delay-timeout", "ack-frequency", "check-ack"],
@@ -380,7 +381,8 @@ class Sensible(alike.Lines):
 def at_random_of(kind):
     """Numbers are as they come, so that lines grow with the input."""
     lines = (alike.Lines if kind == "hostile" else Sensible)(77)
-    weights = [0 if name == "discard" else 10 if name in KINDS[kind] else 1 for name in alike.EVENTS]
+    left_out = ["discard", "issue-ids"] if kind == "hostile" else ["discard"]
+    weights = [0 if name in left_out else 10 if name in KINDS[kind] else 1 for name in alike.EVENTS]
     while True:
         yield lines.chance.choices(alike.MAKERS, weights)[0](lines)
 
