@@ -4,7 +4,8 @@ ghost use Rattle.rand_core.specs.Steps.{stream_of, steps_u32};
 ghost use Rattle.rand_pcg.specs.Pcg.{pcg32};
 ghost use Rattle.quic_recovery.specs.State.{parts_of};
 ghost use Rattle.recovery_skips.specs.Skips.{IsSkips};
-ghost use Rattle.recovery_ffi.specs.Kept.{numbers_told, parts_kept, pto_count_of, Comes, IsFreshAlone, IsFreshSender, IsFresh, Lets};
+ghost use Rattle.recovery_sender.specs.Calls.{Passes, Takes};
+ghost use Rattle.recovery_ffi.specs.Kept.{by_sender, numbers_told, parts_kept, pto_count_of, Comes, IsFreshAlone, IsFreshSender, IsFresh, Lets};
 ghost use Rattle.recovery_ffi.specs.Sending.{told_view, OfSender};
 ghost use Rattle.recovery_ffi.specs.Views.{IsWritten};
 
@@ -33,6 +34,20 @@ pub enum Kept {
     Alone(ItemRecovery),
     /// It takes the events that its sender lets pass, and those of the sender's calls.
     Sends(Sending),
+}
+
+/// One event that a sender lets pass: out of line, so that one of a recovery that stands alone is compiled in.
+#[inline(never)]
+fn passed(sending: &mut Sending, event: Event<ItemQueue>) -> Result<Answer<ItemQueue>, Refusal>
+    requires { Passes event }
+    ensures takes { Takes event sending.old.sender sending.new.sender (by_sender result) }
+    ensures told { sending.new.told ≡ sending.old.told }
+{
+    match sending.sender.on_event(event) {
+        Ok(answer) => Ok(answer),
+        Err(Refused::Event(refusal)) => Err(refusal),
+        Err(Refused::Unsent) => unreachable!(),
+    }
 }
 
 impl Kept {
@@ -120,11 +135,7 @@ impl Kept {
     {
         match self {
             Kept::Alone(recovery) => recovery.apply(event),
-            Kept::Sends(sending) => match sending.sender.on_event(event) {
-                Ok(answer) => Ok(answer),
-                Err(Refused::Event(refusal)) => Err(refusal),
-                Err(Refused::Unsent) => unreachable!(),
-            },
+            Kept::Sends(sending) => passed(sending, event),
         }
     }
 
