@@ -1,12 +1,15 @@
 -- The recovery that a stack keeps: one that stands alone, or one of a sender.
-use Rattle.std.specs.Prelude.{◌≡◌, ℕ, Bool, List, [], Option, Some, None, Result, Ok, Err, if◌then◌else◌}
+use Rattle.std.specs.Prelude.{◌≡◌, ℕ, Bool, List, [], ◌∷◌, ◌++◌, length, Option, Some, None, Result, Ok, Err, if◌then◌else◌}
+use Rattle.std.specs.Option.{option_map_or}
 use Rattle.rand_core.specs.Stream.{Stream}
 use Rattle.recovery_events.specs.declared.event.Answer.{Answer}
 use Rattle.recovery_events.specs.declared.event.Event.{Event}
+use Rattle.recovery_ledger.specs.Packets.{Packets, packet_at}
 use Rattle.recovery_sender.specs.Calls.{Begins, Passes, Takes}
 use Rattle.recovery_sender.specs.Senders.{parts_in}
 use Rattle.recovery_sender.specs.declared.sender.acks.Acknowledged.{Acknowledged}
 use Rattle.recovery_sender.specs.declared.sender.acks.EcnEnd.TheVariants.{Quiet}
+use Rattle.recovery_sender.specs.declared.sender.losses.Losses.{Losses}
 use Rattle.recovery_sender.specs.declared.sender.Refused.{Refused}
 use Rattle.recovery_sender.specs.declared.sender.Refused.TheVariants as refused
 use Rattle.recovery_sender.specs.declared.sender.Side.{Side}
@@ -21,6 +24,7 @@ use Rattle.recovery_ffi.specs.declared.controllers.Chosen.{Chosen}
 use Rattle.recovery_ffi.specs.declared.controllers.ChosenConfig.{ChosenConfig}
 use Rattle.recovery_ffi.specs.declared.kept.Kept.{Kept}
 use Rattle.recovery_ffi.specs.declared.kept.Kept.TheVariants.{Alone, Sends}
+use Rattle.recovery_ffi.specs.declared.sending.Told.{Told}
 
 abbrev pub ItemEvent : Type 0
 ItemEvent = Event (List ℕ) (Unit {0}) (Unit {0}) (List ℕ)
@@ -61,13 +65,21 @@ Comes (Sends old) event reply (Alone new) = ⊥
 
 -- ---- what is made
 
+-- these losses are told, and nothing that was acknowledged
+pub record LosesAlone (losses : Losses) (told : Told) : Type 0 where
+  pub numbers : told.acked.numbers.items ≡ []
+  pub losses : told.acked.losses ≡ losses
+  pub ecn : told.acked.ecn ≡ Quiet
+  pub packets : told.packets.items ≡ []
+
 -- no ACK frame was told yet, and no loss
-pub record IsNothing (told : Acknowledged) : Type 0 where
-  pub numbers : told.numbers.items ≡ []
-  pub lost : told.losses.numbers.items ≡ []
-  pub probe : told.losses.probe ≡ None
-  pub congestion : told.losses.congestion ≡ None
-  pub ecn : told.ecn ≡ Quiet
+pub record IsNothing (told : Told) : Type 0 where
+  pub numbers : told.acked.numbers.items ≡ []
+  pub lost : told.acked.losses.numbers.items ≡ []
+  pub probe : told.acked.losses.probe ≡ None
+  pub congestion : told.acked.losses.congestion ≡ None
+  pub ecn : told.acked.ecn ≡ Quiet
+  pub packets : told.packets.items ≡ []
 
 -- nothing has happened to one that stands alone
 abbrev pub IsFreshAlone : RecoveryConfig ChosenConfig → ℕ → Stream → Kept → Type 0
@@ -98,4 +110,18 @@ numbers_of lost told = if lost then told.losses.numbers.items else told.numbers.
 
 abbrev pub numbers_told : Bool → Kept → List ℕ
 numbers_told lost (Alone recovery) = []
-numbers_told lost (Sends sending) = numbers_of lost sending.told
+numbers_told lost (Sends sending) = numbers_of lost sending.told.acked
+
+-- the items that a tracked packet carries
+abbrev pub items_of : Packets (List ℕ) (Unit {0}) → ℕ → List ℕ
+items_of packets number = option_map_or (λ packet. packet.retransmits) (packet_at packets number) []
+
+-- of each packet its number, how many items it carries, and these
+pub packets_listed : Packets (List ℕ) (Unit {0}) → List ℕ → List ℕ
+packets_listed packets [] = []
+packets_listed packets (number ∷ numbers) =
+    (number ∷ length (items_of packets number) ∷ items_of packets number) ++ packets_listed packets numbers
+
+abbrev pub packets_told : Kept → List ℕ
+packets_told (Alone recovery) = []
+packets_told (Sends sending) = sending.told.packets.items

@@ -5,11 +5,12 @@ use Rattle.std.specs.Option.{option_map_or}
 use Rattle.recovery_base.specs.declared.below.SpaceId.{SpaceId}
 use Rattle.recovery_events.specs.declared.event.Answer.TheVariants.{Done}
 use Rattle.recovery_events.specs.declared.event.Event.TheVariants.{DiscardSpace}
+use Rattle.recovery_ledger.specs.Packets.{Packets}
 use Rattle.recovery_ledger.specs.Spaces.{space_of}
 use Rattle.recovery_sender.specs.Abandoning.{Abandons}
 use Rattle.recovery_sender.specs.Acking.{OnAck}
 use Rattle.recovery_sender.specs.Calls.{begun_anew, bytes_in_flight, discard_reply, is_checked, transmit_reply, transmit_steps, window_of}
-use Rattle.recovery_sender.specs.Senders.{parts_in}
+use Rattle.recovery_sender.specs.Senders.{parts_in, packets_in}
 use Rattle.recovery_sender.specs.Steps as Steps
 use Rattle.recovery_sender.specs.Steps.{Does}
 use Rattle.recovery_sender.specs.Timeouts.{TimesOut}
@@ -28,6 +29,7 @@ use Rattle.recovery_sender.specs.declared.sender.Variables.{Variables}
 use Rattle.recovery_ffi.specs.Answers.{IsBad}
 use Rattle.recovery_ffi.specs.Codes.{counts, space_coded, space_number, span}
 use Rattle.recovery_ffi.specs.Controllers.{chosen_words}
+use Rattle.recovery_ffi.specs.Kept.{packets_listed, LosesAlone}
 use Rattle.recovery_ffi.specs.Replies.{no_memory, no_recovery, no_sender, plain, refusal_spelled}
 use Rattle.recovery_ffi.specs.declared.kept.Kept.{Kept}
 use Rattle.recovery_ffi.specs.declared.kept.Kept.TheVariants.{Alone, Sends}
@@ -37,6 +39,7 @@ use Rattle.recovery_ffi.specs.declared.sending.AckRange.{AckRange}
 use Rattle.recovery_ffi.specs.declared.sending.Call.{Call}
 use Rattle.recovery_ffi.specs.declared.sending.Call.TheVariants.{Transmit, TakeAck, Expire, Discard, Abandon, HandshakeKeys, HandshakeConfirmed, PeerDelay}
 use Rattle.recovery_ffi.specs.declared.sending.Sending.{Sending}
+use Rattle.recovery_ffi.specs.declared.sending.Told.{Told}
 use Rattle.recovery_ffi.specs.declared.sending.ToldView.{ToldView}
 use Rattle.recovery_ffi.specs.declared.stack.Reply.{Reply}
 use Rattle.recovery_ffi.specs.declared.stack.Stack.{Stack}
@@ -94,17 +97,18 @@ pub record Transmits (now bytes : ℕ) (space : SpaceId) (in_flight : Bool) (old
   pub spells : spelling ≡ spelled_by transmission_spelled reply
   pub told : new.told ≡ old.told
 
--- an ACK frame: what it comes to is kept, to be read (RFC 9002, A.7)
-abbrev pub told_by_ack : Result Acknowledged Refused → Acknowledged → Acknowledged
-told_by_ack (Ok acked) told = acked
-told_by_ack (Err refusal) told = told
+-- an ACK frame: what it comes to is kept, to be read, with what its packets carried (RFC 9002, A.7)
+abbrev pub IsToldByAck : Packets (List ℕ) (Unit {0}) → Result Acknowledged Refused → Told → Told → Type 0
+IsToldByAck packets (Ok acked) old new =
+    (new.acked ≡ acked) × (new.packets.items ≡ packets_listed packets acked.numbers.items)
+IsToldByAck packets (Err refusal) old new = new ≡ old
 
 pub record Acks (space : SpaceId) (now : ℕ) (ranges : List (ℕ × ℕ)) (ack : Ack) (old : Sending) (spelling : Reply)
     (new : Sending) : Type 0 where
   pub reply : Result Acknowledged Refused
   pub comes : OnAck space now ranges ack old.sender new.sender reply
   pub spells : spelling ≡ spelled_by acknowledged_spelled reply
-  pub told : new.told ≡ told_by_ack reply old.told
+  pub told : IsToldByAck (packets_in (parts_in old.sender) space) reply old.told new.told
 
 -- with its ranges as they are given, or there is no memory to hand them in
 abbrev pub range_given : AckRange → ℕ × ℕ
@@ -121,8 +125,8 @@ TakesFrame space now given ack old spelling new =
     Acks space now (map range_given given) ack old spelling new ⊎ HadNoRoom given old spelling new
 
 -- a timeout: so are losses that it finds (RFC 9002, A.9)
-abbrev pub IsToldByTimeout : Result Timeout Refused → Acknowledged → Acknowledged → Type 0
-IsToldByTimeout (Ok (Lost losses)) old new = (new.numbers.items ≡ []) × (new.losses ≡ losses) × (new.ecn ≡ Quiet)
+abbrev pub IsToldByTimeout : Result Timeout Refused → Told → Told → Type 0
+IsToldByTimeout (Ok (Lost losses)) old new = LosesAlone losses new
 IsToldByTimeout reply old new = new ≡ old
 
 pub record Expires (now : ℕ) (immediate : Bool) (old : Sending) (spelling : Reply) (new : Sending) : Type 0 where
@@ -151,8 +155,8 @@ lost_alone numbers = record {
   is_black_hole = false;
 }
 
-abbrev pub IsToldLost : Result (Vec ℕ Global) Refused → Acknowledged → Acknowledged → Type 0
-IsToldLost (Ok numbers) old new = (new.numbers.items ≡ []) × (new.losses ≡ lost_alone numbers) × (new.ecn ≡ Quiet)
+abbrev pub IsToldLost : Result (Vec ℕ Global) Refused → Told → Told → Type 0
+IsToldLost (Ok numbers) old new = LosesAlone (lost_alone numbers) new
 IsToldLost (Err refusal) old new = new ≡ old
 
 pub record Forsakes (space : SpaceId) (now : ℕ) (old : Sending) (spelling : Reply) (new : Sending) : Type 0 where
@@ -280,4 +284,4 @@ no_told = record {
 
 abbrev pub told_view : Kept → ToldView
 told_view (Alone recovery) = no_told
-told_view (Sends sending) = told_shown sending.told
+told_view (Sends sending) = told_shown sending.told.acked

@@ -5,7 +5,7 @@ ghost use Rattle.rand_pcg.specs.Pcg.{pcg32};
 ghost use Rattle.quic_recovery.specs.State.{parts_of};
 ghost use Rattle.recovery_skips.specs.Skips.{IsSkips};
 ghost use Rattle.recovery_sender.specs.Calls.{Passes, Takes};
-ghost use Rattle.recovery_ffi.specs.Kept.{by_sender, numbers_told, parts_kept, pto_count_of, Comes, IsFreshAlone, IsFreshSender, IsFresh, Lets};
+ghost use Rattle.recovery_ffi.specs.Kept.{by_sender, numbers_told, packets_told, parts_kept, pto_count_of, Comes, IsFreshAlone, IsFreshSender, IsFresh, Lets};
 ghost use Rattle.recovery_ffi.specs.Sending.{told_view, OfSender};
 ghost use Rattle.recovery_ffi.specs.Views.{IsWritten};
 
@@ -102,7 +102,8 @@ impl Kept {
             sender,
             told: nothing_told(alloc),
             ranges: Vec::new(alloc),
-            room: Vec::new(alloc),
+            numbers_room: Vec::new(alloc),
+            packets_room: Vec::new(alloc),
         }))
     }
 
@@ -166,13 +167,30 @@ impl Kept {
         copy_numbers(self.numbers(lost), out)
     }
 
+    /// The packets that the last ACK frame newly acknowledged, with their items.
+    fn packets(&self) -> &[u64]
+        ensures { result.now ≡ packets_told self.now }
+    {
+        match self {
+            Kept::Alone(_) => &[],
+            Kept::Sends(sending) => sending.told.packets.as_slice(),
+        }
+    }
+
+    /// How many words they are; they are written where there is room for all.
+    pub fn copy_packets(&self, out: &mut [u64]) -> usize
+        ensures { IsWritten (packets_told self.now) out.old result out.new }
+    {
+        copy_numbers(self.packets(), out)
+    }
+
     /// What was told last by a sender.
     pub fn told(&self) -> ToldView
         ensures { result ≡ told_view self.now }
     {
         match self {
             Kept::Alone(_) => ToldView::none(),
-            Kept::Sends(sending) => ToldView::of(&sending.told),
+            Kept::Sends(sending) => ToldView::of(&sending.told.acked),
         }
     }
 

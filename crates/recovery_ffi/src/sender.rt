@@ -3,7 +3,7 @@
 ghost use Rattle.std.specs.Prelude.{◌≡◌, Some};
 ghost use Rattle.recovery_ffi.specs.Answers.{Reads};
 ghost use Rattle.recovery_ffi.specs.Codes.{side_coded, space_coded, span};
-ghost use Rattle.recovery_ffi.specs.Kept.{numbers_told, pto_count_of};
+ghost use Rattle.recovery_ffi.specs.Kept.{numbers_told, packets_told, pto_count_of};
 ghost use Rattle.recovery_ffi.specs.Made.{NewOr};
 ghost use Rattle.recovery_ffi.specs.Sending.{ack_given, frame_given, no_told, told_view, Asks, AsksAck, AsksTo};
 ghost use Rattle.recovery_ffi.specs.Views.{IsWritten};
@@ -317,6 +317,26 @@ pub extern "C" fn recovery_ffi_told_numbers(
         return 0;
     };
     let count = stack.kept.copy_numbers(lost, out);
+    handle.put(stack);
+    count
+}
+
+/// Of each packet that was newly acknowledged as something was told last, rising: its number, how many items it carried,
+/// and these. How many words that are; they are written where there is room for all.
+#[unsafe(no_mangle)]
+pub extern "C" fn recovery_ffi_told_packets(
+    alloc: Global,
+    handle: &mut Handle,
+    out: &mut [u64],
+) -> usize
+    ensures { Reads handle.old.slot.held handle.new.slot.held (λ stack.
+        IsWritten (packets_told stack.kept) out.old result out.new)
+        ((result ≡ 0) × (out.new ≡ out.old)) }
+{
+    let Some(stack) = handle.take(alloc) else {
+        return 0;
+    };
+    let count = stack.kept.copy_packets(out);
     handle.put(stack);
     count
 }

@@ -1,8 +1,8 @@
 //! A sender, and what it told last.
-ghost use Rattle.std.specs.Prelude.{◌≡◌, ◌<◌, [], length, map, true, false};
-ghost use Rattle.recovery_sender.specs.declared.sender.acks.EcnEnd.TheVariants.{Quiet};
+ghost use Rattle.std.specs.Prelude.{◌≡◌, ◌<◌, ◌++◌, ◌∷◌, [], length, map, true, false};
 ghost use Rattle.recovery_sender.specs.declared.sender.probes.Timeout.TheVariants.{Probe};
-ghost use Rattle.recovery_ffi.specs.Kept.{numbers_of, IsNothing};
+ghost use Rattle.recovery_sender.specs.Senders.{parts_in, packets_in};
+ghost use Rattle.recovery_ffi.specs.Kept.{items_of, numbers_of, packets_listed, IsNothing, LosesAlone};
 ghost use Rattle.recovery_ffi.specs.Replies.{plain};
 ghost use Rattle.recovery_ffi.specs.Sending.{acknowledged_spelled, confirmed, delayed_by, ecn_number, is_quiet, keyed, lost_alone, no_told, range_given, refused_spelled, timeout_spelled, tells_more, told_shown, transmission_spelled, Acks, Discards, Expires, Forsakes, IsSaid, Says, TakesFrame, Transmits};
 
@@ -30,16 +30,26 @@ pub struct AckRange {
     pub last: u64,
 }
 
+/// What a call came to, with the packets that it newly acknowledged.
+#[derive(Drop)]
+pub struct Told {
+    pub acked: Acknowledged,
+    /// Of each of these packets, rising: its number, how many items it carried, and these.
+    pub packets: Vec<u64>,
+}
+
 /// A sender, and what it told last.
 #[derive(Drop)]
 pub struct Sending {
     pub sender: ItemSender,
     /// What the last ACK frame, timeout or abandoned space came to that told something; nothing before the first.
-    pub told: Acknowledged,
+    pub told: Told,
     /// What takes the ranges of an ACK frame, kept for its memory.
     pub ranges: Vec<(u64, u64)>,
     /// What takes the numbers that one newly acknowledges, likewise.
-    pub room: Vec<u64>,
+    pub numbers_room: Vec<u64>,
+    /// What takes these packets, likewise.
+    pub packets_room: Vec<u64>,
 }
 
 /// A call of a sender; the ranges of an ACK frame stand beside it.
@@ -106,15 +116,17 @@ pub struct ToldView {
 }
 
 /// Of a timeout, or of an abandoned space: what is lost.
-fn told_lost(alloc: Global, losses: Losses) -> Acknowledged
-    ensures numbers { result.numbers.items ≡ [] }
-    ensures losses { result.losses ≡ losses }
-    ensures ecn { result.ecn ≡ Quiet }
+fn told_lost(alloc: Global, losses: Losses) -> Told
+    ensures { LosesAlone losses result }
 {
-    Acknowledged {
+    let acked = Acknowledged {
         numbers: Vec::new(alloc),
         losses,
         ecn: EcnEnd::Quiet,
+    };
+    Told {
+        acked,
+        packets: Vec::new(alloc),
     }
 }
 
@@ -132,7 +144,7 @@ fn lost_alone(numbers: Vec<u64>) -> Losses
 }
 
 /// Nothing was told yet. It takes no memory.
-pub fn nothing_told(alloc: Global) -> Acknowledged
+pub fn nothing_told(alloc: Global) -> Told
     ensures { IsNothing result }
 {
     told_lost(alloc, lost_alone(Vec::new(alloc)))
@@ -265,15 +277,56 @@ fn fill(ranges: &mut Vec<(u64, u64)>, given: &[AckRange]) -> bool
     true
 }
 
+/// The items that a tracked packet carries; none where it is not tracked.
+fn items_of(sender: &ItemSender, space: SpaceId, number: u64) -> &[u64]
+    ensures { result.now ≡ items_of (packets_in (parts_in sender.now) space) number }
+{
+    match sender.tracked(space, number) {
+        Some(packet) => packet.retransmits.items(),
+        None => &[],
+    }
+}
+
+/// The number of a packet, how many items it has, and these go behind others; false, where there is no memory.
+fn list_packet(number: u64, items: &[u64], packets: &mut Vec<u64>) -> bool
+    ensures { result ≡ true
+        → packets.new.items ≡ packets.old.items ++ number ∷ length items.now ∷ items.now }
+{
+    if packets.push(number).is_err() || packets.push(items.len() as u64).is_err() {
+        return false;
+    }
+    packets.extend_from_slice(items).is_ok()
+}
+
+/// These packets, with the items that they carry, in place of what a list held; false, where there is no memory.
+fn list_packets(
+    sender: &ItemSender,
+    space: SpaceId,
+    numbers: &[u64],
+    packets: &mut Vec<u64>,
+) -> bool
+    ensures { result ≡ true → packets.new.items
+        ≡ packets_listed (packets_in (parts_in sender.now) space) numbers.now }
+{
+    packets.clear();
+    for number in numbers {
+        if !list_packet(*number, items_of(sender, space, *number), packets) {
+            return false;
+        }
+    }
+    true
+}
+
 impl Sending {
     /// The numbers that were newly acknowledged, or those that were lost.
     pub fn numbers(&self, lost: bool) -> &[u64]
         ensures { result.now ≡ numbers_of lost self.now.told }
     {
+        let acked = &self.told.acked;
         if lost {
-            self.told.losses.numbers.as_slice()
+            acked.losses.numbers.as_slice()
         } else {
-            self.told.numbers.as_slice()
+            acked.numbers.as_slice()
         }
     }
 
@@ -337,16 +390,29 @@ impl Sending {
     ) -> Reply
         ensures { Acks space now ranges.now ack self.old result self.new }
     {
-        let room = mem::replace(&mut self.room, Vec::new(alloc));
-        match self.sender.on_ack_into(space, now, ranges, ack, room) {
-            Ok(acknowledged) => {
-                let reply = spell_acknowledged(&acknowledged);
-                let before = mem::replace(&mut self.told, acknowledged);
-                self.room = before.numbers;
-                reply
-            }
-            Err(refused) => spell_refused(refused),
+        let room = mem::replace(&mut self.numbers_room, Vec::new(alloc));
+        let newly = match self.sender.newly_acked(space, ranges, room) {
+            Ok(newly) => newly,
+            Err(refused) => return spell_refused(refused),
+        };
+        let mut packets = mem::replace(&mut self.packets_room, Vec::new(alloc));
+        if !list_packets(&self.sender, space, &newly.numbers, &mut packets) {
+            return Reply::no_memory();
         }
+        let acked = self.sender.on_newly_acked(space, now, ranges, ack, newly);
+        let reply = spell_acknowledged(&acked);
+        self.keep(Told { acked, packets });
+        reply
+    }
+
+    /// This was told last; what was before it is kept for its memory.
+    fn keep(&mut self, told: Told)
+        ensures told { self.new.told ≡ told }
+        ensures sender { self.new.sender ≡ self.old.sender }
+    {
+        let before = mem::replace(&mut self.told, told);
+        self.numbers_room = before.acked.numbers;
+        self.packets_room = before.packets;
     }
 
     fn expire(&mut self, alloc: Global, now: Instant, immediate_ack: bool) -> Reply

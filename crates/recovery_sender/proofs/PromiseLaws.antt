@@ -9,8 +9,12 @@ use Rattle.recovery_ledger.specs.Packets.{Packet, Packets, packet_at}
 use Rattle.recovery_losses.specs.declared.looks.Look.{Look}
 use Rattle.recovery_losses.specs.Losses.{IsLost, IsLostBelow, IsOneOf, IsTold, without_all}
 use Rattle.recovery_losses.proofs.LookLaws.{all_other}
+use Rattle.recovery_losses.specs.declared.frames.Ack.{Ack}
+use Rattle.recovery_sender.specs.declared.sender.acks.Acknowledged.{Acknowledged}
+use Rattle.recovery_sender.specs.declared.sender.acks.Newly.{Newly}
 use Rattle.recovery_sender.specs.declared.sender.losses.Losses.{Losses}
 use Rattle.recovery_sender.specs.declared.sender.Sender.{Sender}
+use Rattle.recovery_sender.specs.Acking.{MayTake, TakesAck, TakesNewly}
 use Rattle.recovery_sender.specs.Acks.{AreNewly}
 use Rattle.recovery_sender.specs.Judging.{LossesAre}
 use Rattle.recovery_sender.specs.Promises.Acked.{AcksTracked, LosesAll}
@@ -26,6 +30,24 @@ some_left numbers some none = elim (eqb_tells numbers.len 0) [
   | inl same ↦ true≢false (sym (some ∙ same.0))
   | inr apart ↦ apart.1 (numbers.ok.0 ∙ ap (λ (items : List ℕ). length items) none)
 ]
+
+-- ---- a frame in two steps
+
+module _ {F Q R C K S M P : Type 0} {f : _} {c : _} {q : _} {m : _} {r : _} (space : SpaceId) (now : ℕ)
+    (ranges : List (ℕ × ℕ)) (ack : Ack) (old new : Sender F Q R C K S M P f c q m r) where
+  -- what a frame newly acknowledges is told
+  pub takes_ack : (newly : Newly) (acked : Acknowledged) → MayTake space ranges old newly
+      → TakesNewly space now ranges ack old new newly acked → TakesAck space now ranges ack old new acked
+  takes_ack newly acked may takes = record {
+    whole = may.whole;
+    sent = may.sent;
+    allowed = may.allowed;
+    elicits = newly.elicits;
+    newly = rw takes.numbers may.newly;
+    tracked = rw takes.numbers may.tracked;
+    none = λ none. takes.none (sym takes.numbers ∙ none);
+    some = λ some. takes.some (λ none. some (takes.numbers ∙ none));
+  }
 
 one_or_not : (number : ℕ) (numbers : List ℕ) → IsOneOf number numbers ⊎ (IsOneOf number numbers → ⊥)
 one_or_not number [] = inr (λ never. never)

@@ -18,6 +18,7 @@ use Rattle.recovery_losses.specs.declared.frames.Ack.{Ack}
 use Rattle.recovery_losses.specs.Frames.{largest_of}
 use Rattle.recovery_sender.specs.declared.sender.acks.Acknowledged.{Acknowledged}
 use Rattle.recovery_sender.specs.declared.sender.acks.EcnEnd.{EcnEnd}
+use Rattle.recovery_sender.specs.declared.sender.acks.Newly.{Newly}
 use Rattle.recovery_sender.specs.declared.sender.acks.EcnEnd.TheVariants.{Quiet, Marked, Failed}
 use Rattle.recovery_sender.specs.declared.sender.Refused.{Refused}
 use Rattle.recovery_sender.specs.declared.sender.Refused.TheVariants as refused
@@ -154,6 +155,22 @@ pub record Acknowledges {F Q R C K S M P : Type 0} {f : _} {c : _} {q : _} {m : 
 
 -- ---- a frame
 
+-- it may be taken, and this is what it newly acknowledges; or it is refused
+module _ {F Q R C K S M P : Type 0} {f : _} {c : _} {q : _} {m : _} {r : _} (space : SpaceId) (ranges : List (ℕ × ℕ))
+    (sender : Sender F Q R C K S M P f c q m r) where
+  pub record MayTake (newly : Newly) : Type 0 where
+    pub whole : AreWhole space ranges sender.recovery.recovery
+    pub sent : WereSent space ranges sender.recovery.recovery
+    pub allowed : AreAllowed space ranges sender.recovery.recovery
+    pub newly : AreNewly (packets_in (parts_in sender) space) ranges 0 newly.numbers.items newly.elicits
+    -- that is what the events before say
+    pub tracked : ByPasts sender (AcksTracked space ranges newly.numbers.items)
+
+  abbrev pub IsNewly : Result Newly Refused → Type 0
+  IsNewly (Ok newly) = MayTake newly
+  IsNewly (Err refusal) =
+      AckChecked space ranges sender.recovery.recovery (Err refusal) ⊎ (refusal ≡ refused.Event NoMemory)
+
 module _ {F Q R C K S M P : Type 0} {f : _} {c : _} {q : _} {m : _} {r : _} (space : SpaceId) (now : ℕ)
     (ranges : List (ℕ × ℕ)) (ack : Ack) (old new : Sender F Q R C K S M P f c q m r) where
   -- nothing is newly acknowledged
@@ -173,6 +190,12 @@ module _ {F Q R C K S M P : Type 0} {f : _} {c : _} {q : _} {m : _} {r : _} (spa
     pub tracked : ByPasts old (AcksTracked space ranges acked.numbers.items)
     pub none : acked.numbers.items ≡ [] → TellsNone acked
     pub some : (acked.numbers.items ≡ [] → ⊥) → Acknowledges space now ranges ack elicits old acked new
+
+  -- with what it newly acknowledges known
+  pub record TakesNewly (newly : Newly) (acked : Acknowledged) : Type 0 where
+    pub numbers : acked.numbers.items ≡ newly.numbers.items
+    pub none : newly.numbers.items ≡ [] → TellsNone acked
+    pub some : (newly.numbers.items ≡ [] → ⊥) → Acknowledges space now ranges ack newly.elicits old acked new
 
   -- or it is refused, and nothing changes: for what it says, or for want of memory
   abbrev pub OnAck : Result Acknowledged Refused → Type 0

@@ -7,5 +7,5 @@ pub mod sender;
 
 pub use recovery_losses::{Ack, Due};
 pub use sender::{
-    Acknowledged, EcnEnd, Losses, Refused, Sender, Side, Timeout, Transmission, Variables, passes,
+    Acknowledged, EcnEnd, Losses, Newly, Refused, Sender, Side, Timeout, Transmission, Variables, passes,
 };

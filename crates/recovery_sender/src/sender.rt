@@ -18,7 +18,7 @@ mod packets;
 mod probes;
 mod timer;
 
-pub use acks::{Acknowledged, EcnEnd};
+pub use acks::{Acknowledged, EcnEnd, Newly};
 pub use events::passes;
 pub use losses::Losses;
 pub use packets::Transmission;

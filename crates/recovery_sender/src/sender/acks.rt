@@ -1,5 +1,5 @@
 //! An ACK frame comes in (RFC 9002, A.7; RFC 9000, 13.1 and 13.4.2).
-ghost use Rattle.std.specs.Prelude.{◌≡◌, ◌≢◌, ◌∷◌, [], None, ◌+◌, ◌^◌, ◌≤◌, ◌<◌, true, false, Decides, MatchOption, IfSome, IfOk, IfErr, OnOk, ℕ, Err, length, get_or, min};
+ghost use Rattle.std.specs.Prelude.{◌≡◌, ◌≢◌, ◌∷◌, [], None, ◌+◌, ◌^◌, ◌≤◌, ◌<◌, true, false, Decides, MatchOption, IfSome, IfOk, IfErr, OnOk, ℕ, Err, length, get_or, min, option_copied};
 ghost use Rattle.recovery_events.specs.declared.event.Event.TheVariants.{CheckAck, EndAcks};
 ghost use Rattle.recovery_losses.specs.Losses.{AreRising, IsOneOf};
 ghost use Rattle.quic_recovery.specs.State.{OnlyTells};
@@ -9,7 +9,7 @@ ghost use Rattle.recovery_sender.specs.Losses.{largest_in};
 ghost use Rattle.recovery_sender.specs.Promises.Acked.{AcksTracked};
 ghost use Rattle.recovery_sender.specs.Promises.Pasts.{ByPasts};
 ghost use Rattle.recovery_sender.specs.Senders.{parts_in, packets_in, space_in};
-ghost use Rattle.recovery_sender.specs.Acking.{OnAck, acking, first_marked, heard_in, is_marked, is_raised, largest_sent, marks_now, rtt_of, sent_on, unmarked, with_marks_now, Acknowledges, EcnCompared, EcnComes, Samples};
+ghost use Rattle.recovery_sender.specs.Acking.{IsNewly, OnAck, TakesNewly, acking, first_marked, heard_in, is_marked, is_raised, largest_sent, marks_now, rtt_of, sent_on, unmarked, with_marks_now, Acknowledges, EcnCompared, EcnComes, Samples};
 ghost use Rattle.recovery_sender.specs.Steps.{marked, occurs, Does, Goes};
 ghost use Rattle.recovery_ledger.specs.Discarded.{is_discarded};
 ghost use Rattle.recovery_ledger.specs.Packets.{packet_at};
@@ -20,6 +20,7 @@ use quic_recovery::congestion::ControllerFactory;
 use quic_recovery::event::PathName;
 use quic_recovery::paths::{PathMarks, PathResponses};
 use quic_recovery::queue::RetransmitQueue;
+use quic_recovery::spaces::SentPacket;
 use quic_recovery::time::{Duration, Instant};
 use quic_recovery::{Answer, Event, Refusal};
 use rand_core::Rng;
@@ -51,9 +52,9 @@ pub struct Acknowledged {
 #[derive(Drop)]
 pub struct Newly {
     /// The numbers, rising.
-    numbers: Vec<u64>,
+    pub numbers: Vec<u64>,
     /// Whether one of them elicits an ACK.
-    elicits: bool,
+    pub elicits: bool,
 }
 
 impl Variables {
@@ -147,22 +148,51 @@ where
     ) -> Result<Acknowledged, Refused>
         ensures { OnAck space now ranges.now ack self.old self.new result }
     {
-        if let Err(refused) = self.check_ack(space, ranges) {
-            return Err(refused);
-        }
         let newly = match self.newly_acked(space, ranges, room) {
             Ok(newly) => newly,
             Err(refused) => return Err(refused),
         };
+        Ok(self.on_newly_acked(space, now, ranges, ack, newly))
+    }
+
+    /// What a frame with these ranges would newly acknowledge, were it taken now: so that what its packets carry can be
+    /// looked at while they are tracked. The list takes the memory of another. Refused as [`Sender::on_ack`].
+    pub fn newly_acked(
+        &self,
+        space: SpaceId,
+        ranges: &[(u64, u64)],
+        room: Vec<u64>,
+    ) -> Result<Newly, Refused>
+        ensures { IsNewly space ranges.now self.now result }
+    {
+        if let Err(refused) = self.check_ack(space, ranges) {
+            return Err(refused);
+        }
+        self.find_newly(space, ranges, room)
+    }
+
+    /// The second half of [`Sender::on_ack`], with what [`Sender::newly_acked`] says of the frame now.
+    pub fn on_newly_acked(
+        &mut self,
+        space: SpaceId,
+        now: Instant,
+        ranges: &[(u64, u64)],
+        ack: Ack,
+        newly: Newly,
+    ) -> Acknowledged
+        requires newly { AreNewly (packets_in (parts_in self.old) space) ranges.now 0
+            newly.numbers.items newly.elicits }
+        ensures { TakesNewly space now ranges.now ack self.old self.new newly result }
+    {
         if newly.numbers.is_empty() {
             self.set_loss_detection_timer();
-            return Ok(Acknowledged {
+            return Acknowledged {
                 numbers: newly.numbers,
                 losses: Losses::none(self.alloc),
                 ecn: EcnEnd::Quiet,
-            });
+            };
         }
-        Ok(self.acknowledge(space, now, ranges, ack, newly))
+        self.acknowledge(space, now, ranges, ack, newly)
     }
 
     /// Whether a frame may be taken. Refused by `SpaceDiscarded`, by `BadRange` where its ranges are none, by `Unsent`
@@ -246,7 +276,7 @@ where
 
     /// What a frame newly acknowledges, in place of what a list held. Refused by `NoMemory`. It costs its ranges and
     /// what they newly acknowledge, each with a logarithm.
-    fn newly_acked(
+    fn find_newly(
         &self,
         space: SpaceId,
         ranges: &[(u64, u64)],
@@ -295,15 +325,23 @@ where
         }
     }
 
-    /// When a tracked packet was sent, where that was on the path in use (RFC 9000, 9.4).
-    fn sent_on(&self, space: SpaceId, number: u64) -> Option<Instant>
-        ensures { result ≡ sent_on (parts_in self.now) space number }
+    /// A packet that is tracked in a space, by its number. It costs a logarithm.
+    pub fn tracked(&self, space: SpaceId, number: u64) -> Option<&SentPacket<Q>>
+        ensures { option_copied result ≡ packet_at (packets_in (parts_in self.now) space) number }
     {
         let here = self.space(space)?;
         let (found, packet) = here.sent_packets.tracked_from(number)?;
         if found != number {
             return None;
         }
+        Some(packet)
+    }
+
+    /// When a tracked packet was sent, where that was on the path in use (RFC 9000, 9.4).
+    fn sent_on(&self, space: SpaceId, number: u64) -> Option<Instant>
+        ensures { result ≡ sent_on (parts_in self.now) space number }
+    {
+        let packet = self.tracked(space, number)?;
         if packet.path_generation != self.path().generation() {
             return None;
         }

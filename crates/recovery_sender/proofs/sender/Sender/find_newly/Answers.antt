@@ -4,7 +4,7 @@ use Rattle.recovery_sender.specs.Senders.{parts_in, packets_in}
 use Rattle.recovery_sender.proofs.AckLaws.{newly_on}
 use Rattle.recovery_losses.proofs.FrameLaws.{are_fine, ranges_are, small_all}
 use Rattle.recovery_sender.proofs.PromiseLaws.{acks_tracked}
-use Rattle.recovery_sender.proofs.sender.Sender.newly_acked.Goals as goal
+use Rattle.recovery_sender.proofs.sender.Sender.find_newly.Goals as goal
 
 pub take_range-requires-clause-whole : goal.take_range-requires-clause-whole
 take_range-requires-clause-whole g c =
