@@ -15,6 +15,18 @@ static void numbers(struct recovery_handle *sender, const char *what, bool lost)
     }
 }
 
+// The packets that were acknowledged, each with its items.
+static void packets(struct recovery_handle *sender) {
+    uint64_t out[16];
+    size_t count = recovery_ffi_told_packets(sender, out, 16);
+    for (size_t at = 0; at < count && count <= 16; at += 2 + out[at + 1]) {
+        printf(" %" PRIu64 " with %" PRIu64, out[at], out[at + 1]);
+        for (size_t item = 0; item < out[at + 1]; item++) {
+            printf(": %" PRIu64, out[at + 2 + item]);
+        }
+    }
+}
+
 static void timer(struct recovery_handle *sender) {
     struct recovery_momentview moment = recovery_ffi_timer(sender, RECOVERY_TIMER_LOSS_DETECTION);
     if (moment.some) {
@@ -29,6 +41,7 @@ static void tell(struct recovery_handle *sender, struct recovery_reply reply) {
     if (reply.kind == RECOVERY_ANSWER_ACKNOWLEDGED || reply.kind == RECOVERY_ANSWER_LOSSES) {
         struct recovery_toldview told = recovery_ffi_told(sender);
         numbers(sender, "acked", false);
+        packets(sender);
         numbers(sender, "lost", true);
         printf(" of %" PRIu64 " bytes", told.has_congestion ? told.congestion : 0);
     }

@@ -1,6 +1,6 @@
 -- Worked rows of the promise that contents are neither lost nor doubled, computed: with the right answers it comes out,
 -- and with a wrong one it does not. Nothing rests on them.
-use Rattle.std.proofs.Common.{◌≡◌, ℕ, ◌+◌, ◌==◌, true, false, [], ◌∷◌, None, Some, Ok, Err, refl, arith}
+use Rattle.std.proofs.Common.{◌≡◌, ℕ, ◌+◌, ◌==◌, max, true, false, [], ◌∷◌, None, Some, Ok, Err, refl, arith}
 use Rattle.rand_core.specs.Stream.{Stream}
 use Rattle.recovery_base.specs.declared.below.SpaceId.TheVariants.{Initial, Handshake}
 use Rattle.recovery_congestion.specs.Controllers.{ControllerWords}
@@ -11,7 +11,7 @@ use Rattle.recovery_events.specs.declared.event.Answer.TheVariants as answer
 use Rattle.recovery_events.specs.declared.event.Refusal.TheVariants as refusal
 use Rattle.quic_recovery.specs.History.{Beginning, History, begins, queue_meaning}
 use Rattle.quic_recovery.specs.Promises.Contents.{LosesNothing, outgoing, held, gone}
-use Rattle.quic_recovery.specs.Promises.Measures.{AddsUp}
+use Rattle.quic_recovery.specs.Promises.Measures.{AddsUp, Totals}
 
 -- contents that are numbers of bytes, which are joined by adding them
 abbrev words : QueueWords ℕ (Unit {0})
@@ -20,8 +20,33 @@ words = record { empty = 0; joined = λ p r. p + r; is_empty = λ p streams. p =
 abbrev bytes : ℕ → ℕ
 bytes n = n
 
-adds : AddsUp words bytes
+abbrev sums : Totals ℕ
+sums = record {
+  zero = 0;
+  plus = λ a b. a + b;
+  unit = λ a. omega arith;
+  commutes = λ a b. omega arith;
+  associates = λ a b c. omega arith;
+}
+
+adds : AddsUp words sums bytes
 adds = record { empty = refl; joined = λ p r. refl }
+
+-- contents that are a flag, which stays where it joins itself
+abbrev flag_words : QueueWords ℕ (Unit {0})
+flag_words = record { empty = 0; joined = λ p r. max p r; is_empty = λ p streams. p == 0 }
+
+abbrev flags : Totals ℕ
+flags = record {
+  zero = 0;
+  plus = λ a b. max a b;
+  unit = λ a. omega arith;
+  commutes = λ a b. omega arith;
+  associates = λ a b c. omega arith;
+}
+
+joins : AddsUp flag_words flags bytes
+joins = record { empty = refl; joined = λ p r. refl }
 
 module _ (F K M : Type 0) (built : F → ℕ → ℕ → K) (controller : ControllerWords K) (config : RecoveryConfig F)
     (random : Stream) (frames : M) where
@@ -38,16 +63,16 @@ module _ (F K M : Type 0) (built : F → ℕ → ℕ → K) (controller : Contro
       ∷ (event.Send Initial 4 1200 true None 5 frames, Ok (answer.Sent 0 None))
       ∷ []
 
-  went_out : outgoing start bytes Initial waiting ≡ 8
+  went_out : outgoing start sums bytes Initial waiting ≡ 8
   went_out = refl
 
-  all_wait : held start bytes Initial waiting ≡ 8
+  all_wait : held start sums bytes Initial waiting ≡ 8
   all_wait = refl
 
-  none_gone : gone start bytes Initial waiting ≡ 0
+  none_gone : gone start sums bytes Initial waiting ≡ 0
   none_gone = refl
 
-  none_elsewhere : held start bytes Handshake waiting ≡ 0
+  none_elsewhere : held start sums bytes Handshake waiting ≡ 0
   none_elsewhere = refl
 
   -- they were handed out; of 7 more and 4 more the 7 were acknowledged, and the 4 discarded with the space
@@ -60,26 +85,49 @@ module _ (F K M : Type 0) (built : F → ℕ → ℕ → K) (controller : Contro
       ∷ (event.TakePending Initial, Ok (answer.Queue 8))
       ∷ waiting
 
-  all_out : outgoing start bytes Initial past ≡ 19
+  all_out : outgoing start sums bytes Initial past ≡ 19
   all_out = refl
 
-  all_gone : gone start bytes Initial past ≡ 19
+  all_gone : gone start sums bytes Initial past ≡ 19
   all_gone = refl
 
-  none_held : held start bytes Initial past ≡ 0
+  none_held : held start sums bytes Initial past ≡ 0
   none_held = refl
 
   -- what is handed out is what waits, no less and no more
   less_is_wrong : ¬ LosesNothing start ((event.TakePending Initial, Ok (answer.Queue 5)) ∷ waiting)
-  less_is_wrong = λ e. let lost = e bytes adds Initial in omega (arith, lost)
+  less_is_wrong = λ e. let lost = e sums bytes adds Initial in omega (arith, lost)
 
   twice_is_wrong : ¬ LosesNothing start
       ((event.TakePending Initial, Ok (answer.Queue 8)) ∷ (event.TakePending Initial, Ok (answer.Queue 8)) ∷ waiting)
-  twice_is_wrong = λ e. let doubled = e bytes adds Initial in omega (arith, doubled)
+  twice_is_wrong = λ e. let doubled = e sums bytes adds Initial in omega (arith, doubled)
 
   -- and none is forgotten before there are 1001 that elicit no ACK
   early_is_wrong : ¬ LosesNothing start
       ((event.Send Initial 5 100 false None 3 frames, Ok (answer.Sent 1 (Some 0)))
       ∷ (event.Send Initial 4 100 false None 5 frames, Ok (answer.Sent 0 None))
       ∷ [])
-  early_is_wrong = λ e. let doubled = e bytes adds Initial in omega (arith, doubled)
+  early_is_wrong = λ e. let doubled = e sums bytes adds Initial in omega (arith, doubled)
+
+  -- a flag went out twice; once it was acknowledged, once lost
+  abbrev flagged : Beginning F K ℕ (Unit {0}) M ℕ
+  flagged = begins built controller (queue_meaning (λ n. n) flag_words frames) config 0 random
+
+  abbrev sent_twice : History ℕ (Unit {0}) M ℕ
+  sent_twice =
+      (event.Lost Initial 1, Ok (answer.Lost false))
+      ∷ (event.Acked Initial 7 0 false, Ok (answer.Acked false))
+      ∷ (event.Send Initial 5 1200 true None 1 frames, Ok (answer.Sent 1 None))
+      ∷ (event.Send Initial 4 1200 true None 1 frames, Ok (answer.Sent 0 None))
+      ∷ []
+
+  still_held : held flagged flags bytes Initial sent_twice ≡ 1
+  still_held = refl
+
+  -- one that was lost is handed out
+  lost_is_wrong : ¬ LosesNothing flagged
+      ((event.TakePending Initial, Ok (answer.Queue 0))
+      ∷ (event.Lost Initial 0, Ok (answer.Lost false))
+      ∷ (event.Send Initial 4 1200 true None 1 frames, Ok (answer.Sent 0 None))
+      ∷ [])
+  lost_is_wrong = λ e. let gone = e flags bytes joins Initial in omega (arith, gone)

@@ -9,10 +9,10 @@ use Rattle.recovery_ledger.specs.Packets.{Packets}
 use Rattle.recovery_ledger.specs.Spaces.{space_of}
 use Rattle.recovery_sender.specs.Abandoning.{Abandons}
 use Rattle.recovery_sender.specs.Acking.{OnAck}
-use Rattle.recovery_sender.specs.Calls.{begun_anew, bytes_in_flight, discard_reply, is_checked, transmit_reply, transmit_steps, window_of}
+use Rattle.recovery_sender.specs.Calls.{begun_anew, bytes_in_flight, challenged, discard_reply, is_checked, transmit_reply, transmit_steps, window_of}
 use Rattle.recovery_sender.specs.Senders.{parts_in, packets_in}
 use Rattle.recovery_sender.specs.Steps as Steps
-use Rattle.recovery_sender.specs.Steps.{Does}
+use Rattle.recovery_sender.specs.Steps.{Does, marked}
 use Rattle.recovery_sender.specs.Timeouts.{TimesOut}
 use Rattle.recovery_losses.specs.declared.frames.Ack.{Ack}
 use Rattle.recovery_sender.specs.declared.sender.acks.Acknowledged.{Acknowledged}
@@ -37,7 +37,7 @@ use Rattle.recovery_ffi.specs.declared.numbers.TheConstants.{ANSWER_ACKNOWLEDGED
 use Rattle.recovery_ffi.specs.declared.sender.AckFrame.{AckFrame}
 use Rattle.recovery_ffi.specs.declared.sending.AckRange.{AckRange}
 use Rattle.recovery_ffi.specs.declared.sending.Call.{Call}
-use Rattle.recovery_ffi.specs.declared.sending.Call.TheVariants.{Transmit, TakeAck, Expire, Discard, Abandon, HandshakeKeys, HandshakeConfirmed, PeerDelay}
+use Rattle.recovery_ffi.specs.declared.sending.Call.TheVariants.{Transmit, TakeAck, Expire, Discard, Abandon, HandshakeKeys, HandshakeConfirmed, PeerDelay, Challenge}
 use Rattle.recovery_ffi.specs.declared.sending.Sending.{Sending}
 use Rattle.recovery_ffi.specs.declared.sending.Told.{Told}
 use Rattle.recovery_ffi.specs.declared.sending.ToldView.{ToldView}
@@ -183,6 +183,14 @@ confirmed variables = record variables { is_handshake_confirmed = true; is_addre
 abbrev pub delayed_by : ℕ → Variables → Variables
 delayed_by span variables = record variables { max_ack_delay = span }
 
+-- a challenge of the path in use is open, or none (RFC 9000, 8.2.1)
+pub record Challenges (data : Option ℕ) (pending : Bool) (old : Sending) (spelling : Reply) (new : Sending) : Type 0
+  where
+    pub does : Does (marked (challenged (parts_in old.sender) data pending) ∷ []) old.sender.variables old.sender
+        new.sender
+    pub spells : spelling ≡ plain ANSWER_DONE
+    pub told : new.told ≡ old.told
+
 -- a call, with the ranges of an ACK frame beside it
 abbrev pub Says : Call → List AckRange → Sending → Reply → Sending → Type 0
 Says (Transmit now bytes space in_flight) given old spelling new =
@@ -194,6 +202,7 @@ Says (Abandon space now) given old spelling new = Forsakes space now old spellin
 Says HandshakeKeys given old spelling new = IsSaid keyed old spelling new
 Says HandshakeConfirmed given old spelling new = IsSaid confirmed old spelling new
 Says (PeerDelay span) given old spelling new = IsSaid (delayed_by span) old spelling new
+Says (Challenge data pending) given old spelling new = Challenges data pending old spelling new
 
 -- ---- of what a handle holds
 

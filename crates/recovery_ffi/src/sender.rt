@@ -2,15 +2,15 @@
 //! a datagram may go out. An export for each call of it that is no event; events that pass it takes as a recovery does.
 ghost use Rattle.std.specs.Prelude.{◌≡◌, Some};
 ghost use Rattle.recovery_ffi.specs.Answers.{Reads};
-ghost use Rattle.recovery_ffi.specs.Codes.{side_coded, space_coded, span};
+ghost use Rattle.recovery_ffi.specs.Codes.{maybe, side_coded, space_coded, span};
 ghost use Rattle.recovery_ffi.specs.Kept.{numbers_told, packets_told, pto_count_of};
 ghost use Rattle.recovery_ffi.specs.Made.{NewOr};
 ghost use Rattle.recovery_ffi.specs.Sending.{ack_given, frame_given, no_told, told_view, Asks, AsksAck, AsksTo};
 ghost use Rattle.recovery_ffi.specs.Views.{IsWritten};
-ghost use Rattle.recovery_ffi.specs.declared.sending.Call.TheVariants.{Transmit, Expire, Discard, Abandon, HandshakeKeys, HandshakeConfirmed, PeerDelay};
+ghost use Rattle.recovery_ffi.specs.declared.sending.Call.TheVariants.{Transmit, Expire, Discard, Abandon, HandshakeKeys, HandshakeConfirmed, PeerDelay, Challenge};
 
 use crate::begin;
-use crate::codes::{Address, space_coded, span};
+use crate::codes::{Address, maybe, space_coded, span};
 use crate::handle::Handle;
 use crate::sending::{AckRange, Call, ToldView};
 use crate::settings::Settings;
@@ -268,6 +268,24 @@ pub extern "C" fn recovery_ffi_sender_peer_delay(
         Some(span) => handle.ask(alloc, Call::PeerDelay(span)),
         None => Reply::bad_argument(),
     }
+}
+
+/// A PATH_CHALLENGE frame with this data is open on the path in use, where `is_open`, and one is to be sent, where
+/// `pending` (RFC 9000, 8.2.1): `ANSWER_DONE`. While one is open the window does not grow: what is acknowledged may have
+/// gone by the path before it (RFC 9000, 9.4).
+#[unsafe(no_mangle)]
+pub extern "C" fn recovery_ffi_sender_challenge(
+    alloc: Global,
+    handle: &mut Handle,
+    data: u64,
+    is_open: bool,
+    pending: bool,
+) -> Reply
+    ensures { Asks handle.old.slot.held (Challenge (maybe is_open data) pending)
+        result handle.new.slot.held }
+{
+    let data = maybe(is_open, data);
+    handle.ask(alloc, Call::Challenge { data, pending })
 }
 
 /// How many probe timeouts expired in a row, by which the next one is doubled (RFC 9002, 6.2.1); 0 where there is no

@@ -4,7 +4,7 @@ ghost use Rattle.recovery_sender.specs.declared.sender.probes.Timeout.TheVariant
 ghost use Rattle.recovery_sender.specs.Senders.{parts_in, packets_in};
 ghost use Rattle.recovery_ffi.specs.Kept.{items_of, numbers_of, packets_listed, IsNothing, LosesAlone};
 ghost use Rattle.recovery_ffi.specs.Replies.{plain};
-ghost use Rattle.recovery_ffi.specs.Sending.{acknowledged_spelled, confirmed, delayed_by, ecn_number, is_quiet, keyed, lost_alone, no_told, range_given, refused_spelled, timeout_spelled, tells_more, told_shown, transmission_spelled, Acks, Discards, Expires, Forsakes, IsSaid, Says, TakesFrame, Transmits};
+ghost use Rattle.recovery_ffi.specs.Sending.{acknowledged_spelled, confirmed, delayed_by, ecn_number, is_quiet, keyed, lost_alone, no_told, range_given, refused_spelled, timeout_spelled, tells_more, told_shown, transmission_spelled, Acks, Challenges, Discards, Expires, Forsakes, IsSaid, Says, TakesFrame, Transmits};
 
 use crate::codes::space_number;
 use crate::kept::ItemSender;
@@ -89,6 +89,11 @@ pub enum Call {
     HandshakeConfirmed,
     /// The peer delays its ACKs at most so long.
     PeerDelay(Duration),
+    /// A PATH_CHALLENGE frame is open on the path in use, or none, and one is to be sent, or none.
+    Challenge {
+        data: Option<u64>,
+        pending: bool,
+    },
 }
 
 /// What was told last: of an ACK frame, of a timeout that found losses, or of an abandoned space.
@@ -348,6 +353,7 @@ impl Sending {
             Call::HandshakeKeys => self.handshake_keys(),
             Call::HandshakeConfirmed => self.handshake_confirmed(),
             Call::PeerDelay(span) => self.peer_delay(span),
+            Call::Challenge { data, pending } => self.challenge(data, pending),
         }
     }
 
@@ -468,6 +474,12 @@ impl Sending {
         ensures { IsSaid (delayed_by span) self.old result self.new }
     {
         self.sender.set_peer_max_ack_delay(span);
+        Reply::plain(ANSWER_DONE)
+    }
+    fn challenge(&mut self, data: Option<u64>, pending: bool) -> Reply
+        ensures { Challenges data pending self.old result self.new }
+    {
+        self.sender.set_challenge(data, pending);
         Reply::plain(ANSWER_DONE)
     }
 }

@@ -1,5 +1,5 @@
 -- What a sender promises by the events before a call.
-use Rattle.std.proofs.Common.{◌≡◌, ◌≢◌, ◌⊎◌, ◌≤◌, ℕ, false, Bool, true≢false, ◌==◌, List, [], ◌∷◌, length, Option, None, Some, inl, inr, refl, sym, ap, subst, ◌∙◌}
+use Rattle.std.proofs.Common.{◌≡◌, ◌≢◌, ◌⊎◌, ◌≤◌, ℕ, true, false, Bool, true≢false, ◌==◌, List, [], ◌∷◌, length, Option, None, Some, inl, inr, refl, sym, ap, subst, ◌∙◌}
 use Rattle.std.proofs.lemmas.Bool.Decides.{eqb_tells}
 use Rattle.std.proofs.lemmas.Option.{none-some, same_Some}
 use Rattle.std.specs.Global.{Vec}
@@ -29,6 +29,16 @@ pub some_left : (numbers : Vec ℕ) → false ≡ (numbers.len == 0) → numbers
 some_left numbers some none = elim (eqb_tells numbers.len 0) [
   | inl same ↦ true≢false (sym (some ∙ same.0))
   | inr apart ↦ apart.1 (numbers.ok.0 ∙ ap (λ (items : List ℕ). length items) none)
+]
+
+no_items : (items : List ℕ) → length items ≡ 0 → items ≡ []
+no_items [] none = refl
+no_items (item ∷ items) none = absurd cc
+
+pub none_left : (numbers : Vec ℕ) → true ≡ (numbers.len == 0) → numbers.items ≡ []
+none_left numbers none = elim (eqb_tells numbers.len 0) [
+  | inl same ↦ no_items numbers.items (sym numbers.ok.0 ∙ same.1)
+  | inr apart ↦ absurd (true≢false (none ∙ apart.0))
 ]
 
 -- ---- a frame in two steps

@@ -1,5 +1,5 @@
 -- What an ACK frame comes to (RFC 9002, 5.1, 5.3, 6.2.1, A.7 and B.7; RFC 9000, 13.4.2.1), step after step.
-use Rattle.std.specs.Prelude.{◌≡◌, ℕ, ◌-◌, ◌||◌, ◌==◌, min, nat_lt, ◌⊎◌, Bool, true, false, List, [], ◌∷◌, length, map, Option, None, Some, option_map, Result, Ok, Err, if◌then◌else◌}
+use Rattle.std.specs.Prelude.{◌≡◌, ℕ, ◌-◌, ◌||◌, ◌==◌, min, nat_lt, ◌⊎◌, Bool, true, false, List, [], ◌∷◌, length, map, Option, None, Some, option_map, is_some, Result, Ok, Err, if◌then◌else◌}
 use Rattle.std.specs.Option.{option_and_then}
 use Rattle.recovery_base.specs.declared.below.SpaceId.{SpaceId}
 use Rattle.recovery_base.specs.declared.below.SpaceId.TheVariants.{Handshake}
@@ -126,6 +126,11 @@ module _ {F Q R C K S M P : Type 0} {f : _} {c : _} {q : _} {m : _} {r : _} (spa
 
 -- ---- a frame that newly acknowledges something
 
+-- the window is not to grow: too little was there to be sent (RFC 9002, 7.8), or the path in use is being validated, so
+-- that what comes may be for the path before it (RFC 9000, 9.4)
+abbrev pub is_limited : {K P M : Type 0} → Parts K P M → Bool → Bool
+is_limited recovery app_limited = app_limited || is_some (marks_now recovery).challenge
+
 -- a sample of the RTT: since the largest number of the frame was sent, where it is newly acknowledged and was sent on
 -- the path in use, and something newly acknowledged elicits an ACK (RFC 9002, 5.1)
 abbrev pub rtt_of : {K P M : Type 0} → Parts K P M → SpaceId → ℕ → List (ℕ × ℕ) → Bool → Option ℕ
@@ -142,8 +147,9 @@ pub record Acknowledges {F Q R C K S M P : Type 0} {f : _} {c : _} {q : _} {m : 
   pub looked : Sender F Q R C K S M P f c q m r
   pub heard : Sender F Q R C K S M P f c q m r
   -- each number is told acknowledged, and that these were all
-  pub acks : Goes (acking space now ack.app_limited acked.numbers.items) old taken
-  pub ends : Goes (occurs (EndAcks now ack.app_limited (largest_in (parts_in taken) space)) ∷ []) taken ended
+  pub acks : Goes (acking space now (is_limited (parts_in old) ack.app_limited) acked.numbers.items) old taken
+  pub ends : Goes (occurs (EndAcks now (is_limited (parts_in old) ack.app_limited)
+      (largest_in (parts_in taken) space)) ∷ []) taken ended
   -- the RTT is sampled, losses are looked for, and the counts of ECN compared
   pub samples : Samples space ack.delay ended sampled (rtt_of (parts_in old) space now ranges elicits)
   pub detects : Detects space now true sampled acked.losses looked
@@ -158,13 +164,13 @@ pub record Acknowledges {F Q R C K S M P : Type 0} {f : _} {c : _} {q : _} {m : 
 -- it may be taken, and this is what it newly acknowledges; or it is refused
 module _ {F Q R C K S M P : Type 0} {f : _} {c : _} {q : _} {m : _} {r : _} (space : SpaceId) (ranges : List (ℕ × ℕ))
     (sender : Sender F Q R C K S M P f c q m r) where
-  pub record MayTake (newly : Newly) : Type 0 where
+  pub record MayTake (found : Newly) : Type 0 where
     pub whole : AreWhole space ranges sender.recovery.recovery
     pub sent : WereSent space ranges sender.recovery.recovery
     pub allowed : AreAllowed space ranges sender.recovery.recovery
-    pub newly : AreNewly (packets_in (parts_in sender) space) ranges 0 newly.numbers.items newly.elicits
+    pub newly : AreNewly (packets_in (parts_in sender) space) ranges 0 found.numbers.items found.elicits
     -- that is what the events before say
-    pub tracked : ByPasts sender (AcksTracked space ranges newly.numbers.items)
+    pub tracked : ByPasts sender (AcksTracked space ranges found.numbers.items)
 
   abbrev pub IsNewly : Result Newly Refused → Type 0
   IsNewly (Ok newly) = MayTake newly

@@ -14,7 +14,7 @@ use Rattle.recovery_ledger.specs.Discarded.{is_discarded}
 use Rattle.recovery_ledger.specs.Paths.{counters_of}
 use Rattle.recovery_ledger.specs.Spaces.{space_of}
 use Rattle.recovery_paths.specs.PathLog.{paths_marks}
-use Rattle.recovery_paths.specs.PathStates.{is_blocked, path_delay}
+use Rattle.recovery_paths.specs.PathStates.{PathMarks, is_blocked, path_delay}
 use Rattle.quic_recovery.specs.declared.driver.RecoveryConfig.{RecoveryConfig}
 use Rattle.quic_recovery.specs.Above.{AreFresh, HasNoLossTime}
 use Rattle.quic_recovery.specs.History.{Reply, begins, queue_meaning}
@@ -32,6 +32,11 @@ use Rattle.recovery_sender.specs.declared.sender.Variables.{Variables}
 use Rattle.recovery_sender.specs.Senders.{parts_in, fresh}
 use Rattle.recovery_sender.specs.Steps.{Step, told, Goes, Does}
 use Rattle.recovery_sender.specs.Timer.{due_of, is_server}
+
+-- the path in use, with this challenge open or none, and with one that is to be sent or none (RFC 9000, 8.2.1)
+abbrev pub challenged : {K P M : Type 0} → Parts K P M → Option ℕ → Bool → PathMarks
+challenged recovery challenge pending =
+    record recovery.paths.current.marks { challenge = challenge; challenge_pending = pending }
 
 -- ---- whether a datagram goes out (RFC 9002, 7; RFC 9000, 8.1)
 

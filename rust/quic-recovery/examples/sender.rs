@@ -4,7 +4,7 @@
 //!     sender              the other end throws every ninth datagram away
 //!     sender PERCENT      so many of a hundred datagrams are thrown away, both ways: 0 to 30
 use quic_recovery::*;
-use std::collections::{BTreeMap, BTreeSet, VecDeque};
+use std::collections::{BTreeSet, VecDeque};
 use std::error::Error;
 use std::io::ErrorKind;
 use std::net::{SocketAddr, UdpSocket};
@@ -115,13 +115,12 @@ fn receive(
     }
 }
 
-/// The end that sends. It finds no loss itself: it keeps the items of its packets, to know which of them came.
+/// The end that sends. It finds no loss itself, and keeps no list of its packets.
 struct Stack {
     sender: Sender,
     socket: UdpSocket,
     began: Clock,
     waiting: VecDeque<u64>,
-    carried: BTreeMap<u64, Vec<u64>>,
     told: Acknowledged,
     acked: BTreeSet<u64>,
     packets: u64,
@@ -142,7 +141,6 @@ impl Stack {
             socket,
             began,
             waiting: (0..ITEMS).collect(),
-            carried: BTreeMap::new(),
             told: Acknowledged::default(),
             acked: BTreeSet::new(),
             packets: 0,
@@ -162,7 +160,6 @@ impl Stack {
         let mut datagram = bytes(head.into_iter().chain(items.iter().copied()));
         datagram.resize(usize::from(SIZE), 0);
         self.socket.send(&datagram)?;
-        self.carried.insert(sent.number, items);
         self.packets += 1;
         Ok(())
     }
@@ -187,12 +184,9 @@ impl Stack {
         Ok(())
     }
 
-    /// These packets are lost: their items wait to be sent again.
-    fn lose(&mut self, numbers: &[u64]) -> Outcome<()> {
-        for number in numbers {
-            self.carried.remove(number);
-            self.lost += 1;
-        }
+    /// So many packets are lost: their items wait to be sent again.
+    fn lose(&mut self, count: usize) -> Outcome<()> {
+        self.lost += count as u64;
         self.take_pending()
     }
 
@@ -202,11 +196,10 @@ impl Stack {
         let mut told = std::mem::take(&mut self.told);
         self.sender
             .on_ack_into(SPACE, now, &ack, ranges, &mut told)?;
-        for number in &told.numbers {
-            self.acked
-                .extend(self.carried.remove(number).unwrap_or_default());
+        for (_, items) in told.packets() {
+            self.acked.extend(items);
         }
-        self.lose(&told.losses.numbers)?;
+        self.lose(told.losses.numbers.len())?;
         self.told = told;
         Ok(())
     }
@@ -215,7 +208,7 @@ impl Stack {
     fn time_out(&mut self) -> Outcome<()> {
         match self.sender.on_timeout(now(self.began), false)? {
             Timeout::Nothing => {}
-            Timeout::Lost(losses) => self.lose(&losses.numbers)?,
+            Timeout::Lost(losses) => self.lose(losses.numbers.len())?,
             Timeout::Probe { count, .. } => {
                 self.take_pending()?;
                 for _ in 0..count {

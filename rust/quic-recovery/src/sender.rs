@@ -137,6 +137,45 @@ pub struct Acknowledged {
     pub losses: Losses,
     /// What its counts of ECN come to.
     pub ecn: EcnEnd,
+    /// Of each of these packets its number, how many items it carried, and these.
+    words: Vec<u64>,
+}
+
+impl Acknowledged {
+    /// The packets that it newly acknowledges, by rising numbers, each with the items that it carried still: what was sent
+    /// with it, but for what a probe moved into another one (RFC 9000, 13.3).
+    pub fn packets(&self) -> Packets<'_> {
+        Packets { words: &self.words }
+    }
+
+    /// The numbers of these packets.
+    fn number(&mut self) -> Result<(), Refusal> {
+        let mut numbers = std::mem::take(&mut self.numbers);
+        numbers.clear();
+        let room = numbers.try_reserve(self.words.len() / 2);
+        if room.is_ok() {
+            numbers.extend(self.packets().map(|(number, _)| number));
+        }
+        self.numbers = numbers;
+        room.map_err(|_| Refusal::NoMemory)
+    }
+}
+
+/// Packets that an ACK frame newly acknowledges, each with its items.
+#[derive(Clone, Debug)]
+pub struct Packets<'a> {
+    words: &'a [u64],
+}
+
+impl<'a> Iterator for Packets<'a> {
+    type Item = (u64, &'a [u64]);
+
+    fn next(&mut self) -> Option<Self::Item> {
+        let (&[number, count], behind) = self.words.split_first_chunk()?;
+        let (items, rest) = behind.split_at_checked(usize::try_from(count).ok()?)?;
+        self.words = rest;
+        Some((number, items))
+    }
 }
 
 /// What a timeout comes to.
@@ -335,7 +374,7 @@ impl Sender {
         } else {
             told.losses.be_none();
             told.ecn = EcnEnd::Quiet;
-            self.numbers(false, reply.first, &mut told.numbers)?;
+            self.packets(reply.first, told)?;
         }
         Ok(())
     }
@@ -400,6 +439,16 @@ impl Sender {
         unsafe { ffi::recovery_ffi_sender_peer_delay(self.recovery.handle(), secs, nanos) };
     }
 
+    /// A PATH_CHALLENGE frame with this data is open on the path in use, or none is, and whether one is to be sent (RFC 9000,
+    /// 8.2.1). While one is open the window does not grow: what is acknowledged may have gone by the path before it (RFC
+    /// 9000, 9.4).
+    pub fn set_challenge(&mut self, challenge: Option<u64>, pending: bool) {
+        let (data, is_open) = (challenge.unwrap_or(0), challenge.is_some());
+        let handle = self.recovery.handle();
+        // SAFETY: the handle holds a recovery, and `self` is borrowed alone.
+        unsafe { ffi::recovery_ffi_sender_challenge(handle, data, is_open, pending) };
+    }
+
     /// The keys of a space are dropped, and with them all that it tracks; probe timeouts are counted anew (RFC 9002,
     /// 6.2.2, 6.4 and A.11). Refused by `SpaceDiscarded`.
     pub fn discard(&mut self, space: SpaceId, now: Instant) -> Result<(), Refused> {
@@ -440,8 +489,8 @@ impl Sender {
     pub fn told(&self, into: &mut Acknowledged) -> Result<(), Refusal> {
         // SAFETY: the handle holds a recovery, and no other call runs.
         let view = unsafe { ffi::recovery_ffi_told(self.recovery.handle()) };
-        self.numbers(false, view.acked, &mut into.numbers)?;
-        self.numbers(true, view.lost, &mut into.losses.numbers)?;
+        self.packets(view.acked, into)?;
+        self.lost(view.lost, &mut into.losses.numbers)?;
         into.losses.probe = view.has_probe.then_some(view.probe);
         into.losses.congestion = view.has_congestion.then_some(view.congestion);
         into.losses.is_persistent = view.is_persistent;
@@ -454,8 +503,29 @@ impl Sender {
         Ok(())
     }
 
-    /// The numbers that were acknowledged, or those that were lost, in place of what a vector held.
-    fn numbers(&self, lost: bool, count: u64, into: &mut Vec<u64>) -> Result<(), Refusal> {
+    /// So many packets that were acknowledged, in place of what was told before.
+    fn packets(&self, count: u64, into: &mut Acknowledged) -> Result<(), Refusal> {
+        let least = usize::try_from(count).map_err(|_| Refusal::NoMemory)? * 2;
+        let mut wanted = least.max(into.words.len());
+        loop {
+            let had = into.words.len();
+            into.words
+                .try_reserve(wanted.saturating_sub(had))
+                .map_err(|_| Refusal::NoMemory)?;
+            into.words.resize(wanted, 0);
+            let (handle, out) = (self.recovery.handle(), into.words.as_mut_ptr());
+            // SAFETY: the handle holds a recovery, no other call runs, and so many words are there.
+            let there = unsafe { ffi::recovery_ffi_told_packets(handle, out, wanted) };
+            if there <= wanted {
+                into.words.truncate(there);
+                return into.number();
+            }
+            wanted = there;
+        }
+    }
+
+    /// The numbers that were lost, in place of what a vector held.
+    fn lost(&self, count: u64, into: &mut Vec<u64>) -> Result<(), Refusal> {
         let count = usize::try_from(count).map_err(|_| Refusal::NoMemory)?;
         into.clear();
         into.try_reserve(count).map_err(|_| Refusal::NoMemory)?;
@@ -463,7 +533,7 @@ impl Sender {
         if count > 0 {
             let (handle, out) = (self.recovery.handle(), into.as_mut_ptr());
             // SAFETY: the handle holds a recovery, no other call runs, and so many numbers are there.
-            unsafe { ffi::recovery_ffi_told_numbers(handle, lost, out, count) };
+            unsafe { ffi::recovery_ffi_told_numbers(handle, true, out, count) };
         }
         Ok(())
     }

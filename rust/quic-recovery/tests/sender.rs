@@ -250,6 +250,39 @@ fn vectors_that_are_kept() {
     assert_eq!(held(&told), before);
 }
 
+/// Packets that are acknowledged come with the items that they carried; what was lost waits, and comes with none.
+#[test]
+fn packets_come_with_their_items() {
+    let (mut sender, space) = (with_packets(2), SpaceId::Data);
+    for items in [&[20, 21, 22][..], &[]] {
+        let sent = sender.send(space, at(2), 1000, true, None, items);
+        assert!(sent.is_ok());
+    }
+    let mut told = Acknowledged::default();
+    ack(&mut sender, 102, &[(2, 3), (0, 0)], &mut told);
+    let packets: Vec<(u64, &[u64])> = told.packets().collect();
+    assert_eq!(packets, [(0, &[0][..]), (2, &[20, 21, 22]), (3, &[])]);
+    assert_eq!(told.numbers, [0, 2, 3]);
+    ack(&mut sender, 103, &[(3, 3)], &mut told);
+    assert_eq!((told.packets().count(), told.numbers.len()), (0, 0));
+}
+
+/// While a challenge of the path in use is open, what is acknowledged lets the window not grow (RFC 9000, 9.4).
+#[test]
+fn a_challenge_keeps_the_window() {
+    let mut sender = with_packets(3);
+    let window = |it: &Sender| it.recovery().path(PathName::Current).unwrap().window;
+    let before = window(&sender);
+    sender.set_challenge(Some(7), false);
+    ack(&mut sender, 100, &[(0, 0)], &mut Acknowledged::default());
+    assert_eq!(window(&sender), before);
+    let marks = sender.recovery().marks(PathName::Current).unwrap();
+    assert_eq!(marks.challenge, Some(7));
+    sender.set_challenge(None, false);
+    ack(&mut sender, 101, &[(1, 1)], &mut Acknowledged::default());
+    assert_eq!(window(&sender), before + 1000);
+}
+
 /// Probe timeouts are counted until the peer is heard (RFC 9002, 6.2.1).
 #[test]
 fn probe_timeouts() {

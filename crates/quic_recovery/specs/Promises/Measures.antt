@@ -1,8 +1,17 @@
--- Measures of what is sent again when it is lost (RFC 9000, 13.3): how many items, how many bytes.
-use Rattle.std.specs.Prelude.{◌≡◌, ℕ, ◌+◌}
+-- Measures of what is sent again when it is lost (RFC 9000, 13.3): how many items, how many bytes, which flags, which
+-- streams.
+use Rattle.std.specs.Prelude.{◌≡◌}
 use Rattle.recovery_queue.specs.Queues.{QueueWords}
 
--- the empty contents measure 0, and joined ones the sum
-pub record AddsUp {P S : Type 0} (words : QueueWords P S) (measure : P → ℕ) : Type 0 where
-  pub empty : measure words.empty ≡ 0
-  pub joined : (p r : P) → measure (words.joined p r) ≡ measure p + measure r
+-- what measures are added up by: sums of numbers, flags by 'or', sets by their unions
+pub record Totals (T : Type 0) : Type 0 where
+  pub zero : T
+  pub plus : T → T → T
+  pub unit : (a : T) → plus zero a ≡ a
+  pub commutes : (a b : T) → plus a b ≡ plus b a
+  pub associates : (a b c : T) → plus (plus a b) c ≡ plus a (plus b c)
+
+-- the empty contents measure nothing, and joined ones the total
+pub record AddsUp {P S T : Type 0} (words : QueueWords P S) (totals : Totals T) (measure : P → T) : Type 0 where
+  pub empty : measure words.empty ≡ totals.zero
+  pub joined : (p r : P) → measure (words.joined p r) ≡ totals.plus (measure p) (measure r)

@@ -9,7 +9,7 @@ ghost use Rattle.recovery_sender.specs.Losses.{largest_in};
 ghost use Rattle.recovery_sender.specs.Promises.Acked.{AcksTracked};
 ghost use Rattle.recovery_sender.specs.Promises.Pasts.{ByPasts};
 ghost use Rattle.recovery_sender.specs.Senders.{parts_in, packets_in, space_in};
-ghost use Rattle.recovery_sender.specs.Acking.{IsNewly, OnAck, TakesNewly, acking, first_marked, heard_in, is_marked, is_raised, largest_sent, marks_now, rtt_of, sent_on, unmarked, with_marks_now, Acknowledges, EcnCompared, EcnComes, Samples};
+ghost use Rattle.recovery_sender.specs.Acking.{IsNewly, OnAck, TakesNewly, acking, first_marked, heard_in, is_limited, is_marked, is_raised, largest_sent, marks_now, rtt_of, sent_on, unmarked, with_marks_now, Acknowledges, EcnCompared, EcnComes, Samples};
 ghost use Rattle.recovery_sender.specs.Steps.{marked, occurs, Does, Goes};
 ghost use Rattle.recovery_ledger.specs.Discarded.{is_discarded};
 ghost use Rattle.recovery_ledger.specs.Packets.{packet_at};
@@ -121,7 +121,8 @@ where
     /// A refusal changes nothing: `SpaceDiscarded`; `BadRange` where there is no range, one ends before it begins, or
     /// two have no number between them (RFC 9000, 19.3.1); `Unsent` where a number was never sent (RFC 9000, 13.1);
     /// `SkippedAcked` where it holds the number that was skipped last (RFC 9000, 21.4); `NoMemory` where there is no
-    /// room for the list of what is acknowledged. It costs its ranges, what it newly acknowledges and what is lost or
+    /// room for the list of what is acknowledged. While a PATH_CHALLENGE frame is open on the path in use
+    /// ([`Sender::set_challenge`]) the window does not grow, as where the stack has too little to send. It costs its ranges, what it newly acknowledges and what is lost or
     /// lies below the largest acknowledged, each with a logarithm.
     pub fn on_ack(
         &mut self,
@@ -491,6 +492,14 @@ where
         Some(now - sent)
     }
 
+    /// Whether the window is not to grow: the stack had too little to send to fill it (RFC 9002, 7.8), or the path in use
+    /// is being validated, so that what comes may be for the path before it (RFC 9000, 9.4).
+    fn is_limited(&self, app_limited: bool) -> bool
+        ensures { result ≡ is_limited (parts_in self.now) app_limited }
+    {
+        app_limited || self.path().challenge.is_some()
+    }
+
     /// The acknowledged numbers were all (RFC 9002, 7).
     fn end_acks(&mut self, space: SpaceId, now: Instant, app_limited: bool)
         ensures { Goes (occurs (EndAcks now app_limited
@@ -521,10 +530,11 @@ where
     {
         let before = self.largest_acked(space);
         let rtt = self.rtt_of(space, now, ranges, newly.elicits);
+        let is_limited = self.is_limited(ack.app_limited);
         let numbers: &[u64] = &newly.numbers;
         let count = numbers.len() as u64;
-        self.tell_acked(space, now, ack.app_limited, numbers);
-        self.end_acks(space, now, ack.app_limited);
+        self.tell_acked(space, now, is_limited, numbers);
+        self.end_acks(space, now, is_limited);
         self.sample(space, ack.delay, rtt);
         let losses = self.detect_and_remove_lost_packets(space, now, true);
         let is_raised = is_raised(before, self.largest_acked(space));

@@ -1,15 +1,16 @@
 //! How a sender begins, and the events that pass through it.
 ghost use Rattle.std.specs.Prelude.{◌≡◌, ◌<◌, ◌≤◌, ◌+◌, ◌^◌, ◌∷◌, [], Ok, IfOk, OnOk, OnErr, Decides};
 ghost use Rattle.recovery_skips.specs.Skips.{IsSkips};
-ghost use Rattle.recovery_sender.specs.Calls.{config_of, datagram_reply, to_send, Begins, Passes, Takes};
+ghost use Rattle.recovery_sender.specs.Calls.{challenged, config_of, datagram_reply, to_send, Begins, Passes, Takes};
 ghost use Rattle.recovery_sender.specs.Senders.{parts_in};
-ghost use Rattle.recovery_sender.specs.Steps.{told, Goes, Does};
+ghost use Rattle.recovery_sender.specs.Steps.{marked, told, Goes, Does};
 
 use super::packets::counted_at;
 use super::{Refused, Sender, Side, Variables};
 use quic_recovery::below::NoMemory;
 use quic_recovery::congestion::ControllerFactory;
 use quic_recovery::event::PathName;
+use quic_recovery::paths::{PathMarks, PathResponses};
 use quic_recovery::queue::RetransmitQueue;
 use quic_recovery::time::Instant;
 use quic_recovery::timer::Timer;
@@ -147,6 +148,37 @@ where
     {
         self.validate();
         self.set_loss_detection_timer();
+    }
+
+    /// A PATH_CHALLENGE frame with this data is open on the path in use, or none is, and whether one is to be sent (RFC
+    /// 9000, 8.2.1). While one is open the window does not grow: what is acknowledged may have gone by the path before
+    /// it (RFC 9000, 9.4).
+    pub fn set_challenge(&mut self, challenge: Option<u64>, pending: bool)
+        ensures { Does (marked (challenged (parts_in self.old) challenge pending) ∷ [])
+            self.old.variables self.old self.new }
+    {
+        self.mark_challenge(challenge, pending);
+        self.set_loss_detection_timer();
+    }
+
+    /// The path in use is marked so.
+    fn mark_challenge(&mut self, challenge: Option<u64>, pending: bool)
+        ensures { Goes (marked (challenged (parts_in self.old) challenge pending) ∷ [])
+            self.old self.new }
+    {
+        let blank = PathMarks {
+            sending_ecn: false,
+            challenge,
+            challenge_pending: pending,
+            path_responses: PathResponses::new(),
+            first_packet_after_rtt_sample: None,
+        };
+        let Some(mut marks) = self.recovery.set_marks(PathName::Current, blank) else {
+            unreachable!();
+        };
+        marks.challenge = challenge;
+        marks.challenge_pending = pending;
+        self.recovery.set_marks(PathName::Current, marks);
     }
 
     /// A datagram came in of which the total has room.

@@ -1,41 +1,16 @@
-use Rattle.std.proofs.Common.{[], Some, ap, refl, sym, ◌∙◌}
-use Rattle.std.specs.Option.{option_map_or}
-use Rattle.recovery_ledger.specs.Spaces.{packets_of}
-use Rattle.recovery_losses.proofs.LossLaws.{found_from}
+use Rattle.std.proofs.Common.{Some, ap, sym, ◌∙◌}
 use Rattle.recovery_sender.specs.Senders.{parts_in}
-use Rattle.recovery_sender.proofs.AckedLaws.{absent_below, absent_from, at_same, sent_elsewhere, sent_there}
+use Rattle.recovery_sender.proofs.AckedLaws.{sent_elsewhere, sent_there}
 use Rattle.recovery_sender.proofs.sender.Sender.sent_on.Goals as goal
 
-pub returns-in_err-found : goal.returns-in_err-found
-returns-in_err-found g c =
-    let same = ap packets_of c.here.view_is ∙ ap (λ there. option_map_or packets_of there []) c.in_ok-here.ensures in
-    rw (c.from_residual-in_err-found.ensures, ← same, absent_from c.args.number _ c.in_err-found.ensures.first) refl
-
-pub returns-then-found-number : goal.returns-then-found-number
-returns-then-found-number g c =
-    let same = ap packets_of c.here.view_is ∙ ap (λ there. option_map_or packets_of there []) c.in_ok-here.ensures in
-    let found = found_from c.args.number _ c.in_ok-found.found c.in_ok-found.packet.now c.in_ok-found.ensures.first in
-    rw (
-      ← same,
-      absent_below c.args.number _ c.in_ok-found.found c.in_ok-found.ensures.lowest c.if-found-number.true
-          found.1,
-    ) refl
-
 pub returns-then-packet-generation : goal.returns-then-packet-generation
-returns-then-packet-generation g c =
-    let same = ap packets_of c.here.view_is ∙ ap (λ there. option_map_or packets_of there []) c.in_ok-here.ensures in
-    let found = found_from c.args.number _ c.in_ok-found.found c.in_ok-found.packet.now c.in_ok-found.ensures.first in
-    let is = at_same _ c.in_ok-found.found c.args.number c.in_ok-found.packet.now c.if-found-number.false found.0 in
-    rw (← same, is) (sent_elsewhere (parts_in c.args.self.now) c.in_ok-found.packet.now (λ generation.
-    c.if-packet-generation.true (ap (λ packet. packet.path_generation) c.packet.view_is ∙ generation
+returns-then-packet-generation g c = rw (← c.in_ok-packet.ensures) (sent_elsewhere (parts_in c.args.self.now)
+    c.in_ok-packet.packet.now (λ generation. c.if-packet-generation.true
+    (ap (λ packet. packet.path_generation) c.packet.view_is ∙ generation
     ∙ sym (c.generation.ensures ∙ ap (λ path. path.ledger.generation) c.path.ensures))))
 
 pub returns : goal.returns
-returns g c =
-    let same = ap packets_of c.here.view_is ∙ ap (λ there. option_map_or packets_of there []) c.in_ok-here.ensures in
-    let found = found_from c.args.number _ c.in_ok-found.found c.in_ok-found.packet.now c.in_ok-found.ensures.first in
-    let is = at_same _ c.in_ok-found.found c.args.number c.in_ok-found.packet.now c.if-found-number.false found.0 in
-    rw (← same, is) (ap (λ packet. Some packet.time_sent) c.packet.view_is
-    ∙ sent_there (parts_in c.args.self.now) c.in_ok-found.packet.now
+returns g c = rw (← c.in_ok-packet.ensures) (ap (λ packet. Some packet.time_sent) c.packet.view_is
+    ∙ sent_there (parts_in c.args.self.now) c.in_ok-packet.packet.now
     (sym (ap (λ packet. packet.path_generation) c.packet.view_is) ∙ c.if-packet-generation.false
     ∙ c.generation.ensures ∙ ap (λ path. path.ledger.generation) c.path.ensures))
