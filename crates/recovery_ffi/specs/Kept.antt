@@ -66,9 +66,9 @@ Comes (Sends old) event reply (Alone new) = ⊥
 -- ---- what is made
 
 -- these losses are told, and nothing that was acknowledged
-pub record LosesAlone (losses : Losses) (told : Told) : Type 0 where
+pub record LosesAlone (lost : Losses) (told : Told) : Type 0 where
   pub numbers : told.acked.numbers.items ≡ []
-  pub losses : told.acked.losses ≡ losses
+  pub losses : told.acked.losses ≡ lost
   pub ecn : told.acked.ecn ≡ Quiet
   pub packets : told.packets.items ≡ []
 
@@ -117,7 +117,7 @@ abbrev pub items_of : Packets (List ℕ) (Unit {0}) → ℕ → List ℕ
 items_of packets number = option_map_or (λ packet. packet.retransmits) (packet_at packets number) []
 
 -- of each packet its number, how many items it carries, and these
-pub packets_listed : Packets (List ℕ) (Unit {0}) → List ℕ → List ℕ
+abbrev pub packets_listed : Packets (List ℕ) (Unit {0}) → List ℕ → List ℕ
 packets_listed packets [] = []
 packets_listed packets (number ∷ numbers) =
     (number ∷ length (items_of packets number) ∷ items_of packets number) ++ packets_listed packets numbers

@@ -184,9 +184,9 @@ abbrev pub delayed_by : ℕ → Variables → Variables
 delayed_by span variables = record variables { max_ack_delay = span }
 
 -- a challenge of the path in use is open, or none (RFC 9000, 8.2.1)
-pub record Challenges (data : Option ℕ) (pending : Bool) (old : Sending) (spelling : Reply) (new : Sending) : Type 0
+pub record Challenges (challenge : Option ℕ) (pending : Bool) (old : Sending) (spelling : Reply) (new : Sending) : Type 0
   where
-    pub does : Does (marked (challenged (parts_in old.sender) data pending) ∷ []) old.sender.variables old.sender
+    pub does : Does (marked (challenged (parts_in old.sender) challenge pending) ∷ []) old.sender.variables old.sender
         new.sender
     pub spells : spelling ≡ plain ANSWER_DONE
     pub told : new.told ≡ old.told
@@ -202,7 +202,7 @@ Says (Abandon space now) given old spelling new = Forsakes space now old spellin
 Says HandshakeKeys given old spelling new = IsSaid keyed old spelling new
 Says HandshakeConfirmed given old spelling new = IsSaid confirmed old spelling new
 Says (PeerDelay span) given old spelling new = IsSaid (delayed_by span) old spelling new
-Says (Challenge data pending) given old spelling new = Challenges data pending old spelling new
+Says (Challenge challenge pending) given old spelling new = Challenges challenge pending old spelling new
 
 -- ---- of what a handle holds
 

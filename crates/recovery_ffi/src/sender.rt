@@ -270,22 +270,22 @@ pub extern "C" fn recovery_ffi_sender_peer_delay(
     }
 }
 
-/// A PATH_CHALLENGE frame with this data is open on the path in use, where `is_open`, and one is to be sent, where
+/// A PATH_CHALLENGE frame with this content is open on the path in use, where `is_open`, and one is to be sent, where
 /// `pending` (RFC 9000, 8.2.1): `ANSWER_DONE`. While one is open the window does not grow: what is acknowledged may have
 /// gone by the path before it (RFC 9000, 9.4).
 #[unsafe(no_mangle)]
 pub extern "C" fn recovery_ffi_sender_challenge(
     alloc: Global,
     handle: &mut Handle,
-    data: u64,
+    content: u64,
     is_open: bool,
     pending: bool,
 ) -> Reply
-    ensures { Asks handle.old.slot.held (Challenge (maybe is_open data) pending)
+    ensures { Asks handle.old.slot.held (Challenge (maybe is_open content) pending)
         result handle.new.slot.held }
 {
-    let data = maybe(is_open, data);
-    handle.ask(alloc, Call::Challenge { data, pending })
+    let challenge = maybe(is_open, content);
+    handle.ask(alloc, Call::Challenge { challenge, pending })
 }
 
 /// How many probe timeouts expired in a row, by which the next one is doubled (RFC 9002, 6.2.1); 0 where there is no

@@ -91,7 +91,7 @@ pub enum Call {
     PeerDelay(Duration),
     /// A PATH_CHALLENGE frame is open on the path in use, or none, and one is to be sent, or none.
     Challenge {
-        data: Option<u64>,
+        challenge: Option<u64>,
         pending: bool,
     },
 }
@@ -325,7 +325,7 @@ fn list_packets(
 impl Sending {
     /// The numbers that were newly acknowledged, or those that were lost.
     pub fn numbers(&self, lost: bool) -> &[u64]
-        ensures { result.now ≡ numbers_of lost self.now.told }
+        ensures { result.now ≡ numbers_of lost self.now.told.acked }
     {
         let acked = &self.told.acked;
         if lost {
@@ -353,7 +353,7 @@ impl Sending {
             Call::HandshakeKeys => self.handshake_keys(),
             Call::HandshakeConfirmed => self.handshake_confirmed(),
             Call::PeerDelay(span) => self.peer_delay(span),
-            Call::Challenge { data, pending } => self.challenge(data, pending),
+            Call::Challenge { challenge, pending } => self.challenge(challenge, pending),
         }
     }
 
@@ -416,9 +416,9 @@ impl Sending {
         ensures told { self.new.told ≡ told }
         ensures sender { self.new.sender ≡ self.old.sender }
     {
-        let before = mem::replace(&mut self.told, told);
-        self.numbers_room = before.acked.numbers;
-        self.packets_room = before.packets;
+        let Told { acked, packets } = mem::replace(&mut self.told, told);
+        self.numbers_room = acked.numbers;
+        self.packets_room = packets;
     }
 
     fn expire(&mut self, alloc: Global, now: Instant, immediate_ack: bool) -> Reply
@@ -476,10 +476,10 @@ impl Sending {
         self.sender.set_peer_max_ack_delay(span);
         Reply::plain(ANSWER_DONE)
     }
-    fn challenge(&mut self, data: Option<u64>, pending: bool) -> Reply
-        ensures { Challenges data pending self.old result self.new }
+    fn challenge(&mut self, challenge: Option<u64>, pending: bool) -> Reply
+        ensures { Challenges challenge pending self.old result self.new }
     {
-        self.sender.set_challenge(data, pending);
+        self.sender.set_challenge(challenge, pending);
         Reply::plain(ANSWER_DONE)
     }
 }
