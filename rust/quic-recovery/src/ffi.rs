@@ -515,7 +515,7 @@ pub struct IdsView {
 
 unsafe extern "C" {
     /// Does nothing; a library of another layout does not have it.
-    #[link_name = "recovery_ffi_layout_41fe944f"]
+    #[link_name = "recovery_ffi_layout_bd264985"]
     pub fn recovery_ffi_layout();
 
     /// Makes a recovery, whose peer is at this address and has this id of at most 20 bytes. The answer is `NEW_MADE`, or
@@ -865,6 +865,16 @@ unsafe extern "C" {
     /// fewer than 10^9 nanoseconds.
     pub fn recovery_ffi_sender_peer_delay(handle: *mut Handle, secs: u64, nanos: u32) -> Reply;
 
+    /// A PATH_CHALLENGE frame with this content is open on the path in use, where `is_open`, and one is to be sent, where
+    /// `pending` (RFC 9000, 8.2.1): `ANSWER_DONE`. While one is open the window does not grow: what is acknowledged may have
+    /// gone by the path before it (RFC 9000, 9.4).
+    pub fn recovery_ffi_sender_challenge(
+        handle: *mut Handle,
+        content: u64,
+        is_open: bool,
+        pending: bool,
+    ) -> Reply;
+
     /// How many probe timeouts expired in a row, by which the next one is doubled (RFC 9002, 6.2.1); 0 where there is no
     /// sender.
     pub fn recovery_ffi_pto_count(handle: *mut Handle) -> u32;
@@ -881,6 +891,10 @@ unsafe extern "C" {
         out: *mut u64,
         out_len: usize,
     ) -> usize;
+
+    /// Of each packet that was newly acknowledged as something was told last, rising: its number, how many items it carried,
+    /// and these. How many words that are; they are written where there is room for all.
+    pub fn recovery_ffi_told_packets(handle: *mut Handle, out: *mut u64, out_len: usize) -> usize;
 
     /// The default settings: an address that is not validated, ACKs 25 ms late at most, ids of 8 bytes that last 10 s, one
     /// of them issued, no skips, an RTT of 333 ms, MTUs of 1200 bytes and up to 1452, and NewReno with 12,000 bytes and a

@@ -70,7 +70,8 @@ pub use mtud::{MtuDiscovery, NotTaken};
 pub use pacing::Pacer;
 pub use recovery::{IdStats, PacerStats, PathStats, Recovery, RttEstimate, SpaceStats};
 pub use sender::{
-    Ack, Acknowledged, EcnEnd, Losses, MtuProbe, Packets, Refused, Sender, Sent, Side, Timeout, Transmission,
+    Ack, Acknowledged, EcnEnd, Losses, MtuProbe, Packets, Refused, Sender, Sent, Side, Timeout,
+    Transmission,
 };
 pub use timer::Timer;
 pub use types::{
