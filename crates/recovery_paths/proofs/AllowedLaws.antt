@@ -69,7 +69,8 @@ module _ {K : Type 0} (settings : PathSettings K) where
     entry_kept (reverts limit) pasts allowed holds = returned pasts.previous holds.1
       where
         returned : (previous : Option (PathPast K)) → ForSome previous Holds
-            → OnEachPath Holds (reverted (past_following settings (returns limit)) (record pasts { previous = previous }))
+            → OnEachPath Holds
+            (reverted (past_following settings (returns limit)) (record pasts { previous = previous }))
         returned None none = (holds.0, none)
         returned (Some past) was =
             (kept.following (returns limit) past (was past refl), λ past is. absurd (none-some _ is))

@@ -34,7 +34,8 @@ moved_to path paths = record { current = path; previous = Some paths.current; ma
 
 -- the previous path, where it lives, is in use again, changed so, and the one that was in use is dropped (9.3.2)
 abbrev pub reverted : {P : Type 0} → (P → P) → OfPaths P → OfPaths P
-reverted change paths = option_map_or (λ path. record paths { current = change path; previous = None }) paths.previous paths
+reverted change paths =
+    option_map_or (λ path. record paths { current = change path; previous = None }) paths.previous paths
 
 -- it holds of each path that lives
 abbrev pub OnEachPath : {P : Type 0} → (P → Type 0) → OfPaths P → Type 0

@@ -84,8 +84,8 @@ module _ {K : Type 0} (settings : PathSettings K) where
     pacer = pacer_at_first settings.mtu now;
   }
 
-  -- a path that comes back into use keeps its MTU, within the size that the peer takes, and is searched anew from there:
-  -- nobody told its search what became of its probe, nor of that size
+  -- a path that comes back into use keeps its MTU, within the size that the peer takes, and is searched anew from
+  -- there: nobody told its search what became of its probe, nor of that size
   abbrev pub discovery_resumed : Option ℕ → ℕ → Discovery
   discovery_resumed limit mtu = record (settings.discovery limit) { mtu = within mtu limit }
 

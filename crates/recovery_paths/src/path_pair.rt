@@ -1,6 +1,6 @@
 //! The paths of a connection that live: the one in use, and the one that was in use before it (RFC 9000, 9).
 ghost use Rattle.std.specs.Prelude.{◌≡◌, ◌↔◌, ◌<◌, ◌≤◌, ◌+◌, ◌^◌, None, OnOk, OnErr, IfOk, IsErrOf, IsSomeAnd, is_some, option_map, option_copied};
-ghost use Rattle.std.specs.Option.{ForSome, IfSome};
+ghost use Rattle.std.specs.Option.{ForSome, IfSome, SomeIff};
 ghost use Rattle.recovery_congestion.specs.Calls.{sends};
 ghost use Rattle.recovery_ledger.specs.InFlight.{Overflows};
 ghost use Rattle.recovery_ledger.specs.Packets.{forgotten_entry, after_sending};
@@ -89,8 +89,7 @@ impl<C: Controller + Drop> PathPair<C> {
     /// The generation of the next path that is made: past those of all that were, also of the dropped ones, whose
     /// packets may still be tracked. `None` where 2^64 paths were made.
     pub fn next_generation(&self) -> Option<u64>
-        ensures next { IfSome result (λ next. next ≡ self.now.made + 1) }
-        ensures none { result ≡ None ↔ 2 ^ 64 ≤ self.now.made + 1 }
+        ensures { SomeIff result (self.now.made + 1 < 2 ^ 64) (self.now.made + 1) }
     {
         self.made.checked_add(1)
     }
