@@ -99,15 +99,15 @@ module _ {F K Q S M P : Type 0} (beginning : Beginning F K Q S M P) (earlier : H
   pasts = pasts_by (settings_of beginning) (first_path beginning) log
 
   -- the path before is used again, with all that it had
-  flows_returned : {answer : Answer Q} (previous : Option (PathPast K))
+  flows_returned : (answer : Answer Q) (previous : Option (PathPast K))
       → OnPath (option_map known_of previous) (λ there. IsDone {Q = Q}) (Ok answer)
       → IsFlowWhereLives (is_validated first Previous earlier) (datagrams_on Previous earlier)
       (option_map flow_of previous)
       → (let old : OfPaths (PathPast K) = record pasts { previous = previous } in
       AreFlows first ((RevertPath, Ok answer) ∷ earlier) (each_path flow_of
       (reverted (past_following (settings_of beginning) (returns (limit earlier))) old)))
-  flows_returned None told lived = absurd told.1
-  flows_returned (Some past) told lived = (lived, refl)
+  flows_returned answer None told lived = absurd told.1
+  flows_returned answer (Some past) told lived = (lived, refl)
 
   module _ (same : AreFlows first earlier (flows log)) where
     -- what is no datagram on a path
@@ -149,7 +149,7 @@ module _ {F K Q S M P : Type 0} (beginning : Beginning F K Q S M P) (earlier : H
     reply_flows (NewPath now remote true) (Ok answer) told = ((refl, λ unproved checked. omega arith), same.0)
     reply_flows (NewPath now remote false) (Ok answer) told = ((refl, λ unproved checked. omega arith), same.0)
     reply_flows DropPrevious (Ok answer) told = (same.0, refl)
-    reply_flows RevertPath (Ok answer) told = flows_returned pasts.previous told same.1
+    reply_flows RevertPath (Ok answer) told = flows_returned answer pasts.previous told same.1
     reply_flows event (Ok answer) told =
         paths_kept beginning.queue known (λ entries. AreFlows first earlier (flows (entries ++ log))) is_quiet same
         one_more event (Ok answer) refl

@@ -79,7 +79,7 @@ module _ {F K Q S M P : Type 0} (beginning : Beginning F K Q S M P) (past : Hist
           → (let paths : OfPaths (PathPast K) = record (pasts_of beginning past) { previous = previous } in
           entries_on (reverted (past_following (settings_of beginning) (returns (limit past))) paths).current) ≡ []
       go None told = absurd told.1
-      go (Some before) told = refl
+      go (Some one) told = refl
   entered_one event (Ok given) told =
       paths_kept beginning.queue known (λ entries. entries_with entries ≡ before) is_unseen refl
       (λ entry earlier is kept. unseen_one (settings_of beginning) (first_path beginning) entry (earlier ++ log) is

@@ -15,8 +15,8 @@ module _ {Q S M P : Type 0} where
   is_on Current (Transmit now bytes checked, Ok Transmitted) = true
   is_on name happened = false
 
-  -- the datagrams of a path since it was made: it is in use until another is, then the previous one until it is dropped,
-  -- or used again (RFC 9000, 9.3.2)
+  -- the datagrams of a path since it was made: it is in use until another is, then the previous one until it is
+  -- dropped, or used again (RFC 9000, 9.3.2)
   abbrev pub datagrams_on : PathName → History Q S M P → History Q S M P
   datagrams_on name [] = []
   datagrams_on Current ((NewPath now remote is_fresh, Ok answer) ∷ earlier) = []
