@@ -102,20 +102,20 @@ module _ (Q S M P : Type 0) (queue : Q) (frames : M) (remote : SocketAddr) where
   there = refl
 
   -- what went out on it counts on a path that is used again, and what went out on the other one counts nowhere
-  abbrev used_again : History Q S M P
-  used_again =
+  abbrev back_again : History Q S M P
+  back_again =
       (event.RevertPath, Ok answer.Done)
       ∷ (event.Send Data 8 700 true None queue frames, Ok (answer.Sent 2 None))
       ∷ another_path
 
-  here_again : CountsInFlight used_again (event.InFlight Current) (Ok (answer.InFlight 1300 1))
+  here_again : CountsInFlight back_again (event.InFlight Current) (Ok (answer.InFlight 1300 1))
   here_again = refl
 
-  counts_nowhere : CountsInFlight ((event.NewPath 9 remote true, Ok answer.Done) ∷ used_again) (event.InFlight Current)
+  counts_nowhere : CountsInFlight ((event.NewPath 9 remote true, Ok answer.Done) ∷ back_again) (event.InFlight Current)
       (Ok (answer.InFlight 0 0))
   counts_nowhere = refl
 
-  counts_on_the_third_is_wrong : ¬ CountsInFlight ((event.NewPath 9 remote true, Ok answer.Done) ∷ used_again)
+  counts_on_the_third_is_wrong : ¬ CountsInFlight ((event.NewPath 9 remote true, Ok answer.Done) ∷ back_again)
       (event.InFlight Current) (Ok (answer.InFlight 700 1))
   counts_on_the_third_is_wrong = λ e. cc
 

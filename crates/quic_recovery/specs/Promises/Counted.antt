@@ -23,7 +23,8 @@ module _ {Q S M P : Type 0} (weigh : ℕ → Bool → ℕ) where
   -- the sum over the packets that went out on a path and whose numbers are not gone, nor left since
   abbrev pub sum_on : ℕ → (SpaceId → ℕ → Bool) → History Q S M P → ℕ
   sum_on generation gone [] = 0
-  sum_on generation gone (happened ∷ earlier) = (if (generations earlier).current == generation then weight gone happened else 0)
+  sum_on generation gone (happened ∷ earlier) =
+      (if (generations earlier).current == generation then weight gone happened else 0)
       + sum_on generation (λ space n. leaves happened space n || gone space n) earlier
 
 module _ {Q S M P : Type 0} where
