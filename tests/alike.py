@@ -176,6 +176,7 @@ EVENTS = {
     "new-path": lambda it: f"new-path {it.moment()} {it.below(65536)} {it.flag()}",
     "reset-path": lambda it: f"reset-path {it.moment()}",
     "drop-previous": lambda it: "drop-previous",
+    "revert-path": lambda it: "revert-path",
 }
 MAKERS = list(EVENTS.values())
 

@@ -675,6 +675,9 @@ struct recovery_reply recovery_ffi_reset_path(struct recovery_handle *handle, ui
 // The previous path is dropped (RFC 9000, 9.3.3): the event `DropPrevious`.
 struct recovery_reply recovery_ffi_drop_previous(struct recovery_handle *handle);
 
+// The previous path is used again, and the current one is dropped (RFC 9000, 9.3.2): the event `RevertPath`.
+struct recovery_reply recovery_ffi_revert_path(struct recovery_handle *handle);
+
 // The counts of ECN of an ACK frame (RFC 9000, 13.4.2): the event `Ecn`.
 struct recovery_reply recovery_ffi_ecn(struct recovery_handle *handle, uint8_t space, uint64_t newly_acked, uint64_t ect0, uint64_t ect1, uint64_t ce);
 
@@ -793,7 +796,7 @@ struct recovery_reply recovery_ffi_stop_timer(struct recovery_handle *handle, ui
 struct recovery_reply recovery_ffi_next_timeout(struct recovery_handle *handle);
 
 // Does nothing; a library of another layout does not have it, and a program with this header does not link with that one.
-void recovery_ffi_layout(void) __asm__("recovery_ffi_layout_bd264985");
+void recovery_ffi_layout(void) __asm__("recovery_ffi_layout_749becad");
 __attribute__((used)) static void (*const recovery_ffi_has_this_layout)(void) = recovery_ffi_layout;
 
 #ifdef __cplusplus

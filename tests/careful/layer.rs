@@ -1022,6 +1022,8 @@ pub struct Recovery {
     pub spaces: [PacketSpace; 3],
     pub current: Path,
     previous: Option<Path>,
+    /// How many paths were made behind the first one.
+    made: u64,
     peer_limit: Option<u16>,
     last_frequency: Option<u64>,
     max_ack_delay: Span,
@@ -1036,6 +1038,7 @@ impl Recovery {
             spaces: [PacketSpace::new(), PacketSpace::new(), PacketSpace::new()],
             current: Path::new(0, None, 0),
             previous: None,
+            made: 0,
             peer_limit: None,
             last_frequency: None,
             max_ack_delay: 25_000_000,
@@ -1328,13 +1331,14 @@ impl Recovery {
     }
 
     pub fn new_path(&mut self, now: Moment, fresh: bool) -> Result<(), Refusal> {
-        let generation = self.current.generation.checked_add(1).ok_or(OVERFLOW)?;
+        let generation = self.made.checked_add(1).ok_or(OVERFLOW)?;
         let path = if fresh {
             Path::new(generation, self.peer_limit, now)
         } else {
             Path::behind(&self.current, generation, now)
         };
         self.previous = Some(mem::replace(&mut self.current, path));
+        self.made = generation;
         Ok(())
     }
 
@@ -1344,6 +1348,15 @@ impl Recovery {
 
     pub fn drop_previous(&mut self) -> Result<(), Refusal> {
         self.previous.take().map(|_| ()).ok_or(NO_SUCH_PATH)
+    }
+
+    pub fn revert_path(&mut self) -> Result<(), Refusal> {
+        let mut path = self.previous.take().ok_or(NO_SUCH_PATH)?;
+        let mtu = path.mtud.current;
+        path.mtud = MtuDiscovery::new(self.peer_limit);
+        path.mtud.current = self.peer_limit.map_or(mtu, |limit| mtu.min(limit));
+        self.current = path;
+        Ok(())
     }
 
     pub fn set_timer(&mut self, timer: usize, time: Option<Moment>) {

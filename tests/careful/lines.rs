@@ -122,6 +122,7 @@ pub enum Event {
     NewPath { now: Moment, fresh: bool },
     ResetPath { now: Moment },
     DropPrevious,
+    RevertPath,
     SetTimer { timer: usize, time: Moment },
     StopTimer { timer: usize },
     NextTimeout,
@@ -228,6 +229,7 @@ pub fn read(name: &[u8], words: &mut impl Words) -> Option<Event> {
         }
         b"reset-path" => Event::ResetPath { now: words.number()? },
         b"drop-previous" => Event::DropPrevious,
+        b"revert-path" => Event::RevertPath,
         b"set-timer" => Event::SetTimer { timer: words.timer()?, time: words.number()? },
         b"stop-timer" => Event::StopTimer { timer: words.timer()? },
         b"next-timeout" => Event::NextTimeout,
@@ -307,6 +309,7 @@ pub fn apply(recovery: &mut Recovery, event: Event) -> Reply {
         Event::NewPath { now, fresh } => done(recovery.new_path(now, fresh)?),
         Event::ResetPath { now } => done(recovery.reset_path(now)),
         Event::DropPrevious => done(recovery.drop_previous()?),
+        Event::RevertPath => done(recovery.revert_path()?),
         Event::SetTimer { timer, time } => done(recovery.set_timer(timer, Some(time))),
         Event::StopTimer { timer } => done(recovery.set_timer(timer, None)),
         Event::NextTimeout => Answer::Timeout(recovery.next_timeout()),

@@ -1,14 +1,15 @@
 -- What the layer above keeps with paths and spaces stays as events go by. `LeftLaws` and the steps of calls rest on it.
 use Rattle.std.proofs.Common.{◌≡◌, ℕ, true, false, Option, None, Some, option_map, Ok, Err, refl, ap, ◌∙◌, arith}
+use Rattle.std.proofs.lemmas.Option.{none-some}
 use Rattle.recovery_base.specs.declared.below.frames.EcnCounts.{EcnCounts}
 use Rattle.recovery_ledger.specs.SpaceLog.{SpaceEntry}
 use Rattle.recovery_ledger.specs.Spaces.{Space, SpaceStep}
 use Rattle.recovery_ledger.specs.Queued.{no_ecn}
-use Rattle.recovery_paths.specs.PathLog.{OfPaths, paths_marks}
+use Rattle.recovery_paths.specs.PathLog.{OfPaths, paths_marks, reverted}
 use Rattle.recovery_paths.specs.PathStates.{Path, PathMarks}
 use Rattle.recovery_queue.specs.Queues.{QueueWords}
 use Rattle.recovery_events.specs.declared.event.Event.{Event}
-use Rattle.recovery_events.specs.declared.event.Event.TheVariants.{NewPath, DropPrevious}
+use Rattle.recovery_events.specs.declared.event.Event.TheVariants.{NewPath, DropPrevious, RevertPath}
 use Rattle.recovery_events.specs.declared.event.Refusal.{Refusal}
 use Rattle.quic_recovery.specs.Above.{AreFresh, beside_of, untouched_of, HasNoLossTime}
 use Rattle.quic_recovery.specs.Table.{marks_after, entries_of}
@@ -26,6 +27,15 @@ pub fresh_after : {Q S M P : Type 0} (event : Event Q S M P) (reply : Reply Q) (
 fresh_after (NewPath now remote true) (Ok given) marks fresh = grind (arith, fresh)
 fresh_after (NewPath now remote false) (Ok given) marks fresh = grind (arith, fresh)
 fresh_after DropPrevious (Ok given) marks fresh = grind (arith, fresh)
+fresh_after RevertPath (Ok given) marks fresh = returned marks.previous fresh
+  where
+    with_previous : Option PathMarks → OfPaths PathMarks
+    with_previous previous = record marks { previous = previous }
+
+    returned : (previous : Option PathMarks) → AreFresh (with_previous previous)
+        → AreFresh (reverted (λ marks. marks) (with_previous previous))
+    returned None fresh = fresh
+    returned (Some before) fresh = (fresh.1 before refl, λ other is. absurd (none-some _ is))
 fresh_after event reply marks fresh = fresh
 
 -- a refused event leaves them
@@ -43,7 +53,7 @@ previous_same {A} {B} part change keeps (Some a) = ap (λ (b : B). Some b) (keep
 -- what leaves the marks of a path leaves those of the previous one
 module _ {K : Type 0} (change : Path K → Path K) (keeps : (path : Path K) → (change path).marks ≡ path.marks) where
   pub both_marks : (current : Path K) (paths : OfPaths (Path K)) → current.marks ≡ paths.current.marks
-      → (let new : OfPaths (Path K) = record {
+      → (let new : OfPaths (Path K) = record paths {
         current = current;
         previous = option_map change paths.previous;
       } in paths_marks new) ≡ paths_marks paths

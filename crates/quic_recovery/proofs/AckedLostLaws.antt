@@ -27,7 +27,8 @@ use Rattle.quic_recovery.proofs.DriverLaws.{space_changes, skips_nothing}
 
 module _ {K P M : Type 0} (old : Parts K P M) (space : SpaceId) (number : ℕ) (packet : Packet P M) where
   abbrev with_previous : PathKnown K → Option (PathKnown K) → OfPaths (PathKnown K)
-  with_previous current previous = record { current = current; previous = previous }
+  with_previous current previous =
+      record { current = current; previous = previous; made = old.paths.made }
 
   -- the entries of an acknowledged packet are what its path does: the search first, then the controller
   pub acked_path : (now : ℕ) (app_limited : Bool)
@@ -60,6 +61,7 @@ module _ {K P M : Type 0} (old : Parts K P M) (space : SpaceId) (number : ℕ) (
             current =
                 record { generation = generation_of path.ledger; state = cond own (told searched) searched };
             previous = option_map path_known old.paths.previous;
+            made = old.paths.made;
           } in
           known ≡ paths_after (path_known_with old.settings) (known_following old.settings)
           (cond own (on_current (tells (acks now packet.time_sent packet.size app_limited path.state.rtt)) ∷ []) []

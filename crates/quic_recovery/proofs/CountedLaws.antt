@@ -29,7 +29,7 @@ use Rattle.quic_recovery.specs.Logs.{onto}
 use Rattle.quic_recovery.specs.Replies.{AlwaysAnswers}
 use Rattle.quic_recovery.specs.PartReplies.{Is, OnPath}
 use Rattle.quic_recovery.specs.Promises.Counted.{sum_on, IsTally, CountsInFlight}
-use Rattle.quic_recovery.specs.Promises.Paths.{paths_made}
+use Rattle.quic_recovery.specs.Promises.Paths.{generations}
 use Rattle.quic_recovery.proofs.AnswerLaws.{past_four}
 use Rattle.quic_recovery.proofs.Runs.{AllAlong, throughout_kept}
 use Rattle.quic_recovery.proofs.EntryKinds.{keeps_packets, space_kind, space_kept}
@@ -150,7 +150,7 @@ module _ {F K Q S M P : Type 0} (beginning : Beginning F K Q S M P) (before : Hi
   only there entry space = here there space entry
 
   abbrev is_path : Bool
-  is_path = paths_made before == generation
+  is_path = (generations before).current == generation
 
   once : (space : SpaceId) (m : ℕ) → times m (sent space).tracked ≤ 1
   once space m = grind (arith, nat_tests, (all space m).same)
@@ -197,7 +197,7 @@ module _ {F K Q S M P : Type 0} (beginning : Beginning F K Q S M P) (before : Hi
       (λ space. refl)
 
   -- a packet goes out
-  made_now : paths_made before ≡ known.paths.current.generation
+  made_now : (generations before).current ≡ known.paths.current.generation
   made_now = let told = generation_told beginning before Current in cc
 
   goes_out : (there : SpaceId) (number : ℕ) (packet : Packet P M) (forgotten : Option ℕ)
@@ -283,13 +283,14 @@ module _ {F K Q S M P : Type 0} (beginning : Beginning F K Q S M P) where
         ∙ spaces_same _ _ (λ space. eliciting_same generation (sent_in beginning before space).tracked)
 
     -- what is in flight on the path in use
-    pub flight_now : (sum_on (λ size eliciting. size) (paths_made before) (λ space n. false) before
+    pub flight_now : (sum_on (λ size eliciting. size) (generations before).current (λ space n. false) before
         ≡ (current_in_flight known_then).bytes)
-        × (sum_on (λ size eliciting. if eliciting then 1 else 0) (paths_made before) (λ space n. false) before
+        × (sum_on (λ size eliciting. if eliciting then 1 else 0) (generations before).current (λ space n. false) before
         ≡ (current_in_flight known_then).ack_eliciting)
     flight_now =
         let generation = known_then.paths.current.generation in
-        let made : paths_made before ≡ generation = (let told = generation_told beginning before Current in cc) in
+        let made : (generations before).current ≡ generation =
+        (let told = generation_told beginning before Current in cc) in
         rw made (counts (λ size eliciting. size) generation (λ space n. false), count_same generation)
 
     tally : (path : Option (PathKnown K)) (reply : Reply Q)

@@ -2,22 +2,25 @@
 -- goes to an address that is not validated. `ThreefoldLaws` and `BlockedLaws` rest on it.
 use Rattle.std.proofs.Common.{ℕ, ◌≡◌, ◌≤◌, ◌*◌, ◌+◌, Bool, true, false, List, [], ◌∷◌, ◌++◌, Option, None, Some, Ok, Err, refl, ap, arith}
 use Rattle.std.proofs.lemmas.Bool.{false≢true}
-use Rattle.std.specs.Prelude.{sum_by}
+use Rattle.std.specs.Prelude.{option_map, sum_by}
 use Rattle.std.specs.List.{list_all}
 use Rattle.std.proofs.lemmas.Bool.Decides.{nat_tests}
 use Rattle.std.proofs.lemmas.List.Sums.{sum_by-cons}
 use Rattle.recovery_paths.specs.declared.path_pair.PathName.TheVariants.{Current, Previous}
-use Rattle.recovery_paths.specs.PathLog.{OfPaths, PathsEntry, PathPast, each_path, on, receives, pasts_by}
+use Rattle.recovery_paths.specs.PathLog.{OfPaths, PathsEntry, PathPast, each_path, known_of, on, receives, past_following, pasts_by, returns, reverted}
 use Rattle.recovery_events.specs.declared.event.Event.{Event}
-use Rattle.recovery_events.specs.declared.event.Event.TheVariants.{Transmit, DatagramIn, Validated, NewPath, DropPrevious}
+use Rattle.recovery_events.specs.declared.event.Event.TheVariants.{Transmit, DatagramIn, Validated, NewPath, DropPrevious, RevertPath}
+use Rattle.recovery_events.specs.declared.event.Answer.{Answer}
 use Rattle.recovery_events.specs.declared.event.Answer.TheVariants.{Transmitted}
 use Rattle.quic_recovery.specs.Told.{logs_of, pasts_of, known_by, first_path, settings_of, Told}
 use Rattle.quic_recovery.specs.History.{Beginning, History, Reply}
 use Rattle.quic_recovery.specs.Known.{Known}
+use Rattle.quic_recovery.specs.PartReplies.{IsDone, OnPath}
+use Rattle.quic_recovery.specs.Table.{limit}
 use Rattle.quic_recovery.specs.Promises.Datagrams.{datagrams_on, bytes_in, bytes_out, is_validated}
 use Rattle.quic_recovery.specs.Promises.Threefold.{is_checked}
 use Rattle.quic_recovery.proofs.AmplificationLaws.{sent_freely}
-use Rattle.quic_recovery.proofs.EntryKinds.{PathKind, receiving, validating, transmitting, passing, moving, dropping, elsewhere, path_kind, paths_kept}
+use Rattle.quic_recovery.proofs.EntryKinds.{PathKind, receiving, validating, transmitting, passing, moving, dropping, returning, elsewhere, path_kind, paths_kept}
 use Rattle.quic_recovery.proofs.SearchSaid.{Keeps}
 
 -- ---- what the bound reads of a path
@@ -73,6 +76,7 @@ is_quiet transmitting = false
 is_quiet passing = false
 is_quiet moving = false
 is_quiet dropping = false
+is_quiet returning = false
 is_quiet elsewhere = false
 is_quiet kind = true
 
@@ -93,6 +97,17 @@ module _ {F K Q S M P : Type 0} (beginning : Beginning F K Q S M P) (earlier : H
 
   abbrev pasts : OfPaths (PathPast K)
   pasts = pasts_by (settings_of beginning) (first_path beginning) log
+
+  -- the path before is used again, with all that it had
+  flows_returned : (answer : Answer Q) (previous : Option (PathPast K))
+      → OnPath (option_map known_of previous) (λ there. IsDone {Q = Q}) (Ok answer)
+      → IsFlowWhereLives (is_validated first Previous earlier) (datagrams_on Previous earlier)
+      (option_map flow_of previous)
+      → (let old : OfPaths (PathPast K) = record pasts { previous = previous } in
+      AreFlows first ((RevertPath, Ok answer) ∷ earlier) (each_path flow_of
+      (reverted (past_following (settings_of beginning) (returns (limit earlier))) old)))
+  flows_returned answer None told lived = absurd told.1
+  flows_returned answer (Some past) told lived = (lived, refl)
 
   module _ (same : AreFlows first earlier (flows log)) where
     -- what is no datagram on a path
@@ -134,6 +149,7 @@ module _ {F K Q S M P : Type 0} (beginning : Beginning F K Q S M P) (earlier : H
     reply_flows (NewPath now remote true) (Ok answer) told = ((refl, λ unproved checked. omega arith), same.0)
     reply_flows (NewPath now remote false) (Ok answer) told = ((refl, λ unproved checked. omega arith), same.0)
     reply_flows DropPrevious (Ok answer) told = (same.0, refl)
+    reply_flows RevertPath (Ok answer) told = flows_returned answer pasts.previous told same.1
     reply_flows event (Ok answer) told =
         paths_kept beginning.queue known (λ entries. AreFlows first earlier (flows (entries ++ log))) is_quiet same
         one_more event (Ok answer) refl

@@ -1,22 +1,24 @@
 -- What each event is to the search on the path in use is read off its answer. `SearchSteps` go on from it.
-use Rattle.std.proofs.Common.{arith, ℕ, ◌≡◌, Bool, true, false, List, [], ◌∷◌, ◌++◌, Option, Ok, Err, refl, ◌∙◌}
+use Rattle.std.proofs.Common.{arith, ℕ, ◌≡◌, Bool, true, false, List, [], ◌∷◌, ◌++◌, Option, None, Some, Ok, Err, refl, ◌∙◌}
+use Rattle.std.specs.Prelude.{option_map}
 use Rattle.std.proofs.lemmas.Bool.{false≢true}
 use Rattle.recovery_base.specs.declared.below.SpaceId.TheVariants as space
 use Rattle.recovery_mtud.specs.Discovery.{poll_of}
 use Rattle.recovery_mtud.specs.DiscoveryLog.{loses_probe}
 use Rattle.recovery_mtud.specs.MtuEntries.{MtuEntry}
 use Rattle.recovery_paths.specs.PathMaking.{PathSettings}
-use Rattle.recovery_paths.specs.PathLog.{PathsEntry, on, pasts_by, searches}
+use Rattle.recovery_paths.specs.PathLog.{OfPaths, PathPast, PathsEntry, known_of, on, past_following, pasts_by, returns, reverted, searches}
 use Rattle.recovery_events.specs.declared.event.Event.{Event}
-use Rattle.recovery_events.specs.declared.event.Event.TheVariants.{PollMtu, Acked, Lost, LossesDone, PeerLimit, ResetPath, NewPath}
+use Rattle.recovery_events.specs.declared.event.Event.TheVariants.{PollMtu, Acked, Lost, LossesDone, PeerLimit, ResetPath, NewPath, RevertPath}
 use Rattle.recovery_events.specs.declared.event.Answer.{Answer}
 use Rattle.recovery_paths.specs.declared.path_pair.PathName.TheVariants.{Current, Previous}
 use Rattle.recovery_paths.specs.PathStates.{PathState}
-use Rattle.quic_recovery.specs.Told.{logs_of, known_by, first_path, settings_of, Told}
+use Rattle.quic_recovery.specs.Told.{logs_of, pasts_of, known_by, first_path, settings_of, Told}
 use Rattle.quic_recovery.specs.History.{Beginning, History, Reply}
 use Rattle.quic_recovery.specs.Known.{Known}
-use Rattle.quic_recovery.specs.PartReplies.{MtuProbeReply}
-use Rattle.quic_recovery.proofs.EntryKinds.{PathKind, departing, limiting, searching, resetting, moving, elsewhere, path_kind, paths_kept}
+use Rattle.quic_recovery.specs.Table.{limit}
+use Rattle.quic_recovery.specs.PartReplies.{IsDone, MtuProbeReply, OnPath}
+use Rattle.quic_recovery.proofs.EntryKinds.{PathKind, departing, limiting, searching, resetting, moving, returning, elsewhere, path_kind, paths_kept}
 use Rattle.quic_recovery.proofs.SearchSaid.{EntersAsTold, entries_on}
 
 -- the search sees nothing of it, nor does it begin anew
@@ -26,6 +28,7 @@ is_unseen limiting = false
 is_unseen searching = false
 is_unseen resetting = false
 is_unseen moving = false
+is_unseen returning = false
 is_unseen elsewhere = false
 is_unseen kind = true
 
@@ -70,6 +73,13 @@ module _ {F K Q S M P : Type 0} (beginning : Beginning F K Q S M P) (past : Hist
   entered_one (ResetPath now) (Ok given) told = refl
   entered_one (NewPath now remote true) (Ok given) told = refl
   entered_one (NewPath now remote false) (Ok given) told = refl
+  entered_one RevertPath (Ok given) told = go (pasts_of beginning past).previous told
+    where
+      go : (previous : Option (PathPast K)) → OnPath (option_map known_of previous) (λ there. IsDone {Q = Q}) (Ok given)
+          → (let paths : OfPaths (PathPast K) = record (pasts_of beginning past) { previous = previous } in
+          entries_on (reverted (past_following (settings_of beginning) (returns (limit past))) paths).current) ≡ []
+      go None told = absurd told.1
+      go (Some one) told = refl
   entered_one event (Ok given) told =
       paths_kept beginning.queue known (λ entries. entries_with entries ≡ before) is_unseen refl
       (λ entry earlier is kept. unseen_one (settings_of beginning) (first_path beginning) entry (earlier ++ log) is

@@ -11,10 +11,10 @@ use Rattle.recovery_congestion.specs.Calls.{ControllerCall}
 use Rattle.recovery_mtud.specs.Discovery.{reports}
 use Rattle.recovery_mtud.specs.DiscoveryLog.{MtuCall, is_limited, losses_end, acks as acks_packet, loses as loses_packet, loses_probe}
 use Rattle.recovery_paths.specs.declared.path_pair.PathName.TheVariants.{Current, Previous}
-use Rattle.recovery_paths.specs.PathLog.{PathsEntry, on, moves, drops_previous, on_current, receives, is_validated, samples, tells, searches, asks, transmits, passes, is_reset}
+use Rattle.recovery_paths.specs.PathLog.{PathsEntry, on, moves, drops_previous, on_current, receives, is_validated, samples, tells, searches, asks, transmits, passes, is_reset, reverts}
 use Rattle.recovery_paths.specs.PathStates.{is_path_probe}
 use Rattle.recovery_events.specs.declared.event.Event.{Event}
-use Rattle.recovery_events.specs.declared.event.Event.TheVariants.{Received, Send, Acked, Lost, AckFrequencyIn, AcksSent, AckDelayTimeout, DiscardSpace, DatagramIn, Validated, Sample, Transmit, PacerCheck, Congestion, EndAcks, PollMtu, PeerLimit, LossesDone, Ecn, QueueProbe, TakePending, NewPath, ResetPath, DropPrevious}
+use Rattle.recovery_events.specs.declared.event.Event.TheVariants.{Received, Send, Acked, Lost, AckFrequencyIn, AcksSent, AckDelayTimeout, DiscardSpace, DatagramIn, Validated, Sample, Transmit, PacerCheck, Congestion, EndAcks, PollMtu, PeerLimit, LossesDone, Ecn, QueueProbe, TakePending, NewPath, ResetPath, DropPrevious, RevertPath}
 use Rattle.recovery_events.specs.declared.event.Answer.TheVariants.{New, Flag, Transmitted, Delayed, Probe}
 use Rattle.quic_recovery.specs.Table.{entries_of}
 use Rattle.quic_recovery.specs.Entries.{acked_entry, acked_search, lost_search, searched}
@@ -58,7 +58,7 @@ keeps_packets kind = true
 -- elsewhere
 pub data PathKind : Type 0 where
   receiving validating sampling telling departing limiting searching : PathKind
-  asking transmitting passing resetting moving dropping elsewhere : PathKind
+  asking transmitting passing resetting moving dropping returning elsewhere : PathKind
 
 abbrev pub call_kind : MtuCall → PathKind
 call_kind (acks_packet number bytes) = departing
@@ -80,6 +80,7 @@ path_kind (on Current (passes now bytes)) = passing
 path_kind (on Current (is_reset now)) = resetting
 path_kind (moves following) = moving
 path_kind drops_previous = dropping
+path_kind (reverts limit) = returning
 
 -- ---- what an event may be, by the event alone
 
@@ -117,6 +118,7 @@ module _ {Q S M P : Type 0} where
   is_by is (NewPath now remote is_fresh) = is moving
   is_by is (ResetPath now) = is resetting
   is_by is DropPrevious = is dropping
+  is_by is RevertPath = is returning
   is_by is event = true
 
 -- ---- in one space

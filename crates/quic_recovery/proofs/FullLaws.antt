@@ -1,5 +1,5 @@
 -- Counters overflow exactly where the history says so: the clause `full` of `run`.
-use Rattle.std.proofs.Common.{◌≡◌, ◌≤◌, ◌+◌, ◌^◌, ℕ, Bool, not, IsTrue, Option, None, Some, Ok, Err, ap, arith}
+use Rattle.std.proofs.Common.{◌≡◌, ◌≤◌, ◌+◌, ◌^◌, ℕ, Bool, not, IsTrue, Option, None, Some, Ok, Err, ap, arith, sym}
 use Rattle.std.specs.Prelude.{sum_by, option_map}
 use Rattle.recovery_paths.specs.declared.path_pair.PathName.TheVariants.{Current, Previous}
 use Rattle.recovery_paths.specs.PathLog.{PathPast, known_of}
@@ -14,7 +14,7 @@ use Rattle.quic_recovery.specs.Promises.Datagrams.{datagrams_on, bytes_in}
 use Rattle.quic_recovery.specs.Promises.Full.{IsRoom, OverflowsFull}
 use Rattle.quic_recovery.specs.Promises.Paths.{paths_made}
 use Rattle.quic_recovery.proofs.DatagramLaws.{Flow, flow_of, IsFlowWhereLives, FlowsAgree, flows_at_first, flows_after}
-use Rattle.quic_recovery.proofs.PathLaws.{generation_told}
+use Rattle.quic_recovery.proofs.PathLaws.{made_told}
 use Rattle.quic_recovery.proofs.Runs.{AllAlong, throughout_kept}
 use Rattle.quic_recovery.proofs.SearchSaid.{Follows}
 
@@ -44,8 +44,7 @@ module _ {F K Q S M P : Type 0} (beginning : Beginning F K Q S M P) where
   full_told before (DatagramIn Previous bytes) reply told agree =
       on_previous _ (datagrams_on Previous before) bytes (pasts_of beginning before).previous reply agree.1 told
   full_told before (NewPath now remote is_fresh) reply told agree =
-      let made : paths_made before ≡ (known_by beginning before).paths.current.generation =
-      (let said = generation_told beginning before Current in cc) in
+      let made : paths_made before ≡ (known_by beginning before).paths.made = sym (made_told beginning before) in
       counter (paths_made before + 1) _ (ap (λ n. n + 1) made) (Answers (IsTrue (not is_fresh)) (Is Done)) reply told
   full_told before event reply told agree = tt
 

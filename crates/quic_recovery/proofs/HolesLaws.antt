@@ -6,7 +6,7 @@ use Rattle.recovery_mtud.specs.BurstRuns as entries_
 use Rattle.recovery_mtud.specs.Discovery.{Discovery}
 use Rattle.recovery_mtud.specs.MtuEntries.{MtuEntry, reset, min_mtu_in_use}
 use Rattle.recovery_events.specs.declared.event.Event.{Event}
-use Rattle.recovery_events.specs.declared.event.Event.TheVariants.{PollMtu, Acked, Lost, LossesDone, ResetPath, NewPath}
+use Rattle.recovery_events.specs.declared.event.Event.TheVariants.{PollMtu, Acked, Lost, LossesDone, ResetPath, NewPath, RevertPath}
 use Rattle.recovery_events.specs.declared.event.Answer.TheVariants as answer
 use Rattle.quic_recovery.specs.Told.{settings_of}
 use Rattle.quic_recovery.specs.History.{Beginning, History, Reply}
@@ -14,7 +14,7 @@ use Rattle.quic_recovery.specs.Promises.Bursts.{open_run}
 use Rattle.quic_recovery.specs.Promises.Holes.{ReportsAtFour, larger_acked, standing, unanswered}
 use Rattle.quic_recovery.proofs.SearchSaid.{NeedsFourBursts, entered_so_far, Follows, Keeps}
 use Rattle.quic_recovery.proofs.BurstLaws.{comes_one, needs_one}
-use Rattle.quic_recovery.proofs.MadeLaws.{is_made, made_after, made_in}
+use Rattle.quic_recovery.proofs.MadeLaws.{is_made, left_size, left_there, made_after, made_in}
 use Rattle.quic_recovery.proofs.SearchSteps.{Facts, Step, stepped, throughout_facts}
 use Rattle.quic_recovery.proofs.Runs.{AllAlong}
 use Rattle.quic_recovery.proofs.TrackedLaws.{AllTracked, keeps_tracked, none_tracked}
@@ -50,6 +50,7 @@ module _ {Q S M P : Type 0} (least : ℕ) where
         → Step first least history entries (λ r after. TiedTo ((event, r) ∷ history) after) event reply
     step_tied (ResetPath now) (Ok given) = (refl, refl, refl, tied.3, (refl, tied.4))
     step_tied (NewPath now remote true) (Ok given) = (refl, refl, refl, refl, tt)
+    step_tied RevertPath (Ok given) = (refl, refl, refl, refl, tt)
     step_tied (NewPath now remote true) (Err refusal) = tied
     step_tied (PollMtu now) (Ok (answer.Probe number size)) = tied
     step_tied (Acked space.Data now number app_limited) (Err refusal) = tied
@@ -68,10 +69,11 @@ module _ {F K Q S M P : Type 0} (beginning : Beginning F K Q S M P) where
   abbrev IsMadeLeast : History Q S M P → Type 0
   IsMadeLeast history = (made_in beginning history).bursts.min_mtu ≡ least
 
-  made_least : (history : History Q S M P) (event : Event Q S M P) (reply : Reply Q) → IsMadeLeast history
-      → (made_after beginning history event reply).bursts.min_mtu ≡ least
-  made_least history (NewPath now remote true) (Ok given) is = refl
-  made_least history event reply is = is
+  made_least : (left : ℕ) (history : History Q S M P) (event : Event Q S M P) (reply : Reply Q) → IsMadeLeast history
+      → (made_after beginning left history event reply).bursts.min_mtu ≡ least
+  made_least left history (NewPath now remote true) (Ok given) is = refl
+  made_least left history RevertPath (Ok given) is = refl
+  made_least left history event reply is = is
 
   pub record Kept (history : History Q S M P) : Type 0 where
     pub tied : TiedTo least history (entered_so_far beginning history)
@@ -82,8 +84,9 @@ module _ {F K Q S M P : Type 0} (beginning : Beginning F K Q S M P) where
   kept_after history event reply known kept = record {
     tied = stepped beginning history (λ r after. TiedTo least ((event, r) ∷ history) after) event reply known
         (step_tied least (settings_of beginning).mtu history (entered_so_far beginning history) kept.tied event reply);
-    made = ap (λ made. made.bursts.min_mtu) (is_made beginning history event reply)
-        ∙ made_least history event reply kept.made;
+    made = ap (λ made. made.bursts.min_mtu)
+        (is_made beginning history event reply _ (left_there beginning history event reply known.told))
+        ∙ made_least (left_size beginning history) history event reply kept.made;
     tracked = keeps_tracked beginning history event reply known.told kept.tracked;
   }
 

@@ -7,7 +7,7 @@ use Rattle.recovery_base.specs.declared.below.SpaceId.TheVariants.{Data}
 use Rattle.recovery_ids.specs.CidQueue.{remote_ids}
 use Rattle.recovery_ledger.specs.Ledger.{tracked_by}
 use Rattle.recovery_ledger.specs.Packets.{no_packets}
-use Rattle.recovery_ledger.specs.Paths.{counters_of, fresh_ledger}
+use Rattle.recovery_ledger.specs.Paths.{counters_of, fresh_ledger, generation_of}
 use Rattle.recovery_ledger.specs.SpaceLog.{SpaceEntry, sends}
 use Rattle.recovery_queue.specs.Queues.{QueueWords}
 use Rattle.recovery_ledger.specs.Spaces.{Spaces, space_of, tracking_of, SpaceStep, SpaceLeft, IsMade}
@@ -135,7 +135,7 @@ module _ {F K Q S M P : Type 0} (beginning : Beginning F K Q S M P) where
 
 -- one path of generation 0, and spaces that track nothing
 pub balanced_first : {K P M S : Type 0} {words : QueueWords P S} {start : ℕ} (spaces : Spaces P M) (path : Path K)
-    (paths : OfPaths (Path K)) → paths ≡ record { current = path; previous = None }
+    (paths : OfPaths (Path K)) → paths ≡ record { current = path; previous = None; made = generation_of path.ledger }
     → ((space : SpaceId) → IsMade words start (space_of space spaces)) → path.ledger ≡ fresh_ledger 0
     → AreBalanced spaces paths
 balanced_first spaces path paths is made ledger =
@@ -144,7 +144,8 @@ balanced_first spaces path paths is made ledger =
 
 module _ {F K Q S M P : Type 0} (beginning : Beginning F K Q S M P) where
   -- the first path, as it was made
-  pub paths_first : (path : Path K) (paths : OfPaths (Path K)) → paths ≡ record { current = path; previous = None }
+  pub paths_first : (path : Path K) (paths : OfPaths (Path K))
+      → paths ≡ record { current = path; previous = None; made = generation_of path.ledger }
       → path.ledger ≡ fresh_ledger 0 → path.state ≡ first_path beginning
       → PathsLeft (settings_of beginning) (first_path beginning) [] (paths_known paths)
   paths_first path paths is ledger state = grind (arith, is, ledger, state)

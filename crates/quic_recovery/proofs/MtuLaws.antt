@@ -1,30 +1,31 @@
 -- By the history alone the MTU in use is the one that is kept, on both paths: the clause `mtu` of `run`.
-use Rattle.std.proofs.Common.{ℕ, ◌≡◌, true, false, List, [], ◌∷◌, Option, None, Some, Ok, Err, refl, sym, subst, ◌∙◌, arith}
-use Rattle.std.specs.Prelude.{option_map}
+use Rattle.std.proofs.Common.{ℕ, ◌≡◌, Bool, true, false, List, [], ◌∷◌, Option, None, Some, Ok, Err, refl, sym, subst, ◌∙◌, arith}
+use Rattle.std.specs.Prelude.{is_some, option_map}
 use Rattle.std.specs.Option.{ForSome}
 use Rattle.recovery_base.specs.declared.below.SpaceId.TheVariants as space
 use Rattle.recovery_config.specs.Settings.{initial_mtu_of}
 use Rattle.recovery_mtud.specs.declared.config.MtuDiscoveryConfig.{MtuDiscoveryConfig}
-use Rattle.recovery_mtud.specs.Discovery.{Discovery}
+use Rattle.recovery_mtud.specs.Discovery.{Discovery, within}
 use Rattle.recovery_mtud.specs.DiscoveryLog.{kept_limit}
 use Rattle.recovery_mtud.specs.MtuEntries.{MtuEntry, probe_in_flight, limit_in_use, min_mtu_in_use, mtu_in_use as by_entries}
-use Rattle.recovery_paths.specs.PathLog.{OfPaths, PathKnown, PathPast, is_validated, known_of, past_with, receives, state_of}
+use Rattle.recovery_paths.specs.PathLog.{PathKnown, PathPast, known_of}
+use Rattle.recovery_paths.specs.declared.path_pair.PathName.TheVariants.{Previous}
 use Rattle.recovery_events.specs.declared.event.Event.{Event}
-use Rattle.recovery_events.specs.declared.event.Event.TheVariants.{PollMtu, Acked, Lost, NewPath, DropPrevious}
+use Rattle.recovery_events.specs.declared.event.Event.TheVariants.{PollMtu, Acked, Lost, NewPath, RevertPath}
 use Rattle.recovery_events.specs.declared.event.Answer.TheVariants as answer
 use Rattle.quic_recovery.specs.Told.{pasts_of, settings_of}
 use Rattle.quic_recovery.specs.Table.{limit}
 use Rattle.quic_recovery.specs.History.{Beginning, History, Reply}
-use Rattle.quic_recovery.specs.Promises.Mtu.{UsesMtu, before_move, mtu, mtu_in_use}
+use Rattle.quic_recovery.specs.Promises.Mtu.{UsesMtu, mtu, mtu_in_use, mtu_on}
 use Rattle.quic_recovery.specs.Search.{discovery_settings}
 use Rattle.quic_recovery.proofs.HolesLaws as holes
-use Rattle.quic_recovery.proofs.MadeLaws.{is_made, made_in}
+use Rattle.quic_recovery.proofs.MadeLaws.{in_state, is_made, made_in, resumed}
+use Rattle.quic_recovery.proofs.LeftMtuLaws.{IsLeft, IsNow, before_same, left_after, left_at_first, left_is}
 use Rattle.quic_recovery.proofs.NearLaws as near
 use Rattle.quic_recovery.proofs.SearchLaws.{mtu_one}
 use Rattle.quic_recovery.proofs.SearchSaid.{ProbesInTurn, entered_so_far, Keeps, IsSmall}
 use Rattle.quic_recovery.proofs.SearchSteps.{Facts, Step, stepped, throughout_facts}
 use Rattle.quic_recovery.proofs.Runs.{AllAlong}
-use Rattle.quic_recovery.proofs.SeenLaws.{IsStill, IsStillOn, stays_seen, map_kept}
 
 -- ---- where paths are not searched: no probe goes out, and no limit is kept
 
@@ -38,13 +39,15 @@ module _ {Q S M P : Type 0} (first least : ℕ) where
   ProbesNone (PollMtu now) (Ok (answer.Probe number size)) = ⊥
   ProbesNone event reply = Unit {0}
 
-  module _ (fresh made : Discovery) (history : History Q S M P) where
+  module _ (fresh back made : Discovery) (history : History Q S M P) where
     abbrev After : Event Q S M P → Reply Q → List MtuEntry → Type 0
     After event reply after =
-        ProbesNone event reply → TiedTo (near.made_then fresh made event reply) ((event, reply) ∷ history) after
+        ProbesNone event reply → TiedTo (near.made_then fresh back made event reply) ((event, reply) ∷ history) after
 
     module _ (entries : List MtuEntry) (tied : TiedTo made history entries)
         (least_is : least ≡ min_mtu_in_use made entries) (fresh_is : (kept_limit fresh ≡ None) × (first ≡ fresh.mtu))
+        (back_is : (kept_limit back ≡ None)
+        × (within (mtu_on false first least Previous history) (limit history) ≡ back.mtu))
       where
         step_tied : (event : Event Q S M P) (reply : Reply Q)
             → Step first least history entries (After event) event reply
@@ -53,6 +56,7 @@ module _ {Q S M P : Type 0} (first least : ℕ) where
         step_tied (Lost space.Data number) (Ok given) = grind arith
         step_tied (NewPath now remote true) (Ok given) = λ none. (refl, fresh_is.0, fresh_is.1)
         step_tied (NewPath now remote true) (Err refusal) = λ none. tied
+        step_tied RevertPath (Ok given) = λ none. (refl, back_is.0, back_is.1)
         step_tied event (Ok given) = grind arith
         step_tied event (Err refusal) = λ none. tied
 
@@ -75,19 +79,23 @@ module _ {F K Q S M P : Type 0} (beginning : Beginning F K Q S M P) (is : discov
   probes_none history (PollMtu now) (Ok (answer.Probe number size)) turn = grind (arith, is, turn)
   probes_none history event reply turn = tt
 
-  pub unsearched_after : (history : History Q S M P) → Unsearched history
+  pub unsearched_after : (history : History Q S M P) → Unsearched history → IsLeft beginning false history
       → least ≡ min_mtu_in_use (made_in beginning history) (entered_so_far beginning history)
       → (event : Event Q S M P) (reply : Reply Q) → Facts beginning history event reply
       → Unsearched ((event, reply) ∷ history)
-  unsearched_after history tied least_is event reply known =
+  unsearched_after history tied left_then least_is event reply known =
       let fresh = (settings_of beginning).discovery (limit history) in
+      let left = mtu_on false first least Previous history in
+      let back = resumed beginning left history in
       let made = made_in beginning history in
       let Now : Discovery → Type 0 =
       λ d. TiedTo first least d ((event, reply) ∷ history) (entered_so_far beginning ((event, reply) ∷ history)) in
-      subst Now (sym (is_made beginning history event reply))
-      (stepped beginning history (After first least fresh made history event) event reply known
-      (step_tied first least fresh made history (entered_so_far beginning history) tied least_is
-      (fresh_unsearched (limit history)) event reply)
+      subst Now
+      (sym (is_made beginning history event reply left
+      (left_is beginning false history event reply known.told left_then)))
+      (stepped beginning history (After first least fresh back made history event) event reply known
+      (step_tied first least fresh back made history (entered_so_far beginning history) tied least_is
+      (fresh_unsearched (limit history)) ((fresh_unsearched (limit history)).0, refl) event reply)
       (probes_none history event reply known.turn))
 
   pub unsearched_first : Unsearched []
@@ -96,45 +104,17 @@ module _ {F K Q S M P : Type 0} (beginning : Beginning F K Q S M P) (is : discov
 -- ---- on both paths
 
 module _ {F K Q S M P : Type 0} (beginning : Beginning F K Q S M P) where
-  abbrev in_state : PathPast K → ℕ
-  in_state past = (state_of past).discovery.mtu
-
-  -- that of the path before the one in use, where it lives
-  abbrev mtu_before : OfPaths (PathPast K) → Option ℕ
-  mtu_before paths = option_map in_state paths.previous
-
-  still : IsStill (settings_of beginning) mtu_before
-  still entry paths = refl
-
-  still_on : IsStillOn (settings_of beginning) mtu_before
-  still_on paths = (
-    λ bytes. map_kept in_state (past_with (settings_of beginning) (receives bytes)) (λ past. refl) paths.previous,
-    map_kept in_state (past_with (settings_of beginning) is_validated) (λ past. refl) paths.previous,
-  )
-
-  abbrev IsLeft : History Q S M P → Type 0
-  IsLeft history = ForSome (mtu_before (pasts_of beginning history))
-      (λ size. size ≡ mtu_in_use beginning (before_move history))
-
-  abbrev IsNow : History Q S M P → Type 0
-  IsNow history = in_state (pasts_of beginning history).current ≡ mtu_in_use beginning history
-
-  left_after : (history : History Q S M P) (event : Event Q S M P) (reply : Reply Q) → IsNow history → IsLeft history
-      → IsLeft ((event, reply) ∷ history)
-  left_after history (NewPath now remote true) (Ok given) is left = λ size found. cc
-  left_after history (NewPath now remote false) (Ok given) is left = λ size found. cc
-  left_after history DropPrevious (Ok given) is left = λ size found. absurd (cc)
-  left_after history event reply is left =
-      subst (λ o. ForSome o (λ size. size ≡ mtu_in_use beginning (before_move history)))
-      (sym (stays_seen beginning mtu_before still still_on history event reply)) left
+  -- whether paths are searched
+  abbrev is_searched : Bool
+  is_searched = is_some (discovery_settings beginning)
 
   -- ---- throughout a run
 
   record Kept (history : History Q S M P) : Type 0 where
     near : near.Kept beginning history
     unsearched : (is : discovery_settings beginning ≡ None) → Unsearched beginning is history
-    now : IsNow history
-    left : IsLeft history
+    now : IsNow beginning is_searched history
+    left : IsLeft beginning is_searched history
 
   in_use_same : (history : History Q S M P) → near.Kept beginning history
       → ((is : discovery_settings beginning ≡ None) → Unsearched beginning is history)
@@ -151,13 +131,14 @@ module _ {F K Q S M P : Type 0} (beginning : Beginning F K Q S M P) where
       let after = near.kept_by beginning history event reply known kept.near in
       let unsearched : (is : discovery_settings beginning ≡ None) → Unsearched beginning is ((event, reply) ∷ history) =
       λ is. unsearched_after beginning is history (kept.unsearched is)
+      (subst (λ by. IsLeft beginning (is_some by) history) is kept.left)
       (sym (holes.least_known beginning history kept.near.holes)) event reply known in
       record {
         near = after;
         unsearched = unsearched;
         now = mtu_one beginning history event reply known.told known.searched
             ∙ sym (in_use_same ((event, reply) ∷ history) after unsearched);
-        left = left_after history event reply kept.now kept.left;
+        left = left_after beginning is_searched history event reply kept.now kept.left;
       }
 
   kept_first : Kept []
@@ -165,7 +146,7 @@ module _ {F K Q S M P : Type 0} (beginning : Beginning F K Q S M P) where
     near = near.kept_first beginning;
     unsearched = unsearched_first beginning;
     now = sym (in_use_same [] (near.kept_first beginning) (unsearched_first beginning));
-    left = λ size found. absurd (cc);
+    left = left_at_first beginning is_searched;
   }
 
   state_mtu : (previous : Option (PathPast K)) (path : PathKnown K)
@@ -175,5 +156,8 @@ module _ {F K Q S M P : Type 0} (beginning : Beginning F K Q S M P) where
 
   pub mtu_told : IsSmall beginning → AllAlong beginning (UsesMtu beginning)
   mtu_told small = throughout_facts beginning Kept kept_after kept_first (λ history event reply known kept.
-      let after = kept_after history event reply known kept in
-      (after.now, λ path lives. after.left path.state.discovery.mtu (state_mtu _ path lives)))
+      let after = kept_after history event reply known kept in (
+        after.now,
+        λ path lives. after.left path.state.discovery.mtu (state_mtu _ path lives)
+            ∙ before_same is_searched _ _ ((event, reply) ∷ history),
+      ))

@@ -10,23 +10,25 @@ use Rattle.recovery_mtud.specs.Discovery.{Discovery, limit_or_greatest, within}
 use Rattle.recovery_mtud.specs.DiscoveryLog.{kept_limit}
 use Rattle.recovery_mtud.specs.MtuEntries.{MtuEntry, unprobed, probe_in_flight, limit_in_use, min_mtu_in_use, mtu_in_use}
 use Rattle.recovery_mtud.specs.SearchRuns.{AreLimitsOutside, EndsNearBest, start_upper, acked_sizes, before_search, lost_sizes, next_activation, probed_sizes, search_of, search_runs}
+use Rattle.recovery_paths.specs.declared.path_pair.PathName.TheVariants.{Previous}
 use Rattle.recovery_events.specs.declared.event.Event.{Event}
-use Rattle.recovery_events.specs.declared.event.Event.TheVariants.{PollMtu, Acked, Lost, LossesDone, PeerLimit, ResetPath, NewPath}
+use Rattle.recovery_events.specs.declared.event.Event.TheVariants.{PollMtu, Acked, Lost, LossesDone, PeerLimit, ResetPath, NewPath, RevertPath}
 use Rattle.recovery_events.specs.declared.event.Answer.TheVariants as answer
 use Rattle.quic_recovery.specs.Table.{limit}
 use Rattle.quic_recovery.specs.History.{Beginning, History, Reply}
 use Rattle.quic_recovery.specs.Told.{settings_of}
 use Rattle.quic_recovery.specs.Search.{discovery_settings}
 use Rattle.quic_recovery.specs.Promises.Few.{is_in_flight}
-use Rattle.quic_recovery.specs.Promises.Mtu.{mtu}
+use Rattle.quic_recovery.specs.Promises.Mtu.{mtu, mtu_on}
 use Rattle.quic_recovery.specs.Promises.Near.{EndsNearBy, IsNear, next, start}
 use Rattle.quic_recovery.specs.Promises.Probes.{acked_probes, lost_probes, runs}
 use Rattle.quic_recovery.proofs.SearchSaid.{entered_so_far, Follows, Keeps, IsSmall}
 use Rattle.quic_recovery.proofs.FewLaws as few
 use Rattle.recovery_mtud.proofs.SearchRunLaws.{idle_before}
 use Rattle.quic_recovery.proofs.HolesLaws as holes
-use Rattle.quic_recovery.proofs.MadeLaws.{is_made, made_in}
-use Rattle.quic_recovery.proofs.SearchLaws.{ends_one}
+use Rattle.quic_recovery.proofs.MadeLaws.{is_made, made_in, resumed}
+use Rattle.quic_recovery.proofs.LeftMtuLaws.{IsLeft, IsNow, left_after, left_at_first, left_is}
+use Rattle.quic_recovery.proofs.SearchLaws.{ends_one, mtu_one}
 use Rattle.quic_recovery.proofs.SearchSteps.{Facts, Step, stepped, throughout_facts}
 use Rattle.quic_recovery.proofs.Runs.{AllAlong}
 
@@ -64,10 +66,11 @@ pub runs_same : {Q S M P : Type 0} (history : History Q S M P) (entries : List M
     → runs history ≡ search_runs entries
 runs_same history entries tied = ap (λ sizes. nat_lt 0 (length sizes)) tied.1 ∙ (seen entries).1
 
--- the discovery of the path in use, by the one that a fresh path has
-abbrev pub made_then : {Q S M P : Type 0} → Discovery → Discovery → Event Q S M P → Reply Q → Discovery
-made_then fresh made (NewPath now remote true) (Ok given) = fresh
-made_then fresh made event reply = made
+-- the discovery of the path in use, by the one that a fresh path has, and by that of one that is used again
+abbrev pub made_then : {Q S M P : Type 0} → Discovery → Discovery → Discovery → Event Q S M P → Reply Q → Discovery
+made_then fresh back made (NewPath now remote true) (Ok given) = fresh
+made_then fresh back made RevertPath (Ok given) = back
+made_then fresh back made event reply = made
 
 module _ {Q S M P : Type 0} (first least : ℕ) (settings : MtuDiscoveryConfig) where
   abbrev pub TiedTo : Discovery → History Q S M P → List MtuEntry → Type 0
@@ -79,24 +82,26 @@ module _ {Q S M P : Type 0} (first least : ℕ) (settings : MtuDiscoveryConfig) 
       × (lost_probes history ≡ lost_sizes (search_of entries))
       × AreLimitsOutside entries
 
-  module _ (fresh made : Discovery) (history : History Q S M P) (entries : List MtuEntry) where
+  module _ (fresh back made : Discovery) (history : History Q S M P) (entries : List MtuEntry) where
     abbrev pub After : Event Q S M P → Reply Q → List MtuEntry → Type 0
     After event reply after =
-        let now = made_then fresh made event reply in
+        let now = made_then fresh back made event reply in
         TiedTo now ((event, reply) ∷ history) after × Carries now made after entries
 
-  module _ (fresh made : Discovery) (history : History Q S M P) (entries : List MtuEntry)
+  module _ (fresh back made : Discovery) (history : History Q S M P) (entries : List MtuEntry)
       (before : few.TiedTo history entries) (tied : TiedTo made history entries)
       (least_is : least ≡ min_mtu_in_use made entries)
       (fresh_is : (kept_limit fresh ≡ Some (limit_or_greatest (limit history)))
-      × (within first (limit history) ≡ fresh.mtu)) where
+      × (within first (limit history) ≡ fresh.mtu))
+      (back_is : (kept_limit back ≡ Some (limit_or_greatest (limit history)))
+      × (within (mtu_on true first least Previous history) (limit history) ≡ back.mtu)) where
     -- where nothing is entered
     stays : ((if runs history then acked_probes history else []) ≡ acked_sizes (search_of entries))
         × ((if runs history then lost_probes history else []) ≡ lost_sizes (search_of entries))
     stays = grind (arith, seen entries)
 
     pub step_tied : (event : Event Q S M P) (reply : Reply Q)
-        → Step first least history entries (After fresh made history entries event) event reply
+        → Step first least history entries (After fresh back made history entries event) event reply
     step_tied (PollMtu now) (Ok (answer.Probe number size)) = grind arith
     step_tied (PollMtu now) (Ok answer.NoProbe) = grind (arith, seen entries)
     step_tied (PeerLimit size) (Ok given) = grind (arith, seen entries)
@@ -107,6 +112,8 @@ module _ {Q S M P : Type 0} (first least : ℕ) (settings : MtuDiscoveryConfig) 
     step_tied (NewPath now remote true) (Ok given) =
         ((fresh_is.0, fresh_is.1, refl, refl, refl, tt), λ runs. absurd (cc))
     step_tied (NewPath now remote true) (Err refusal) = grind (arith, seen entries)
+    step_tied RevertPath (Ok given) =
+        ((back_is.0, back_is.1, refl, refl, refl, tt), λ runs. absurd (cc))
     step_tied event (Ok given) = ((tied.0, tied.1, tied.2, stays.0, stays.1, tied.5), λ runs. (refl, refl))
     step_tied event (Err refusal) = ((tied.0, tied.1, tied.2, stays.0, stays.1, tied.5), λ runs. (refl, refl))
 
@@ -124,12 +131,19 @@ module _ {F K Q S M P : Type 0} (beginning : Beginning F K Q S M P) (settings : 
       (kept_limit fresh ≡ Some (limit_or_greatest limit)) × (within first limit ≡ fresh.mtu))
   fresh_searched limit = grind (arith, is)
 
+  back_searched : (history : History Q S M P) → (let left = mtu_on true first least Previous history in
+      let back = resumed beginning left history in (kept_limit back ≡ Some (limit_or_greatest (limit history)))
+      × (within left (limit history) ≡ back.mtu))
+  back_searched history = ((fresh_searched (limit history)).0, refl)
+
   -- ---- what is kept
 
   pub record Searched (history : History Q S M P) : Type 0 where
     pub tied : TiedTo first least settings (made_in beginning history) history (entered_so_far beginning history)
     start : start first least history ≡ mtu_in_use (made_in beginning history)
         (before_search (entered_so_far beginning history))
+    now : IsNow beginning true history
+    left : IsLeft beginning true history
 
   -- the MTU before a search stays so while it runs
   start_after : (now before : Discovery) (history : History Q S M P) (happened : Event Q S M P × Reply Q)
@@ -149,20 +163,31 @@ module _ {F K Q S M P : Type 0} (beginning : Beginning F K Q S M P) (settings : 
         let made = made_in beginning history in
         let so_far = entered_so_far beginning history in
         let fresh = (settings_of beginning).discovery (limit history) in
+        let left = mtu_on true first least Previous history in
+        let back = resumed beginning left history in
         let Now : Discovery → Type 0 =
         λ d. TiedTo first least settings d ((event, reply) ∷ history) entries × Carries d made entries so_far in
-        let both = subst Now (sym (is_made beginning history event reply))
-        (stepped beginning history (After first least settings fresh made history so_far event) event reply known
-        (step_tied first least settings fresh made history so_far before searched.tied least_is
-        (fresh_searched (limit history)) event reply)) in
+        let both = subst Now
+        (sym (is_made beginning history event reply left
+        (left_is beginning true history event reply known.told searched.left)))
+        (stepped beginning history (After first least settings fresh back made history so_far event) event reply known
+        (step_tied first least settings fresh back made history so_far before searched.tied least_is
+        (fresh_searched (limit history)) (back_searched history) event reply)) in
         record {
           tied = both.0;
           start = start_after _ made history (event, reply) entries so_far after both.0.1 both.1 searched.start;
+          now = mtu_one beginning history event reply known.told known.searched ∙ sym both.0.1;
+          left = left_after beginning true history event reply searched.now searched.left;
         }
 
   searched_first : Searched []
   searched_first =
-      let fresh = fresh_searched None in record { tied = (fresh.0, fresh.1, refl, refl, refl, tt); start = fresh.1 }
+      let fresh = fresh_searched None in record {
+        tied = (fresh.0, fresh.1, refl, refl, refl, tt);
+        start = fresh.1;
+        now = sym fresh.1;
+        left = left_at_first beginning true;
+      }
 
   -- ---- a search that ends
 

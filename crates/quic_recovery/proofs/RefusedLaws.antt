@@ -8,7 +8,7 @@ use Rattle.recovery_paths.specs.declared.path_pair.PathName.{PathName}
 use Rattle.recovery_paths.specs.declared.path_pair.PathName.TheVariants.{Previous}
 use Rattle.recovery_paths.specs.PathLog.{PathKnown, path_of}
 use Rattle.recovery_events.specs.declared.event.Event.{Event}
-use Rattle.recovery_events.specs.declared.event.Event.TheVariants.{InitialId, DropPrevious}
+use Rattle.recovery_events.specs.declared.event.Event.TheVariants.{InitialId, DropPrevious, RevertPath}
 use Rattle.recovery_events.specs.declared.event.Answer.{Answer}
 use Rattle.recovery_events.specs.declared.event.Refusal.{Refusal}
 use Rattle.recovery_events.specs.declared.event.Refusal.TheVariants as refusal
@@ -127,6 +127,7 @@ module _ {F K Q S M P : Type 0} (beginning : Beginning F K Q S M P) where
         cause_names NotInitialId refl refl _ _ None _ (λ late. grind (arith, nat_tests, late))
         (λ first. grind (arith, nat_tests, first)) (answers _ _)
     names DropPrevious = on_path Previous _ (λ there. answers _ _)
+    names RevertPath = on_path Previous _ (λ there. answers _ _)
     names event = search (in_one, leave_names, on_path, passes, answers, ecn_names, probe_names) depth 12
 
   -- throughout a run

@@ -10,7 +10,7 @@ use Rattle.recovery_mtud.specs.MtuEntries.{MtuEntry, probed, unprobed, limited, 
 use Rattle.recovery_mtud.specs.SearchRuns.{EndsNearBest, ProbesInSearch, search_runs}
 use Rattle.recovery_paths.specs.PathLog.{PathPast}
 use Rattle.recovery_events.specs.declared.event.Event.{Event}
-use Rattle.recovery_events.specs.declared.event.Event.TheVariants.{Acked, Lost, PollMtu, PeerLimit, LossesDone, NewPath, ResetPath}
+use Rattle.recovery_events.specs.declared.event.Event.TheVariants.{Acked, Lost, PollMtu, PeerLimit, LossesDone, NewPath, ResetPath, RevertPath}
 use Rattle.recovery_events.specs.declared.event.Answer.TheVariants as answer
 use Rattle.recovery_events.specs.declared.event.Answer.TheVariants.{Probe, NoProbe, BlackHole}
 use Rattle.recovery_events.specs.declared.event.Refusal.TheVariants.{Searching}
@@ -48,7 +48,7 @@ module _ {F K Q S M P : Type 0} (beginning : Beginning F K Q S M P) where
   entered_so_far history = entries_on (pasts_of beginning history).current
 
   -- and after an event, read off its answer: what the event is to the search, and what was before; a fresh path has
-  -- none
+  -- none, and neither has one that is used again
   abbrev pub entered : History Q S M P → Event Q S M P → Reply Q → List MtuEntry
   entered history event (Err refusal) = entered_so_far history
   entered history (PollMtu now) (Ok (Probe number size)) = probed now number size ∷ entered_so_far history
@@ -64,6 +64,7 @@ module _ {F K Q S M P : Type 0} (beginning : Beginning F K Q S M P) where
   entered history (ResetPath now) (Ok given) =
       let settings = settings_of beginning in reset settings.mtu settings.min_mtu ∷ entered_so_far history
   entered history (NewPath now remote true) (Ok given) = []
+  entered history RevertPath (Ok given) = []
   entered history event (Ok given) = entered_so_far history
 
   abbrev pub EntersAsTold : History Q S M P → Event Q S M P → Reply Q → Type 0

@@ -7,7 +7,7 @@ use Rattle.recovery_mtud.specs.Discovery.{reports}
 use Rattle.recovery_mtud.specs.MtuEntries.{MtuEntry, probed, unprobed, limited, acked, lost, losses_over, probe_in_flight, probe_lost, reported, reset, size_at}
 use Rattle.recovery_mtud.specs.SearchRuns.{search_runs}
 use Rattle.recovery_events.specs.declared.event.Event.{Event}
-use Rattle.recovery_events.specs.declared.event.Event.TheVariants.{PollMtu, Acked, Lost, LossesDone, PeerLimit, ResetPath, NewPath}
+use Rattle.recovery_events.specs.declared.event.Event.TheVariants.{PollMtu, Acked, Lost, LossesDone, PeerLimit, ResetPath, NewPath, RevertPath}
 use Rattle.recovery_events.specs.declared.event.Answer.TheVariants as answer
 use Rattle.quic_recovery.specs.Told.{known_by, settings_of, Told, logs_of}
 use Rattle.quic_recovery.specs.History.{Beginning, History, Reply}
@@ -82,6 +82,7 @@ module _ {Q S M P : Type 0} (first least : ℕ) (history : History Q S M P) (ent
       (hole : Bool) → G (Ok (answer.BlackHole hole)) ((if hole then reported now else losses_over) ∷ entries)
   Step (ResetPath now) (Ok given) = G (Ok given) (reset first least ∷ entries)
   Step (NewPath now remote true) (Ok given) = G (Ok given) []
+  Step RevertPath (Ok given) = G (Ok given) []
   Step event (Ok given) = G (Ok given) entries
 
 module _ {F K Q S M P : Type 0} (beginning : Beginning F K Q S M P) (history : History Q S M P)
@@ -119,5 +120,6 @@ module _ {F K Q S M P : Type 0} (beginning : Beginning F K Q S M P) (history : H
         step (reports (known_by beginning history).paths.current.state.discovery),
       )
   stepped (NewPath now remote true) (Ok given) known step = grind (arith, known.entered, step)
+  stepped RevertPath (Ok given) known step = grind (arith, known.entered, step)
   stepped event (Ok given) known step = grind (arith, known.tells, known.entered, step)
   stepped event (Err refusal) known step = grind (arith, known.entered, step)

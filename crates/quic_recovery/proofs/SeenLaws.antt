@@ -1,16 +1,16 @@
 -- What is seen of the paths and is not changed by what happens on one of them stays through every event but those that
--- make a path or drop one. `MadeLaws` and `MtuLaws` rest on it.
+-- make a path, drop one or use one again. `MadeLaws` and `LeftMtuLaws` rest on it.
 use Rattle.std.proofs.Common.{ℕ, ◌≡◌, Bool, true, false, List, ◌∷◌, ◌++◌, Ok, Err, refl, ◌∙◌, arith}
 use Rattle.recovery_paths.specs.PathMaking.{PathSettings}
 use Rattle.recovery_paths.specs.PathLog.{OfPaths, PathEntry, PathPast, PathsEntry, on, is_validated, on_path_of, past_with, pasts_by, receives}
 use Rattle.recovery_paths.specs.declared.path_pair.PathName.TheVariants.{Current, Previous}
 use Rattle.recovery_paths.specs.PathStates.{PathState}
 use Rattle.recovery_events.specs.declared.event.Event.{Event}
-use Rattle.recovery_events.specs.declared.event.Event.TheVariants.{NewPath, DropPrevious}
+use Rattle.recovery_events.specs.declared.event.Event.TheVariants.{NewPath, DropPrevious, RevertPath}
 use Rattle.quic_recovery.specs.Told.{logs_of, pasts_of, known_by, first_path, settings_of}
 use Rattle.quic_recovery.specs.History.{Beginning, History, Reply}
 use Rattle.quic_recovery.specs.Known.{Known}
-use Rattle.quic_recovery.proofs.EntryKinds.{PathKind, moving, dropping, elsewhere, path_kind, paths_kept}
+use Rattle.quic_recovery.proofs.EntryKinds.{PathKind, moving, dropping, returning, elsewhere, path_kind, paths_kept}
 use Rattle.std.specs.Prelude.{Option, option_map}
 
 -- what happens on the path in use is not seen
@@ -29,10 +29,11 @@ pub map_kept : {A B : Type 0} (see : A → B) (f : A → A) → ((a : A) → see
     → option_map see (option_map f o) ≡ option_map see o
 map_kept see f same o = grind (arith, same)
 
--- it neither makes a path nor drops one
+-- it neither makes a path nor drops one nor uses one again
 abbrev stays_there : PathKind → Bool
 stays_there moving = false
 stays_there dropping = false
+stays_there returning = false
 stays_there elsewhere = false
 stays_there kind = true
 
@@ -54,15 +55,17 @@ module _ {F K Q S M P A : Type 0} (beginning : Beginning F K Q S M P) (see : OfP
   abbrev log : List PathsEntry
   log = (logs_of beginning past).paths
 
-  -- of events that make a path or drop one nothing is said
+  -- of events that do so nothing is said
   abbrev Stays : Event Q S M P → Reply Q → Type 0
   Stays (NewPath now remote is_fresh) (Ok given) = Unit {0}
   Stays DropPrevious (Ok given) = Unit {0}
+  Stays RevertPath (Ok given) = Unit {0}
   Stays event reply = see (pasts_of beginning ((event, reply) ∷ past)) ≡ see (pasts_of beginning past)
 
   pub stays_seen : (event : Event Q S M P) (reply : Reply Q) → Stays event reply
   stays_seen (NewPath now remote is_fresh) (Ok given) = tt
   stays_seen DropPrevious (Ok given) = tt
+  stays_seen RevertPath (Ok given) = tt
   stays_seen event (Ok given) =
       let settings = settings_of beginning in
       let first = first_path beginning in

@@ -55,8 +55,11 @@ module _ {K P M : Type 0} (packet : Packet P M) (there : Space P M) (change : Pa
   forgotten = forgotten_entry packet (tracking_of there)
 
   abbrev known_as : ℕ → Option (PathKnown K) → OfPaths (PathKnown K)
-  known_as generation previous =
-      record { current = record { generation = generation; state = change paths.current.state }; previous = previous }
+  known_as generation previous = record {
+    current = record { generation = generation; state = change paths.current.state };
+    previous = previous;
+    made = paths.made;
+  }
 
   pub telling_known : paths_known (paths_telling packet there change paths)
       ≡ known_as (generation_of paths.current.ledger) (option_map path_known paths.previous)

@@ -46,7 +46,7 @@ module _ {F K Q S M P : Type 0} (beginning : Beginning F K Q S M P) where
         let past = (pasts_of beginning ((PollMtu now, Ok (answer.Probe number size)) ∷ history)).current in
         let after = searched_one beginning history (PollMtu now) (Ok (answer.Probe number size)) known.told
         known.searched in
-        (rw (known.entered, is_made beginning history (PollMtu now) (Ok (answer.Probe number size))) at
+        (rw (known.entered, is_made beginning history (PollMtu now) (Ok (answer.Probe number size)) 0 tt) at
         (flight_within past.kept.discovery settings after.0.untold (after.0.settings_are ∙ is) past.searched))
         (record { number = number; size = size }) refl
 

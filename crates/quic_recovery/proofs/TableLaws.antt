@@ -24,7 +24,7 @@ use Rattle.recovery_events.specs.declared.event.Refusal.TheVariants.{NoMemory, N
 use Rattle.recovery_paths.specs.declared.path_pair.PathName.{PathName}
 use Rattle.recovery_paths.specs.declared.path_pair.PathName.TheVariants.{Previous}
 use Rattle.recovery_events.specs.declared.event.Event.{Event}
-use Rattle.recovery_events.specs.declared.event.Event.TheVariants.{DropPrevious}
+use Rattle.recovery_events.specs.declared.event.Event.TheVariants.{DropPrevious, RevertPath}
 use Rattle.quic_recovery.specs.Told.{logs_of, known_by, Told}
 use Rattle.quic_recovery.specs.History.{Beginning, History, QueueMeaning, Reply}
 use Rattle.quic_recovery.specs.IdReplies.{IsFrameAnswer, IsNextAnswer}
@@ -169,6 +169,7 @@ module _ {Q S M P : Type 0} (q : QueueMeaning Q S M P) where
     -- by the causes and the answer of each line
     decides : (event : Event Q S M P) → Decides (ToldBy q words heard known event)
     decides DropPrevious = on_path Previous _ (λ there. is_decided _)
+    decides RevertPath = on_path Previous _ (λ there. is_decided _)
     decides event =
         search (
           refuses,

@@ -1,12 +1,13 @@
 -- The bound on what goes to an address that is not validated, by events and answers: the clause `threefold` of `run`.
 use Rattle.std.proofs.Common.{Bool, ◌∷◌, Option, None, Some, arith}
 use Rattle.recovery_paths.specs.declared.path_pair.PathName.TheVariants.{Current, Previous}
-use Rattle.recovery_paths.specs.PathLog.{OfPaths}
+use Rattle.recovery_paths.specs.PathLog.{OfPaths, each_path}
 use Rattle.quic_recovery.specs.History.{Beginning, History}
+use Rattle.quic_recovery.specs.Told.{pasts_of}
 use Rattle.quic_recovery.specs.Promises.Datagrams.{datagrams_on, is_validated}
 use Rattle.quic_recovery.specs.Promises.Threefold.{KeepsThreefold, SendsThreefold}
 use Rattle.quic_recovery.proofs.Runs.{AllAlong, throughout_kept}
-use Rattle.quic_recovery.proofs.DatagramLaws.{Flow, AreFlows, FlowsAgree, IsBounded, IsFlowWhereLives, flows_at_first, flows_after}
+use Rattle.quic_recovery.proofs.DatagramLaws.{Flow, AreFlows, FlowsAgree, IsBounded, IsFlowWhereLives, flow_of, flows_at_first, flows_after}
 
 module _ {Q S M P : Type 0} where
   -- a path that does not live has no datagrams
@@ -26,5 +27,6 @@ pub sends_threefold : {F K Q S M P : Type 0} (beginning : Beginning F K Q S M P)
     → AllAlong beginning (KeepsThreefold beginning.config.validated)
 sends_threefold beginning =
     throughout_kept beginning (FlowsAgree beginning) (KeepsThreefold beginning.config.validated) (flows_after beginning)
-    (λ before event reply told same. on_each beginning.config.validated ((event, reply) ∷ before) _
+    (λ before event reply told same. on_each beginning.config.validated ((event, reply) ∷ before)
+    (each_path flow_of (pasts_of beginning ((event, reply) ∷ before)))
     (flows_after beginning before event reply told same)) (flows_at_first beginning)

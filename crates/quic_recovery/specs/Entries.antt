@@ -1,7 +1,7 @@
 -- What an event may be to the spaces and to the paths: the words of the table.
 use Rattle.std.specs.declared.net.socket_addr.SocketAddr.{SocketAddr}
 use Rattle.recovery_queue.specs.Queues.{QueueWords}
-use Rattle.std.specs.Prelude.{ℕ, Bool, true, false, ◌&&◌, ◌==◌, List, ◌∷◌, Option, None, Some, if◌then◌else◌, []}
+use Rattle.std.specs.Prelude.{ℕ, ◌+◌, Bool, true, false, ◌&&◌, ◌==◌, List, ◌∷◌, Option, None, Some, if◌then◌else◌, []}
 use Rattle.recovery_base.specs.declared.below.SpaceId.{SpaceId}
 use Rattle.recovery_base.specs.declared.below.SpaceId.TheVariants.{Data}
 use Rattle.quic_recovery.specs.Known.{Known, number_in, packet_now}
@@ -89,5 +89,5 @@ module _ {K P M : Type 0} (known : Known K P M) where
   -- ---- paths
 
   abbrev pub following : ℕ → SocketAddr → Bool → Following
-  following now remote true = fresh remote known.peer_limit now
-  following now remote false = extends remote now
+  following now remote true = fresh (known.paths.made + 1) remote known.peer_limit now
+  following now remote false = extends (known.paths.made + 1) remote now

@@ -9,10 +9,10 @@ use Rattle.recovery_ids.specs.LocalIds.{holds_unretired, timed_out, LocalIds, wi
 use Rattle.recovery_ledger.specs.Acks.{AckState}
 use Rattle.recovery_ledger.specs.Packets.{packet_at}
 use Rattle.recovery_mtud.specs.Discovery.{poll_of, is_searching_of, reports}
-use Rattle.recovery_paths.specs.PathLog.{path_of, on, moves, drops_previous, on_current, receives, is_validated, samples, tells, asks, transmits, passes, is_reset, OfPaths, moved_to}
+use Rattle.recovery_paths.specs.PathLog.{path_of, on, moves, drops_previous, reverts, on_current, receives, is_validated, samples, tells, asks, transmits, passes, is_reset, OfPaths, moved_to, reverted}
 use Rattle.recovery_paths.specs.PathStates.{is_path_probe, path_delay, PathMarks}
 use Rattle.recovery_events.specs.declared.event.Event.{Event}
-use Rattle.recovery_events.specs.declared.event.Event.TheVariants.{Received, Send, Acked, Lost, NewId, NextId, InitialId, IssueIds, IdTimeout, PeerRetired, AckFrequencyIn, AcksSent, AckDelayTimeout, SetTimer, StopTimer, NextTimeout, DiscardSpace, InFlight, DatagramIn, Validated, Sample, Transmit, PacerCheck, Congestion, EndAcks, PollMtu, PeerLimit, LossesDone, Ecn, CheckAck, QueueProbe, TakePending, NewPath, ResetPath, DropPrevious}
+use Rattle.recovery_events.specs.declared.event.Event.TheVariants.{Received, Send, Acked, Lost, NewId, NextId, InitialId, IssueIds, IdTimeout, PeerRetired, AckFrequencyIn, AcksSent, AckDelayTimeout, SetTimer, StopTimer, NextTimeout, DiscardSpace, InFlight, DatagramIn, Validated, Sample, Transmit, PacerCheck, Congestion, EndAcks, PollMtu, PeerLimit, LossesDone, Ecn, CheckAck, QueueProbe, TakePending, NewPath, ResetPath, DropPrevious, RevertPath}
 use Rattle.recovery_events.specs.declared.event.Answer.{Answer}
 use Rattle.recovery_events.specs.declared.event.Answer.TheVariants as answers
 use Rattle.recovery_events.specs.declared.event.Refusal.TheVariants as refusals
@@ -145,10 +145,11 @@ module _ {K Q S M P : Type 0} (q : QueueMeaning Q S M P) (words : ControllerWord
       InSpace here (Answers (IsSome found.moved) (IsQueueProbeAnswer q here streams (heard space) immediate found))
   ToldBy (TakePending space) = InSpace (known.spaces space) (AlwaysAnswers (IsPendingQueue q (known.spaces space)))
   -- a path that goes on from the current one needs a second controller
-  ToldBy (NewPath now remote is_fresh) = Refuses refusals.Overflow (2 ^ 64 ≤ known.paths.current.generation + 1)
+  ToldBy (NewPath now remote is_fresh) = Refuses refusals.Overflow (2 ^ 64 ≤ known.paths.made + 1)
       (Answers (IsTrue (not is_fresh)) (Is answers.Done))
   ToldBy (ResetPath now) = IsDone
   ToldBy DropPrevious = OnPath known.paths.previous (λ there. IsDone)
+  ToldBy RevertPath = OnPath known.paths.previous (λ there. IsDone)
 
 -- ---- what each is to the spaces and to the paths: a line, or two where its answer says what it was
 
@@ -196,6 +197,7 @@ module _ {K Q S M P : Type 0} (q : QueueMeaning Q S M P) (known : Known K P M) w
   answered (NewPath now remote is_fresh) answer = on_path (moves (following known now remote is_fresh))
   answered (ResetPath now) answer = on_path (on_current (is_reset now))
   answered DropPrevious answer = on_path drops_previous
+  answered RevertPath answer = on_path (reverts known.peer_limit)
   answered event answer = nothing
 
   abbrev pub entries_of : Event Q S M P → Reply Q → Entries P M
@@ -238,4 +240,5 @@ abbrev pub marks_after : {Q S M P : Type 0} → Event Q S M P → Reply Q → Of
 marks_after (NewPath now remote true) (Ok answer) old = moved_to (marks_made None) old
 marks_after (NewPath now remote false) (Ok answer) old = moved_to (marks_made old.current.first_after_sample) old
 marks_after DropPrevious (Ok answer) old = record old { previous = None }
+marks_after RevertPath (Ok answer) old = reverted (λ marks. marks) old
 marks_after event reply old = old

@@ -54,6 +54,19 @@ module _ (Q S M P : Type 0) (remote : SocketAddr) where
       (Ok answer.Blocked)
   fresh_path = refl
 
+  -- one that is used again has what it had
+  abbrev used_again : History Q S M P
+  used_again = (event.RevertPath, Ok answer.Done) ∷ (event.NewPath 8 remote true, Ok answer.Done) ∷ little
+
+  again_allowed : BlocksExactly false used_again (event.Transmit 9 5 true) (Ok answer.Transmitted)
+  again_allowed = tt
+
+  again_blocked : BlocksExactly false used_again (event.Transmit 9 6 true) (Ok answer.Blocked)
+  again_blocked = refl
+
+  begins_with_nothing_is_wrong : ¬ BlocksExactly false used_again (event.Transmit 9 5 true) (Ok answer.Blocked)
+  begins_with_nothing_is_wrong = λ e. e
+
 module _ (Q S M P : Type 0) (queue : Q) (frames : M) (remote : SocketAddr) where
   -- ---- bytes in flight: two packets, of which one elicits an ACK
 
@@ -87,6 +100,24 @@ module _ (Q S M P : Type 0) (queue : Q) (frames : M) (remote : SocketAddr) where
 
   there : CountsInFlight another_path (event.InFlight Previous) (Ok (answer.InFlight 1300 1))
   there = refl
+
+  -- what went out on it counts on a path that is used again, and what went out on the other one counts nowhere
+  abbrev back_again : History Q S M P
+  back_again =
+      (event.RevertPath, Ok answer.Done)
+      ∷ (event.Send Data 8 700 true None queue frames, Ok (answer.Sent 2 None))
+      ∷ another_path
+
+  here_again : CountsInFlight back_again (event.InFlight Current) (Ok (answer.InFlight 1300 1))
+  here_again = refl
+
+  counts_nowhere : CountsInFlight ((event.NewPath 9 remote true, Ok answer.Done) ∷ back_again) (event.InFlight Current)
+      (Ok (answer.InFlight 0 0))
+  counts_nowhere = refl
+
+  counts_on_the_third_is_wrong : ¬ CountsInFlight ((event.NewPath 9 remote true, Ok answer.Done) ∷ back_again)
+      (event.InFlight Current) (Ok (answer.InFlight 700 1))
+  counts_on_the_third_is_wrong = λ e. cc
 
   no_such_path : ¬ CountsInFlight two_sent (event.InFlight Previous) (Ok (answer.InFlight 0 0))
   no_such_path = λ e. cc

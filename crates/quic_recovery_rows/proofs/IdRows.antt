@@ -180,6 +180,23 @@ module _ (Q S M P : Type 0) (queue : Q) (frames : M) (remote : SocketAddr) where
   dropped : generation_by Previous ((event.DropPrevious, Ok answer.Done) ∷ flight) ≡ None
   dropped = refl
 
+  -- the first is used again, and one that is made then is the third
+  abbrev used_again : History Q S M P
+  used_again = (event.RevertPath, Ok answer.Done) ∷ flight
+
+  first_again : generation_by Current used_again ≡ Some 0
+  first_again = refl
+
+  none_before : generation_by Previous used_again ≡ None
+  none_before = refl
+
+  third : generation_by Current ((event.NewPath 7 remote true, Ok answer.Done) ∷ used_again) ≡ Some 2
+  third = refl
+
+  second_again_is_wrong : ¬ (generation_by Current ((event.NewPath 7 remote true, Ok answer.Done) ∷ used_again)
+      ≡ Some 1)
+  second_again_is_wrong = λ e. cc
+
   -- ---- refusals
 
   acked_twice : RefusesRightly flight (event.Acked Data 9 0 false) (Err refusal.NotTracked)
@@ -194,6 +211,15 @@ module _ (Q S M P : Type 0) (queue : Q) (frames : M) (remote : SocketAddr) where
   closed_first : RefusesRightly ((event.DiscardSpace Data, Ok answer.Done) ∷ flight) (event.Lost Data 1)
       (Err refusal.SpaceDiscarded)
   closed_first = refl
+
+  used_again_twice : RefusesRightly used_again event.RevertPath (Err refusal.NoSuchPath)
+  used_again_twice = refl
+
+  used_again_twice_is_wrong : ¬ RefusesRightly used_again event.RevertPath (Ok answer.Done)
+  used_again_twice_is_wrong = λ e. cc
+
+  lives_is_not_refused : ¬ RefusesRightly flight event.RevertPath (Err refusal.NoSuchPath)
+  lives_is_not_refused = λ e. cc
 
   closed_twice : ¬ RefusesRightly ((event.DiscardSpace Data, Ok answer.Done) ∷ flight) (event.DiscardSpace Data)
       (Ok answer.Done)

@@ -111,6 +111,24 @@ module _ (Q S M P : Type 0) where
   cooled : next by ((event.LossesDone 7, Ok (answer.BlackHole true)) ∷ ended) ≡ 67
   cooled = refl
 
+  -- a path that is used again has what it had, within what the peer told meanwhile that it takes; its search is anew
+  abbrev another : SocketAddr → History Q S M P
+  another remote = (event.NewPath 8 remote true, Ok answer.Done) ∷ ended
+
+  fresh_one : (remote : SocketAddr) → mtu true 1200 1200 (another remote) ≡ 1200
+  fresh_one remote = refl
+
+  used_again : (remote : SocketAddr) → mtu true 1200 1200 ((event.RevertPath, Ok answer.Done) ∷ another remote) ≡ 1326
+  used_again remote = refl
+
+  limited_meanwhile : (remote : SocketAddr) → mtu true 1200 1200 ((event.RevertPath, Ok answer.Done)
+      ∷ (event.PeerLimit 1300, Ok answer.Done)
+      ∷ another remote) ≡ 1300
+  limited_meanwhile remote = refl
+
+  searched_anew : (remote : SocketAddr) → acked_probes ((event.RevertPath, Ok answer.Done) ∷ another remote) ≡ []
+  searched_anew remote = refl
+
 -- ---- the size of a probe: from 1200, by steps of 20 up to 1452
 
 module _ (remote : SocketAddr) (random : Stream) where
@@ -209,6 +227,12 @@ module _ (Q S M P : Type 0) (queue : Q) (frames : M) where
 
   still_two : sizes_probed ((event.PollMtu 3, Ok answer.NoProbe) ∷ search_so_far) ≡ 1389 ∷ 1326 ∷ []
   still_two = refl
+
+  none_after_return : sizes_probed ((event.RevertPath, Ok answer.Done) ∷ search_so_far) ≡ []
+  none_after_return = refl
+
+  none_in_flight_then : is_in_flight ((event.RevertPath, Ok answer.Done) ∷ search_so_far) ≡ false
+  none_in_flight_then = refl
 
   none_after_reset : sizes_probed ((event.ResetPath 3, Ok answer.Done) ∷ search_so_far) ≡ []
   none_after_reset = refl

@@ -138,6 +138,36 @@ module _ (remote : SocketAddr) (random : Stream) where
   drops_not_is_wrong : ¬ RowTold (drop 2 dropped) (event.DropPrevious) (Err refusal.NoSuchPath)
   drops_not_is_wrong = λ told. told
 
+  -- ---- the path before is used again, and the packets of the other one stay tracked
+
+  abbrev used_again : RowHistory
+  used_again =
+      (event.RevertPath, Err refusal.NoSuchPath)
+      ∷ (event.Acked Data 2 1 false, Ok (answer.Acked false))
+      ∷ (event.InFlight Current, Ok (answer.InFlight 500 1))
+      ∷ (event.RevertPath, Ok answer.Done)
+      ∷ (event.Send Data 1 700 true None [] tt, Ok (answer.Sent 1 None))
+      ∷ (event.NewPath 0 remote true, Ok answer.Done)
+      ∷ (event.Send Data 0 500 true None [] tt, Ok (answer.Sent 0 None))
+      ∷ []
+
+  used_again_told : TellsAll used_again
+  used_again_told =
+      tt
+      ⊳ (unrefused, (λ h. h, (small refl, (fits refl refl, refl))))
+      ⊳ (small refl, refl)
+      ⊳ (unrefused, (λ h. h, (small refl, (fits refl refl, refl))))
+      ⊳ refl
+      ⊳ refl
+      ⊳ (unrefused, (some_is_none, refl))
+      ⊳ tt
+
+  made_anew_is_wrong : ¬ RowTold (drop 3 used_again) (event.InFlight Current) (Ok (answer.InFlight 0 0))
+  made_anew_is_wrong = λ told. uneven told refl
+
+  used_again_not_is_wrong : ¬ RowTold (drop 4 used_again) (event.RevertPath) (Err refusal.NoSuchPath)
+  used_again_not_is_wrong = λ told. told
+
   going_on_takes_memory : RowTold [] (event.NewPath 0 remote false) (Err refusal.NoMemory)
   going_on_takes_memory = (small refl, refl)
 

@@ -118,6 +118,14 @@ impl Connection {
         Ok(true)
     }
 
+    /// The timer of path validation expired: no answer came to the challenge, as where the address was a forged one.
+    /// The path before it is used again as it was (RFC 9000, 9.3.2).
+    pub fn path_failed(&mut self) -> Result<(), Refused> {
+        self.challenge = None;
+        self.stop_timer(Timer::PathValidation)?;
+        self.tell(Event::RevertPath)
+    }
+
     /// The network under the current path is another one, though the addresses stay, as when this end changes from one
     /// network to another behind a tunnel.
     pub fn network_changed(&mut self, now: Instant) -> Result<(), Refused> {

@@ -38,7 +38,10 @@ fn follow(report: &mut Report, server: &mut Connection) -> Result<(), Refused> {
     let is_right = server.path_response(55)?;
     report.value("another address; the old response", &is_right);
     report.round_trip(server, "another address: smoothed ");
-    server.network_changed(at(3_000))
+    server.network_changed(at(3_000))?;
+    server.path_failed()?;
+    report.round_trip(server, "no response, so the path before: smoothed ");
+    Ok(())
 }
 
 fn empty(report: &Report) -> ItemQueue {

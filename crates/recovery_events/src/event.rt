@@ -280,6 +280,11 @@ pub enum Event<Q: RetransmitQueue> {
     },
     /// The previous path is dropped (RFC 9000, 9.3.3). Its packets stay tracked. Refused by `NoSuchPath`.
     DropPrevious,
+    /// The address of the current path was not validated: the previous path is used again (RFC 9000, 9.3.2), with all
+    /// that it holds, and the current one is dropped. Its MTU stays, within what the peer takes; the search for it and
+    /// the count of bursts of losses begin anew, since what came of its probe was told to the other path. The packets
+    /// of the path that is dropped stay tracked, and count nowhere. No previous path is left. Refused by `NoSuchPath`.
+    RevertPath,
 }
 
 /// What an event that is not refused is answered.

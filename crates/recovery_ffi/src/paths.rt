@@ -1,7 +1,7 @@
 //! Paths, congestion and pacing (RFC 9000, 8.1 and 9; RFC 9002, 5 and 7): an export for each event.
 ghost use Rattle.recovery_ffi.specs.Answers.{Answers, AnswersTo, MovesTo};
 ghost use Rattle.recovery_ffi.specs.Codes.{path_coded, maybe, spans};
-ghost use Rattle.recovery_events.specs.declared.event.Event.TheVariants.{Congestion, DatagramIn, DropPrevious, EndAcks, InFlight, PacerCheck, ResetPath, Sample, Transmit, Validated};
+ghost use Rattle.recovery_events.specs.declared.event.Event.TheVariants.{Congestion, DatagramIn, DropPrevious, EndAcks, InFlight, PacerCheck, ResetPath, RevertPath, Sample, Transmit, Validated};
 
 use crate::codes::{Address, maybe, path_coded, socket_of, spans};
 use crate::handle::Handle;
@@ -213,4 +213,12 @@ pub extern "C" fn recovery_ffi_drop_previous(alloc: Global, handle: &mut Handle)
     ensures { Answers handle.old.slot.held (DropPrevious) result handle.new.slot.held }
 {
     handle.apply(alloc, Event::DropPrevious)
+}
+
+/// The previous path is used again, and the current one is dropped (RFC 9000, 9.3.2): the event `RevertPath`.
+#[unsafe(no_mangle)]
+pub extern "C" fn recovery_ffi_revert_path(alloc: Global, handle: &mut Handle) -> Reply
+    ensures { Answers handle.old.slot.held (RevertPath) result handle.new.slot.held }
+{
+    handle.apply(alloc, Event::RevertPath)
 }

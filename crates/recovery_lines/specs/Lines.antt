@@ -23,7 +23,7 @@ use Rattle.recovery_events.specs.declared.event.Event.TheVariants.{Congestion, E
 use Rattle.recovery_events.specs.declared.event.Event.TheVariants.{PollMtu, PeerLimit, LossesDone}
 use Rattle.recovery_events.specs.declared.event.Event.TheVariants.{Ecn, CheckAck}
 use Rattle.recovery_events.specs.declared.event.Event.TheVariants.{QueueProbe, TakePending}
-use Rattle.recovery_events.specs.declared.event.Event.TheVariants.{NewPath, ResetPath, DropPrevious}
+use Rattle.recovery_events.specs.declared.event.Event.TheVariants.{NewPath, ResetPath, DropPrevious, RevertPath}
 use Rattle.recovery_base.specs.declared.timer.Timer.TheVariants.{Idle}
 use Rattle.recovery_lines.specs.declared.forms.Line.{Line}
 use Rattle.recovery_lines.specs.declared.forms.Line.TheVariants.{Said, Ids, Path}
@@ -241,6 +241,9 @@ reset_path = form_of (codes "reset-path") (a_u64 ∷ []) (λ x. ResetPath x.0)
 abbrev pub drop_previous : Form
 drop_previous = form_of (codes "drop-previous") [] (λ x. DropPrevious)
 
+abbrev pub revert_path : Form
+revert_path = form_of (codes "revert-path") [] (λ x. RevertPath)
+
 -- those that have no items
 abbrev pub forms_without_items : List Form
 forms_without_items = received ∷ acked ∷ lost
@@ -250,7 +253,8 @@ forms_without_items = received ∷ acked ∷ lost
     ∷ discard ∷ in_flight
     ∷ sample ∷ datagram_in ∷ validated ∷ transmit ∷ pacer_check ∷ congestion ∷ end_acks
     ∷ poll_mtu ∷ peer_limit ∷ losses_done
-    ∷ ecn ∷ check_ack ∷ queue_probe ∷ take_pending ∷ new_path ∷ reset_path ∷ drop_previous ∷ []
+    ∷ ecn ∷ check_ack ∷ queue_probe ∷ take_pending ∷ new_path ∷ reset_path ∷ drop_previous
+    ∷ revert_path ∷ []
 
 abbrev pub forms : List Form
 forms = send ∷ forms_without_items
@@ -305,6 +309,7 @@ saying unkept (TakePending space) = (take_pending, (space, tt))
 saying unkept (NewPath now remote fresh) = (new_path, (now, (socket_port remote, (fresh, tt))))
 saying unkept (ResetPath now) = (reset_path, (now, tt))
 saying unkept DropPrevious = (drop_previous, tt)
+saying unkept RevertPath = (revert_path, tt)
 
 -- the words that a form says with values
 abbrev pub words_said : (form : Form) × FormValues form → List (List ℕ)

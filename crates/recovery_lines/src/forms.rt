@@ -1,7 +1,7 @@
 //! The forms of lines: what stands behind the name of each, and what it says. Each event has one.
 ghost use Rattle.std.specs.Prelude.{◌≡◌, IfOk, OnErr, IsSomeAnd};
 ghost use Rattle.recovery_lines.specs.Lines.{id_of, token_of, Form};
-ghost use Rattle.recovery_lines.specs.Lines.{next_id, id_timeout, next_timeout, drop_previous};
+ghost use Rattle.recovery_lines.specs.Lines.{next_id, id_timeout, next_timeout, drop_previous, revert_path};
 ghost use Rattle.recovery_lines.specs.Lines.{received, send, acked, lost};
 ghost use Rattle.recovery_lines.specs.Lines.{new_id, initial_id, issue_ids, peer_retired};
 ghost use Rattle.recovery_lines.specs.Lines.{ack_frequency, acks_sent, ack_delay_timeout};
@@ -615,5 +615,17 @@ impl LineForm for DropPreviousLine {
     #[tactic(auto, unfolding(crate::specs::Reading::fields_read))]
     fn read(_words: &mut Words<'_>) -> Option<Line> {
         Some(Line::Said(Event::DropPrevious))
+    }
+}
+
+pub(crate) struct RevertPathLine;
+
+impl LineForm for RevertPathLine {
+    ghost form = { revert_path };
+
+    #[inline(always)]
+    #[tactic(auto, unfolding(crate::specs::Reading::fields_read))]
+    fn read(_words: &mut Words<'_>) -> Option<Line> {
+        Some(Line::Said(Event::RevertPath))
     }
 }

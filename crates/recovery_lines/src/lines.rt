@@ -9,8 +9,9 @@ use crate::forms::{
     DatagramInLine, DiscardLine, DropPreviousLine, EcnLine, EndAcksLine, IdTimeoutLine,
     InFlightLine, InitialIdLine, IssueIdsLine, Line, LineForm, LossesDoneLine, LostLine, NewIdLine,
     NewPathLine, NextIdLine, NextTimeoutLine, PacerCheckLine, PeerLimitLine, PeerRetiredLine,
-    PollMtuLine, QueueProbeLine, ReceivedLine, ResetPathLine, SampleLine, SetTimerLine,
-    StopTimerLine, TakePendingLine, TransmitLine, ValidatedLine, id_of, send, token_of,
+    PollMtuLine, QueueProbeLine, ReceivedLine, ResetPathLine, RevertPathLine, SampleLine,
+    SetTimerLine, StopTimerLine, TakePendingLine, TransmitLine, ValidatedLine, id_of, send,
+    token_of,
 };
 use crate::words::{Words, is_name};
 use recovery_base::below::{IssuedCid, NoMemory};
@@ -170,6 +171,7 @@ fn put_behind<S: Sink<Event<ItemQueue>>>(
         11 if is_name(name, "pacer-check") => put_form::<PacerCheckLine, S>(alloc, words, sink),
         11 if is_name(name, "losses-done") => put_form::<LossesDoneLine, S>(alloc, words, sink),
         11 if is_name(name, "queue-probe") => put_form::<QueueProbeLine, S>(alloc, words, sink),
+        11 if is_name(name, "revert-path") => put_form::<RevertPathLine, S>(alloc, words, sink),
         12 if is_name(name, "peer-retired") => put_form::<PeerRetiredLine, S>(alloc, words, sink),
         12 if is_name(name, "next-timeout") => put_form::<NextTimeoutLine, S>(alloc, words, sink),
         12 if is_name(name, "take-pending") => put_form::<TakePendingLine, S>(alloc, words, sink),

@@ -102,6 +102,15 @@ impl MtuDiscovery {
         };
     }
 
+    /// The same with this MTU in use, above zero: that of a path that comes back into use.
+    pub fn with_mtu(mut self, current_mtu: u16) -> Self
+        requires { 0 < current_mtu }
+        ensures { result ≡ record self { mtu = current_mtu } }
+    {
+        self.current_mtu = current_mtu;
+        self
+    }
+
     /// The MTU in use.
     pub fn current_mtu(&self) -> u16
         ensures value { result ≡ self.now.mtu }

@@ -1,13 +1,14 @@
 -- What checked transmissions keep on one path holds of each path that lives, whatever happens. `PassedLaws` and
 -- `SearchedLaws` rest on it.
-use Rattle.std.proofs.Common.{arith, ◌≡◌, List, [], ◌∷◌, ◌++◌, None}
+use Rattle.std.proofs.Common.{arith, ◌≡◌, List, [], ◌∷◌, ◌++◌, Option, None, Some, refl}
+use Rattle.std.specs.Option.{ForSome}
 use Rattle.std.proofs.lemmas.Option.{none-some}
 use Rattle.recovery_congestion.specs.Controllers.{ControllerWords}
 use Rattle.recovery_mtud.proofs.SearchRunLaws.{IsInTurn}
 use Rattle.recovery_paths.specs.declared.path_pair.PathName.TheVariants.{Current, Previous}
 use Rattle.recovery_paths.specs.PathMaking.{PathSettings}
 use Rattle.recovery_paths.specs.PathStates.{PathState, path_delay}
-use Rattle.recovery_paths.specs.PathLog.{OfPaths, OnEachPath, PathsEntry, PathEntry, PathPast, PathKnown, Following, paths_with, paths_after, pasts_by, each_path, state_of, known_of, path_known_with, known_following, past_with, past_following, on, moves, drops_previous, searches, passes}
+use Rattle.recovery_paths.specs.PathLog.{OfPaths, OnEachPath, PathsEntry, PathEntry, PathPast, PathKnown, Following, paths_with, paths_after, pasts_by, each_path, state_of, known_of, path_known_with, known_following, past_with, past_following, reverted, on, moves, drops_previous, reverts, returns, searches, passes}
 use Rattle.recovery_paths.proofs.PathLogLaws.{some_same, for_changed, each-after}
 
 -- what passes was not delayed, and a limit is told while no search runs
@@ -38,6 +39,7 @@ module _ {K : Type 0} (settings : PathSettings K) where
   IsAllowedOn paths (on Previous entry) = PassesNothing entry
   IsAllowedOn paths (moves following) = Unit {0}
   IsAllowedOn paths drops_previous = Unit {0}
+  IsAllowedOn paths (reverts limit) = Unit {0}
 
   abbrev pub AreAllowed : OfPaths (PathKnown K) → List PathsEntry → Type 0
   AreAllowed paths [] = Unit {0}
@@ -64,6 +66,14 @@ module _ {K : Type 0} (settings : PathSettings K) where
     entry_kept (moves following) pasts allowed holds =
         (kept.following following pasts.current holds.0, λ past is. rw (← some_same is) holds.0)
     entry_kept drops_previous pasts allowed holds = (holds.0, λ past is. absurd (none-some _ is))
+    entry_kept (reverts limit) pasts allowed holds = returned pasts.previous holds.1
+      where
+        returned : (previous : Option (PathPast K)) → ForSome previous Holds
+            → OnEachPath Holds
+            (reverted (past_following settings (returns limit)) (record pasts { previous = previous }))
+        returned None none = (holds.0, none)
+        returned (Some past) was =
+            (kept.following (returns limit) past (was past refl), λ past is. absurd (none-some _ is))
 
     -- an event's entries keep it
     pub kept_after : (first : PathState K) (entries log : List PathsEntry) → let pasts = pasts_by settings first log in

@@ -3,6 +3,7 @@
 use Rattle.std.proofs.Common.{◌≡◌, ℕ, ◌+◌, ◌<◌, ◌≤◌, Bool, [], ◌∷◌, Option, None, Some, option_map, refl, ap, subst, arith}
 use Rattle.std.proofs.lemmas.Iterator.Adapters.{option_map_id}
 use Rattle.std.proofs.lemmas.Option.{none-some}
+use Rattle.std.specs.Option.{option_map_or}
 use Rattle.recovery_base.specs.declared.below.SpaceId.{SpaceId}
 use Rattle.recovery_congestion.specs.Controllers.{ControllerWords}
 use Rattle.recovery_ledger.specs.Ledger.{tracked_by, IsBalancedOn, AreCoherent}
@@ -20,7 +21,7 @@ use Rattle.recovery_paths.specs.Balance.{AreBalanced}
 use Rattle.recovery_paths.specs.declared.path_pair.PathName.{PathName}
 use Rattle.recovery_paths.specs.declared.path_pair.PathName.TheVariants.{Current, Previous}
 use Rattle.recovery_paths.specs.PathPair.{on_ledger, ledger_without, IsCountedOnEach, AreCountedOnEach, CanTrackOn, paths_after_sending, path_left_by, paths_without, paths_losing, paths_acking}
-use Rattle.recovery_paths.specs.PathLog.{OfPaths, on_path_of, moved_to}
+use Rattle.recovery_paths.specs.PathLog.{OfPaths, on_path_of, moved_to, reverted}
 use Rattle.recovery_paths.specs.PathStates.{PathState, Path, on_state, path_lost}
 use Rattle.recovery_queue.specs.Queues.{QueueWords}
 
@@ -48,10 +49,9 @@ module _ {K P M : Type 0} (spaces : Spaces P M) (paths : OfPaths (Path K)) (bala
       grind (arith, balanced, each)
 
   -- another path is used, of a new generation
-  pub moved : (path : Path K) → path.ledger ≡ fresh_ledger (generation_of ledger + 1)
-      → AreBalanced spaces (moved_to path paths)
+  pub moved : (path : Path K) → path.ledger ≡ fresh_ledger (paths.made + 1) → AreBalanced spaces (moved_to path paths)
   moved path fresh =
-      let next : generation_of path.ledger ≡ generation_of ledger + 1 =
+      let next : generation_of path.ledger ≡ paths.made + 1 =
       ap (λ (l : PathLedger). generation_of l) fresh in
       grind (
         arith,
@@ -62,6 +62,23 @@ module _ {K P M : Type 0} (spaces : Spaces P M) (paths : OfPaths (Path K)) (bala
             (ap (λ (l : PathLedger). counters_of l) fresh),
       )
 
+  -- the previous path is used again, with its own ledger
+  pub returned : (change : PathState K → PathState K) → AreBalanced spaces (reverted (on_state change) paths)
+  returned change = go paths.previous refl
+    where
+      go : (previous : Option (Path K)) → paths.previous ≡ previous
+          → AreBalanced spaces (option_map_or (λ path. record paths { current = on_state change path; previous = None })
+          previous paths)
+      go None is = balanced
+      go (Some path) is = record {
+        current = balanced.previous path is;
+        previous = λ other is. absurd (none-some _ is);
+        older = λ other is. absurd (none-some _ is);
+        given = omega (arith, balanced.older path is, balanced.given);
+        up_to = balanced.up_to;
+        coherent = balanced.coherent;
+      }
+
   module _ (space : SpaceId) where
     abbrev before : Space P M
     before = space_of space spaces
@@ -70,7 +87,7 @@ module _ {K P M : Type 0} (spaces : Spaces P M) (paths : OfPaths (Path K)) (bala
     all = packets_of before
 
     abbrev Is : Packet P M → Type 0
-    Is packet = packet.path_generation ≤ generation_of ledger
+    Is packet = packet.path_generation ≤ paths.made
 
     -- the packets of a space change, and the counters of each path by as much
     changed : (here : Space P M) (now : Path K) (change : Path K → Path K)
@@ -78,7 +95,7 @@ module _ {K P M : Type 0} (spaces : Spaces P M) (paths : OfPaths (Path K)) (bala
         → ((path : Path K) → paths.previous ≡ Some path
         → Follows path.ledger all (packets_of here) (change path).ledger)
         → OfAll Is (packets_of here) → IsCoherent here
-        → AreBalanced (with_space spaces space here) (let both : OfPaths (Path K) = record {
+        → AreBalanced (with_space spaces space here) (let both : OfPaths (Path K) = record paths {
           current = now;
           previous = option_map change paths.previous;
         } in both)
@@ -92,8 +109,8 @@ module _ {K P M : Type 0} (spaces : Spaces P M) (paths : OfPaths (Path K)) (bala
           current = balanced_by spaces ledger balanced.current space here now.ledger follows;
           previous = λ path is. (each path is).0;
           older = λ path is. (each path is).1;
-          up_to = rw follows.generation (each_with (λ (s : Space P M). OfAll Is (packets_of s)) spaces space here
-              balanced.up_to up_to);
+          given = omega (arith, balanced.given, follows.generation);
+          up_to = each_with (λ (s : Space P M). OfAll Is (packets_of s)) spaces space here balanced.up_to up_to;
           coherent = each_with IsCoherent spaces space here balanced.coherent coherent;
         }
 
@@ -143,7 +160,7 @@ module _ {K P M : Type 0} (spaces : Spaces P M) (paths : OfPaths (Path K)) (bala
         (rw tracking ((sent_follows ledger all each_counted.0 last packet number).0 own))
         (λ path is. rw tracking ((sent_follows path.ledger all (each_counted.1 path is) last packet number).1
         (λ same. absurd (omega (arith, balanced.older path is, same, own)))))
-        (rw tracking (all_sent Is last number packet all (balanced.up_to space) (omega (arith, own))))
+        (rw tracking (all_sent Is last number packet all (balanced.up_to space) (omega (arith, own, balanced.given))))
         (coherent_sent before here (balanced.coherent space) received number packet above small tracking next)
 
     -- ---- a packet is acknowledged or lost
@@ -211,7 +228,8 @@ module _ {K P M : Type 0} (spaces : Spaces P M) (paths : OfPaths (Path K)) (bala
 pub fresh : {K P M : Type 0} (spaces : Spaces P M) (path : Path K)
     → ((space : SpaceId) → tracking_of (space_of space spaces) ≡ no_packets) → AreCoherent spaces
     → counters_of path.ledger ≡ record { bytes = 0; ack_eliciting = 0 }
-    → AreBalanced spaces (let all : OfPaths (Path K) = record { current = path; previous = None } in all)
+    → AreBalanced spaces
+    (let all : OfPaths (Path K) = record { current = path; previous = None; made = generation_of path.ledger } in all)
 fresh {P = P} {M} spaces path none coherent zero =
     let nothing : (space : SpaceId) (packet : Packet P M) → IsAmong (tracked_by spaces space) packet → ⊥ =
     λ space packet among. subst (λ (t : Tracking P M). IsAmong t.packets packet) (none space) among in
@@ -219,6 +237,7 @@ fresh {P = P} {M} spaces path none coherent zero =
       current = none_balanced path.ledger spaces (λ space packet among. absurd (nothing space packet among)) zero;
       previous = λ other is. absurd (none-some _ is);
       older = λ other is. absurd (none-some _ is);
+      given = omega arith;
       up_to = λ space packet among. absurd (nothing space packet among);
       coherent = coherent;
     }

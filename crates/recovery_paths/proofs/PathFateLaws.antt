@@ -11,7 +11,7 @@ use Rattle.recovery_mtud.specs.DiscoveryLog.{MtuCall, acks, loses}
 use Rattle.recovery_mtud.specs.MtuEntries.{entries_by}
 use Rattle.recovery_mtud.proofs.BurstRunLaws.{acked_in_calls, lost_in_calls, fates_apart_by}
 use Rattle.recovery_paths.specs.declared.path_pair.PathName.TheVariants.{Current, Previous}
-use Rattle.recovery_paths.specs.PathLog.{PathsEntry, PathEntry, PathPast, pasts_by, on, moves, drops_previous, searches}
+use Rattle.recovery_paths.specs.PathLog.{PathsEntry, PathEntry, PathPast, pasts_by, on, moves, drops_previous, reverts, searches}
 use Rattle.recovery_paths.specs.PathMaking.{PathSettings}
 use Rattle.recovery_paths.specs.PathStates.{PathState}
 
@@ -73,6 +73,7 @@ told_by number (on Current entry) = told_on_path number entry
 told_by number (on Previous entry) = 0
 told_by number (moves following) = 0
 told_by number drops_previous = 0
+told_by number (reverts limit) = 0
 
 abbrev pub told_in : ℕ → List PathsEntry → ℕ
 told_in number [] = 0

@@ -4,7 +4,7 @@ use Rattle.std.proofs.Common.{◌≡◌, List, [], ◌∷◌, ◌++◌, Option, 
 use Rattle.std.specs.Option.{ForSome}
 use Rattle.recovery_paths.specs.declared.path_pair.PathName.TheVariants.{Current, Previous}
 use Rattle.recovery_paths.specs.PathMaking.{PathSettings}
-use Rattle.recovery_paths.specs.PathLog.{OfPaths, PathsEntry, PathEntry, PathPast, PathKnown, Following, paths_with, paths_after, pasts_by, each_path, past_with, past_following, known_of, path_known_with, known_following, PathsStep, PathsLeft, on, moves, drops_previous, fresh, extends, receives}
+use Rattle.recovery_paths.specs.PathLog.{OfPaths, PathsEntry, PathEntry, PathPast, PathKnown, Following, paths_with, paths_after, pasts_by, each_path, past_with, past_following, known_of, path_known_with, known_following, PathsStep, PathsLeft, on, moves, drops_previous, reverts, fresh, extends, returns, receives}
 use Rattle.recovery_paths.specs.PathStates.{PathState}
 
 pub some_same : {A : Type 0} {a b : A} → Some a ≡ Some b → a ≡ b
@@ -32,8 +32,9 @@ module _ {K : Type 0} (settings : PathSettings K) where
   known_of-following : (following : Following) (past : PathPast K)
       → known_following settings following (known_of past)
       ≡ known_of (past_following settings following past)
-  known_of-following (fresh remote limit now) past = refl
-  known_of-following (extends remote now) past = refl
+  known_of-following (fresh generation remote limit now) past = refl
+  known_of-following (extends generation remote now) past = refl
+  known_of-following (returns limit) past = refl
 
   each-with : (entry : PathsEntry) (pasts : OfPaths (PathPast K))
       → paths_with (path_known_with settings) (known_following settings) entry (each_path known_of pasts)
@@ -44,6 +45,18 @@ module _ {K : Type 0} (settings : PathSettings K) where
       pasts.previous) refl
   each-with (moves following) pasts = rw (known_of-following following pasts.current) refl
   each-with drops_previous pasts = refl
+  each-with (reverts limit) pasts = returned pasts.previous
+    where
+      with_previous : Option (PathPast K) → OfPaths (PathPast K)
+      with_previous previous = record pasts { previous = previous }
+
+      returned : (previous : Option (PathPast K))
+          → paths_with (path_known_with settings) (known_following settings) (reverts limit)
+          (each_path known_of (with_previous previous))
+          ≡ each_path known_of
+          (paths_with (past_with settings) (past_following settings) (reverts limit) (with_previous previous))
+      returned None = refl
+      returned (Some past) = refl
 
   -- entries before a log, as they change what the log leaves
   pub each-after : (first : PathState K) (entries log : List PathsEntry)

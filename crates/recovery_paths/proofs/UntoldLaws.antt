@@ -1,8 +1,8 @@
 -- The search for the MTU of the path in use began with nothing told to it. The driver's `BurstLaws` rest on it.
-use Rattle.std.proofs.Common.{ℕ, List, [], ◌∷◌, Option}
+use Rattle.std.proofs.Common.{arith, ℕ, List, [], ◌∷◌, Option}
 use Rattle.recovery_mtud.specs.MtuEntries.{IsUntold}
 use Rattle.recovery_paths.specs.declared.path_pair.PathName.TheVariants.{Current}
-use Rattle.recovery_paths.specs.PathLog.{PathsEntry, PathEntry, PathPast, pasts_by, past_with, on, moves, fresh, receives}
+use Rattle.recovery_paths.specs.PathLog.{PathsEntry, PathEntry, PathPast, pasts_by, past_with, on, moves, reverts, fresh, returns, receives}
 use Rattle.recovery_paths.specs.PathMaking.{PathSettings}
 use Rattle.recovery_paths.specs.PathStates.{PathState}
 
@@ -22,5 +22,8 @@ module _ {K : Type 0} (settings : PathSettings K) (made : (limit : Option ℕ) �
         → WasUntold (pasts_by settings first log).current
     untold_by first untold [] = untold
     untold_by first untold (on Current entry ∷ log) = untold_law entry _ (untold_by first untold log)
-    untold_by first untold (moves (fresh remote limit now) ∷ log) = made limit
+    untold_by first untold (moves (fresh generation remote limit now) ∷ log) = made limit
+    untold_by first untold (moves (returns limit) ∷ log) = grind (arith, made limit)
+    untold_by first untold (reverts limit ∷ log) =
+        grind (arith, made limit, untold_by first untold log)
     untold_by first untold (entry ∷ log) = untold_by first untold log

@@ -1,5 +1,5 @@
 -- What ties the paths to the packets that are tracked (RFC 9002, B.2).
-use Rattle.std.specs.Prelude.{◌<◌}
+use Rattle.std.specs.Prelude.{◌<◌, ◌≤◌}
 use Rattle.std.specs.Option.{ForSome}
 use Rattle.recovery_ledger.specs.Ledger.{IsBalancedOn, AreCoherent, AreUpTo}
 use Rattle.recovery_ledger.specs.Paths.{generation_of}
@@ -8,10 +8,12 @@ use Rattle.recovery_paths.specs.PathLog.{OfPaths}
 use Rattle.recovery_paths.specs.PathStates.{Path}
 
 -- Each path's counters are sums over the packets that the spaces track, the previous path is older than the one in use,
--- no tracked packet is of a younger one, and the parts of each space go together.
+-- no tracked packet is of one that was not made, and the parts of each space go together.
 pub record AreBalanced {K P M : Type 0} (spaces : Spaces P M) (paths : OfPaths (Path K)) : Type 0 where
   pub current : IsBalancedOn spaces paths.current.ledger
   pub previous : ForSome paths.previous (λ path. IsBalancedOn spaces path.ledger)
   pub older : ForSome paths.previous (λ path. generation_of path.ledger < generation_of paths.current.ledger)
-  pub up_to : AreUpTo (generation_of paths.current.ledger) spaces
+  -- none is of a generation that was not yet given
+  pub given : generation_of paths.current.ledger ≤ paths.made
+  pub up_to : AreUpTo paths.made spaces
   pub coherent : AreCoherent spaces

@@ -1,13 +1,13 @@
 -- What happened on the paths. A path's own part knows of no other path.
 use Rattle.std.specs.Prelude.{ℕ, ◌≡◌, ◌+◌, Bool, true, false, List, [], ◌∷◌, Option, None, Some, option_map}
-use Rattle.std.specs.Option.{ForSome}
+use Rattle.std.specs.Option.{ForSome, option_map_or}
 use Rattle.std.specs.declared.net.socket_addr.SocketAddr.{SocketAddr}
 use Rattle.recovery_congestion.specs.Calls.{ControllerCall}
 use Rattle.recovery_mtud.specs.DiscoveryLog.{MtuCall, resets, discovery_by}
 use Rattle.recovery_congestion.specs.PacerLog.{PacerEntry, asked, took, bucket_by}
 use Rattle.recovery_paths.specs.declared.path_pair.PathName.{PathName}
 use Rattle.recovery_paths.specs.declared.path_pair.PathName.TheVariants.{Current, Previous}
-use Rattle.recovery_paths.specs.PathMaking.{PathSettings, begun_anew, state_fresh, state_going_on, state_reset}
+use Rattle.recovery_paths.specs.PathMaking.{PathSettings, begun_anew, discovery_resumed, state_fresh, state_going_on, state_reset, state_resumed}
 use Rattle.recovery_paths.specs.PathStates.{PathState, PathMarks, Path, pacer_call, after_asking, after_transmitting, after_receiving, after_sample, after_searching, after_telling, after_validation}
 
 -- ---- the paths, whatever is kept for each
@@ -16,6 +16,8 @@ use Rattle.recovery_paths.specs.PathStates.{PathState, PathMarks, Path, pacer_ca
 pub record OfPaths (P : Type 0) : Type 0 where
   pub current : P
   pub previous : Option P
+  -- how many were made behind the first one, those that were dropped among them
+  pub made : ℕ
 
 -- what is kept for the path of a name, where it lives
 abbrev pub path_of : {P : Type 0} → PathName → OfPaths P → Option P
@@ -28,14 +30,19 @@ on_path_of Previous change paths = record paths { previous = option_map change p
 
 -- another path is in use, and the one that was is the previous one
 abbrev pub moved_to : {P : Type 0} → P → OfPaths P → OfPaths P
-moved_to path paths = record { current = path; previous = Some paths.current }
+moved_to path paths = record { current = path; previous = Some paths.current; made = paths.made + 1 }
+
+-- the previous path, where it lives, is in use again, changed so, and the one that was in use is dropped (9.3.2)
+abbrev pub reverted : {P : Type 0} → (P → P) → OfPaths P → OfPaths P
+reverted change paths =
+    option_map_or (λ path. record paths { current = change path; previous = None }) paths.previous paths
 
 -- it holds of each path that lives
 abbrev pub OnEachPath : {P : Type 0} → (P → Type 0) → OfPaths P → Type 0
 OnEachPath Holds paths = Holds paths.current × ForSome paths.previous Holds
 
 abbrev pub each_path : {P Q : Type 0} → (P → Q) → OfPaths P → OfPaths Q
-each_path f paths = record { current = f paths.current; previous = option_map f paths.previous }
+each_path f paths = record { current = f paths.current; previous = option_map f paths.previous; made = paths.made }
 
 -- ---- what happens on one path
 
@@ -59,11 +66,13 @@ pub data PathEntry : Type 0 where
   -- RTT, controller, search and pacer begin anew
   is_reset : (now : ℕ) → PathEntry
 
--- how a path follows on another one: fresh, where the peer takes datagrams of at most so many bytes, or going on with
--- RTT, controller and search
+-- how a path of a generation follows on another one: fresh, where the peer takes datagrams of at most so many bytes, or
+-- going on with RTT, controller and search
 pub data Following : Type 0 where
-  fresh : (remote : SocketAddr) (limit : Option ℕ) (now : ℕ) → Following
-  extends : (remote : SocketAddr) (now : ℕ) → Following
+  fresh : (generation : ℕ) (remote : SocketAddr) (limit : Option ℕ) (now : ℕ) → Following
+  extends : (generation : ℕ) (remote : SocketAddr) (now : ℕ) → Following
+  -- or how one comes back into use, where the peer takes datagrams of at most so many bytes: as it was left
+  returns : (limit : Option ℕ) → Following
 
 pub data PathsEntry : Type 0 where
   -- something happens on a path that lives
@@ -72,6 +81,8 @@ pub data PathsEntry : Type 0 where
   moves : (following : Following) → PathsEntry
   -- the previous path is dropped
   drops_previous : PathsEntry
+  -- the previous path is used again, where the peer takes datagrams of at most so many bytes
+  reverts : (limit : Option ℕ) → PathsEntry
 
 abbrev pub on_current : PathEntry → PathsEntry
 on_current entry = on Current entry
@@ -81,6 +92,7 @@ abbrev pub paths_with : {P : Type 0} → (PathEntry → P → P) → (Following 
 paths_with change follow (on name entry) old = on_path_of name (change entry) old
 paths_with change follow (moves following) old = moved_to (follow following old.current) old
 paths_with change follow drops_previous old = record old { previous = None }
+paths_with change follow (reverts limit) old = reverted (follow (returns limit)) old
 
 -- entries, the newest first, change the paths one after another
 abbrev pub paths_after : {P : Type 0} → (PathEntry → P → P) → (Following → P → P) → List PathsEntry → OfPaths P
@@ -93,7 +105,7 @@ paths_after change follow (entry ∷ earlier) old = paths_with change follow ent
 pub record PathPast (K : Type 0) : Type 0 where
   -- how many paths were made before it
   pub generation : ℕ
-  -- what is kept for it, with search and pacer as they were made
+  -- what is kept for it, with search and pacer as they were made; a path that comes back has a search of its own
   pub kept : PathState K
   -- what the search for the MTU saw since, the newest first (RFC 8899, 5)
   pub searched : List MtuCall
@@ -138,13 +150,16 @@ module _ {K : Type 0} (settings : PathSettings K) where
 
   -- the past of a path that follows on another one
   abbrev pub past_following : Following → PathPast K → PathPast K
-  past_following (fresh remote limit now) past =
-      past_made (past.generation + 1) (state_fresh settings remote false limit now)
-  past_following (extends remote now) past = record past {
-    generation = past.generation + 1;
+  past_following (fresh generation remote limit now) past =
+      past_made generation (state_fresh settings remote false limit now)
+  past_following (extends generation remote now) past = record past {
+    generation = generation;
     kept = record (state_going_on settings.words remote now (state_of past)) { discovery = past.kept.discovery };
     pacing = [];
   }
+  past_following (returns limit) past =
+      let discovery = discovery_resumed settings limit (state_of past).discovery.mtu in
+      record past { kept = record past.kept { discovery = discovery }; searched = [] }
 
   -- ---- what an entry changes of what is kept
 
@@ -160,8 +175,15 @@ module _ {K : Type 0} (settings : PathSettings K) where
   state_with (is_reset now) old = state_reset settings now old
 
   abbrev pub state_following : Following → PathState K → PathState K
-  state_following (fresh remote limit now) old = state_fresh settings remote false limit now
-  state_following (extends remote now) old = state_going_on settings.words remote now old
+  state_following (fresh generation remote limit now) old = state_fresh settings remote false limit now
+  state_following (extends generation remote now) old = state_going_on settings.words remote now old
+  state_following (returns limit) old = state_resumed settings limit old
+
+-- the generation of a path that follows on one
+abbrev pub generation_following : Following → ℕ → ℕ
+generation_following (fresh generation remote limit now) old = generation
+generation_following (extends generation remote now) old = generation
+generation_following (returns limit) old = old
 
 -- ---- what is known of the paths
 
@@ -179,14 +201,14 @@ module _ {K : Type 0} (settings : PathSettings K) where
 
   abbrev pub known_following : Following → PathKnown K → PathKnown K
   known_following following old = record {
-    generation = old.generation + 1;
+    generation = generation_following following old.generation;
     state = state_following settings following old.state;
   }
 
   -- the past of each path, where the first is made so
   abbrev pub pasts_by : PathState K → List PathsEntry → OfPaths (PathPast K)
   pasts_by first log = paths_after (past_with settings) (past_following settings) log
-      (record { current = past_made 0 first; previous = None })
+      (record { current = past_made 0 first; previous = None; made = 0 })
 
   abbrev pub paths_known_by : PathState K → List PathsEntry → OfPaths (PathKnown K)
   paths_known_by first log = each_path known_of (pasts_by first log)

@@ -5,7 +5,7 @@ use Rattle.recovery_base.specs.declared.below.SpaceId.{SpaceId}
 use Rattle.recovery_congestion.specs.Controllers.{ControllerWords}
 use Rattle.recovery_config.specs.declared.config.TransportConfig.{TransportConfig}
 use Rattle.recovery_config.specs.Settings.{initial_mtu_of}
-use Rattle.recovery_mtud.specs.Discovery.{Discovery, discovery_made}
+use Rattle.recovery_mtud.specs.Discovery.{Discovery, discovery_made, within}
 use Rattle.recovery_mtud.specs.DiscoveryLog.{resets, discovery_after}
 use Rattle.recovery_congestion.specs.Pacing.{Bucket, bucket_made}
 use Rattle.recovery_paths.specs.PathStates.{PathState, PathMarks}
@@ -83,6 +83,14 @@ module _ {K : Type 0} (settings : PathSettings K) where
     controller = settings.built now;
     pacer = pacer_at_first settings.mtu now;
   }
+
+  -- a path that comes back into use keeps its MTU, within the size that the peer takes, and is searched anew from
+  -- there: nobody told its search what became of its probe, nor of that size
+  abbrev pub discovery_resumed : Option ℕ → ℕ → Discovery
+  discovery_resumed limit mtu = record (settings.discovery limit) { mtu = within mtu limit }
+
+  abbrev pub state_resumed : Option ℕ → PathState K → PathState K
+  state_resumed limit old = record old { discovery = discovery_resumed limit old.discovery.mtu }
 
   -- RTT, controller and pacer begin anew, the pacer for this MTU
   abbrev pub begun_anew : ℕ → ℕ → PathState K → PathState K

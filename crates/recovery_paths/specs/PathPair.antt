@@ -41,7 +41,7 @@ module _ {K P M : Type 0} where
 
   -- a packet is sent on the path in use, and another is perhaps forgotten
   abbrev pub paths_after_sending : Packet P M → Option (ℕ × Packet P M) → OfPaths (Path K) → OfPaths (Path K)
-  paths_after_sending packet forgotten paths = record {
+  paths_after_sending packet forgotten paths = record paths {
     current = on_ledger (λ ledger. path_after_sending ledger packet forgotten) paths.current;
     previous = option_map (on_ledger (λ ledger. after_forgetting ledger forgotten)) paths.previous;
   }
@@ -56,7 +56,7 @@ module _ {K P M : Type 0} where
 
   -- a packet is lost
   abbrev pub paths_losing : SpaceId → ℕ → Packet P M → OfPaths (Path K) → OfPaths (Path K)
-  paths_losing space number packet paths = record {
+  paths_losing space number packet paths = record paths {
     current = path_lost space number packet paths.current;
     previous = option_map (path_left_by packet) paths.previous;
   }
@@ -64,7 +64,7 @@ module _ {K P M : Type 0} where
   -- a packet is acknowledged
   abbrev pub paths_acking : ControllerWords K → SpaceId → ℕ → ℕ → Bool → Packet P M → OfPaths (Path K)
       → OfPaths (Path K)
-  paths_acking words space number now app_limited packet paths = record {
+  paths_acking words space number now app_limited packet paths = record paths {
     current = path_acked words space number now app_limited packet paths.current;
     previous = option_map (path_left_by packet) paths.previous;
   }

@@ -1,20 +1,22 @@
 //! The paths of a connection that live: the one in use, and the one that was in use before it (RFC 9000, 9).
-ghost use Rattle.std.specs.Prelude.{◌≡◌, ◌↔◌, ◌≤◌, ◌+◌, ◌^◌, None, OnOk, OnErr, IfOk, IsErrOf, IsSomeAnd, is_some, option_map, option_copied};
-ghost use Rattle.std.specs.Option.{ForSome};
+ghost use Rattle.std.specs.Prelude.{◌≡◌, ◌↔◌, ◌<◌, ◌≤◌, ◌+◌, ◌^◌, None, OnOk, OnErr, IfOk, IsErrOf, IsSomeAnd, is_some, option_map, option_copied};
+ghost use Rattle.std.specs.Option.{ForSome, IfSome, SomeIff};
 ghost use Rattle.recovery_congestion.specs.Calls.{sends};
 ghost use Rattle.recovery_ledger.specs.InFlight.{Overflows};
 ghost use Rattle.recovery_ledger.specs.Packets.{forgotten_entry, after_sending};
 ghost use Rattle.recovery_ledger.specs.Paths.{generation_of, counters_of, IsCountedOn};
 ghost use Rattle.recovery_ledger.specs.Spaces.{tracking_of, with_tracking, packets_of, space_empties};
 ghost use Rattle.recovery_paths.specs.PathPair.{IsCountedOnEach, AreCountedOnEach, CanTrackOn, paths_after_sending, paths_without, paths_losing, paths_acking, path_left_by};
-ghost use Rattle.recovery_paths.specs.PathLog.{path_of, on_path_of, moved_to, each_path};
+ghost use Rattle.recovery_paths.specs.PathLog.{path_of, on_path_of, moved_to, reverted, each_path};
+ghost use Rattle.recovery_paths.specs.PathMaking.{path_settings, state_resumed};
 ghost use Rattle.recovery_paths.specs.declared.path_pair.PathName.TheVariants.{Current};
 ghost use Rattle.recovery_paths.specs.PathStates.{on_state, with_marks, after_receiving, after_telling, after_validation, is_path_probe};
 
 use crate::paths::{InFlight, LedgerError, PathData, PathMarks, TotalOverflow};
 use recovery_base::below::SpaceId;
 use recovery_base::time::Instant;
-use recovery_congestion::congestion::Controller;
+use recovery_config::config::TransportConfig;
+use recovery_congestion::congestion::{Controller, ControllerFactory};
 use recovery_ledger::spaces::{PacketSpace, SentPacket};
 use recovery_queue::queue::RetransmitQueue;
 use std::marker::Model;
@@ -47,6 +49,7 @@ pub struct PathPair<C: Controller> {
     /// The path in use.
     pub current: PathData<C>,
     previous: Option<PathData<C>>,
+    made: u64,
 }
 
 impl<C: Controller> Model for PathPair<C> {
@@ -55,17 +58,24 @@ impl<C: Controller> Model for PathPair<C> {
 
     ghost Value = { OfPaths (Path C.Content) };
 
-    ghost view = { λ paths. record { current = paths.current; previous = paths.previous } };
+    ghost view = { λ paths. record {
+      current = paths.current;
+      previous = paths.previous;
+      made = paths.made;
+    } };
 }
 
 impl<C: Controller + Drop> PathPair<C> {
     /// The first path alone.
     pub fn new(current: PathData<C>) -> Self
-        ensures { result ≡ record { current = current; previous = None } }
+        ensures { result
+            ≡ record { current = current; previous = None; made = generation_of current.ledger } }
     {
+        let made = current.generation();
         PathPair {
             current,
             previous: None,
+            made,
         }
     }
 
@@ -74,6 +84,14 @@ impl<C: Controller + Drop> PathPair<C> {
         ensures { option_copied result ≡ self.now.previous }
     {
         self.previous.as_ref()
+    }
+
+    /// The generation of the next path that is made: past those of all that were, also of the dropped ones, whose
+    /// packets may still be tracked. `None` where 2^64 paths were made.
+    pub fn next_generation(&self) -> Option<u64>
+        ensures { SomeIff result (self.now.made + 1 < 2 ^ 64) (self.now.made + 1) }
+    {
+        self.made.checked_add(1)
     }
 
     /// How many paths were made before the one in use: the packets that are sent have this number.
@@ -236,12 +254,38 @@ impl<C: Controller + Drop> PathPair<C> {
     }
 
     /// A path to another address is used from now on (RFC 9000, 9.3), and the one in use becomes the previous one; an
-    /// older previous one is dropped.
+    /// older previous one is dropped. Its generation is the next one.
     pub fn move_to(&mut self, path: PathData<C>)
+        requires { generation_of path.ledger ≡ self.old.made + 1 }
         ensures { self.new ≡ moved_to path self.old }
     {
+        self.made = path.generation();
         let left = mem::replace(&mut self.current, path);
         self.previous = Some(left);
+    }
+
+    /// The previous path is used again as it was left, and the one in use is dropped, since its address was not
+    /// validated (RFC 9000, 9.3.2): false, and nothing, where no previous one lives. Its MTU stays, within the peer's
+    /// limit (bytes, above zero) where there is one, and is searched for anew as [`PathData::resume`] says. The packets
+    /// of the path that is dropped stay tracked.
+    pub fn revert<F: ControllerFactory<Controller = C>>(
+        &mut self,
+        allow_mtud: bool,
+        peer_max_udp_payload_size: Option<u16>,
+        config: &TransportConfig<F>,
+    ) -> bool
+        requires limit { IfSome peer_max_udp_payload_size (λ limit. 0 < limit) }
+        ensures lived { result ≡ is_some self.old.previous }
+        ensures after { let settings = path_settings F.built C.words allow_mtud config.now in
+            self.new
+            ≡ reverted (on_state (state_resumed settings peer_max_udp_payload_size)) self.old }
+    {
+        let Some(mut path) = self.previous.take() else {
+            return false;
+        };
+        path.resume(allow_mtud, peer_max_udp_payload_size, config);
+        self.current = path;
+        true
     }
 
     /// The previous path is dropped (RFC 9000, 9.3.3): false, and nothing, where none lives. Its packets stay tracked.

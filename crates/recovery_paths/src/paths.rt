@@ -9,7 +9,7 @@ ghost use Rattle.recovery_ledger.specs.Paths.{generation_of, counters_of, fresh_
 ghost use Rattle.recovery_ledger.specs.Spaces.{tracking_of, with_tracking};
 ghost use Rattle.recovery_mtud.specs.Discovery.{is_probe, is_searching_of, reports};
 ghost use Rattle.recovery_mtud.specs.DiscoveryLog.{losses_end, is_limited};
-ghost use Rattle.recovery_paths.specs.PathMaking.{marks_made, path_settings, state_fresh, state_going_on, state_reset, first_discovery};
+ghost use Rattle.recovery_paths.specs.PathMaking.{marks_made, path_settings, state_fresh, state_going_on, state_reset, state_resumed, first_discovery};
 ghost use Rattle.recovery_paths.specs.PathStates.{Path, on_state, with_discovery, with_marks, is_blocked, after_receiving, after_validation, after_sample, after_searching, after_transmitting, loss_call};
 ghost use Rattle.recovery_paths.specs.PathStates.{after_telling, after_search, path_acked, is_path_probe, path_lost, after_asking, path_delay};
 
@@ -226,6 +226,26 @@ impl<C: Controller + Drop> PathData<C> {
             self.mtud.current_mtu(),
             now,
         );
+    }
+
+    /// The path comes back into use. Its MTU stays, within the peer's limit (bytes, above zero) where there is one, and
+    /// is searched for anew from there, where that is allowed and the settings say how (RFC 8899, 5): nobody told its
+    /// search what became of its probe while another path was in use, nor a limit. All else stays as it was left.
+    pub fn resume<F: ControllerFactory<Controller = C>>(
+        &mut self,
+        allow_mtud: bool,
+        peer_max_udp_payload_size: Option<u16>,
+        config: &TransportConfig<F>,
+    )
+        requires limit { IfSome peer_max_udp_payload_size (λ limit. 0 < limit) }
+        ensures { let settings = path_settings F.built C.words allow_mtud config.now in
+            self.new ≡ on_state (state_resumed settings peer_max_udp_payload_size) self.old }
+    {
+        let mtu = match peer_max_udp_payload_size {
+            Some(limit) => self.mtud.current_mtu().min(limit),
+            None => self.mtud.current_mtu(),
+        };
+        self.mtud = discovery_for(allow_mtud, peer_max_udp_payload_size, config).with_mtu(mtu);
     }
 
     /// Which of the connection's paths this is, counted from 0.

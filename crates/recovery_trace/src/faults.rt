@@ -7,7 +7,7 @@ use recovery_lines::lines::{LINE_LIMIT, push_event};
 use std::alloc::Global;
 
 /// A line for each event, with words that fit.
-const EXAMPLES: [&str; 35] = [
+const EXAMPLES: [&str; 36] = [
     "received data 0 0 1",
     "send data 0 0 1 -",
     "acked data 0 0 0",
@@ -43,6 +43,7 @@ const EXAMPLES: [&str; 35] = [
     "new-path 0 0 0",
     "reset-path 0",
     "drop-previous",
+    "revert-path",
 ];
 
 /// Why a line spells no event.

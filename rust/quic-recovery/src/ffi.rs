@@ -515,7 +515,7 @@ pub struct IdsView {
 
 unsafe extern "C" {
     /// Does nothing; a library of another layout does not have it.
-    #[link_name = "recovery_ffi_layout_bd264985"]
+    #[link_name = "recovery_ffi_layout_749becad"]
     pub fn recovery_ffi_layout();
 
     /// Makes a recovery, whose peer is at this address and has this id of at most 20 bytes. The answer is `NEW_MADE`, or
@@ -753,6 +753,9 @@ unsafe extern "C" {
 
     /// The previous path is dropped (RFC 9000, 9.3.3): the event `DropPrevious`.
     pub fn recovery_ffi_drop_previous(handle: *mut Handle) -> Reply;
+
+    /// The previous path is used again, and the current one is dropped (RFC 9000, 9.3.2): the event `RevertPath`.
+    pub fn recovery_ffi_revert_path(handle: *mut Handle) -> Reply;
 
     /// The counts of ECN of an ACK frame (RFC 9000, 13.4.2): the event `Ecn`.
     pub fn recovery_ffi_ecn(

@@ -268,6 +268,7 @@ unsafe fn hand_in(handle: *mut ffi::Handle, event: Event<'_>) -> ffi::Reply {
             }
             Event::ResetPath { now } => recovery_ffi_reset_path(handle, now.as_nanos()),
             Event::DropPrevious => recovery_ffi_drop_previous(handle),
+            Event::RevertPath => recovery_ffi_revert_path(handle),
         }
     }
 }

@@ -9,7 +9,7 @@ use Rattle.recovery_events.specs.declared.event.Answer.TheVariants as answer
 use Rattle.recovery_events.specs.declared.event.Answer.TheVariants.{Sent, Probe}
 use Rattle.recovery_events.specs.declared.event.Refusal.TheVariants.{NoSuchPath}
 use Rattle.quic_recovery.specs.History.{History, Reply}
-use Rattle.quic_recovery.specs.Promises.Paths.{paths_made, generation_by}
+use Rattle.quic_recovery.specs.Promises.Paths.{generations, generation_by}
 use Rattle.quic_recovery.specs.Promises.Tracked.{leaves}
 
 module _ {Q S M P : Type 0} (weigh : ℕ → Bool → ℕ) where
@@ -23,7 +23,8 @@ module _ {Q S M P : Type 0} (weigh : ℕ → Bool → ℕ) where
   -- the sum over the packets that went out on a path and whose numbers are not gone, nor left since
   abbrev pub sum_on : ℕ → (SpaceId → ℕ → Bool) → History Q S M P → ℕ
   sum_on generation gone [] = 0
-  sum_on generation gone (happened ∷ earlier) = (if paths_made earlier == generation then weight gone happened else 0)
+  sum_on generation gone (happened ∷ earlier) =
+      (if (generations earlier).current == generation then weight gone happened else 0)
       + sum_on generation (λ space n. leaves happened space n || gone space n) earlier
 
 module _ {Q S M P : Type 0} where

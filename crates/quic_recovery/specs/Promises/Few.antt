@@ -3,17 +3,18 @@
 use Rattle.std.specs.Prelude.{ℕ, ◌≤◌, nat_eq, Bool, true, false, List, [], ◌∷◌, length, Ok, if◌then◌else◌}
 use Rattle.std.specs.Set.{distinct_count}
 use Rattle.recovery_events.specs.declared.event.Event.{Event}
-use Rattle.recovery_events.specs.declared.event.Event.TheVariants.{PollMtu, Acked, Lost, LossesDone, ResetPath, NewPath}
+use Rattle.recovery_events.specs.declared.event.Event.TheVariants.{PollMtu, Acked, Lost, LossesDone, ResetPath, NewPath, RevertPath}
 use Rattle.recovery_events.specs.declared.event.Answer.TheVariants as answer
 use Rattle.quic_recovery.specs.History.{Beginning, History, Reply}
 use Rattle.quic_recovery.specs.Search.{WhereSearched}
 
 module _ {Q S M P : Type 0} where
-  -- all begins anew: by a report of a black hole, by a reset, or on a fresh path
+  -- all begins anew: by a report of a black hole, by a reset, on a fresh path, or on one that is used again
   abbrev pub begins_anew : Event Q S M P × Reply Q → Bool
   begins_anew (LossesDone now, Ok (answer.BlackHole true)) = true
   begins_anew (ResetPath now, Ok given) = true
   begins_anew (NewPath now remote true, Ok given) = true
+  begins_anew (RevertPath, Ok given) = true
   begins_anew happened = false
 
   -- a probe is in flight from its answer until it is acknowledged or lost, or all begins anew

@@ -5,7 +5,7 @@ use Rattle.std.specs.List.{list_any}
 use Rattle.recovery_base.specs.declared.below.SpaceId.TheVariants.{Data}
 use Rattle.recovery_mtud.specs.BurstRuns.{Loss, is_above, is_past}
 use Rattle.recovery_events.specs.declared.event.Event.{Event}
-use Rattle.recovery_events.specs.declared.event.Event.TheVariants.{Acked, LossesDone, NewPath}
+use Rattle.recovery_events.specs.declared.event.Event.TheVariants.{Acked, LossesDone, NewPath, RevertPath}
 use Rattle.recovery_events.specs.declared.event.Answer.TheVariants as answer
 use Rattle.quic_recovery.specs.History.{History, Reply}
 use Rattle.quic_recovery.specs.Promises.Few.{begins_anew}
@@ -28,12 +28,13 @@ module _ {Q S M P : Type 0} where
   unanswered size (happened ∷ earlier) =
       if begins_anew happened then [] else closed happened earlier ++ unanswered size earlier
 
-  -- the numbers of those acknowledged since the last fresh path
+  -- the numbers of those acknowledged since the last fresh path, or the last that was used again
   abbrev pub larger_acked : ℕ → History Q S M P → List ℕ
   larger_acked size [] = []
   larger_acked size ((Acked Data now n app_limited, Ok (answer.Acked probe)) ∷ earlier) =
       if probe || nat_lt size (size_of earlier n) then n ∷ larger_acked size earlier else larger_acked size earlier
   larger_acked size ((NewPath now remote true, Ok given) ∷ earlier) = []
+  larger_acked size ((RevertPath, Ok given) ∷ earlier) = []
   larger_acked size (happened ∷ earlier) = larger_acked size earlier
 
   -- bursts count whose packets are all above the least MTU; a report is forced by one that ends past each such number

@@ -3,8 +3,10 @@ use Rattle.std.specs.Prelude.{◌≡◌, ℕ, min, Bool, true, None, Some, [], �
 use Rattle.std.specs.Option.{ForSome}
 use Rattle.recovery_config.specs.Settings.{initial_mtu_of}
 use Rattle.recovery_mtud.specs.Discovery.{limit_or_greatest, within}
+use Rattle.recovery_paths.specs.declared.path_pair.PathName.{PathName}
+use Rattle.recovery_paths.specs.declared.path_pair.PathName.TheVariants.{Current, Previous}
 use Rattle.recovery_events.specs.declared.event.Event.{Event}
-use Rattle.recovery_events.specs.declared.event.Event.TheVariants.{Acked, LossesDone, PeerLimit, ResetPath, NewPath}
+use Rattle.recovery_events.specs.declared.event.Event.TheVariants.{Acked, LossesDone, PeerLimit, ResetPath, NewPath, RevertPath}
 use Rattle.recovery_events.specs.declared.event.Answer.TheVariants as answer
 use Rattle.quic_recovery.specs.History.{Beginning, History, Reply}
 use Rattle.quic_recovery.specs.Told.{known_by}
@@ -13,16 +15,24 @@ use Rattle.quic_recovery.specs.Promises.Probes.{last_probe}
 use Rattle.quic_recovery.specs.Search.{discovery_settings}
 
 module _ {Q S M P : Type 0} (searched : Bool) (first least : ℕ) where
-  -- paths begin with the first MTU, and a report leaves the least; where paths are not searched, no limit is kept
-  abbrev pub mtu : History Q S M P → ℕ
-  mtu [] = first
-  mtu ((Acked space now number app_limited, Ok (answer.Acked true)) ∷ earlier) = (last_probe earlier).1
-  mtu ((PeerLimit size, Ok given) ∷ earlier) = min (mtu earlier) size
-  mtu ((LossesDone now, Ok (answer.BlackHole true)) ∷ earlier) = least
-  mtu ((ResetPath now, Ok given) ∷ earlier) =
+  -- paths begin with the first MTU, and a report leaves the least; where paths are not searched, no limit is kept. That
+  -- of the previous path is that of when it was left, and stays when it is used again, within the peer's limit
+  abbrev pub mtu_on : PathName → History Q S M P → ℕ
+  mtu_on name [] = first
+  mtu_on Previous ((NewPath now remote is_fresh, Ok given) ∷ earlier) = mtu_on Current earlier
+  mtu_on Current ((Acked space now number app_limited, Ok (answer.Acked true)) ∷ earlier) = (last_probe earlier).1
+  mtu_on Current ((PeerLimit size, Ok given) ∷ earlier) = min (mtu_on Current earlier) size
+  mtu_on Current ((LossesDone now, Ok (answer.BlackHole true)) ∷ earlier) = least
+  mtu_on Current ((ResetPath now, Ok given) ∷ earlier) =
       within first (if searched then Some (limit_or_greatest (limit earlier)) else None)
-  mtu ((NewPath now remote true, Ok given) ∷ earlier) = within first (if searched then limit earlier else None)
-  mtu (happened ∷ earlier) = mtu earlier
+  mtu_on Current ((NewPath now remote true, Ok given) ∷ earlier) =
+      within first (if searched then limit earlier else None)
+  mtu_on Current ((RevertPath, Ok given) ∷ earlier) = within (mtu_on Previous earlier) (limit earlier)
+  mtu_on name (happened ∷ earlier) = mtu_on name earlier
+
+  -- that of the path in use
+  abbrev pub mtu : History Q S M P → ℕ
+  mtu = mtu_on Current
 
 module _ {Q S M P : Type 0} where
   -- the history up to the move to the path in use

@@ -5,7 +5,7 @@ use Rattle.recovery_base.specs.declared.below.SpaceId.{SpaceId}
 use Rattle.recovery_base.specs.declared.below.SpaceId.TheVariants.{Data}
 use Rattle.recovery_paths.specs.declared.path_pair.PathName.TheVariants.{Previous}
 use Rattle.recovery_events.specs.declared.event.Event.{Event}
-use Rattle.recovery_events.specs.declared.event.Event.TheVariants.{Received, Send, Acked, Lost, AckFrequencyIn, AcksSent, AckDelayTimeout, PollMtu, Ecn, CheckAck, QueueProbe, TakePending, DiscardSpace, DatagramIn, Validated, InFlight, DropPrevious, InitialId}
+use Rattle.recovery_events.specs.declared.event.Event.TheVariants.{Received, Send, Acked, Lost, AckFrequencyIn, AcksSent, AckDelayTimeout, PollMtu, Ecn, CheckAck, QueueProbe, TakePending, DiscardSpace, DatagramIn, Validated, InFlight, DropPrevious, RevertPath, InitialId}
 use Rattle.recovery_events.specs.declared.event.Refusal.{Refusal}
 use Rattle.recovery_events.specs.declared.event.Refusal.TheVariants.{SpaceDiscarded, NotTracked, NoSuchPath, NotInitialId}
 use Rattle.quic_recovery.specs.History.{History, Reply}
@@ -39,6 +39,7 @@ module _ {Q S M P : Type 0} (history : History Q S M P) where
   first_cause (Validated path) = unless (is_some (generation_by path history)) NoSuchPath
   first_cause (InFlight path) = unless (is_some (generation_by path history)) NoSuchPath
   first_cause DropPrevious = unless (is_some (generation_by Previous history)) NoSuchPath
+  first_cause RevertPath = unless (is_some (generation_by Previous history)) NoSuchPath
   first_cause (InitialId id) = unless (active_id history == 0) NotInitialId
   first_cause event = None
 

@@ -11,13 +11,13 @@ use Rattle.recovery_events.specs.declared.event.Answer.TheVariants.{Sent}
 use Rattle.recovery_events.specs.declared.event.Refusal.TheVariants.{SpaceDiscarded, NumberTooLarge, NumbersExhausted, Overflow, NoMemory}
 use Rattle.quic_recovery.specs.History.{History, Reply}
 use Rattle.quic_recovery.specs.Promises.Counted.{sum_on}
-use Rattle.quic_recovery.specs.Promises.Paths.{paths_made}
+use Rattle.quic_recovery.specs.Promises.Paths.{generations}
 use Rattle.quic_recovery.specs.Promises.Skipped.{IsNext}
 
 module _ {Q S M P : Type 0} (history : History Q S M P) where
   -- a sum over the packets in flight on the path in use
   abbrev pub sum_now : (ℕ → Bool → ℕ) → ℕ
-  sum_now weigh = sum_on weigh (paths_made history) (λ space n. false) history
+  sum_now weigh = sum_on weigh (generations history).current (λ space n. false) history
 
   -- with one packet more a counter would come to 2^64
   abbrev pub Overfills : ℕ → Bool → Type 0

@@ -20,7 +20,7 @@ where
     Q::Streams: Drop,
     R: Rng + Drop,
 {
-    ghost use Rattle.recovery_events.specs.declared.event.Event.TheVariants.{InFlight, Sample, DatagramIn, Validated, Transmit, PacerCheck, Congestion, EndAcks, NewPath, ResetPath, DropPrevious};
+    ghost use Rattle.recovery_events.specs.declared.event.Event.TheVariants.{InFlight, Sample, DatagramIn, Validated, Transmit, PacerCheck, Congestion, EndAcks, NewPath, ResetPath, DropPrevious, RevertPath};
     ghost use Rattle.quic_recovery.specs.State.{Transition, OnlyTells};
 
     /// What is in flight on a path? (RFC 9002, B.2)
@@ -80,7 +80,7 @@ where
     ) -> Result<Answer<Q>, Refusal>
         ensures { Transition (NewPath now remote fresh) self.old result self.new }
     {
-        let Some(generation) = self.paths.current.generation().checked_add(1) else {
+        let Some(generation) = self.paths.next_generation() else {
             return Err(Refusal::Overflow);
         };
         let path = if fresh {
@@ -118,6 +118,19 @@ where
         ensures { Transition DropPrevious self.old result self.new }
     {
         if self.paths.drop_previous() {
+            Ok(Answer::Done)
+        } else {
+            Err(Refusal::NoSuchPath)
+        }
+    }
+
+    /// The previous path is used again (RFC 9000, 9.3.2).
+    #[inline(always)]
+    pub(super) fn revert_path(&mut self) -> Result<Answer<Q>, Refusal>
+        ensures { Transition RevertPath self.old result self.new }
+    {
+        let limit = self.peer_limit;
+        if self.paths.revert(self.allow_mtud, limit, &self.transport) {
             Ok(Answer::Done)
         } else {
             Err(Refusal::NoSuchPath)

@@ -240,6 +240,7 @@ impl Line {
                 now: self.moment(1),
             },
             "drop-previous" => Event::DropPrevious,
+            "revert-path" => Event::RevertPath,
             other => panic!("no event is named {other}"),
         }
     }
@@ -500,7 +501,8 @@ impl Events {
             84..=86 => format!("peer-limit {}", self.below(1600)),
             87..=93 => format!("losses-done {now}"),
             94..=96 => format!("new-path {now} {} {}", 4433 + self.below(9), self.below(2)),
-            97..=98 => format!("reset-path {now}"),
+            97 => format!("reset-path {now}"),
+            98 => "revert-path".into(),
             _ => "drop-previous".into(),
         }
     }

@@ -1,5 +1,5 @@
 use Rattle.std.proofs.Common.{rules, arith, ◌≡◌, ◌+◌, ◌<◌, ◌^◌, refl, ap, sym, ◌∙◌}
-use Rattle.recovery_ledger.specs.Paths.{fresh_ledger, generation_of}
+use Rattle.recovery_ledger.specs.Paths.{fresh_ledger}
 use Rattle.recovery_paths.specs.PathLog.{paths_marks}
 use Rattle.recovery_paths.specs.PathStates.{Path}
 use Rattle.recovery_paths.proofs.BalanceLaws.{moved}
@@ -16,7 +16,7 @@ use Rattle.quic_recovery.proofs.driver.Recovery.new_path.Goals as goal
 pub returns-in-Err : goal.returns-in-Err
 returns-in-Err g c =
     let now = c.args.self.now in
-    let room : generation_of now.paths.current.ledger + 1 < 2 ^ 64 = search (rules, c.in-Some.ensures) in
+    let room : now.paths.made + 1 < 2 ^ 64 = search (rules, c.in-Some.ensures) in
     let event : Event g.row.Q.Denot g.row.Q-Streams.Denot g.row.Q-Meta.Denot g.row.Q-Contents.Denot =
     NewPath c.args.now c.args.remote c.args.fresh in
     record {
@@ -34,7 +34,7 @@ invariant_of-self g c =
       | then-fresh w ↦ ap (λ (p : Path _). p.ledger) w.path-is ∙ w.new-path.ensures.ledger
       | else-fresh+in-Ok w ↦ ap (λ (p : Path _). p.ledger) w.path-is ∙ w.in-Ok.ensures.ledger
     ] in
-    let next : c.in-Some.generation ≡ generation_of now.paths.current.ledger + 1 = search (rules, c.in-Some.ensures) in
+    let next : c.in-Some.generation ≡ now.paths.made + 1 = search (rules, c.in-Some.ensures) in
     record {
       balanced = rw c.move_to.ensures (moved now.spaces now.paths now.balanced c.if-fresh.path (ledger
           ∙ ap fresh_ledger next));
