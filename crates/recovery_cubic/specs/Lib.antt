@@ -1,0 +1,5 @@
+pub mod ConfigView
+pub mod Cubic
+pub mod CubicLaws
+pub mod Curve
+pub mod Stage
