@@ -1,1 +1,3 @@
 pub mod CurveLaws
+pub mod FallLaws
+pub mod TurnLaws

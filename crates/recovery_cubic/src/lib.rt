@@ -4,6 +4,7 @@
 
 mod cubic;
 mod curve;
+pub mod laws;
 mod stage;
 
 pub use cubic::{Cubic, CubicConfig};
