@@ -1,3 +1,4 @@
 pub mod CurveLaws
 pub mod FallLaws
+pub mod GrowthLaws
 pub mod TurnLaws

@@ -13,8 +13,10 @@ pub data Turn : Type 0 where
   waits : (now : ℕ) → Turn
   -- a reduction (RFC 9438, 4.6): a stage of congestion avoidance begins
   reduces : (now : ℕ) → Turn
-  -- an acknowledgement in slow start, or persistent congestion: a stage begins on its plateau (RFC 9438, 4.8)
-  restarts : (now : ℕ) → Turn
+  -- persistent congestion (RFC 9002, 7.6.2): slow start begins, on a plateau (RFC 9438, 4.8)
+  persists : (now : ℕ) → Turn
+  -- an acknowledgement in slow start (RFC 9438, 4.10): the plateau is where the window then is
+  starts : (now bytes : ℕ) → Turn
   -- the MTU changes
   resizes : (mtu : ℕ) → Turn
   -- nothing, as all that concerns packets that were sent before the last recovery began (RFC 9002, 7.3.2)
@@ -23,9 +25,9 @@ pub data Turn : Type 0 where
 abbrev pub turn_of : ControllerCall → Cubic → Turn
 turn_of (acks now sent bytes limited rtt) cubic =
     if nat_le sent cubic.recovery_start_time then passes else if limited then waits now
-    else if nat_lt cubic.window cubic.ssthresh then restarts now else grows now bytes
+    else if nat_lt cubic.window cubic.ssthresh then starts now bytes else grows now bytes
 turn_of (congests now sent persistent lost) cubic =
-    if nat_le sent cubic.recovery_start_time then passes else if persistent then restarts now else reduces now
+    if nat_le sent cubic.recovery_start_time then passes else if persistent then persists now else reduces now
 turn_of (takes_mtu mtu) cubic = resizes mtu
 turn_of call cubic = passes
 

@@ -3,5 +3,7 @@ pub mod Cubic
 pub mod CubicLaws
 pub mod Curve
 pub mod Falls
+pub mod Growth
 pub mod History
+pub mod Reno
 pub mod Stage
