@@ -6,7 +6,7 @@ use Rattle.std.proofs.lemmas.Bool.Decides.{nat_tests}
 use Rattle.std.proofs.lemmas.Nat.{mul-le}
 use Rattle.std.proofs.Math.Nat.{mul-div-le, lt-mul-div-succ, mul-le-mul_left}
 use Rattle.recovery_congestion.specs.NewReno.{most}
-use Rattle.recovery_cubic.specs.Curve.{cube, cube_root, k_of, IsCubeRoot, IsGreatestK}
+use Rattle.recovery_cubic.specs.Curve.{cube, cube_root, k_of, micros, IsCubeRoot, IsGreatestK}
 
 pub cube-le : (a b : ℕ) → a ≤ b → cube a ≤ cube b
 cube-le a b less = mul-le (a * a) a (b * b) b (mul-le a a b b less less) less
@@ -53,7 +53,8 @@ root_between n root above fits under near =
 
 -- ---- K
 
-pub greatest_k : (datagram distance : ℕ) → 0 < datagram → IsGreatestK datagram distance (k_of datagram distance)
+pub greatest_k : (datagram distance : ℕ) → 0 < datagram 
+    → IsGreatestK micros datagram distance (k_of datagram distance)
 greatest_k datagram distance positive =
     let n = 5 * 10 ^ 18 * distance in
     let q = n / (2 * datagram) in
@@ -64,6 +65,23 @@ greatest_k datagram distance positive =
     let down : 2 * datagram * (q + 1) ≤ 2 * datagram * cube (cube_root q + 1) =
     mul-le-mul_left (2 * datagram) (omega (arith, root.greatest)) in
     record { fits = omega (arith, up, least); greatest = omega (arith, above, down) }
+
+-- there is one
+k-not-less : (a_second datagram distance a b : ℕ) → IsGreatestK a_second datagram distance a
+    → IsGreatestK a_second datagram distance b → a < b → ⊥
+k-not-less a_second datagram distance a b here there less =
+    let up = mul-le-mul_left (2 * datagram) (cube-le (a + 1) b (omega (arith, less))) in
+    omega (arith, here.greatest, there.fits, up)
+
+pub one_k : (a_second datagram distance a b : ℕ) → IsGreatestK a_second datagram distance a
+    → IsGreatestK a_second datagram distance b → a ≡ b
+one_k a_second datagram distance a b here there = elim (cases_lt a b) [
+  | inl less ↦ absurd (k-not-less a_second datagram distance a b here there less)
+  | inr up ↦ elim (cases_lt b a) [
+    | inl less ↦ absurd (k-not-less a_second datagram distance b a there here less)
+    | inr down ↦ omega arith
+  ]
+]
 
 -- ---- products of 128 bits
 

@@ -1,4 +1,5 @@
 pub mod CurveLaws
 pub mod FallLaws
 pub mod GrowthLaws
+pub mod RealLaws
 pub mod TurnLaws

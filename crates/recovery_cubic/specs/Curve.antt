@@ -4,6 +4,10 @@ use Rattle.std.specs.Prelude.{ℕ, zero, suc, ◌+◌, ◌-◌, ◌*◌, ◌/◌
 use Rattle.recovery_congestion.specs.NewReno.{most, sum_to_most}
 use Rattle.recovery_cubic.specs.declared.curve.Curve.{Curve}
 
+-- so many microseconds are a second
+abbrev pub micros : ℕ
+micros = 10 ^ 6
+
 abbrev pub cube : ℕ → ℕ
 cube n = n * n * n
 
@@ -19,15 +23,15 @@ cube_root (suc n) = let root = cube_root n in if nat_le (cube (root + 1)) (suc n
 
 -- C·t^3 in bytes, rounded down, where a datagram has so many
 abbrev pub rise : ℕ → ℕ → ℕ
-rise datagram micros = min (cube micros * (2 * datagram) / (5 * 10 ^ 18)) most
+rise datagram time = min (cube time * (2 * datagram) / (5 * cube micros)) most
 
--- K: the greatest whole microsecond with C·K^3 at most the distance from the window to the plateau
-pub record IsGreatestK (datagram distance k : ℕ) : Type 0 where
-  pub fits : 2 * datagram * cube k ≤ 5 * 10 ^ 18 * distance
-  pub greatest : 5 * 10 ^ 18 * distance < 2 * datagram * cube (k + 1)
+-- K, in whole parts of a second: the greatest with C·K^3 at most the distance from the window to the plateau
+pub record IsGreatestK (a_second datagram distance k : ℕ) : Type 0 where
+  pub fits : 2 * datagram * cube k ≤ 5 * cube a_second * distance
+  pub greatest : 5 * cube a_second * distance < 2 * datagram * cube (k + 1)
 
 abbrev pub k_of : ℕ → ℕ → ℕ
-k_of datagram distance = cube_root (5 * 10 ^ 18 * distance / (2 * datagram))
+k_of datagram distance = cube_root (5 * cube micros * distance / (2 * datagram))
 
 -- from a window up to the plateau W_max, and beyond
 abbrev pub curve_from : ℕ → ℕ → ℕ → Curve
@@ -39,6 +43,6 @@ flat_curve window datagram = record { w_max = window; k = 0; datagram = datagram
 
 -- C·(t - K)^3 + W_max, where what is apart from W_max is rounded down
 abbrev pub curve_at : Curve → ℕ → ℕ
-curve_at curve micros =
-    if nat_le curve.k micros then sum_to_most curve.w_max (rise curve.datagram (micros - curve.k))
-    else curve.w_max - rise curve.datagram (curve.k - micros)
+curve_at curve time =
+    if nat_le curve.k time then sum_to_most curve.w_max (rise curve.datagram (time - curve.k))
+    else curve.w_max - rise curve.datagram (curve.k - time)

@@ -1,6 +1,6 @@
 //! The cubic curve (RFC 9438, 4.2), in whole bytes and microseconds.
 ghost use Rattle.std.specs.Prelude.{◌≡◌, ◌-◌, ◌<◌};
-ghost use Rattle.recovery_cubic.specs.Curve.{cube_root, rise, curve_from, flat_curve, curve_at, IsGreatestK};
+ghost use Rattle.recovery_cubic.specs.Curve.{cube_root, rise, curve_from, flat_curve, curve_at, micros, IsGreatestK};
 
 /// C is 2/5, in datagrams for each cubed second (RFC 9438, 5).
 const C_NUMERATOR: u128 = 2;
@@ -28,7 +28,7 @@ impl Curve {
     pub fn new(w_max: u64, window: u64, datagram: u64) -> Self
         requires { 0 < datagram }
         ensures value { result ≡ curve_from w_max window datagram }
-        ensures greatest { IsGreatestK datagram (w_max - window) result.k }
+        ensures greatest { IsGreatestK micros datagram (w_max - window) result.k }
     {
         let distance = u128::from(w_max.saturating_sub(window));
         let cubed = C_DENOMINATOR * distance / (C_NUMERATOR * u128::from(datagram));
