@@ -53,7 +53,7 @@ root_between n root above fits under near =
 
 -- ---- K
 
-pub greatest_k : (datagram distance : ℕ) → 0 < datagram 
+pub greatest_k : (datagram distance : ℕ) → 0 < datagram
     → IsGreatestK micros datagram distance (k_of datagram distance)
 greatest_k datagram distance positive =
     let n = 5 * 10 ^ 18 * distance in

@@ -1,15 +1,14 @@
 -- CUBIC's window in congestion avoidance: never below Reno's, and by at most half of the bytes acknowledged above what
 -- it was.
-use Rattle.std.proofs.Common.{◌≡◌, ℕ, ◌+◌, ◌-◌, ◌*◌, ◌/◌, ◌^◌, ◌<◌, ◌≤◌, min, max, Bool, true, false, nat_le, List, [], ◌∷◌, ◌++◌, refl, arith}
+use Rattle.std.proofs.Common.{◌≡◌, ℕ, ◌+◌, ◌-◌, ◌*◌, ◌^◌, ◌<◌, ◌≤◌, max, nat_le, List, [], ◌∷◌, ◌++◌, refl, arith}
 use Rattle.std.specs.Prelude.{if◌then◌else◌}
 use Rattle.std.proofs.lemmas.Nat.{mul-le, div_below}
 use Rattle.std.proofs.Math.Nat.{mul-le-mul_right}
 use Rattle.recovery_congestion.specs.Calls.{ControllerCall}
-use Rattle.recovery_congestion.specs.NewReno.{most}
 use Rattle.recovery_cubic.specs.declared.cubic.Cubic.{Cubic}
 use Rattle.recovery_cubic.specs.Stage.{parts, quotient_up}
-use Rattle.recovery_cubic.specs.Cubic.{avoided, datagram_of, friendly_step}
-use Rattle.recovery_cubic.specs.History.{Turn, grows, waits, reduces, persists, starts, resizes, passes, turn_of, turn_at, cubic_by, window_by}
+use Rattle.recovery_cubic.specs.Cubic.{datagram_of}
+use Rattle.recovery_cubic.specs.History.{Turn, cubic_by, window_by}
 use Rattle.recovery_cubic.specs.Growth.{GoesOn, GoOn, bytes_of, acked_in, GrowsByHalf}
 use Rattle.recovery_cubic.specs.Reno.{reno_growth, prior_next, mtu_next, reno_next, prior_by, mtu_by, reno_by, NeverBelowReno}
 use Rattle.recovery_cubic.proofs.TurnLaws.{Turns, by_turn}
@@ -41,11 +40,11 @@ growth_half bytes window datagram prior estimate some =
 
 -- ---- what the state holds is what the history says, and no more than the window
 
-record Holds (window now mtu : ℕ) (calls : List ControllerCall) (cubic : Cubic) : Type 0 where
-  estimate : cubic.stage.estimate ≡ reno_by window now mtu calls
-  prior : cubic.prior_window ≡ prior_by window now mtu calls
-  mtu_is : cubic.current_mtu ≡ mtu_by window now mtu calls
-  below : cubic.stage.estimate ≤ parts * cubic.window
+pub record Holds (window now mtu : ℕ) (calls : List ControllerCall) (cubic : Cubic) : Type 0 where
+  pub estimate : cubic.stage.estimate ≡ reno_by window now mtu calls
+  pub prior : cubic.prior_window ≡ prior_by window now mtu calls
+  pub mtu_is : cubic.current_mtu ≡ mtu_by window now mtu calls
+  pub below : cubic.stage.estimate ≤ parts * cubic.window
 
 module _ (window now mtu : ℕ) where
   -- what a turn leaves, over what held before it
@@ -79,7 +78,7 @@ module _ (window now mtu : ℕ) where
     passing = record { estimate = h.estimate; prior = h.prior; mtu_is = h.mtu_is; below = h.below };
   }
 
-  holds : (calls : List ControllerCall) → Holds window now mtu calls (cubic_by window now mtu calls)
+  pub holds : (calls : List ControllerCall) → Holds window now mtu calls (cubic_by window now mtu calls)
   holds [] = record { estimate = refl; prior = refl; mtu_is = refl; below = omega arith }
   holds (call ∷ earlier) =
       let here = by_turn (cubic_by window now mtu earlier) (Next earlier) (next earlier (holds earlier)) call in

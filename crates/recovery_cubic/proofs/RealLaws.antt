@@ -1,10 +1,9 @@
 -- The curve in whole microseconds and bytes is within one datagram of the real one.
-use Rattle.std.proofs.Common.{◌≡◌, ℕ, zero, suc, ◌+◌, ◌-◌, ◌*◌, ◌/◌, ◌^◌, ◌<◌, ◌≤◌, min, Bool, true, false, nat_le, ap, subst, refl, arith, inl, inr}
+use Rattle.std.proofs.Common.{◌≡◌, ℕ, zero, suc, ◌+◌, ◌-◌, ◌*◌, ◌/◌, ◌^◌, ◌<◌, ◌≤◌, Bool, true, false, nat_le, ap, subst, refl, arith, inl, inr}
 use Rattle.std.specs.Prelude.{if◌then◌else◌}
 use Rattle.std.specs.Int.{abs_diff}
 use Rattle.std.proofs.lemmas.Bool.{cases_lt}
 use Rattle.std.proofs.lemmas.Bool.Decides.{nat_tests}
-use Rattle.std.proofs.lemmas.Nat.{mul-le}
 use Rattle.std.proofs.Math.Nat.{mul-le-mul_left, mul-le-mul_right}
 use Rattle.recovery_congestion.specs.NewReno.{most, sum_to_most}
 use Rattle.recovery_cubic.specs.declared.curve.Curve.{Curve}
@@ -22,10 +21,10 @@ k-from : (q datagram distance whole k : ℕ) → IsGreatestK micros datagram dis
     → IsGreatestK (micros * q) datagram distance k → whole * q ≤ k
 k-from q datagram distance whole k coarse fine = elim (cases_lt k (whole * q)) [
   | inl less ↦
-    let up : cube (k + 1) ≤ cube (whole * q) = cube-le (k + 1) (whole * q) (omega (arith, less)) in
-    let here = mul-le-mul_left (2 * datagram) up in
-    let there = mul-le-mul_left (cube q) coarse.fits in
-    absurd (omega (arith, fine.greatest, here, there))
+      let up : cube (k + 1) ≤ cube (whole * q) = cube-le (k + 1) (whole * q) (omega (arith, less)) in
+      let here = mul-le-mul_left (2 * datagram) up in
+      let there = mul-le-mul_left (cube q) coarse.fits in
+      absurd (omega (arith, fine.greatest, here, there))
   | inr enough ↦ enough
 ]
 
@@ -34,11 +33,11 @@ k-below : (q datagram distance whole k : ℕ) → 0 < q → IsGreatestK micros d
 k-below q datagram distance whole k some coarse fine = elim (cases_lt k ((whole + 1) * q)) [
   | inl less ↦ less
   | inr more ↦
-    let up : cube ((whole + 1) * q) ≤ cube k = cube-le ((whole + 1) * q) k more in
-    let here = mul-le-mul_left (2 * datagram) up in
-    let one : 1 ≤ cube q = cube-le 1 q some in
-    let there = mul-le-mul_left (cube q) (let h : 5 * cube micros * distance + 1 ≤ 2 * datagram * cube (whole + 1) = omega (arith, coarse.greatest) in h) in
-    absurd (omega (arith, fine.fits, here, there, one))
+      let up : cube ((whole + 1) * q) ≤ cube k = cube-le ((whole + 1) * q) k more in
+      let here = mul-le-mul_left (2 * datagram) up in
+      let one : 1 ≤ cube q = cube-le 1 q some in
+      let there = mul-le-mul_left (cube q) (let h : 5 * cube micros * distance + 1 ≤ 2 * datagram * cube (whole + 1) = omega (arith, coarse.greatest) in h) in
+      absurd (omega (arith, fine.fits, here, there, one))
 ]
 
 -- ---- cubes of what is apart
@@ -152,15 +151,15 @@ real-later datagram plateau q t T k K x v p is steady f = (
       behind (one q) datagram plateau v _ w.up w.down,
   λ more. elim (cases_lt k t) [
     | inl below ↦
-      let far = mul-le-mul_right q (let h : k + 1 ≤ t = omega (arith, below) in h) in
-      absurd (omega (arith, far, more, p.time_from, p.k_below))
+        let far = mul-le-mul_right q (let h : k + 1 ≤ t = omega (arith, below) in h) in
+        absurd (omega (arith, far, more, p.time_from, p.k_below))
     | inr same ↦
-      let none : x ≡ 0 = omega (arith, is, same) in
-      let nothing : 2 * datagram * cube x ≡ 0 = (let h : 2 * datagram * cube x ≡ 2 * datagram * cube 0 = ap (λ n. 2 * datagram * cube n) none in omega (arith, h)) in
-      let empty : v ≡ 0 = omega (arith, f.low, nothing) in
-      let w = ways datagram q x (K - T) v steady f (apart-sooner q t T k K x p (omega (arith, is, same, none))) in
-      let flat : one q * v ≡ 0 = (let h : one q * v ≡ one q * 0 = ap (λ n. one q * n) empty in omega (arith, h)) in
-      record { below = omega (arith, w.up, flat); above = omega arith }
+        let none : x ≡ 0 = omega (arith, is, same) in
+        let nothing : 2 * datagram * cube x ≡ 0 = (let h : 2 * datagram * cube x ≡ 2 * datagram * cube 0 = ap (λ n. 2 * datagram * cube n) none in omega (arith, h)) in
+        let empty : v ≡ 0 = omega (arith, f.low, nothing) in
+        let w = ways datagram q x (K - T) v steady f (apart-sooner q t T k K x p (omega (arith, is, same, none))) in
+        let flat : one q * v ≡ 0 = (let h : one q * v ≡ one q * 0 = ap (λ n. one q * n) empty in omega (arith, h)) in
+        record { below = omega (arith, w.up, flat); above = omega arith }
   ],
 )
 
@@ -196,9 +195,9 @@ module _ (curve : Curve) (window time : ℕ) (some : 0 < curve.datagram) (within
   abbrev Near : ℕ → ℕ → ℕ → Type 0
   Near a k w =
       (k ≤ time * a → AreNear (one (1000 * a) * w)
-        (one (1000 * a) * curve.w_max + 2 * curve.datagram * cube (time * a - k)) (one (1000 * a) * curve.datagram))
+      (one (1000 * a) * curve.w_max + 2 * curve.datagram * cube (time * a - k)) (one (1000 * a) * curve.datagram))
       × (time * a ≤ k → AreNear (one (1000 * a) * w + 2 * curve.datagram * cube (k - time * a))
-        (one (1000 * a) * curve.w_max) (one (1000 * a) * curve.datagram))
+      (one (1000 * a) * curve.w_max) (one (1000 * a) * curve.datagram))
 
   near_by : (a k : ℕ) (test : Bool) → nat_le curve.k (time / 1000) ≡ test
       → InParts (1000 * a) (time / 1000) (time * a) curve.k k
@@ -239,10 +238,11 @@ module _ (curve : Curve) (window time : ℕ) (some : 0 < curve.datagram) (within
   near_real a k any fine =
       let parts_of : 10 ^ 9 * a ≡ micros * (1000 * a) = omega arith in
       let near = near_then a k (subst (λ s. IsGreatestK s curve.datagram (curve.w_max - window) k) parts_of fine) any in
-      let one_is : 5 * cube (10 ^ 9 * a) ≡ one (1000 * a) = omega arith in
-      (λ less.
-        let apart : abs_diff (time * a) k ≡ time * a - k = omega (arith, less) in
-        rw (one_is, apart) (near.0 less),
-      λ more.
-        let apart : abs_diff (time * a) k ≡ k - time * a = omega (arith, more) in
-        rw (one_is, apart) (near.1 more))
+      let one_is : 5 * cube (10 ^ 9 * a) ≡ one (1000 * a) = omega arith in (
+        λ less.
+            let apart : abs_diff (time * a) k ≡ time * a - k = omega (arith, less) in
+            rw (one_is, apart) (near.0 less),
+        λ more.
+            let apart : abs_diff (time * a) k ≡ k - time * a = omega (arith, more) in
+            rw (one_is, apart) (near.1 more),
+      )

@@ -1,12 +1,14 @@
 -- CUBIC's window goes by the curve from a reduction until the next (RFC 9438, 4.2). Lists are newest first.
-use Rattle.std.specs.Prelude.{ℕ, ◌≡◌, ◌+◌, ◌-◌, ◌*◌, ◌/◌, ◌≤◌, min, max, nat_lt, if◌then◌else◌, List, [], ◌∷◌, ◌++◌}
+use Rattle.std.specs.Prelude.{ℕ, ◌≡◌, ◌+◌, ◌-◌, ◌*◌, ◌/◌, ◌<◌, ◌≤◌, min, max, nat_lt, if◌then◌else◌, List, [], ◌∷◌, ◌++◌}
 use Rattle.recovery_congestion.specs.Calls.{ControllerCall}
 use Rattle.recovery_congestion.specs.NewReno.{most, sum_to_most}
+use Rattle.recovery_cubic.specs.declared.curve.Curve.{Curve}
 use Rattle.recovery_cubic.specs.Stage.{parts, quotient_up}
 use Rattle.recovery_cubic.specs.Curve.{curve_at, micros, IsGreatestK}
 use Rattle.recovery_cubic.specs.Cubic.{datagram_of}
 use Rattle.recovery_cubic.specs.History.{Turn, grows, waits, reduces, persists, starts, turn_at, window_by}
-use Rattle.recovery_cubic.specs.Growth.{GoOn, bytes_of}
+use Rattle.recovery_cubic.specs.Growth.{bytes_of}
+use Rattle.recovery_cubic.specs.RealCurve.{IsSteady, IsNearReal}
 use Rattle.recovery_cubic.specs.Reno.{mtu_by, reno_by}
 
 -- ---- the time that counts, in nanoseconds (RFC 9438, 4.2 and 5.8)
@@ -60,13 +62,17 @@ module _ (window now mtu : ℕ) where
     pub k_is : IsGreatestK micros (datagram_of (mtu_by window now mtu earlier))
         (plateau_by (reduction ∷ earlier) - window_by window now mtu (reduction ∷ earlier)) k
 
-  -- the curve at the whole microseconds that count, behind a reduction
-  abbrev pub curve_then : List ControllerCall → ControllerCall → List ControllerCall → ℕ → ℕ
-  curve_then later reduction earlier k = curve_at (record {
+  -- the curve behind a reduction, and what it is at the whole microseconds that count
+  abbrev pub curve_of : ControllerCall → List ControllerCall → ℕ → Curve
+  curve_of reduction earlier k = record {
     w_max = plateau_by (reduction ∷ earlier);
     k = k;
     datagram = datagram_of (mtu_by window now mtu earlier);
-  }) (time_by (later ++ reduction ∷ earlier) / 1000)
+  }
+
+  abbrev pub curve_then : List ControllerCall → ControllerCall → List ControllerCall → ℕ → ℕ
+  curve_then later reduction earlier k =
+      curve_at (curve_of reduction earlier k) (time_by (later ++ reduction ∷ earlier) / 1000)
 
   -- the window is at most the greatest of the curve, of Reno's, and of the window that the reduction left
   abbrev pub IsBelowCurve : List ControllerCall → ControllerCall → List ControllerCall → ℕ → Type 0
@@ -75,13 +81,30 @@ module _ (window now mtu : ℕ) where
       ≤ max (max (window_by window now mtu (reduction ∷ earlier)) (curve_then later reduction earlier k))
       (quotient_up (reno_by window now mtu (later ++ reduction ∷ earlier)) parts)
 
-  -- and an acknowledgement makes it the curve's, or half of its bytes above what it was
-  abbrev pub IsUpToCurve : ControllerCall → List ControllerCall → ControllerCall → List ControllerCall → ℕ → Type 0
-  IsUpToCurve call later reduction earlier k = (at bytes : ℕ)
-      → turn_at window now mtu call (later ++ reduction ∷ earlier) ≡ grows at bytes
-      → min (curve_then (call ∷ later) reduction earlier k)
-      (sum_to_most (window_by window now mtu (later ++ reduction ∷ earlier)) (bytes / 2))
-      ≤ window_by window now mtu (call ∷ later ++ reduction ∷ earlier)
+  -- while the curve moves by less than a datagram in a microsecond, it is within one datagram of the real one
+  abbrev pub IsReal : List ControllerCall → ControllerCall → List ControllerCall → ℕ → Type 0
+  IsReal later reduction earlier k =
+      let curve = curve_of reduction earlier k in
+      let time = time_by (later ++ reduction ∷ earlier) in
+      curve_then later reduction earlier k < most → IsSteady curve time
+      → IsNearReal curve (window_by window now mtu (reduction ∷ earlier)) time
+
+  -- an acknowledgement in congestion avoidance, of so many bytes, behind later calls behind a reduction
+  pub record GoesToCurve (call : ControllerCall) (later : List ControllerCall) (reduction : ControllerCall)
+      (earlier : List ControllerCall) (k bytes : ℕ) : Type 0 where
+    -- it makes the window the curve's, or half of its bytes above what it was
+    pub up : min (curve_then (call ∷ later) reduction earlier k)
+        (sum_to_most (window_by window now mtu (later ++ reduction ∷ earlier)) (bytes / 2))
+        ≤ window_by window now mtu (call ∷ later ++ reduction ∷ earlier)
+    -- just the curve's, where half of the bytes reach the curve, and neither Reno's window nor what the reduction left
+    -- is above it
+    pub on : curve_then (call ∷ later) reduction earlier k
+        ≤ sum_to_most (window_by window now mtu (later ++ reduction ∷ earlier)) (bytes / 2)
+        → window_by window now mtu (reduction ∷ earlier) ≤ curve_then (call ∷ later) reduction earlier k
+        → reno_by window now mtu (call ∷ later ++ reduction ∷ earlier)
+        ≤ parts * curve_then (call ∷ later) reduction earlier k
+        → window_by window now mtu (call ∷ later ++ reduction ∷ earlier)
+        ≡ curve_then (call ∷ later) reduction earlier k
 
   -- the sum of half the bytes of each acknowledgement behind earlier calls
   abbrev pub halves_in : List ControllerCall → List ControllerCall → ℕ
@@ -89,10 +112,27 @@ module _ (window now mtu : ℕ) where
   halves_in (call ∷ later) earlier =
       bytes_of (turn_at window now mtu call (later ++ earlier)) / 2 + halves_in later earlier
 
-  -- from K on the window goes back to the plateau, as fast as acknowledgements let it: half of their bytes each
+  -- the window is back at the plateau, as far as acknowledgements let it rise since: by half of their bytes each
+  abbrev pub IsBackBy : List ControllerCall → List ControllerCall → ControllerCall → List ControllerCall → Type 0
+  IsBackBy later until reduction earlier =
+      let there = until ++ reduction ∷ earlier in
+      min (plateau_by (reduction ∷ earlier)) (window_by window now mtu there + halves_in later there)
+      ≤ window_by window now mtu (later ++ there)
+
+  -- from K on
   abbrev pub ComesBack : List ControllerCall → List ControllerCall → ControllerCall → List ControllerCall → ℕ → Type 0
   ComesBack later until reduction earlier k =
-      let there = until ++ reduction ∷ earlier in
-      k ≤ time_by there / 1000
-      → min (plateau_by (reduction ∷ earlier)) (window_by window now mtu there + halves_in later there)
-      ≤ window_by window now mtu (later ++ there)
+      k ≤ time_by (until ++ reduction ∷ earlier) / 1000 → IsBackBy later until reduction earlier
+
+  -- so the window before the reduction is reached again at K, in whole microseconds, as soon as acknowledgements let it:
+  -- until then no more than 3/10 of it is lacking, which a round trip's come up for
+  pub record IsReachedAtK (later until : List ControllerCall) (reduction : ControllerCall)
+      (earlier : List ControllerCall) (k : ℕ) : Type 0 where
+    -- the plateau is the window before, unless that was below the last plateau
+    pub plateau : plateau_by earlier ≤ window_by window now mtu earlier
+        → plateau_by (reduction ∷ earlier) ≡ window_by window now mtu earlier
+    pub lacking : 7 * window_by window now mtu earlier
+        ≤ 10 * window_by window now mtu (until ++ reduction ∷ earlier) + 9
+    pub sooner : time_by (until ++ reduction ∷ earlier) / 1000 < k
+        → curve_then until reduction earlier k ≤ plateau_by (reduction ∷ earlier)
+    pub back : ComesBack later until reduction earlier k

@@ -1,10 +1,8 @@
 -- What the calls of a CUBIC are to it (RFC 9438), and what it is after all of them. Lists are newest first.
-use Rattle.std.specs.Prelude.{ℕ, ◌+◌, ◌-◌, ◌*◌, ◌/◌, min, max, nat_le, nat_lt, if◌then◌else◌, List, [], ◌∷◌}
+use Rattle.std.specs.Prelude.{ℕ, nat_le, nat_lt, if◌then◌else◌, List, [], ◌∷◌}
 use Rattle.recovery_congestion.specs.Calls.{ControllerCall, acks, congests, takes_mtu}
-use Rattle.recovery_congestion.specs.NewReno.{most}
 use Rattle.recovery_cubic.specs.declared.cubic.Cubic.{Cubic}
-use Rattle.recovery_cubic.specs.Stage.{parts, quotient_up}
-use Rattle.recovery_cubic.specs.Cubic.{cubic_after, cubic_made, datagram_of, least_window}
+use Rattle.recovery_cubic.specs.Cubic.{cubic_after, cubic_made}
 
 pub data Turn : Type 0 where
   -- an acknowledgement in congestion avoidance, while the application does not limit: the window may grow

@@ -1,7 +1,6 @@
 -- The curve of RFC 9438, 4.2, as a real number, and how near to it the curve in whole microseconds and bytes is.
 use Rattle.std.specs.Prelude.{ℕ, ◌+◌, ◌-◌, ◌*◌, ◌/◌, ◌^◌, ◌<◌, ◌≤◌}
 use Rattle.std.specs.Int.{abs_diff}
-use Rattle.recovery_congestion.specs.NewReno.{most}
 use Rattle.recovery_cubic.specs.declared.curve.Curve.{Curve}
 use Rattle.recovery_cubic.specs.Curve.{cube, curve_at, micros, IsGreatestK}
 
@@ -27,6 +26,6 @@ IsNearReal curve window time = (a_nano k : ℕ) → 0 < a_nano
     let way = 2 * curve.datagram * cube (abs_diff (time * a_nano) k) in
     IsGreatestK a_second curve.datagram (curve.w_max - window) k
     → (k ≤ time * a_nano
-      → AreNear (one * curve_at curve (time / 1000)) (one * curve.w_max + way) (one * curve.datagram))
+    → AreNear (one * curve_at curve (time / 1000)) (one * curve.w_max + way) (one * curve.datagram))
     × (time * a_nano ≤ k
-      → AreNear (one * curve_at curve (time / 1000) + way) (one * curve.w_max) (one * curve.datagram))
+    → AreNear (one * curve_at curve (time / 1000) + way) (one * curve.w_max) (one * curve.datagram))

@@ -4,7 +4,7 @@ use Rattle.recovery_congestion.specs.Calls.{ControllerCall}
 use Rattle.recovery_congestion.specs.NewReno.{most}
 use Rattle.recovery_cubic.specs.Stage.{parts, quotient_up}
 use Rattle.recovery_cubic.specs.Cubic.{datagram_of}
-use Rattle.recovery_cubic.specs.History.{Turn, grows, waits, reduces, persists, starts, resizes, passes, turn_at, window_by}
+use Rattle.recovery_cubic.specs.History.{Turn, grows, reduces, persists, starts, resizes, turn_at, window_by}
 
 -- the growth by bytes acknowledged, where the window is at least two datagrams: alpha datagrams for a window of them,
 -- rounded up; alpha is 9/17, and 1 once the estimate is at the window before the reduction
