@@ -245,16 +245,16 @@ module _ (window now mtu : ℕ) where
         → curve_window (cubic_by window now mtu (later ++ reduction ∷ earlier)).stage
         ≡ curve_then window now mtu later reduction earlier k
     window_then later goes =
-        let curve = ap (λ (c : Curve). curve_at c ((cubic_by window now mtu (later ++ reduction ∷ earlier)).stage.elapsed / 1000))
-        (below_by later goes).curve_is in
-        curve ∙ ap (λ (n : ℕ). curve_at (curve_of window now mtu reduction earlier k) (n / 1000))
+        let time = (cubic_by window now mtu (later ++ reduction ∷ earlier)).stage.elapsed / 1000 in
+        ap (λ (c : Curve). curve_at c time) (below_by later goes).curve_is
+        ∙ ap (λ (n : ℕ). curve_at (curve_of window now mtu reduction earlier k) (n / 1000))
         (times (later ++ reduction ∷ earlier)).time
 
     pub real_curve : (later : List ControllerCall) → IsReal window now mtu later reduction earlier k
     real_curve later room steady =
         near_real (curve_of window now mtu reduction earlier k) (window_by window now mtu (reduction ∷ earlier))
-        (time_by window now mtu (later ++ reduction ∷ earlier)) (omega arith) (plateau_fits reduction earlier k b) b.k_is
-        room steady
+        (time_by window now mtu (later ++ reduction ∷ earlier)) (omega arith) (plateau_fits reduction earlier k b)
+        b.k_is room steady
 
     -- what an acknowledgement that counts makes of the window
     makes : (cubic : Cubic) (call : ControllerCall) (at bytes : ℕ) → turn_of call cubic ≡ grows at bytes

@@ -29,7 +29,8 @@ half-of alpha bytes window datagram few some =
     let here : alpha * (2 * datagram) ≤ 17 * max window (2 * datagram) = mul-le alpha (2 * datagram) 17 _ few wide in
     let all : alpha * (2 * datagram) * (2 ^ 31 * bytes) ≤ 17 * max window (2 * datagram) * (2 ^ 31 * bytes) =
     mul-le-mul_right (2 ^ 31 * bytes) here in
-    let fits : parts * alpha * datagram * bytes ≤ 17 * max window (2 * datagram) * (2 ^ 31 * bytes) = omega (arith, all) in
+    let fits : parts * alpha * datagram * bytes ≤ 17 * max window (2 * datagram) * (2 ^ 31 * bytes) =
+    omega (arith, all) in
     let low = up-le _ _ (2 ^ 31 * bytes) (omega (arith, some, wide)) fits in
     omega (arith, low)
 
@@ -97,8 +98,8 @@ module _ (window now mtu : ℕ) where
       → Turns cubic (λ turn new. GoesOn turn → Within (bytes_of turn + acked) before new)
   within cubic acked before w = record {
     growing = λ at bytes goes.
-        let half = growth_half bytes cubic.window (datagram_of cubic.current_mtu) cubic.prior_window cubic.stage.estimate
-        (omega arith) in
+        let half = growth_half bytes cubic.window (datagram_of cubic.current_mtu) cubic.prior_window
+        cubic.stage.estimate (omega arith) in
         record { window_is = omega (arith, w.window_is, w.estimate, half); estimate = omega (arith, w.estimate, half) };
     waiting = λ at goes. record { window_is = omega (arith, w.window_is); estimate = omega (arith, w.estimate) };
     reducing = λ at goes. absurd goes;

@@ -36,7 +36,8 @@ k-below q datagram distance whole k some coarse fine = elim (cases_lt k ((whole 
       let up : cube ((whole + 1) * q) ≤ cube k = cube-le ((whole + 1) * q) k more in
       let here = mul-le-mul_left (2 * datagram) up in
       let one : 1 ≤ cube q = cube-le 1 q some in
-      let there = mul-le-mul_left (cube q) (let h : 5 * cube micros * distance + 1 ≤ 2 * datagram * cube (whole + 1) = omega (arith, coarse.greatest) in h) in
+      let next : 5 * cube micros * distance + 1 ≤ 2 * datagram * cube (whole + 1) = omega (arith, coarse.greatest) in
+      let there = mul-le-mul_left (cube q) next in
       absurd (omega (arith, fine.fits, here, there, one))
 ]
 
@@ -108,7 +109,8 @@ behind one datagram plateau v c up down = record { below = omega (arith, down); 
 before : (one datagram plateau w v c : ℕ) → w + v ≡ plateau → c ≤ one * v + one * datagram
     → one * v ≤ c + one * datagram → AreNear (one * w + c) (one * plateau) (one * datagram)
 before one datagram plateau w v c is up down =
-    let all : one * w + one * v ≡ one * plateau = (let h : one * (w + v) ≡ one * plateau = ap (λ n. one * n) is in omega (arith, h)) in
+    let scaled : one * (w + v) ≡ one * plateau = ap (λ n. one * n) is in
+    let all : one * w + one * v ≡ one * plateau = omega (arith, scaled) in
     record { below = omega (arith, all, up); above = omega (arith, all, down) }
 
 -- a time and K in parts, and the whole microseconds that they lie in
@@ -155,7 +157,8 @@ real-later datagram plateau q t T k K x v p is steady f = (
         absurd (omega (arith, far, more, p.time_from, p.k_below))
     | inr same ↦
         let none : x ≡ 0 = omega (arith, is, same) in
-        let nothing : 2 * datagram * cube x ≡ 0 = (let h : 2 * datagram * cube x ≡ 2 * datagram * cube 0 = ap (λ n. 2 * datagram * cube n) none in omega (arith, h)) in
+        let at_none : 2 * datagram * cube x ≡ 2 * datagram * cube 0 = ap (λ n. 2 * datagram * cube n) none in
+        let nothing : 2 * datagram * cube x ≡ 0 = omega (arith, at_none) in
         let empty : v ≡ 0 = omega (arith, f.low, nothing) in
         let w = ways datagram q x (K - T) v steady f (apart-sooner q t T k K x p (omega (arith, is, same, none))) in
         let flat : one q * v ≡ 0 = (let h : one q * v ≡ one q * 0 = ap (λ n. one q * n) empty in omega (arith, h)) in

@@ -64,8 +64,8 @@ cubic_grown now bytes cubic =
 -- 7.3.2); where the application limits, the time passes by and nothing else changes (RFC 9438, 5.8)
 abbrev pub cubic_acked : ℕ → ℕ → ℕ → Bool → Cubic → Cubic
 cubic_acked now sent bytes limited cubic =
-    if nat_le sent cubic.recovery_start_time then cubic else if limited then record cubic { stage = uncounted now cubic.stage }
-    else cubic_grown now bytes cubic
+    if nat_le sent cubic.recovery_start_time then cubic
+    else if limited then record cubic { stage = uncounted now cubic.stage } else cubic_grown now bytes cubic
 
 -- ---- congestion
 
@@ -73,8 +73,8 @@ cubic_acked now sent bytes limited cubic =
 abbrev pub reduced_window : Cubic → ℕ
 reduced_window cubic = max (cubic.window * 7 / 10) (least_window cubic)
 
--- W_max: the window before the reduction; where it had not reached the last plateau, (1 + beta)/2 of it, rounded down, so
--- that a new flow finds room sooner (fast convergence: RFC 9438, 4.7)
+-- W_max: the window before the reduction; where it had not reached the last plateau, (1 + beta)/2 of it, rounded down,
+-- so that a new flow finds room sooner (fast convergence: RFC 9438, 4.7)
 abbrev pub next_w_max : Cubic → ℕ
 next_w_max cubic = if nat_lt cubic.window cubic.stage.curve.w_max then cubic.window * 17 / 20 else cubic.window
 

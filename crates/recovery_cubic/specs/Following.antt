@@ -124,8 +124,8 @@ module _ (window now mtu : ℕ) where
   ComesBack later until reduction earlier k =
       k ≤ time_by (until ++ reduction ∷ earlier) / 1000 → IsBackBy later until reduction earlier
 
-  -- so the window before the reduction is reached again at K, in whole microseconds, as soon as acknowledgements let it:
-  -- until then no more than 3/10 of it is lacking, which a round trip's come up for
+  -- so the window before the reduction is reached again at K, in whole microseconds, as soon as acknowledgements let
+  -- it: until then no more than 3/10 of it is lacking, which those of a round trip come up for
   pub record IsReachedAtK (later until : List ControllerCall) (reduction : ControllerCall)
       (earlier : List ControllerCall) (k : ℕ) : Type 0 where
     -- the plateau is the window before, unless that was below the last plateau

@@ -27,8 +27,8 @@ module _ (window now mtu : ℕ) where
   acked_in [] earlier = 0
   acked_in (call ∷ later) earlier = bytes_of (turn_at window now mtu call (later ++ earlier)) + acked_in later earlier
 
-  -- the window is at most half of them above what it was, rounded up; so in a round trip, in which no more than a window
-  -- of bytes is acknowledged, by no more than half a window
+  -- the window is at most half of them above what it was, rounded up; so in a round trip, in which no more than a
+  -- window of bytes is acknowledged, by no more than half a window
   pub record GrowsByHalf (later earlier : List ControllerCall) : Type 0 where
     pub bytes : 2 * window_by window now mtu (later ++ earlier)
         ≤ 2 * window_by window now mtu earlier + acked_in later earlier + 1

@@ -9,7 +9,7 @@ pub record AreNear (a b apart : ℕ) : Type 0 where
   pub below : a ≤ b + apart
   pub above : b ≤ a + apart
 
--- about a time in nanoseconds the real curve moves by less than a datagram in a microsecond, and that one byte less: for
+-- about a time in nanoseconds the real curve moves by no more than a byte less than a datagram in a microsecond: for
 -- 1200 bytes that is 15 minutes to both sides of K
 abbrev pub IsSteady : Curve → ℕ → Type 0
 IsSteady curve time =

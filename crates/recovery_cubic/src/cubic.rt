@@ -87,12 +87,12 @@ impl ControllerFactory for CubicConfig {
     ghost starts_at_initial = { λ factory now mtu. refl };
 }
 
-/// A window that falls to 7/10 at a loss, once in a recovery, and then goes by the time: fast towards the window before,
-/// the plateau, slowly near it, and fast again beyond (RFC 9438).
+/// A window that falls to 7/10 at a loss, once in a recovery, and then goes by the time: fast towards the window
+/// before, the plateau, slowly near it, and fast again beyond (RFC 9438).
 ///
-/// An acknowledgement sets the window to the curve's at that time, but no more than half of the bytes acknowledged above
-/// what it was: by half a window in a round trip, as in RFC 9438, 4.2. It is never below what Reno's would be (4.3). An
-/// MTU of zero counts as one byte.
+/// RFC 9438, 4.2, goes up to the curve of a round trip later in steps, one for each acknowledgement. Here each sets the
+/// window to the curve's at its own time, by at most half of its bytes: as in 4.2 half a window in a round trip. The
+/// window is never below what Reno's would be (4.3). An MTU of zero counts as one byte.
 #[derive(Clone, Drop)]
 pub struct Cubic {
     initial_window: u64,
