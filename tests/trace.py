@@ -20,7 +20,7 @@ PROGRAM = ROOT / "crates" / "recovery_trace" / "out" / "recovery_trace"
 REPLAY = ROOT / "crates" / "recovery_program" / "out" / "recovery_program"
 METRICS = {"bytes_in_flight", "packets_in_flight", "congestion_window", "smoothed_rtt", "rtt_variance", "min_rtt", "latest_rtt", "mtu", "pacer_tokens"}
 GOOD, ANSWER = "next-timeout", "timeout none"
-USAGE = "usage: recovery-trace [--state] [--strict] [SEED [WINDOW]]\n"
+USAGE = "usage: recovery-trace [--state] [--strict] [--controller NAME] [SEED [WINDOW]]\n"
 
 # a line that cannot be read, and what is told of it behind its number
 BAD = [
