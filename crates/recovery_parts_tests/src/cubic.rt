@@ -1,5 +1,7 @@
 //! CUBIC. Rows are calls with their milliseconds, and the window after each, by the formulas of RFC 9438 with datagrams
 //! of 1200 bytes: C is 480 bytes for each cubed second.
+ghost use Rattle.std.specs.Prelude.{◌<◌};
+
 use crate::rows::{finds, holds};
 use recovery_base::time::{Duration, Instant};
 use recovery_congestion::congestion::{Controller, ControllerFactory};
