@@ -20,7 +20,7 @@ PROGRAM = ROOT / "crates" / "recovery_trace" / "out" / "recovery_trace"
 REPLAY = ROOT / "crates" / "recovery_program" / "out" / "recovery_program"
 METRICS = {"bytes_in_flight", "packets_in_flight", "congestion_window", "smoothed_rtt", "rtt_variance", "min_rtt", "latest_rtt", "mtu", "pacer_tokens"}
 GOOD, ANSWER = "next-timeout", "timeout none"
-USAGE = "usage: recovery-trace [--state] [--strict] [SEED [WINDOW]]\n"
+USAGE = "usage: recovery-trace [--state] [--strict] [--controller NAME] [SEED [WINDOW]]\n"
 
 # a line that cannot be read, and what is told of it behind its number
 BAD = [
@@ -75,6 +75,13 @@ ARGUMENTS = [
     (["7", "--strict", "24000"], 0, ANSWER + "\n", ""),
     (["7", "24000", "--version"], 0, "recovery-trace 0.11.19\n", ""),
     (["--version", "--help", "x"], 0, "recovery-trace 0.11.19\n", ""),
+    (["--controller", "cubic"], 0, ANSWER + "\n", ""),
+    (["7", "--controller", "newreno", "--strict"], 0, ANSWER + "\n", ""),
+    (["--controller", "cubic", "7", "--controller", "newreno", "24000"], 0, ANSWER + "\n", ""),
+    (["--controller"], 2, "", USAGE),
+    (["--controller", "--version"], 2, "", USAGE),
+    (["--controller", "cubic", "7", "24000"], 2, "", USAGE),
+    (["7", "24000", "--controller", "cubic"], 2, "", USAGE),
     (["x", "--version"], 2, "", USAGE),
     (["--state", "--strict", "1", "2", "3"], 2, "", USAGE),
     (["--states"], 2, "", USAGE),

@@ -178,6 +178,8 @@ enum recovery_controller {
     RECOVERY_CONTROLLER_NEW_RENO = 0,
     // A window that stays the one at first.
     RECOVERY_CONTROLLER_FIXED = 1,
+    // CUBIC (RFC 9438).
+    RECOVERY_CONTROLLER_CUBIC = 2,
 };
 
 // How packet numbers are skipped (RFC 9000, 21.4).
@@ -392,7 +394,7 @@ struct recovery_settings {
     uint16_t mtu_minimum_change;
     // The bytes of this end's ids.
     uint8_t cid_len;
-    // Which congestion controller paths have: `RECOVERY_CONTROLLER_NEW_RENO` or `RECOVERY_CONTROLLER_FIXED`.
+    // Which congestion controller paths have: `RECOVERY_CONTROLLER_NEW_RENO`, `RECOVERY_CONTROLLER_FIXED` or `RECOVERY_CONTROLLER_CUBIC`.
     uint8_t controller;
     // How numbers are skipped: `RECOVERY_SKIPS_DISABLED`, `RECOVERY_SKIPS_DRAWN` or `RECOVERY_SKIPS_STARTING`.
     uint8_t skips;
@@ -796,7 +798,7 @@ struct recovery_reply recovery_ffi_stop_timer(struct recovery_handle *handle, ui
 struct recovery_reply recovery_ffi_next_timeout(struct recovery_handle *handle);
 
 // Does nothing; a library of another layout does not have it, and a program with this header does not link with that one.
-void recovery_ffi_layout(void) __asm__("recovery_ffi_layout_749becad");
+void recovery_ffi_layout(void) __asm__("recovery_ffi_layout_a79461f1");
 __attribute__((used)) static void (*const recovery_ffi_has_this_layout)(void) = recovery_ffi_layout;
 
 #ifdef __cplusplus

@@ -18,8 +18,8 @@ use Rattle.quic_recovery.specs.History.{Beginning, begins, queue_meaning}
 use Rattle.recovery_ffi.specs.Controllers.{chosen_made, chosen_words}
 use Rattle.recovery_ffi.specs.declared.controllers.Chosen.{Chosen}
 use Rattle.recovery_ffi.specs.declared.controllers.ChosenConfig.{ChosenConfig}
-use Rattle.recovery_ffi.specs.declared.controllers.ChosenConfig.TheVariants.{Reno, Fixed}
-use Rattle.recovery_ffi.specs.declared.numbers.TheConstants.{CONTROLLER_FIXED, CONTROLLER_NEW_RENO, NEW_MADE, NEW_SKIP_TOO_LARGE, NEW_TOO_MANY_ISSUED, NEW_UNKNOWN_CONTROLLER, NEW_UNKNOWN_SKIPS, NEW_ZERO_DENOMINATOR, NEW_ZERO_MTU, NEW_ZERO_WINDOW, SKIPS_DISABLED, SKIPS_DRAWN, SKIPS_STARTING}
+use Rattle.recovery_ffi.specs.declared.controllers.ChosenConfig.TheVariants.{Reno, Fixed, Cubic}
+use Rattle.recovery_ffi.specs.declared.numbers.TheConstants.{CONTROLLER_CUBIC, CONTROLLER_FIXED, CONTROLLER_NEW_RENO, NEW_MADE, NEW_SKIP_TOO_LARGE, NEW_TOO_MANY_ISSUED, NEW_UNKNOWN_CONTROLLER, NEW_UNKNOWN_SKIPS, NEW_ZERO_DENOMINATOR, NEW_ZERO_MTU, NEW_ZERO_WINDOW, SKIPS_DISABLED, SKIPS_DRAWN, SKIPS_STARTING}
 use Rattle.recovery_ffi.specs.declared.settings.Settings.{Settings}
 use Rattle.recovery_ffi.specs.Codes.{maybe}
 
@@ -31,7 +31,7 @@ settings_fault settings =
     (if settings.initial_mtu == 0 || settings.min_mtu == 0 then NEW_ZERO_MTU else
     (if settings.initial_window == 0 then NEW_ZERO_WINDOW else
     (if settings.loss_denominator == 0 then NEW_ZERO_DENOMINATOR else
-    (if nat_lt CONTROLLER_FIXED settings.controller then NEW_UNKNOWN_CONTROLLER else
+    (if nat_lt CONTROLLER_CUBIC settings.controller then NEW_UNKNOWN_CONTROLLER else
     (if nat_lt SKIPS_STARTING settings.skips then NEW_UNKNOWN_SKIPS else NEW_MADE))))))
 
 -- what the parts of a recovery require of settings in which nothing is wrong
@@ -56,7 +56,8 @@ reno_of settings = record {
 
 abbrev pub controller_of : Settings → ChosenConfig
 controller_of settings =
-    if settings.controller == CONTROLLER_NEW_RENO then Reno (reno_of settings) else Fixed settings.initial_window
+    if settings.controller == CONTROLLER_NEW_RENO then Reno (reno_of settings) else
+    (if settings.controller == CONTROLLER_FIXED then Fixed settings.initial_window else Cubic settings.initial_window)
 
 -- how the MTU is searched for: a bound above what UDP carries, and a step of nothing, are stored as the nearest that
 -- serve

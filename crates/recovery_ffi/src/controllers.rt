@@ -8,6 +8,7 @@ use quic_recovery::congestion::{
 use quic_recovery::rtt::RttEstimator;
 use recovery_base::below::NoMemory;
 use recovery_base::time::Instant;
+use recovery_cubic::{Cubic, CubicConfig};
 use std::marker::Model;
 
 /// A window in bytes that nothing changes, above zero.
@@ -52,6 +53,8 @@ pub enum ChosenConfig {
     Reno(NewRenoConfig),
     /// A window that nothing changes.
     Fixed(FixedConfig),
+    /// CUBIC (RFC 9438).
+    Cubic(CubicConfig),
 }
 
 /// The controller of a path: each call is that of the chosen one.
@@ -61,6 +64,8 @@ pub enum Chosen {
     Reno(NewReno),
     /// A window in bytes that nothing changes.
     Fixed(u64),
+    /// CUBIC (RFC 9438).
+    Cubic(Cubic),
 }
 
 impl ControllerFactory for ChosenConfig {
@@ -72,6 +77,7 @@ impl ControllerFactory for ChosenConfig {
         match self {
             ChosenConfig::Reno(config) => Chosen::Reno(NewReno::new(*config, now, current_mtu)),
             ChosenConfig::Fixed(config) => Chosen::Fixed(config.get()),
+            ChosenConfig::Cubic(config) => Chosen::Cubic(Cubic::new(*config, now, current_mtu)),
         }
     }
 
@@ -91,6 +97,7 @@ impl Controller for Chosen {
         match self {
             Chosen::Reno(reno) => reno.on_sent(now, bytes, last_packet_number),
             Chosen::Fixed(_) => {}
+            Chosen::Cubic(cubic) => cubic.on_sent(now, bytes, last_packet_number),
         }
     }
 
@@ -105,6 +112,7 @@ impl Controller for Chosen {
         match self {
             Chosen::Reno(reno) => reno.on_ack(now, sent, bytes, app_limited, rtt),
             Chosen::Fixed(_) => {}
+            Chosen::Cubic(cubic) => cubic.on_ack(now, sent, bytes, app_limited, rtt),
         }
     }
 
@@ -120,6 +128,9 @@ impl Controller for Chosen {
                 reno.on_end_acks(now, in_flight, app_limited, largest_packet_num_acked)
             }
             Chosen::Fixed(_) => {}
+            Chosen::Cubic(cubic) => {
+                cubic.on_end_acks(now, in_flight, app_limited, largest_packet_num_acked)
+            }
         }
     }
 
@@ -135,6 +146,9 @@ impl Controller for Chosen {
                 reno.on_congestion_event(now, sent, is_persistent_congestion, lost_bytes)
             }
             Chosen::Fixed(_) => {}
+            Chosen::Cubic(cubic) => {
+                cubic.on_congestion_event(now, sent, is_persistent_congestion, lost_bytes)
+            }
         }
     }
 
@@ -142,6 +156,7 @@ impl Controller for Chosen {
         match self {
             Chosen::Reno(reno) => reno.on_mtu_update(new_mtu),
             Chosen::Fixed(_) => {}
+            Chosen::Cubic(cubic) => cubic.on_mtu_update(new_mtu),
         }
     }
 
@@ -149,6 +164,7 @@ impl Controller for Chosen {
         match self {
             Chosen::Reno(reno) => reno.window(),
             Chosen::Fixed(window) => *window,
+            Chosen::Cubic(cubic) => cubic.window(),
         }
     }
 
@@ -160,6 +176,7 @@ impl Controller for Chosen {
                 ssthresh: None,
                 pacing_rate: None,
             },
+            Chosen::Cubic(cubic) => cubic.metrics(),
         }
     }
 
@@ -167,6 +184,7 @@ impl Controller for Chosen {
         match self {
             Chosen::Reno(reno) => reno.initial_window(),
             Chosen::Fixed(window) => *window,
+            Chosen::Cubic(cubic) => cubic.initial_window(),
         }
     }
 
@@ -177,6 +195,7 @@ impl Controller for Chosen {
         match self {
             Chosen::Reno(reno) => Ok(Chosen::Reno(reno.try_clone()?)),
             Chosen::Fixed(window) => Ok(Chosen::Fixed(*window)),
+            Chosen::Cubic(cubic) => Ok(Chosen::Cubic(cubic.try_clone()?)),
         }
     }
 

@@ -110,6 +110,8 @@ pub const NEW_UNKNOWN_SKIPS: u8 = 10;
 pub const CONTROLLER_NEW_RENO: u8 = 0;
 /// A window that stays the one at first.
 pub const CONTROLLER_FIXED: u8 = 1;
+/// CUBIC (RFC 9438).
+pub const CONTROLLER_CUBIC: u8 = 2;
 
 /// No number is skipped.
 pub const SKIPS_DISABLED: u8 = 0;

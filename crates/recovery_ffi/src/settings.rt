@@ -7,7 +7,7 @@ ghost use Rattle.recovery_ffi.specs.Settings.{config_of, controller_of, default_
 use crate::codes::maybe;
 use crate::controllers::{ChosenConfig, FixedConfig};
 use crate::numbers::{
-    CONTROLLER_FIXED, CONTROLLER_NEW_RENO, NEW_MADE, NEW_SKIP_TOO_LARGE, NEW_TOO_MANY_ISSUED,
+    CONTROLLER_CUBIC, CONTROLLER_FIXED, CONTROLLER_NEW_RENO, NEW_MADE, NEW_SKIP_TOO_LARGE, NEW_TOO_MANY_ISSUED,
     NEW_UNKNOWN_CONTROLLER, NEW_UNKNOWN_SKIPS, NEW_ZERO_DENOMINATOR, NEW_ZERO_MTU, NEW_ZERO_WINDOW,
     SKIPS_DISABLED, SKIPS_DRAWN, SKIPS_STARTING,
 };
@@ -16,6 +16,7 @@ use quic_recovery::config::TransportConfig;
 use quic_recovery::congestion::NewRenoConfig;
 use quic_recovery::time::Duration;
 use recovery_base::below::ConnectionId;
+use recovery_cubic::CubicConfig;
 use recovery_mtud::config::MtuDiscoveryConfig;
 use recovery_skips::Skips;
 use std::net::SocketAddr;
@@ -56,7 +57,7 @@ pub struct Settings {
     pub mtu_minimum_change: u16,
     /// The bytes of this end's ids.
     pub cid_len: u8,
-    /// Which congestion controller paths have: `CONTROLLER_NEW_RENO` or `CONTROLLER_FIXED`.
+    /// Which congestion controller paths have: `CONTROLLER_NEW_RENO`, `CONTROLLER_FIXED` or `CONTROLLER_CUBIC`.
     pub controller: u8,
     /// How numbers are skipped: `SKIPS_DISABLED`, `SKIPS_DRAWN` or `SKIPS_STARTING`.
     pub skips: u8,
@@ -119,7 +120,7 @@ pub fn fault(settings: &Settings) -> u8
         NEW_ZERO_WINDOW
     } else if settings.loss_denominator == 0 {
         NEW_ZERO_DENOMINATOR
-    } else if settings.controller > CONTROLLER_FIXED {
+    } else if settings.controller > CONTROLLER_CUBIC {
         NEW_UNKNOWN_CONTROLLER
     } else if settings.skips > SKIPS_STARTING {
         NEW_UNKNOWN_SKIPS
@@ -153,13 +154,20 @@ fn controller(settings: &Settings) -> ChosenConfig
     requires { IsSound settings.now }
     ensures { result ≡ controller_of settings.now }
 {
-    if settings.controller != CONTROLLER_NEW_RENO {
-        return ChosenConfig::Fixed(FixedConfig::new(settings.initial_window));
+    match settings.controller {
+        CONTROLLER_NEW_RENO => {
+            let mut reno = NewRenoConfig::default();
+            reno.initial_window(settings.initial_window);
+            reno.loss_reduction_factor(settings.loss_numerator, settings.loss_denominator);
+            ChosenConfig::Reno(reno)
+        }
+        CONTROLLER_FIXED => ChosenConfig::Fixed(FixedConfig::new(settings.initial_window)),
+        _ => {
+            let mut cubic = CubicConfig::default();
+            cubic.initial_window(settings.initial_window);
+            ChosenConfig::Cubic(cubic)
+        }
     }
-    let mut reno = NewRenoConfig::default();
-    reno.initial_window(settings.initial_window);
-    reno.loss_reduction_factor(settings.loss_numerator, settings.loss_denominator);
-    ChosenConfig::Reno(reno)
 }
 
 /// How the MTU is searched for, where settings say how.

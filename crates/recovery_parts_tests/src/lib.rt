@@ -15,6 +15,8 @@ mod conflicts;
 #[cfg(test)]
 mod congestion;
 #[cfg(test)]
+mod cubic;
+#[cfg(test)]
 mod ecn;
 pub mod halving;
 #[cfg(test)]

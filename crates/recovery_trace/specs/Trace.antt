@@ -1,5 +1,5 @@
 -- What a trace makes of its input.
-use Rattle.std.specs.Prelude.{◌≡◌, ℕ, ◌+◌, ◌≤◌, ◌⊎◌, Bool, true, false, List, [], ◌∷◌, ◌++◌, length, reverse, take, All, Option, MatchOption}
+use Rattle.std.specs.Prelude.{◌≡◌, ℕ, ◌+◌, ◌≤◌, ◌⊎◌, Bool, true, false, List, [], ◌∷◌, ◌++◌, length, reverse, take, All, Option}
 use Rattle.std.specs.List.{Any, flat_map}
 use Rattle.std.specs.declared.net.socket_addr.SocketAddr.{SocketAddr}
 use Rattle.std.specs.Io.KnownBytes.{Appends, Consumes, IsAtEnd}
@@ -12,6 +12,8 @@ use Rattle.quic_recovery.specs.declared.driver.RecoveryConfig.{RecoveryConfig}
 use Rattle.quic_recovery.specs.History.{AtEach, Beginning, History, begins, queue_meaning}
 use Rattle.quic_recovery.specs.Past.{Reached, Keeps}
 use Rattle.quic_recovery.specs.State.{parts_of}
+use Rattle.recovery_cubic.specs.ConfigView.{default_window}
+use Rattle.recovery_cubic.specs.Cubic.{cubic_made, cubic_words}
 use Rattle.recovery_lines.specs.Lines.{IsAt, Spells}
 use Rattle.recovery_replay.specs.FixedWindow.{fixed_made, fixed_words}
 use Rattle.recovery_replay.specs.Replay.{begun_over}
@@ -20,6 +22,8 @@ use Rattle.recovery_replay.specs.Writing.{AppendsFront}
 use Rattle.recovery_trace.specs.declared.outcome.Outcome.{Outcome}
 use Rattle.recovery_trace.specs.declared.outcome.Outcome.TheVariants.{Ended, BadLine, ReadFailed, WriteFailed, Closed, OutOfMemory, WrongArguments}
 use Rattle.recovery_trace.specs.declared.requests.Choice.{Choice}
+use Rattle.recovery_trace.specs.declared.requests.Controllers.{Controllers}
+use Rattle.recovery_trace.specs.declared.requests.Controllers.TheVariants.{NewReno, Cubic, Fixed}
 use Rattle.recovery_trace.specs.Telling.{Tells}
 use Rattle.recovery_trace.specs.Turns.{IsBad, IsFine, ItemParts, Passes, turn_text}
 
@@ -153,8 +157,12 @@ TracesOver built words factory choice streams outcome =
     (remote : SocketAddr) × IsAt 4433 remote
     × Traces (begun_over built words factory choice.seed remote) choice streams outcome
 
--- the same over the controllers that are chosen: those of a fixed window, or NewReno (RFC 9002, 7)
+-- the same over the controllers that are chosen: NewReno (RFC 9002, 7), CUBIC (RFC 9438), or those of a fixed window
+abbrev pub TracesBy : Controllers → Choice → Streams → Outcome → Type 0
+TracesBy NewReno choice streams outcome = TracesOver reno_made reno_words default_reno choice streams outcome
+TracesBy Cubic choice streams outcome = TracesOver cubic_made cubic_words default_window choice streams outcome
+TracesBy (Fixed factory) choice streams outcome =
+    TracesOver (λ fixed now mtu. fixed_made fixed.window) fixed_words factory choice streams outcome
+
 abbrev pub TracesAs : Choice → Streams → Outcome → Type 0
-TracesAs choice streams outcome = MatchOption choice.fixed
-    (TracesOver reno_made reno_words default_reno choice streams outcome)
-    (λ factory. TracesOver (λ fixed now mtu. fixed_made fixed.window) fixed_words factory choice streams outcome)
+TracesAs choice streams outcome = TracesBy choice.controllers choice streams outcome

@@ -3,7 +3,8 @@ use recovery_lines::number_in;
 use recovery_replay::fixed_window::FixedWindowConfig;
 
 /// How the program is called.
-pub const USAGE: &str = "usage: recovery-trace [--state] [--strict] [SEED [WINDOW]]\n";
+pub const USAGE: &str =
+    "usage: recovery-trace [--state] [--strict] [--controller NAME] [SEED [WINDOW]]\n";
 
 /// What `--version` writes.
 pub const VERSION: &str = "recovery-trace 0.11.19\n";
@@ -14,6 +15,7 @@ Answers events one at a time: reads a line, writes its answer, reads the next.
 
   SEED       skips packet numbers as this seed draws them (0 to 18446744073709551615); -, or none: skips none
   WINDOW     a congestion window that never changes, in bytes, above 0; none: NewReno
+  --controller NAME  in place of a WINDOW: newreno, or cubic (RFC 9438)
   --state    writes a JSON object behind each answer: what is in flight, the window, the RTT, the MTU
   --strict   stops at the first line that cannot be read; without it that line is named and passed over
   --help     writes this
@@ -23,13 +25,24 @@ Lines are those of recovery-replay. Empty lines, and those that begin with #, ar
 Status: 0, or 1 where reading, writing or memory failed, or 2 where a line or the arguments could not be read.
 ";
 
+/// The controllers of paths.
+#[derive(Clone, Copy)]
+pub enum Controllers {
+    /// NewReno (RFC 9002, 7).
+    NewReno,
+    /// CUBIC (RFC 9438).
+    Cubic,
+    /// A window that never changes.
+    Fixed(FixedWindowConfig),
+}
+
 /// What a trace is to do.
 #[derive(Clone, Copy)]
 pub struct Choice {
     /// What skipped numbers are drawn by; without it none is skipped.
     pub seed: Option<u64>,
-    /// The window of each controller, in bytes; without it they are NewReno's.
-    pub fixed: Option<FixedWindowConfig>,
+    /// The controllers of paths; unless asked for otherwise they are NewReno's.
+    pub controllers: Controllers,
     /// Whether the state is written behind each answer.
     pub shows: bool,
     /// Whether the first line that cannot be read ends the trace.
@@ -72,15 +85,34 @@ fn with_seed(choice: Choice, word: &[u8]) -> Option<Choice> {
     })
 }
 
-/// The choice with a window, where the word is one: a number above zero.
+/// The choice with a window, where the word is one, a number above zero, and no other controllers are named.
 fn with_window(choice: Choice, word: &[u8]) -> Option<Choice> {
+    if let Controllers::Cubic = choice.controllers {
+        return None;
+    }
     match number_in(word)? {
         0 => None,
         window => Some(Choice {
-            fixed: Some(FixedWindowConfig::new(window)),
+            controllers: Controllers::Fixed(FixedWindowConfig::new(window)),
             ..choice
         }),
     }
+}
+
+/// The choice with the controllers of a name, where it is one and there is no window.
+fn with_name(choice: Choice, word: &[u8]) -> Option<Choice> {
+    if let Controllers::Fixed(_) = choice.controllers {
+        return None;
+    }
+    let controllers = match word {
+        b"newreno" => Controllers::NewReno,
+        b"cubic" => Controllers::Cubic,
+        _ => return None,
+    };
+    Some(Choice {
+        controllers,
+        ..choice
+    })
 }
 
 /// The choice with a word that is no flag.
@@ -97,17 +129,26 @@ fn with_word(choice: Choice, place: Place, word: &[u8]) -> Option<(Choice, Place
 pub fn request_of(words: &[String]) -> Request {
     let mut choice = Choice {
         seed: None,
-        fixed: None,
+        controllers: Controllers::NewReno,
         shows: false,
         is_strict: false,
     };
     let mut place = Place::Seed;
+    let mut is_name = false;
     for word in words {
         match word.as_bytes() {
+            name if is_name => match with_name(choice, name) {
+                Some(with) => {
+                    choice = with;
+                    is_name = false;
+                }
+                None => return Request::Unknown,
+            },
             b"--help" => return Request::Help,
             b"--version" => return Request::Version,
             b"--state" => choice.shows = true,
             b"--strict" => choice.is_strict = true,
+            b"--controller" => is_name = true,
             word => match with_word(choice, place, word) {
                 Some((with, next)) => {
                     choice = with;
@@ -116,6 +157,9 @@ pub fn request_of(words: &[String]) -> Request {
                 None => return Request::Unknown,
             },
         }
+    }
+    if is_name {
+        return Request::Unknown;
     }
     Request::Trace(choice)
 }

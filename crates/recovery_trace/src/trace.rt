@@ -2,13 +2,14 @@
 ghost use Rattle.recovery_trace.specs.Trace.{streams_of, TracesAs, TracesFrom, TracesOver};
 
 use crate::outcome::Outcome;
-use crate::requests::Choice;
+use crate::requests::{Choice, Controllers};
 use crate::turn::{Turn, take_turn};
 use quic_recovery::LiveRecovery;
 use quic_recovery::congestion::{ControllerFactory, NewRenoConfig};
 use quic_recovery::time::Instant;
 use rand_core::SeedableRng;
 use rand_pcg::Pcg32;
+use recovery_cubic::CubicConfig;
 use recovery_lines::lines::peer_at;
 use recovery_queue::items::ItemQueue;
 use recovery_replay::reading::{Next, next_line};
@@ -112,15 +113,15 @@ pub fn trace<R: Read, W: Write, E: Write>(
         (W.contents output.old) (W.contents output.new)
         (E.contents errors.old) (E.contents errors.new)) result }
 {
-    match choice.fixed {
-        Some(factory) => trace_over(alloc, factory, choice, input, output, errors),
-        None => trace_over(
-            alloc,
-            NewRenoConfig::default(),
-            choice,
-            input,
-            output,
-            errors,
-        ),
+    match choice.controllers {
+        Controllers::NewReno => {
+            let factory = NewRenoConfig::default();
+            trace_over(alloc, factory, choice, input, output, errors)
+        }
+        Controllers::Cubic => {
+            let factory = CubicConfig::default();
+            trace_over(alloc, factory, choice, input, output, errors)
+        }
+        Controllers::Fixed(factory) => { trace_over(alloc, factory, choice, input, output, errors) }
     }
 }

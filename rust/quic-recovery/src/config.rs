@@ -50,6 +50,22 @@ impl Default for NewRenoConfig {
     }
 }
 
+/// How CUBIC begins (RFC 9438).
+#[derive(Clone, Copy, Debug, PartialEq, Eq)]
+pub struct CubicConfig {
+    /// The window at first, in bytes, above zero (RFC 9002, 7.2).
+    pub initial_window: u64,
+}
+
+impl Default for CubicConfig {
+    /// 12,000 bytes.
+    fn default() -> Self {
+        CubicConfig {
+            initial_window: 12_000,
+        }
+    }
+}
+
 /// Which congestion controller paths have.
 #[derive(Clone, Copy, Debug, PartialEq, Eq)]
 pub enum Congestion {
@@ -57,6 +73,8 @@ pub enum Congestion {
     NewReno(NewRenoConfig),
     /// A window of so many bytes, above zero, that nothing changes.
     Fixed(u64),
+    /// CUBIC (RFC 9438).
+    Cubic(CubicConfig),
 }
 
 impl Default for Congestion {
@@ -242,15 +260,15 @@ impl RecoveryConfig {
     pub(crate) fn settings(&self) -> ffi::Settings {
         let transport = &self.transport;
         let search = transport.mtu_discovery_config.unwrap_or_default();
+        // what another controller than NewReno has of it is the window at first
+        let with_window = |initial_window| NewRenoConfig {
+            initial_window,
+            ..NewRenoConfig::default()
+        };
         let (controller, reno) = match transport.congestion {
             Congestion::NewReno(reno) => (ffi::CONTROLLER_NEW_RENO, reno),
-            Congestion::Fixed(initial_window) => {
-                let reno = NewRenoConfig {
-                    initial_window,
-                    ..NewRenoConfig::default()
-                };
-                (ffi::CONTROLLER_FIXED, reno)
-            }
+            Congestion::Fixed(window) => (ffi::CONTROLLER_FIXED, with_window(window)),
+            Congestion::Cubic(cubic) => (ffi::CONTROLLER_CUBIC, with_window(cubic.initial_window)),
         };
         let (skips, first_skip, seed) = match self.skips {
             Skips::Disabled => (ffi::SKIPS_DISABLED, 0, 0),

@@ -151,6 +151,8 @@ pub const NEW_UNKNOWN_SKIPS: u8 = 10;
 pub const CONTROLLER_NEW_RENO: u8 = 0;
 /// A window that stays the one at first.
 pub const CONTROLLER_FIXED: u8 = 1;
+/// CUBIC (RFC 9438).
+pub const CONTROLLER_CUBIC: u8 = 2;
 
 /// No number is skipped.
 pub const SKIPS_DISABLED: u8 = 0;
@@ -375,7 +377,7 @@ pub struct Settings {
     pub mtu_minimum_change: u16,
     /// The bytes of this end's ids.
     pub cid_len: u8,
-    /// Which congestion controller paths have: `CONTROLLER_NEW_RENO` or `CONTROLLER_FIXED`.
+    /// Which congestion controller paths have: `CONTROLLER_NEW_RENO`, `CONTROLLER_FIXED` or `CONTROLLER_CUBIC`.
     pub controller: u8,
     /// How numbers are skipped: `SKIPS_DISABLED`, `SKIPS_DRAWN` or `SKIPS_STARTING`.
     pub skips: u8,
@@ -515,7 +517,7 @@ pub struct IdsView {
 
 unsafe extern "C" {
     /// Does nothing; a library of another layout does not have it.
-    #[link_name = "recovery_ffi_layout_749becad"]
+    #[link_name = "recovery_ffi_layout_a79461f1"]
     pub fn recovery_ffi_layout();
 
     /// Makes a recovery, whose peer is at this address and has this id of at most 20 bytes. The answer is `NEW_MADE`, or

@@ -62,7 +62,7 @@ mod timer;
 mod types;
 
 pub use config::{
-    ConfigError, Congestion, MtuDiscoveryConfig, NewRenoConfig, RecoveryConfig, Skips,
+    ConfigError, Congestion, CubicConfig, MtuDiscoveryConfig, NewRenoConfig, RecoveryConfig, Skips,
     TransportConfig,
 };
 pub use event::{Answer, EcnFault, Event, Refusal};

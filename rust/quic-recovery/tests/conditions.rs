@@ -11,6 +11,10 @@ fn reno(initial_window: u64, denominator: u64) -> Congestion {
     })
 }
 
+fn cubic(initial_window: u64) -> Congestion {
+    Congestion::Cubic(CubicConfig { initial_window })
+}
+
 fn made(change: impl FnOnce(&mut RecoveryConfig)) -> Option<ConfigError> {
     let mut config = RecoveryConfig::default();
     change(&mut config);
@@ -19,7 +23,7 @@ fn made(change: impl FnOnce(&mut RecoveryConfig)) -> Option<ConfigError> {
 
 #[test]
 fn settings() {
-    let rows: [Row; 12] = [
+    let rows: [Row; 14] = [
         (|_| {}, None),
         (
             |it| it.issued = (1 << 62) + 1,
@@ -48,6 +52,11 @@ fn settings() {
             Some(ConfigError::ZeroWindow),
         ),
         (|it| it.transport.congestion = Congestion::Fixed(1), None),
+        (
+            |it| it.transport.congestion = cubic(0),
+            Some(ConfigError::ZeroWindow),
+        ),
+        (|it| it.transport.congestion = cubic(1), None),
         (|it| it.transport.initial_rtt = Duration::MAX, None),
         (|it| it.transport.mtu_discovery_config = None, None),
     ];

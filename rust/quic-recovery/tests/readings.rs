@@ -216,6 +216,44 @@ fn thresholds() {
     assert_eq!(path(&recovery).window, 9000);
 }
 
+/// CUBIC falls to 7/10 (RFC 9438, 4.6); a second later it is at 120,000 - 480 (4.217163 - 1)^3 bytes (4.2).
+#[test]
+fn curve() {
+    let mut config = RecoveryConfig::default();
+    config.transport.congestion = Congestion::Cubic(CubicConfig {
+        initial_window: 120_000,
+    });
+    let mut recovery = Recovery::new(&config, at(0)).unwrap();
+    let path = |it: &Recovery| it.path(PathName::Current).unwrap();
+    assert_eq!(path(&recovery).window, 120_000);
+    let lost = Event::Congestion {
+        now: at(1),
+        sent: at(1),
+        persistent: false,
+        bytes: 1200,
+    };
+    apply(&mut recovery, lost);
+    assert_eq!(path(&recovery).window, 84_000);
+    let second = 1_000_000_001;
+    let sent = Event::Send {
+        space: SpaceId::Data,
+        now: at(second),
+        size: 60_000,
+        ack_eliciting: true,
+        largest_acked: None,
+        queue: &[],
+    };
+    apply(&mut recovery, sent);
+    let acked = Event::Acked {
+        space: SpaceId::Data,
+        now: at(second),
+        number: 0,
+        app_limited: false,
+    };
+    apply(&mut recovery, acked);
+    assert_eq!(path(&recovery).window, 104_017);
+}
+
 #[test]
 fn packet_numbers() {
     let mut recovery = fresh();

@@ -1,0 +1,36 @@
+-- How much CUBIC's window grows in congestion avoidance (RFC 9438, 4.2): by half of what is acknowledged. Lists are
+-- newest first.
+use Rattle.std.specs.Prelude.{ℕ, ◌+◌, ◌*◌, ◌≤◌, List, [], ◌∷◌, ◌++◌}
+use Rattle.recovery_congestion.specs.Calls.{ControllerCall}
+use Rattle.recovery_cubic.specs.History.{Turn, grows, waits, passes, turn_at, window_by}
+
+-- congestion avoidance goes on: no slow start, no reduction, no other MTU
+abbrev pub GoesOn : Turn → Type 0
+GoesOn (grows now bytes) = Unit {0}
+GoesOn (waits now) = Unit {0}
+GoesOn passes = Unit {0}
+GoesOn turn = ⊥
+
+-- the bytes of an acknowledgement that counts
+abbrev pub bytes_of : Turn → ℕ
+bytes_of (grows now bytes) = bytes
+bytes_of turn = 0
+
+module _ (window now mtu : ℕ) where
+  -- it goes on at each call behind earlier ones
+  abbrev pub GoOn : List ControllerCall → List ControllerCall → Type 0
+  GoOn [] earlier = Unit {0}
+  GoOn (call ∷ later) earlier = GoesOn (turn_at window now mtu call (later ++ earlier)) × GoOn later earlier
+
+  -- the bytes acknowledged behind earlier calls, as far as they count
+  abbrev pub acked_in : List ControllerCall → List ControllerCall → ℕ
+  acked_in [] earlier = 0
+  acked_in (call ∷ later) earlier = bytes_of (turn_at window now mtu call (later ++ earlier)) + acked_in later earlier
+
+  -- the window is at most half of them above what it was, rounded up; so in a round trip, in which no more than a
+  -- window of bytes is acknowledged, by no more than half a window
+  pub record GrowsByHalf (later earlier : List ControllerCall) : Type 0 where
+    pub bytes : 2 * window_by window now mtu (later ++ earlier)
+        ≤ 2 * window_by window now mtu earlier + acked_in later earlier + 1
+    pub round : acked_in later earlier ≤ window_by window now mtu earlier
+        → 2 * window_by window now mtu (later ++ earlier) ≤ 3 * window_by window now mtu earlier + 1

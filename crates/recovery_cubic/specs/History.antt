@@ -1,0 +1,43 @@
+-- What the calls of a CUBIC are to it (RFC 9438), and what it is after all of them. Lists are newest first.
+use Rattle.std.specs.Prelude.{ℕ, nat_le, nat_lt, if◌then◌else◌, List, [], ◌∷◌}
+use Rattle.recovery_congestion.specs.Calls.{ControllerCall, acks, congests, takes_mtu}
+use Rattle.recovery_cubic.specs.declared.cubic.Cubic.{Cubic}
+use Rattle.recovery_cubic.specs.Cubic.{cubic_after, cubic_made}
+
+pub data Turn : Type 0 where
+  -- an acknowledgement in congestion avoidance, while the application does not limit: the window may grow
+  grows : (now bytes : ℕ) → Turn
+  -- an acknowledgement while the application limits (RFC 9438, 5.8)
+  waits : (now : ℕ) → Turn
+  -- a reduction (RFC 9438, 4.6): a stage of congestion avoidance begins
+  reduces : (now : ℕ) → Turn
+  -- persistent congestion (RFC 9002, 7.6.2): slow start begins, on a plateau (RFC 9438, 4.8)
+  persists : (now : ℕ) → Turn
+  -- an acknowledgement in slow start (RFC 9438, 4.10): the plateau is where the window then is
+  starts : (now bytes : ℕ) → Turn
+  -- the MTU changes
+  resizes : (mtu : ℕ) → Turn
+  -- nothing, as all that concerns packets that were sent before the last recovery began (RFC 9002, 7.3.2)
+  passes : Turn
+
+abbrev pub turn_of : ControllerCall → Cubic → Turn
+turn_of (acks now sent bytes limited rtt) cubic =
+    if nat_le sent cubic.recovery_start_time then passes else if limited then waits now
+    else if nat_lt cubic.window cubic.ssthresh then starts now bytes else grows now bytes
+turn_of (congests now sent persistent lost) cubic =
+    if nat_le sent cubic.recovery_start_time then passes else if persistent then persists now else reduces now
+turn_of (takes_mtu mtu) cubic = resizes mtu
+turn_of call cubic = passes
+
+-- where one is made with this window, at this moment, with this MTU
+module _ (window now mtu : ℕ) where
+  -- what it is after calls
+  abbrev pub cubic_by : List ControllerCall → Cubic
+  cubic_by [] = cubic_made window now mtu
+  cubic_by (call ∷ earlier) = cubic_after call (cubic_by earlier)
+
+  abbrev pub window_by : List ControllerCall → ℕ
+  window_by calls = (cubic_by calls).window
+
+  abbrev pub turn_at : ControllerCall → List ControllerCall → Turn
+  turn_at call earlier = turn_of call (cubic_by earlier)

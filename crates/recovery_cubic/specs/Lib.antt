@@ -1,0 +1,11 @@
+pub mod ConfigView
+pub mod Cubic
+pub mod CubicLaws
+pub mod Curve
+pub mod Falls
+pub mod Following
+pub mod Growth
+pub mod History
+pub mod RealCurve
+pub mod Reno
+pub mod Stage

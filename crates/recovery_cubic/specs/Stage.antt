@@ -1,0 +1,41 @@
+-- A stage of congestion avoidance: its curve, its time, and the Reno-friendly estimate (RFC 9438, 4.2, 4.3 and 5.8).
+use Rattle.std.specs.Prelude.{ℕ, ◌+◌, ◌-◌, ◌*◌, ◌/◌, ◌^◌, min, max}
+use Rattle.recovery_congestion.specs.NewReno.{most, sum_to_most}
+use Rattle.recovery_cubic.specs.declared.curve.Curve.{Curve}
+use Rattle.recovery_cubic.specs.declared.stage.Stage.{Stage}
+use Rattle.recovery_cubic.specs.Curve.{flat_curve, curve_at}
+
+-- the estimate counts in parts of a byte: so many are one
+abbrev pub parts : ℕ
+parts = 2 ^ 32
+
+-- a quotient, rounded up
+abbrev pub quotient_up : ℕ → ℕ → ℕ
+quotient_up a b = (a + (b - 1)) / b
+
+-- it begins with this window, and Reno would begin with the same (RFC 9438, 4.3)
+abbrev pub stage_from : Curve → ℕ → ℕ → Stage
+stage_from curve window now = record { curve = curve; estimate = parts * window; elapsed = 0; last = now }
+
+-- it begins on the plateau (RFC 9438, 4.8)
+abbrev pub flat_stage : ℕ → ℕ → ℕ → Stage
+flat_stage window datagram now = stage_from (flat_curve window datagram) window now
+
+-- the time since the moment before counts (RFC 9438, 4.2)
+abbrev pub counted : ℕ → Stage → Stage
+counted now stage = record stage {
+  elapsed = sum_to_most stage.elapsed (now - stage.last);
+  last = max stage.last now;
+}
+
+-- it does not count: the application limited (RFC 9438, 5.8)
+abbrev pub uncounted : ℕ → Stage → Stage
+uncounted now stage = record stage { last = max stage.last now }
+
+-- Reno's window grows
+abbrev pub raised : ℕ → Stage → Stage
+raised step stage = record stage { estimate = min (stage.estimate + step) (parts * most) }
+
+-- the curve at the whole microseconds that count
+abbrev pub curve_window : Stage → ℕ
+curve_window stage = curve_at stage.curve (stage.elapsed / 1000)

@@ -1,0 +1,346 @@
+//! CUBIC as a controller (RFC 9438), and what makes it.
+ghost use Rattle.std.specs.Prelude.{◌≡◌, ◌<◌, ◌≤◌, ◌^◌, true, nat_le, Ok, refl};
+ghost use Rattle.recovery_cubic.specs.ConfigView.{default_window};
+ghost use Rattle.recovery_cubic.specs.Cubic.{datagram_of, least_window, cubic_made, slow_started, friendly_step, avoided, cubic_acked, reduced_window, next_w_max, next_stage, cubic_recovering, cubic_congested, cubic_with_mtu, cubic_metrics, IsCubicSound, cubic_words};
+ghost use Rattle.recovery_cubic.specs.CubicLaws.{cubic_laws};
+
+use crate::curve::Curve;
+use crate::stage::{PARTS, Stage};
+use recovery_base::below::NoMemory;
+use recovery_base::time::Instant;
+use recovery_congestion::congestion::{Controller, ControllerFactory, ControllerMetrics};
+use recovery_congestion::rtt::RttEstimator;
+use std::marker::Model;
+
+/// The default initial window, in bytes: ten datagrams of 1200 bytes (RFC 9002, 7.2).
+const INITIAL_WINDOW: u64 = 12_000;
+
+/// Beta is 7/10: what a reduction leaves of the window (RFC 9438, 4.6).
+const BETA_NUMERATOR: u128 = 7;
+
+/// The denominator of beta.
+const BETA_DENOMINATOR: u128 = 10;
+
+/// (1 + beta) / 2 is 17/20: the plateau of a window that falls below the last one (RFC 9438, 4.7).
+const CONVERGENCE_NUMERATOR: u128 = 17;
+
+/// The denominator of that fraction.
+const CONVERGENCE_DENOMINATOR: u128 = 20;
+
+/// Alpha is 3 (1 - beta) / (1 + beta), which is 9/17: how fast Reno's window grows (RFC 9438, 4.3).
+const ALPHA_NUMERATOR: u128 = 9;
+
+/// The denominator of alpha.
+const ALPHA_DENOMINATOR: u128 = 17;
+
+/// How a [`Cubic`] begins.
+#[derive(Clone, Copy)]
+pub struct CubicConfig {
+    initial_window: u64,
+}
+
+impl Model for CubicConfig {
+    ghost use Rattle.std.specs.Prelude.{ℕ, ◌<◌};
+
+    ghost Value = { ℕ };
+
+    ghost use Rattle.recovery_cubic.specs.ConfigView.{window_in, window_back};
+
+    ghost view = { window_in };
+
+    ghost invariant = { λ config. 0 < window_in config };
+
+    ghost inverse = { window_back };
+}
+
+impl CubicConfig {
+    /// The window at first, in bytes, above zero. Default 12000 (RFC 9002, 7.2).
+    pub fn initial_window(&mut self, value: u64) -> &mut Self
+        requires { 0 < value }
+        ensures same { result.ghost_name ≡ self.entry.ghost_name }
+        ensures value { result.now ≡ value }
+    {
+        self.initial_window = value;
+        self
+    }
+}
+
+impl Default for CubicConfig {
+    ghost is_default = { λ config. config ≡ default_window };
+
+    fn default() -> Self {
+        CubicConfig {
+            initial_window: INITIAL_WINDOW,
+        }
+    }
+}
+
+impl ControllerFactory for CubicConfig {
+    type Controller = Cubic;
+
+    ghost built = { cubic_made };
+
+    fn build(&self, now: Instant, current_mtu: u16) -> Cubic {
+        Cubic::new(*self, now, current_mtu)
+    }
+
+    ghost starts_at_initial = { λ factory now mtu. refl };
+}
+
+/// A window that falls to 7/10 at a loss, once in a recovery, and then goes by the time: fast towards the window
+/// before, the plateau, slowly near it, and fast again beyond (RFC 9438).
+///
+/// RFC 9438, 4.2, goes up to the curve of a round trip later in steps, one for each acknowledgement. Here each sets the
+/// window to the curve's at its own time, by at most half of its bytes: as in 4.2 half a window in a round trip. The
+/// window is never below what Reno's would be (4.3). An MTU of zero counts as one byte.
+#[derive(Clone, Drop)]
+pub struct Cubic {
+    initial_window: u64,
+    current_mtu: u16,
+    window: u64,
+    ssthresh: u64,
+    recovery_start_time: Instant,
+    /// The window before the last reduction (`cwnd_prior`).
+    prior_window: u64,
+    stage: Stage,
+}
+
+impl Cubic {
+    /// In slow start, with the window of the configuration, for a path of this MTU in bytes. Packets sent at this
+    /// moment or before count as sent before it.
+    pub fn new(config: CubicConfig, now: Instant, current_mtu: u16) -> Self
+        ensures value { result ≡ cubic_made config now current_mtu }
+        ensures sound { IsCubicSound result }
+    {
+        let window = config.initial_window;
+        Cubic {
+            initial_window: window,
+            current_mtu,
+            window,
+            ssthresh: u64::MAX,
+            recovery_start_time: now,
+            prior_window: window,
+            stage: Stage::flat(window, u64::from(current_mtu).max(1), now),
+        }
+    }
+
+    /// The size of a datagram, in bytes.
+    fn datagram(&self) -> u64
+        ensures value { result ≡ datagram_of self.now.current_mtu }
+        ensures small { result < 2 ^ 16 }
+    {
+        u64::from(self.current_mtu).max(1)
+    }
+
+    /// The least window (RFC 9002, 7.2).
+    fn least_window(&self) -> u64
+        ensures { result ≡ least_window self.now }
+    {
+        2 * self.datagram()
+    }
+
+    /// The window after a loss (RFC 9438, 4.6).
+    fn reduced_window(&self) -> u64
+        ensures { result ≡ reduced_window self.now }
+    {
+        let reduced = u128::from(self.window) * BETA_NUMERATOR / BETA_DENOMINATOR;
+        (reduced as u64).max(self.least_window())
+    }
+
+    /// The plateau after a loss (RFC 9438, 4.7).
+    fn next_w_max(&self) -> u64
+        ensures { result ≡ next_w_max self.now }
+    {
+        if self.window < self.stage.w_max() {
+            let lower = u128::from(self.window) * CONVERGENCE_NUMERATOR / CONVERGENCE_DENOMINATOR;
+            lower as u64
+        } else {
+            self.window
+        }
+    }
+
+    /// The stage that begins with a reduction.
+    fn next_stage(&self, now: Instant) -> Stage
+        ensures { result ≡ next_stage now self.now }
+    {
+        let reduced = self.reduced_window();
+        let curve = Curve::new(self.next_w_max(), reduced, self.datagram());
+        Stage::new(curve, reduced, now)
+    }
+
+    /// Whether a packet was sent before the recovery began, or as it began.
+    fn precedes_recovery(&self, sent: Instant) -> bool
+        ensures { result ≡ nat_le sent self.now.recovery_start_time }
+    {
+        sent <= self.recovery_start_time
+    }
+
+    /// Grows in slow start.
+    fn start_slowly(&mut self, now: Instant, bytes: u64)
+        ensures { self.new ≡ slow_started now bytes self.old }
+    {
+        let window = self.window.saturating_add(bytes);
+        let datagram = self.datagram();
+        self.window = window;
+        self.stage = Stage::flat(window, datagram, now);
+    }
+
+    /// How much Reno's window grows, in parts of a byte, rounded up (RFC 9438, 4.3).
+    fn friendly_step(&self, bytes: u64) -> u128
+        ensures { result ≡ friendly_step bytes self.now }
+    {
+        let alpha = if self.stage.has_reached(self.prior_window) {
+            ALPHA_DENOMINATOR
+        } else {
+            ALPHA_NUMERATOR
+        };
+        let product = PARTS * alpha * u128::from(self.datagram()) * u128::from(bytes);
+        let window = ALPHA_DENOMINATOR * u128::from(self.window.max(self.least_window()));
+        (product + (window - 1)) / window
+    }
+
+    /// Grows in congestion avoidance.
+    fn avoid_congestion(&mut self, now: Instant, bytes: u64)
+        ensures { self.new ≡ avoided now bytes self.old }
+    {
+        let step = self.friendly_step(bytes);
+        self.stage.count(now);
+        let friendly = self.stage.raise(step);
+        let half_above = self.window.saturating_add(bytes / 2);
+        let curve = self.stage.curve_window().min(half_above);
+        self.window = self.window.max(curve).max(friendly);
+    }
+}
+
+impl Controller for Cubic {
+    type Content = Cubic;
+
+    ghost content = { λ cubic. cubic };
+
+    ghost words = { cubic_words };
+
+    ghost is_sound = { IsCubicSound };
+
+    /// Changes nothing.
+    fn on_sent(&mut self, _now: Instant, _bytes: u64, _last_packet_number: u64)
+        ensures { self.new ≡ self.old }
+    {}
+
+    /// The window never falls. Where the application limits, it stays, and the time since what was acknowledged before
+    /// does not count (RFC 9438, 5.8).
+    fn on_ack(
+        &mut self,
+        now: Instant,
+        sent: Instant,
+        bytes: u64,
+        app_limited: bool,
+        _rtt: &RttEstimator,
+    )
+        ensures value { self.new ≡ cubic_acked now sent bytes app_limited self.old }
+        ensures kept { self.old.window ≤ self.new.window }
+        ensures limited { app_limited ≡ true → self.new.window ≡ self.old.window }
+    {
+        if self.precedes_recovery(sent) {
+            return;
+        }
+        if app_limited {
+            self.stage.leave_out(now);
+        } else if self.window < self.ssthresh {
+            self.start_slowly(now, bytes);
+        } else {
+            self.avoid_congestion(now, bytes);
+        }
+    }
+
+    /// Changes nothing.
+    fn on_end_acks(
+        &mut self,
+        _now: Instant,
+        _in_flight: u64,
+        _app_limited: bool,
+        _largest_packet_num_acked: Option<u64>,
+    )
+        ensures { self.new ≡ self.old }
+    {}
+
+    /// Does nothing for packets sent before the recovery began. Nothing else lets the window fall.
+    fn on_congestion_event(
+        &mut self,
+        now: Instant,
+        sent: Instant,
+        is_persistent_congestion: bool,
+        _lost_bytes: u64,
+    )
+        ensures value { self.new ≡ cubic_congested now sent is_persistent_congestion self.old }
+        ensures falls { self.new.window < self.old.window → self.old.recovery_start_time < sent }
+    {
+        if self.precedes_recovery(sent) {
+            return;
+        }
+        let least = self.least_window();
+        let reduced = self.reduced_window();
+        let datagram = self.datagram();
+        self.stage = if is_persistent_congestion {
+            Stage::flat(least, datagram, now)
+        } else {
+            self.next_stage(now)
+        };
+        self.recovery_start_time = now;
+        self.prior_window = self.window;
+        self.ssthresh = reduced;
+        self.window = if is_persistent_congestion {
+            least
+        } else {
+            reduced
+        };
+    }
+
+    /// The window never falls, and is two MTUs at least. The curve goes on with the datagram that it began with.
+    fn on_mtu_update(&mut self, new_mtu: u16)
+        ensures value { self.new ≡ cubic_with_mtu new_mtu self.old }
+        ensures kept { self.old.window ≤ self.new.window }
+    {
+        self.current_mtu = new_mtu;
+        self.window = self.least_window().max(self.window);
+    }
+
+    fn window(&self) -> u64
+        ensures { result ≡ self.now.window }
+    {
+        self.window
+    }
+
+    /// The window and the threshold; there is no pacing rate.
+    fn metrics(&self) -> ControllerMetrics
+        ensures { result ≡ cubic_metrics self.now }
+    {
+        ControllerMetrics {
+            congestion_window: self.window,
+            ssthresh: Some(self.ssthresh),
+            pacing_rate: None,
+        }
+    }
+
+    fn initial_window(&self) -> u64
+        ensures { result ≡ self.now.initial_window }
+    {
+        self.initial_window
+    }
+
+    /// Takes no memory, and never answers `NoMemory`.
+    fn try_clone(&self) -> Result<Self, NoMemory>
+        ensures { result ≡ Ok self.now }
+    {
+        Ok(Cubic {
+            initial_window: self.initial_window,
+            current_mtu: self.current_mtu,
+            window: self.window,
+            ssthresh: self.ssthresh,
+            recovery_start_time: self.recovery_start_time,
+            prior_window: self.prior_window,
+            stage: self.stage,
+        })
+    }
+
+    ghost laws = { cubic_laws };
+}
