@@ -26,20 +26,7 @@ use crate::{
 #[allow(dead_code, unused_imports)]
 #[path = "../../../original/connection/spaces.rs"]
 mod spaces;
-#[allow(dead_code)]
-#[path = "../../../original/connection/timer.rs"]
-mod timer;
-use timer::Timer;
 
-const TIMERS: [(Timer, qr::Timer); 7] = [
-    (Timer::Idle, qr::Timer::Idle),
-    (Timer::Close, qr::Timer::Close),
-    (Timer::KeyDiscard, qr::Timer::KeyDiscard),
-    (Timer::PathValidation, qr::Timer::PathValidation),
-    (Timer::KeepAlive, qr::Timer::KeepAlive),
-    (Timer::Pacing, qr::Timer::Pacing),
-    (Timer::PushNewCid, qr::Timer::PushNewCid),
-];
 const SPACES: [qr::SpaceId; 3] = [qr::SpaceId::Initial, qr::SpaceId::Handshake, qr::SpaceId::Data];
 
 struct Path {
@@ -69,7 +56,6 @@ struct Own {
     paths: Vec<Path>,
     /// On which path a packet was sent
     sent_on: BTreeMap<(usize, u64), usize>,
-    timers: timer::TimerTable,
     rem_cids: CidQueue,
     local_cids: CidState,
     streams: StreamsState,
@@ -214,7 +200,6 @@ impl Own {
             max_ack_delay: Duration::from_millis(25),
             paths: Vec::new(),
             sent_on: BTreeMap::new(),
-            timers: timer::TimerTable::default(),
             rem_cids: CidQueue::new(ConnectionId::new(&config.initial_cid)),
             local_cids: CidState::new(config.cid_len.into(), config.cid_lifetime, now),
             streams: StreamsState::new(Side::Client, none, none, 0, none, none),
@@ -301,10 +286,6 @@ impl Own {
             let (can_send, own): (_, Vec<_>) = (acks.can_send(), acks.ranges().iter().collect());
             self.same("can send acks", can_send, told.can_send.acks);
             self.same("ack ranges", own, recovery.ranges(id).collect());
-        }
-        for (own, told) in TIMERS {
-            let own = self.timers.get(own).map(|it| self.nanos(it));
-            self.same("timer", own, recovery.timer(told).map(|it| it.as_nanos()));
         }
         let ids = recovery.ids();
         self.same("id in use", self.rem_cids.active_seq(), ids.active);
@@ -588,22 +569,6 @@ impl Own {
                 self.same("peer retired", own.ok(), told);
             }
             Event::AcksSent { space } => self.spaces[space as usize].pending_acks.acks_sent(),
-            Event::SetTimer { timer, time } => {
-                let time = self.at(time);
-                let (own, _) = TIMERS.into_iter().find(|it| it.1 == timer).unwrap();
-                self.timers.set(own, time);
-            }
-            Event::StopTimer { timer } => {
-                let (own, _) = TIMERS.into_iter().find(|it| it.1 == timer).unwrap();
-                self.timers.stop(own);
-            }
-            Event::NextTimeout => {
-                let own = self.timers.next_timeout().map(|it| self.nanos(it));
-                let due = recovery.timer(qr::Timer::LossDetection).map(|it| it.as_nanos());
-                let own = own.into_iter().chain(due).min();
-                let own = Answer::Timeout(own.map(qr::Instant::from_nanos));
-                self.same("next timeout", Ok(own), answer.clone());
-            }
             Event::PacerCheck { now, bytes } => {
                 let now = self.at(now);
                 let path = self.path();

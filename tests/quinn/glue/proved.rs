@@ -16,7 +16,7 @@ use std::{
     time::{Duration, Instant},
 };
 
-use super::{spaces::SendableFrames, timer::Timer};
+use super::spaces::SendableFrames;
 use crate::{
     congestion::Controller,
     frame,
@@ -40,15 +40,14 @@ pub(super) struct Proved {
     /// What the last ACK frame came to, and its ranges: kept for their memory
     told: qr::Acknowledged,
     heard: Vec<(u64, u64)>,
-    /// The connection is closed, and nothing is probed for
-    is_closed: bool,
     /// The peer's ids by their numbers: the library tells which one is in use, and not its bytes
     rem_ids: VecDeque<(u64, ConnectionId)>,
     cid_len: usize,
     /// Set by tests, which push the retirement of ids
     retire_at_least: u64,
-    /// The current path, as it was read last
+    /// The current path and the spaces, as they were read last
     seen: Cell<Option<qr::PathStats>>,
+    seen_in: [Cell<Option<qr::SpaceStats>>; 3],
 }
 
 fn space_of(space: SpaceId) -> qr::SpaceId {
@@ -59,9 +58,35 @@ pub(super) fn space_from(space: qr::SpaceId) -> SpaceId {
     [SpaceId::Initial, SpaceId::Handshake, SpaceId::Data][space as usize]
 }
 
-/// The library has a timer more, for ACKs that wait; this version of the crate sends each at once
-fn timer_of(timer: Timer) -> qr::Timer {
-    qr::Timer::VALUES[timer as usize]
+/// The next number of a packet (RFC 9000, 16)
+fn number_in(rest: &mut &[u8]) -> Option<u64> {
+    let size = 1 << (rest.first()? >> 6);
+    let number = rest.get(..size)?.iter().fold(0, |sum, &it| sum << 8 | u64::from(it));
+    *rest = &rest[size..];
+    Some(number & ((1u64 << (8 * size - 2)) - 1))
+}
+
+/// Whether a packet's frames ask for an acknowledgement (RFC 9000, 13.2): looked at before any of them is handled, since
+/// the library is told with the number; nothing where they cannot be read.
+pub(super) fn is_ack_eliciting(payload: &[u8]) -> Option<bool> {
+    let mut rest = payload;
+    while let Some(kind) = rest.first().copied() {
+        rest = &rest[1..];
+        match kind {
+            0 => continue,
+            2 | 3 => {
+                number_in(&mut rest)?;
+                number_in(&mut rest)?;
+                let more = 1 + 2 * number_in(&mut rest)? + if kind == 3 { 3 } else { 0 };
+                for _ in 0..more {
+                    number_in(&mut rest)?;
+                }
+            }
+            0x1c | 0x1d => return Some(false),
+            _ => return Some(true),
+        }
+    }
+    Some(false)
 }
 
 fn id_of(id: &ConnectionId) -> qr::ConnectionId {
@@ -119,11 +144,11 @@ impl Proved {
             epoch: now,
             told: qr::Acknowledged::default(),
             heard: Vec::new(),
-            is_closed: false,
             rem_ids: VecDeque::from([(0, ConnectionId::new(&config.initial_cid))]),
             cid_len: config.cid_len.into(),
             retire_at_least: 0,
             seen: Cell::new(None),
+            seen_in: Default::default(),
         }
     }
 
@@ -143,6 +168,18 @@ impl Proved {
     /// For a call that may change the current path
     fn changing(&mut self) -> &mut Sender {
         self.seen.set(None);
+        &mut self.sender
+    }
+
+    /// For one that counts bytes, which is asked for before the path is validated alone
+    fn counting(&mut self) -> &mut Sender {
+        self.seen.set(self.seen.get().filter(|it| it.validated));
+        &mut self.sender
+    }
+
+    /// For one that may change a space
+    fn changing_in(&mut self, space: SpaceId) -> &mut Sender {
+        self.seen_in[space as usize].set(None);
         &mut self.sender
     }
 
@@ -183,13 +220,13 @@ impl Proved {
 
     pub fn datagram_in(&mut self, bytes: usize) {
         // Refused where 2^64 bytes came in; then the total stays
-        let _ = self.changing().on_datagram(bytes as u64);
+        let _ = self.counting().on_datagram(bytes as u64);
     }
 
     /// When so many bytes may go out, where that is not now
     pub fn pace(&mut self, now: Instant, bytes: u64) -> Option<Instant> {
         let now = self.at(now);
-        match self.changing().on_event(Event::PacerCheck { now, bytes }) {
+        match self.sender.on_event(Event::PacerCheck { now, bytes }) {
             Ok(Answer::Delayed(moment)) => Some(self.moment(moment)),
             _ => None,
         }
@@ -198,72 +235,77 @@ impl Proved {
     /// A datagram goes out that had room
     pub fn transmitted(&mut self, now: Instant, bytes: usize) {
         let now = self.at(now);
-        let sent = self.changing().transmit(now, bytes as u16, qr::SpaceId::Data, false);
+        let sent = self.counting().transmit(now, bytes as u16, qr::SpaceId::Data, false);
         debug_assert_eq!(sent, Ok(qr::Transmission::Transmitted));
     }
 
     // Packets that come in, and their ACKs
 
     /// Whether it may have come before
-    pub fn received(&mut self, space: SpaceId, now: Instant, number: u64, ack_eliciting: bool) -> bool {
-        let (space, now) = (space_of(space), self.at(now));
-        let told = self.sender.on_event(Event::Received { space, now, number, ack_eliciting });
+    pub fn received(&mut self, id: SpaceId, now: Instant, number: u64, ack_eliciting: bool) -> bool {
+        let (space, now) = (space_of(id), self.at(now));
+        let told = self.changing_in(id).on_event(Event::Received { space, now, number, ack_eliciting });
         if told == Ok(Answer::New { arm: true }) {
             let _ = self.sender.on_event(Event::AckDelayTimeout { space });
         }
         !matches!(told, Ok(Answer::New { .. }))
     }
 
-    pub fn largest_received(&self, space: SpaceId) -> u64 {
-        let space = self.recovery().space(space_of(space));
-        space.map_or(0, |space| space.largest_received)
+    fn space(&self, id: SpaceId) -> Option<qr::SpaceStats> {
+        let seen = &self.seen_in[id as usize];
+        seen.set(seen.get().or_else(|| self.recovery().space(space_of(id))));
+        seen.get()
+    }
+
+    pub fn largest_received(&self, id: SpaceId) -> u64 {
+        self.space(id).map_or(0, |it| it.largest_received)
     }
 
     /// What of a space can be sent, where it has something else or not
-    pub fn sendable(&self, space: SpaceId, other: bool) -> SendableFrames {
-        let acks = self.can_send_acks(space);
+    pub fn sendable(&self, id: SpaceId, other: bool) -> SendableFrames {
+        let acks = self.can_send_acks(id);
         SendableFrames { acks, other }
     }
 
-    pub fn can_send_acks(&self, space: SpaceId) -> bool {
-        let space = self.recovery().space(space_of(space));
-        space.map_or(false, |space| space.can_send.acks)
+    pub fn can_send_acks(&self, id: SpaceId) -> bool {
+        self.space(id).map_or(false, |it| it.can_send.acks)
     }
 
-    pub fn acks(&self, space: SpaceId, now: Instant) -> Acks {
-        let (space, mut ranges) = (space_of(space), ArrayRangeSet::new());
-        for range in self.recovery().ranges(space) {
+    pub fn acks(&self, id: SpaceId, now: Instant) -> Acks {
+        let (space, mut ranges) = (space_of(id), ArrayRangeSet::new());
+        let given: Vec<_> = self.recovery().ranges(space).collect();
+        for range in given.into_iter().rev() {
             ranges.insert(range);
         }
         let delay = self.recovery().ack_delay(space, self.at(now)).unwrap_or_default();
         Acks { ranges, delay }
     }
 
-    pub fn acks_sent(&mut self, space: SpaceId) {
-        let space = space_of(space);
-        let _ = self.sender.on_event(Event::AcksSent { space });
+    pub fn acks_sent(&mut self, id: SpaceId) {
+        let space = space_of(id);
+        let _ = self.changing_in(id).on_event(Event::AcksSent { space });
     }
 
     // Packets that go out, and what becomes of them
 
-    pub fn next_number(&self, space: SpaceId) -> u64 {
-        let next = self.recovery().next_packet_number(space_of(space));
-        next.expect("the space was not discarded")
+    pub fn next_number(&self, id: SpaceId) -> u64 {
+        self.space(id).expect("the space was not discarded").next_packet_number
     }
 
     /// The packet with the next number goes out; where it holds something, its number is the item that waits once it is
     /// lost.
     pub fn sent(
         &mut self,
-        (space, number): (SpaceId, u64),
+        (id, number): (SpaceId, u64),
         now: Instant,
         size: u16,
         ack_eliciting: bool,
         largest_acked: Option<u64>,
         holds: bool,
     ) {
+        self.changing_in(id);
         let queue = &[number][..usize::from(holds)];
-        let (space, now) = (space_of(space), self.at(now));
+        let (space, now) = (space_of(id), self.at(now));
         let sent = self.changing().send(space, now, size, ack_eliciting, largest_acked, queue);
         assert_eq!(sent.map(|it| it.number), Ok(number), "another number was in the header");
     }
@@ -276,6 +318,7 @@ impl Proved {
         ack: &qr::Ack,
         ranges: impl Iterator<Item = RangeInclusive<u64>>,
     ) -> Result<qr::Acknowledged, Refused> {
+        self.changing_in(space);
         let (space, now, mut told) = (space_of(space), self.at(now), mem::take(&mut self.told));
         self.heard.clear();
         self.heard.extend(ranges.map(|it| (*it.start(), *it.end())));
@@ -307,6 +350,7 @@ impl Proved {
     /// All that is tracked in the space goes
     pub fn discard(&mut self, space: SpaceId, now: Instant) {
         let now = self.at(now);
+        self.changing_in(space);
         let _ = self.changing().discard(space_of(space), now);
     }
 
@@ -329,46 +373,10 @@ impl Proved {
         self.sender.set_peer_max_ack_delay(delay);
     }
 
-    // Timers; that for losses is the library's
-
-    /// Nothing is sent but a close
-    pub fn close(&mut self) {
-        self.is_closed = true;
-        Timer::VALUES.into_iter().for_each(|it| self.stop_timer(it));
-    }
-
-    pub fn set_timer(&mut self, timer: Timer, time: Instant) {
-        let (timer, time) = (timer_of(timer), self.at(time));
-        let _ = self.sender.on_event(Event::SetTimer { timer, time });
-    }
-
-    pub fn stop_timer(&mut self, timer: Timer) {
-        if timer != Timer::LossDetection {
-            let timer = timer_of(timer);
-            let _ = self.sender.on_event(Event::StopTimer { timer });
-        }
-    }
-
-    pub fn timer(&self, timer: Timer) -> Option<Instant> {
-        if self.is_closed && timer == Timer::LossDetection {
-            return None;
-        }
-        let at = self.recovery().timer(timer_of(timer))?;
+    /// When the timer for losses is due
+    pub fn timer(&self) -> Option<Instant> {
+        let at = self.sender.recovery().timer(qr::Timer::LossDetection)?;
         Some(self.moment(at))
-    }
-
-    pub fn is_expired(&self, timer: Timer, now: Instant) -> bool {
-        self.timer(timer).map_or(false, |at| at <= now)
-    }
-
-    pub fn next_timeout(&mut self) -> Option<Instant> {
-        if self.is_closed {
-            return Timer::VALUES.iter().filter_map(|&it| self.timer(it)).min();
-        }
-        match self.sender.on_event(Event::NextTimeout) {
-            Ok(Answer::Timeout(at)) => at.map(|at| self.moment(at)),
-            _ => None,
-        }
     }
 
     // The peer's ids
