@@ -26,7 +26,7 @@ QUALIFIED = re.compile(r"([A-Z]\w+)(?:<[^>]*>)?::(?:\{([^}]*)\}|(\w+))")
 OTHERS = {
     "CONTRIBUTING.md": "plant",
     "DECISIONS.md": "circular_buffer",
-    "DIFFERENCES.md": "first_packet crypto crypto_stream tinyvec Trait clone_box into_any Arc f32 Retransmits ThinRetransmits ArrayRangeSet::default",
+    "DIFFERENCES.md": "first_packet crypto crypto_stream tinyvec Trait f32 Retransmits ArrayRangeSet::default",
     "EMBEDDING.md": "rand_chacha Retransmits max_data handshake_done reset_stream max_stream_data crypto Meta::default",
     "PROGRAMS.md": "rttvar",
     "PROVING.md": "same-self- plant",

@@ -1,0 +1,326 @@
+#!/usr/bin/env python3
+"""quinn-proto 0.9.2 and quinn 0.9.3, as Debian 12 packages them, over the proved recovery in place of their own parts:
+their own tests with the library and without it; ours over a simulated link; the same in shadow, where their own parts are
+told the same beside it, and all that can be read of both is compared; and 100 MB over UDP on the loopback interface. A
+line of counts each; docs/QUINN.md says what was changed, and why.
+
+    tests/quinn.py            all of it, in out/quinn: a quarter of an hour. Needs the library (tests/rust.py --library),
+                              cargo, and the sources of four packages; where these are missing, it says so and ends
+    tests/quinn.py PART..     some of tests, shadow, transfer; or instructions: what a packet takes with the library and
+                              without it, by valgrind
+    tests/quinn.py --write    writes edits and glue, by what stands in out/quinn/proved
+
+No line of theirs stands here: an edit names lines by their numbers, in the form of `diff -e`, and holds ours.
+"""
+import argparse
+import collections
+import difflib
+import os
+import pathlib
+import re
+import shutil
+import subprocess
+import sys
+
+import tree
+from tree import ROOT
+
+PACKAGES = [f"librust-{it}-dev" for it in ("quinn", "assert-matches", "hex-literal", "tracing-subscriber")]
+CRATES = ["quinn-proto-0.9.2", "quinn-0.9.3"]
+HERE = ROOT / "tests" / "quinn"
+ROOM = ROOT / "out" / "quinn"
+LIBRARY = ROOT / "crates" / "recovery_ffi" / "out" / "librecovery_ffi.a"
+AS_IT_IS, PROVED = "base", "proved"
+MISSING = ["anyhow", "bencher", "clap", "rustls-pemfile", "url"]  # what quinn's examples want, and Debian may lack
+OWN_TESTS = {"quinn_proto": 162, "quinn": 17}
+LINK = "tests::load::"  # our tests over a link
+LINK_TESTS = 11
+LATER = [f"{LINK}gone_back"]  # which no event does yet: the previous path is used again
+SKIPPED = [word for it in LATER for word in ("--skip", it)]
+MEGABYTES = 100
+TRANSFERS = [  # by which quinn, its controller, and the window at the start
+    (AS_IT_IS, "reno", "as it is"),
+    (PROVED, "reno", "over the library"),
+    (AS_IT_IS, "proved", "with the proved controller"),
+    *((AS_IT_IS, "both", str(window), f"with both from {window} bytes on") for window in (2400, 12000, 100000)),
+]
+LONGEST = 28  # characters that a line of an edit may share with one of theirs
+JOBS = ["-j2"]
+
+OFFLINE = """[source.crates-io]
+replace-with = "debian"
+
+[source.debian]
+directory = "{}"
+"""
+WORKSPACE = """[workspace]
+members = ["quinn-proto", "quinn", "transfer"]
+resolver = "1"
+
+[patch.crates-io]
+quinn-proto = { path = "quinn-proto" }
+quinn = { path = "quinn" }
+
+[profile.release]
+debug = 1
+"""
+
+tests = tree.Tests("quinn")
+
+
+def tell(text):
+    print(text, flush=True)
+
+
+# ---- where their sources are, and the folders that are made of them
+
+
+def files_of(package):
+    """The files of a package of Debian; none where it is not installed."""
+    words = ["dpkg", "-L", package]
+    return tree.ran(words, stdin=subprocess.DEVNULL, text=True)[1].split() if shutil.which(words[0]) else []
+
+
+def registry():
+    """The folder of the packages' sources; none where a package is not installed, or is another version."""
+    manifests = [pathlib.Path(it) for it in files_of("librust-quinn-proto-dev") if it.endswith("/Cargo.toml")]
+    folders = [it.parents[1] for it in manifests]
+    is_whole = folders and all((folders[0] / it).is_dir() for it in CRATES) and all(map(files_of, PACKAGES))
+    return folders[0] if is_whole else None
+
+
+def edited(text, script):
+    """What an edit makes of a text: commands from its end on, as `diff -e` gives them."""
+    lines, given = text.splitlines(True), iter(script.splitlines(True))
+    for command in given:
+        first, last, how = re.fullmatch(r"(\d+)(?:,(\d+))?([acd])\n", command).groups()
+        new = []
+        while how != "d" and (line := next(given)) != ".\n":
+            new.append(line)
+        lines[int(first) - (how != "a"):int(last or first)] = new
+    return "".join(lines)
+
+
+def edits(which):
+    """The files that are edited, each with its edit; of those as they are, only that which names our tests."""
+    found = {it.stem.replace(".", "/", it.stem.count(".") - 1): it for it in sorted((HERE / "edits").glob("*.ed"))}
+    return found if which == PROVED else {it: found[it] for it in found if it.startswith("tests/")}
+
+
+def write(path, text):
+    """Writes a file where it is another one, so that nothing is compiled anew for it."""
+    path.parent.mkdir(parents=True, exist_ok=True)
+    if not path.is_file() or path.read_text() != text:
+        path.write_text(text)
+
+
+def lay_out(which, sources):
+    """A workspace of both crates and the transfer, as they are or with our edits."""
+    room = ROOM / which
+    write(room / ".cargo" / "config.toml", OFFLINE.format(sources))
+    write(room / "Cargo.toml", WORKSPACE)
+    for crate in CRATES:
+        for file in (sources / crate / "src").rglob("*.rs"):
+            place = file.relative_to(sources / crate / "src")
+            edit = edits(which).get(str(place)) if crate == CRATES[0] else None
+            text = edited(file.read_text(), edit.read_text()) if edit else file.read_text()
+            write(room / crate.rpartition("-")[0] / "src" / place, text)
+        given = (sources / crate / "Cargo.toml").read_text()
+        write(room / crate.rpartition("-")[0] / "Cargo.toml", manifest(which, given))
+    proto = room / "quinn-proto" / "src"
+    write(proto / "tests" / "load.rs", (HERE / "load.rs").read_text())
+    for file in HERE.glob("glue/*.rs") if which == PROVED else []:
+        write(proto / "connection" / file.name, file.read_text())
+    if not (room / "original").is_symlink():
+        (room / "original").symlink_to(sources / CRATES[0] / "src")
+    given = (HERE / "transfer" / "Cargo.toml.in").read_text()
+    write(room / "transfer" / "Cargo.toml", given.replace("HERE", str(HERE)).replace("ROOT", str(ROOT)))
+    for file in (HERE / "transfer").glob("*.rs"):
+        write(room / "transfer" / "src" / file.name, file.read_text())
+
+
+def manifest(which, text):
+    """A package's manifest, with what its tests want and Debian lacks."""
+    for name in [*MISSING, "tracing-futures", "rcgen"]:
+        text = re.sub(rf"^\[dev-dependencies\.{name}\]\n(?:.+\n)*", "", text, flags=re.M)
+    for target in "example", "bench":
+        text = re.sub(rf"^\[\[{target}\]\]\n(?:.+\n)*", "", text, flags=re.M)
+    text = text.replace("[package]\n", "[package]\nautoexamples = false\nautobenches = false\nautotests = false\n", 1)
+    for name in "rcgen", "tracing-futures":
+        text += f'\n[dev-dependencies.{name}]\npath = "{HERE / name}"\n'
+    if which == PROVED and 'name = "quinn-proto"' in text:
+        text = text.replace("[features]\n", "[features]\nshadow = []\n")
+        text += f'\n[dependencies.quic-recovery]\npath = "{ROOT / "rust" / "quic-recovery"}"\n'
+    return text
+
+
+def edit(old, new):
+    """What makes a text of another, as `diff -e` gives it; the longest pieces that both have stay."""
+    old, new, commands = old.splitlines(True), new.splitlines(True), []
+    for how, first, last, begin, end in reversed(difflib.SequenceMatcher(None, old, new, False).get_opcodes()):
+        span = f"{first + 1},{last}" if last > first + 1 else str(last)
+        if how == "delete":
+            commands.append(f"{span}d\n")
+        elif how != "equal":
+            commands += [span, "a\n" if how == "insert" else "c\n", *new[begin:end], ".\n"]
+    return "".join(commands)
+
+
+def written(sources):
+    """Writes the edits, by the files that stand in the folder."""
+    for file in sorted((sources / CRATES[0] / "src").rglob("*.rs")):
+        place = file.relative_to(sources / CRATES[0] / "src")
+        commands = edit(file.read_text(), (ROOM / PROVED / "quinn-proto" / "src" / place).read_text())
+        kept = HERE / "edits" / (str(place).replace("/", ".") + ".ed")
+        if commands:
+            kept.write_text(commands)
+        else:
+            kept.unlink(missing_ok=True)
+    for kept in (HERE / "glue").glob("*.rs"):
+        shutil.copy(ROOM / PROVED / "quinn-proto" / "src" / "connection" / kept.name, kept)
+
+
+# ---- what is run
+
+
+def cargo(which, *words, **more):
+    """What cargo, and what it runs, said in one of the workspaces."""
+    folders = {"QUIC_RECOVERY_LIB": str(ROOM / "lib"), "CARGO_TARGET_DIR": str(ROOM / "target" / which)}
+    how = {"env": {**os.environ, **folders, "CARGO_TERM_COLOR": "never", **more}, "stdin": subprocess.DEVNULL}
+    command = ["cargo", words[0], "--offline", *JOBS, *words[1:]]
+    return tree.ran(command, cwd=ROOM / which, stderr=subprocess.STDOUT, text=True, **how)[:2]
+
+
+def passed(said, form):
+    """How many tests of such names passed, by crate."""
+    found = collections.Counter()
+    runs = re.findall(r"^ +Running unittests [^\n]*/deps/(\w+)-\w+\)\n(.*?)^test result", said, re.M | re.S)
+    for crate, body in runs:
+        found[crate] += len(re.findall(rf"^test {form}\S* \.\.\. ok$", body, re.M))
+    return found
+
+
+def run_tests():
+    """Their own tests and ours over the link, with the library and without."""
+    for which, what in (AS_IT_IS, "as it is"), (PROVED, "over the library"):
+        skipped = SKIPPED if which == PROVED else []
+        status, said = cargo(which, "test", "-p", "quinn-proto", "-p", "quinn", "--lib", "--no-fail-fast", "--", *skipped)
+        own, ours = passed(said, f"(?!{LINK})"), passed(said, LINK)["quinn_proto"]
+        failed = re.findall(r"^test (\S+) \.\.\. FAILED$", said, re.M)
+        tests.expect(f"their own tests, {what}; {failed or 'none'} failed", dict(own), OWN_TESTS)
+        tests.expect(f"tests over a simulated link, {what}", ours, LINK_TESTS - (len(LATER) if which == PROVED else 0))
+        tests.holds(f"cargo test, {what}", status == 0, said[-4000:])
+        tests.passed += sum(own.values()) + ours
+        theirs = " and ".join(f"{count} of {crate}" for crate, count in sorted(own.items()))
+        tell(f"quinn {what}: of its own tests {theirs} pass, and {ours} over a simulated link")
+
+
+def compared(file):
+    """What was compared in shadow: of each thing how often, how often it differed, and how at first."""
+    rows = {}
+    for line in file.read_text().splitlines() if file.exists() else []:
+        test, what, often, differed, first = line.split("\t")
+        row = rows.setdefault(what, [0, 0, ""])
+        row[0] += int(often)
+        row[1] += int(differed)
+        row[2] = row[2] or (first and f"{test}: {first}")
+    return rows
+
+
+def shadow(what, *words):
+    """What a run in shadow compared, where it ended well."""
+    file = ROOM / "compared.tsv"
+    file.unlink(missing_ok=True)
+    status, said = cargo(PROVED, *words, QUINN_SHADOW=str(file))
+    tests.holds(f"{what} in shadow", status == 0, said[-4000:])
+    rows = compared(file)
+    for name, (often, differed, first) in sorted(rows.items()):
+        tests.holds(f"{what} in shadow: {name}: {differed} of {often} differ", not differed, first)
+    often, differed = (sum(it[at] for it in rows.values()) for at in (0, 1))
+    tests.holds(f"{what} in shadow: values are compared", often > 1_000_000)
+    tell(f"quinn in shadow, {what}: {often:,} values of both compared, {differed:,} differ")
+
+
+def run_shadow():
+    """The same with their own parts beside the library."""
+    how = ["--release", "--features", "quinn-proto/shadow"]
+    shadow("the tests", "test", "-p", "quinn-proto", "--lib", *how, "--", *SKIPPED)
+    shadow("a transfer", "run", "-p", "transfer", *how, "--", str(MEGABYTES), "reno")
+
+
+def run_transfer():
+    """A transfer with the library and without, and of quinn as it is with the proved controller alone."""
+    for which, *words, what in TRANSFERS:
+        status, said = cargo(which, "run", "-p", "transfer", "--release", "--quiet", "--", str(MEGABYTES), *words)
+        told = said.splitlines()[-1] if said else ""
+        tests.holds(f"a transfer by quinn {what}", status == 0 and "all came as sent" in told, said[-4000:])
+        tell(f"quinn {what}: {told}")
+
+
+def instructions(which, load):
+    """Instructions and packets of transfers so many times as long, both ends and all that they do."""
+    status, said = cargo(which, "test", "-p", "quinn-proto", "--release", "--lib", "--no-run")
+    program = re.search(r"Executable unittests .*\((.*)\)", said)
+    tests.holds("the tests are compiled", status == 0 and program, said[-4000:])
+    out = f"--callgrind-out-file={ROOM}/{which}.{load}.callgrind"
+    words = ["valgrind", "--tool=callgrind", out, ROOM / which / program[1], f"{LINK}load_plain", "--nocapture"]
+    how = {"env": {**os.environ, "QUINN_LOAD": str(load)}, "stdin": subprocess.DEVNULL, "text": True}
+    status, said, errors = tree.ran([*words, "--test-threads=1"], **how)
+    tests.holds("valgrind", status == 0, errors[-4000:])
+    packets = sum(int(it) for it in re.findall(r"(\d+) packets", said))
+    return int(re.search(r"Collected : (\d+)", errors)[1]), packets
+
+
+def run_instructions():
+    """What a data packet takes with its ACK, both ends, of a plain link: by transfers of two lengths, so that all that
+    comes before is left out."""
+    took = []
+    for which, what in (AS_IT_IS, "as it is"), (PROVED, "over the library"):
+        (short, few), (long, many) = instructions(which, 1), instructions(which, 4)
+        took.append((long - short) / (many - few))
+        tell(f"quinn {what}: {took[-1]:,.0f} instructions for a packet with its ACK, of both ends")
+    tell(f"quinn over the library: {took[1] / took[0]:.3f} of them")
+
+
+PARTS = {"tests": run_tests, "shadow": run_shadow, "transfer": run_transfer, "instructions": run_instructions}
+USUAL = ["tests", "shadow", "transfer"]
+
+
+def without_theirs(sources):
+    """No line of an edit stands in their sources, but for words that every program in Rust has."""
+    plain = lambda line: " ".join(line.split())
+    texts = (file.read_text() for crate in CRATES for file in (sources / crate).rglob("*.rs"))
+    theirs = {plain(line) for text in texts for line in text.splitlines()}
+    for edit in sorted((HERE / "edits").glob("*.ed")):
+        same = [it for it in map(plain, edit.read_text().splitlines()) if len(it) > LONGEST and it in theirs]
+        tests.holds(f"{edit.name} has no line of theirs", not same, "\n".join(same))
+
+
+def main():
+    parser = argparse.ArgumentParser(description=__doc__, formatter_class=argparse.RawDescriptionHelpFormatter)
+    parser.add_argument("parts", nargs="*", choices=[[], *PARTS], metavar="PART", help=argparse.SUPPRESS)
+    parser.add_argument("--write", action="store_true", help=argparse.SUPPRESS)
+    given = tree.arguments(parser)
+    sources = registry()
+    if not sources:
+        print(f"quinn: the sources of {' and '.join(CRATES)} are missing: apt-get install {' '.join(PACKAGES)}")
+        return
+    if given.write:
+        return written(sources)
+    if not LIBRARY.is_file():
+        print("quinn: the library is missing: tests/rust.py --library")
+        sys.exit(1)
+    without_theirs(sources)
+    (ROOM / "lib").mkdir(parents=True, exist_ok=True)
+    kit = pathlib.Path(shutil.which("rt")).resolve()
+    for file in LIBRARY, next(it / "c" / "liblibc_c.a" for it in kit.parents if (it / "c" / "liblibc_c.a").is_file()):
+        shutil.copy(file, ROOM / "lib")
+    for which in AS_IT_IS, PROVED:
+        lay_out(which, sources)
+    for part in given.parts or USUAL:
+        PARTS[part]()
+    tests.end()
+
+
+if __name__ == "__main__":
+    tree.ends_quietly(main)

@@ -1,0 +1,609 @@
+//! The crate's own parts beside the library: they are told the same, and all that can be read of both is compared.
+use std::{
+    collections::BTreeMap,
+    fmt::Debug,
+    fs::OpenOptions,
+    io::Write,
+    mem,
+    sync::Arc,
+    time::{Duration, Instant},
+};
+
+use qr::{Answer, Event, PathName, Recovery, Refusal, Refused};
+use quic_recovery as qr;
+
+use super::{assembler, cid_state::CidState, pacing::Pacer, paths::RttEstimator};
+use super::{StreamsState, TransportError};
+use crate::{
+    cid_queue::{CidQueue, InsertError},
+    congestion::{Controller, ControllerFactory, NewRenoConfig},
+    frame,
+    shared::{ConnectionId, IssuedCid},
+    token::ResetToken,
+    Side,
+};
+
+#[allow(dead_code, unused_imports)]
+#[path = "../../../original/connection/spaces.rs"]
+mod spaces;
+
+const SPACES: [qr::SpaceId; 3] = [qr::SpaceId::Initial, qr::SpaceId::Handshake, qr::SpaceId::Data];
+
+struct Path {
+    rtt: RttEstimator,
+    congestion: Box<dyn Controller>,
+    pacing: Pacer,
+    mtu: u16,
+    validated: bool,
+    total_sent: u64,
+    total_recvd: u64,
+    /// Bytes in flight, and packets that elicit an ACK
+    in_flight: (u64, u64),
+    sending_ecn: bool,
+}
+
+struct Own {
+    epoch: Instant,
+    reno: Arc<NewRenoConfig>,
+    initial_rtt: Duration,
+    initial_mtu: u16,
+    limit: u16,
+    spaces: [spaces::PacketSpace; 3],
+    largest: [u64; 3],
+    discarded: [bool; 3],
+    max_ack_delay: Duration,
+    /// The paths so far: the last one is in use
+    paths: Vec<Path>,
+    /// On which path a packet was sent
+    sent_on: BTreeMap<(usize, u64), usize>,
+    rem_cids: CidQueue,
+    local_cids: CidState,
+    streams: StreamsState,
+    /// Of each thing that was compared: how often, how often it differed, and how it did at first
+    counts: BTreeMap<&'static str, (u64, u64, String)>,
+}
+
+/// The library's sender, and the crate's own parts told the same
+pub(super) struct Sender {
+    sender: qr::Sender,
+    own: Own,
+}
+
+impl Sender {
+    pub fn new(side: qr::Side, config: &qr::RecoveryConfig, now: qr::Instant) -> Result<Self, qr::ConfigError> {
+        Ok(Sender { sender: qr::Sender::new(side, config, now)?, own: Own::new(side, config) })
+    }
+
+    pub fn recovery(&self) -> &Recovery {
+        self.sender.recovery()
+    }
+
+    /// All that can be read of both, before a call
+    fn compare(&mut self) -> &mut qr::Sender {
+        self.own.compare(self.sender.recovery());
+        &mut self.sender
+    }
+
+    pub fn on_event(&mut self, event: Event<'_>) -> Result<Answer, Refused> {
+        if !matches!(event, Event::AckDelayTimeout { .. }) {
+            self.compare();
+        }
+        let answer = self.sender.on_event(event);
+        self.own.told(&event, &answer, self.sender.recovery());
+        answer
+    }
+
+    pub fn send(
+        &mut self,
+        space: qr::SpaceId,
+        now: qr::Instant,
+        size: u16,
+        ack_eliciting: bool,
+        largest_acked: Option<u64>,
+        queue: &[u64],
+    ) -> Result<qr::Sent, Refused> {
+        let event = Event::Send { space, now, size, ack_eliciting, largest_acked, queue };
+        let qr::Sent { number, forgotten } =
+            self.compare().send(space, now, size, ack_eliciting, largest_acked, queue)?;
+        let answer = Ok(Answer::Sent { number, forgotten });
+        self.own.told(&event, &answer, self.sender.recovery());
+        Ok(qr::Sent { number, forgotten })
+    }
+
+    pub fn transmit(
+        &mut self,
+        now: qr::Instant,
+        bytes: u16,
+        space: qr::SpaceId,
+        in_flight: bool,
+    ) -> Result<qr::Transmission, Refused> {
+        let sent = self.compare().transmit(now, bytes, space, in_flight)?;
+        self.own.transmitted(bytes);
+        Ok(sent)
+    }
+
+    pub fn on_ack_into(
+        &mut self,
+        space: qr::SpaceId,
+        now: qr::Instant,
+        ack: &qr::Ack,
+        ranges: &[(u64, u64)],
+        told: &mut qr::Acknowledged,
+    ) -> Result<(), Refused> {
+        self.compare().on_ack_into(space, now, ack, ranges, told)?;
+        self.own.acked(space, now, ack, ranges, told);
+        Ok(())
+    }
+
+    pub fn on_timeout(&mut self, now: qr::Instant, immediate_ack: bool) -> Result<qr::Timeout, Refused> {
+        let told = self.compare().on_timeout(now, immediate_ack)?;
+        self.own.timed_out(now, &told);
+        Ok(told)
+    }
+
+    pub fn discard(&mut self, space: qr::SpaceId, now: qr::Instant) -> Result<(), Refused> {
+        self.compare().discard(space, now)?;
+        self.own.discarded(space);
+        Ok(())
+    }
+
+    pub fn abandon(&mut self, space: qr::SpaceId, now: qr::Instant) -> Result<Vec<u64>, Refused> {
+        let numbers = self.compare().abandon(space, now)?;
+        self.own.abandoned(space, &numbers);
+        Ok(numbers)
+    }
+
+    pub fn on_datagram(&mut self, bytes: u64) -> Result<(), Refused> {
+        self.compare().on_datagram(bytes)?;
+        self.own.path().total_recvd += bytes;
+        Ok(())
+    }
+
+    pub fn on_address_validated(&mut self) {
+        self.compare().on_address_validated();
+        self.own.path().validated = true;
+    }
+
+    pub fn on_handshake_keys(&mut self) {
+        self.sender.on_handshake_keys();
+    }
+
+    pub fn on_handshake_confirmed(&mut self) {
+        self.sender.on_handshake_confirmed();
+    }
+
+    pub fn set_peer_max_ack_delay(&mut self, delay: Duration) {
+        self.sender.set_peer_max_ack_delay(delay);
+        self.own.max_ack_delay = delay;
+    }
+}
+
+impl Own {
+    fn new(side: qr::Side, config: &qr::RecoveryConfig) -> Self {
+        let (transport, now) = (&config.transport, Instant::now());
+        let qr::Congestion::NewReno(given) = transport.congestion else {
+            panic!("another controller than NewReno");
+        };
+        let mtu = transport.initial_mtu;
+        let mut reno = NewRenoConfig::default();
+        reno.initial_window(given.initial_window).max_datagram_size(mtu.into()).minimum_window(2 * u64::from(mtu));
+        let none = 0u32.into();
+        let mut this = Own {
+            epoch: now,
+            reno: Arc::new(reno),
+            initial_rtt: transport.initial_rtt,
+            initial_mtu: mtu,
+            limit: u16::MAX,
+            spaces: [(); 3].map(|_| spaces::PacketSpace::new(now)),
+            largest: [0; 3],
+            discarded: [false; 3],
+            max_ack_delay: Duration::from_millis(25),
+            paths: Vec::new(),
+            sent_on: BTreeMap::new(),
+            rem_cids: CidQueue::new(ConnectionId::new(&config.initial_cid)),
+            local_cids: CidState::new(config.cid_len.into(), config.cid_lifetime, now),
+            streams: StreamsState::new(Side::Client, none, none, 0, none, none),
+            counts: BTreeMap::new(),
+        };
+        this.new_path(now, true);
+        this.path().validated = config.validated || side == qr::Side::Client;
+        this
+    }
+
+    fn path(&mut self) -> &mut Path {
+        self.paths.last_mut().unwrap()
+    }
+
+    fn new_path(&mut self, now: Instant, fresh: bool) {
+        let (rtt, congestion, mtu) = match self.paths.last() {
+            Some(path) if !fresh => (path.rtt, path.congestion.clone_box(), path.mtu),
+            _ => {
+                let rtt = RttEstimator::new(self.initial_rtt);
+                (rtt, self.reno.build(now), self.initial_mtu.min(self.limit))
+            }
+        };
+        self.paths.push(Path {
+            pacing: Pacer::new(rtt.get(), congestion.window(), mtu, now),
+            rtt,
+            congestion,
+            mtu,
+            validated: false,
+            total_sent: 0,
+            total_recvd: 0,
+            in_flight: (0, 0),
+            sending_ecn: true,
+        });
+    }
+
+    fn same<T: PartialEq + Debug>(&mut self, what: &'static str, own: T, told: T) {
+        let paths = self.paths.len();
+        let it = self.counts.entry(what).or_default();
+        it.0 += 1;
+        if own != told {
+            it.1 += 1;
+            if it.2.is_empty() {
+                it.2 = format!("own {own:?}, library {told:?}, {paths} paths");
+            }
+        }
+    }
+
+    fn at(&self, moment: qr::Instant) -> Instant {
+        self.epoch + Duration::from_nanos(moment.as_nanos())
+    }
+
+    fn nanos(&self, moment: Instant) -> u64 {
+        moment.duration_since(self.epoch).as_nanos() as u64
+    }
+
+    /// All that both can be asked for
+    fn compare(&mut self, recovery: &Recovery) {
+        let told = recovery.path(PathName::Current).unwrap();
+        let path = self.path();
+        let own = (path.rtt.get(), path.rtt.conservative(), path.rtt.min(), path.rtt.pto_base());
+        let rtt = (told.rtt.get, told.rtt.conservative, told.rtt.min, told.rtt.pto_base);
+        let window = path.congestion.window();
+        let flight = path.in_flight;
+        let totals = (path.total_sent, path.total_recvd);
+        let rest = (path.mtu, path.validated);
+        self.same("rtt", own.0, rtt.0);
+        self.same("rtt conservative", own.1, rtt.1);
+        self.same("rtt min", own.2, rtt.2);
+        self.same("pto base", own.3, rtt.3);
+        self.same("window", window, told.window);
+        self.same("bytes in flight", flight.0, told.in_flight);
+        self.same("packets in flight", flight.1, told.ack_eliciting);
+        self.same("total sent", totals.0, told.total_sent);
+        self.same("total received", totals.1, told.total_recvd);
+        self.same("mtu", rest.0, told.current_mtu);
+        self.same("validated", rest.1, told.validated);
+        for (at, &id) in SPACES.iter().enumerate() {
+            let told = recovery.space(id);
+            self.same("space lives", !self.discarded[at], told.is_some());
+            let Some(told) = told else { continue };
+            self.same("largest received", self.largest[at], told.largest_received);
+            self.same("next number", self.spaces[at].next_packet_number, told.next_packet_number);
+            let acks = &self.spaces[at].pending_acks;
+            let (can_send, own): (_, Vec<_>) = (acks.can_send(), acks.ranges().iter().collect());
+            self.same("can send acks", can_send, told.can_send.acks);
+            self.same("ack ranges", own, recovery.ranges(id).collect());
+        }
+        let ids = recovery.ids();
+        self.same("id in use", self.rem_cids.active_seq(), ids.active);
+        let own = self.local_cids.retire_prior_to();
+        self.same("retire prior to", own, ids.retire_prior_to);
+    }
+
+    /// A tracked packet that leaves, and the path that it was sent on
+    fn leaves(&mut self, space: qr::SpaceId, number: u64) -> Option<(spaces::SentPacket, usize)> {
+        let found = self.spaces[space as usize].sent_packets.remove(&number);
+        self.same("tracked", found.is_some(), true);
+        let packet = found?;
+        let on = self.sent_on.remove(&(space as usize, number)).unwrap_or(0);
+        self.paths[on].in_flight.0 -= u64::from(packet.size);
+        self.paths[on].in_flight.1 -= u64::from(packet.ack_eliciting);
+        Some((packet, on))
+    }
+
+    fn retired(
+        &mut self,
+        own: Result<Option<(std::ops::Range<u64>, ResetToken)>, InsertError>,
+        answer: &Result<Answer, Refused>,
+        recovery: &Recovery,
+    ) {
+        let token = recovery.reset_token();
+        let told = match answer {
+            Ok(Answer::Retire(Some(range))) => Ok(Some((range.clone(), ResetToken::from(*token.bytes())))),
+            Ok(_) => Ok(None),
+            Err(Refused::Event(Refusal::Retired)) => Err(InsertError::Retired),
+            Err(_) => Err(InsertError::ExceedsLimit),
+        };
+        self.same("ids to retire", own, told);
+    }
+
+    fn transmitted(&mut self, bytes: u16) {
+        let path = self.path();
+        path.pacing.on_transmit(bytes);
+        path.total_sent += u64::from(bytes);
+    }
+
+    fn discarded(&mut self, space: qr::SpaceId) {
+        for number in self.tracked(space) {
+            self.leaves(space, number);
+        }
+        self.discarded[space as usize] = true;
+    }
+
+    fn abandoned(&mut self, space: qr::SpaceId, told: &[u64]) {
+        let own = self.tracked(space);
+        self.same("abandoned", &own[..], told);
+        for number in own {
+            self.loses(space, number);
+        }
+    }
+
+    fn tracked(&self, space: qr::SpaceId) -> Vec<u64> {
+        let packets = &self.spaces[space as usize].sent_packets;
+        packets.keys().copied().collect()
+    }
+
+    fn loses(&mut self, space: qr::SpaceId, number: u64) -> Option<(spaces::SentPacket, usize)> {
+        let (packet, on) = self.leaves(space, number)?;
+        self.spaces[space as usize].pending |= packet.retransmits.clone();
+        Some((packet, on))
+    }
+
+    /// Which packets of a space are lost (RFC 9002, 6.1)
+    fn lost_now(&mut self, space: qr::SpaceId, now: Instant) -> Vec<u64> {
+        let delay = (self.path().rtt.conservative() * 9 / 8).max(Duration::from_millis(1));
+        let here = &self.spaces[space as usize];
+        let Some(largest) = here.largest_acked_packet else {
+            return Vec::new();
+        };
+        let below = here.sent_packets.range(..largest);
+        let lost = below.filter(|(&at, it)| largest >= at + 3 || it.time_sent + delay <= now);
+        lost.map(|(&at, _)| at).collect()
+    }
+
+    fn lost(&mut self, space: qr::SpaceId, now: Instant, losses: &qr::Losses) {
+        let own = self.lost_now(space, now);
+        self.same("lost", &own, &losses.numbers);
+        let here = self.paths.len() - 1;
+        let (mut bytes, mut last) = (0, None);
+        for &number in &losses.numbers {
+            let Some((packet, on)) = self.loses(space, number) else { continue };
+            if on == here && packet.size > 0 {
+                bytes += u64::from(packet.size);
+                last = Some(packet.time_sent);
+            }
+        }
+        self.same("bytes lost", last.map(|_| bytes), losses.congestion);
+        if let Some(sent) = last {
+            let path = self.path();
+            path.congestion.on_congestion_event(now, sent, losses.is_persistent, bytes);
+        }
+    }
+
+    /// The timer for losses, which said this
+    fn timed_out(&mut self, now: qr::Instant, told: &qr::Timeout) {
+        let now = self.at(now);
+        match told {
+            qr::Timeout::Lost(losses) => {
+                let due = SPACES.into_iter().find(|&it| !self.lost_now(it, now).is_empty());
+                if let Some(space) = due {
+                    self.lost(space, now, losses);
+                }
+            }
+            qr::Timeout::Probe { space, .. } => {
+                let it = &mut self.spaces[*space as usize];
+                it.loss_probes = 1;
+                it.maybe_queue_probe(&self.streams);
+            }
+            _ => {}
+        }
+    }
+
+    /// An ACK frame, which came to this
+    fn acked(
+        &mut self,
+        space: qr::SpaceId,
+        now: qr::Instant,
+        ack: &qr::Ack,
+        ranges: &[(u64, u64)],
+        told: &qr::Acknowledged,
+    ) {
+        let now = self.at(now);
+        let here = &self.spaces[space as usize];
+        let raised = here.largest_acked_packet.map_or(true, |it| it < ranges[0].1);
+        let of = |&(first, last): &(u64, u64)| here.sent_packets.range(first..=last).map(|it| *it.0);
+        let own: Vec<u64> = ranges.iter().rev().flat_map(of).collect();
+        self.same("newly acknowledged", &own, &told.numbers);
+        if told.numbers.is_empty() {
+            return;
+        }
+        let (largest, current) = (ranges[0].1, self.paths.len() - 1);
+        let (mut elicits, mut sample) = (false, None);
+        for &number in &told.numbers {
+            let Some((packet, on)) = self.leaves(space, number) else { continue };
+            if let Some(acked) = packet.largest_acked {
+                let acks = &mut self.spaces[space as usize].pending_acks;
+                acks.subtract_below(acked);
+            }
+            elicits |= packet.ack_eliciting;
+            if number == largest {
+                sample = (on == current).then(|| now - packet.time_sent);
+                if raised {
+                    self.spaces[space as usize].largest_acked_packet_sent = packet.time_sent;
+                }
+            }
+            if on == current && packet.ack_eliciting {
+                let (sent, size, path) = (packet.time_sent, packet.size.into(), self.path());
+                path.congestion.on_ack(now, sent, size, ack.app_limited, &path.rtt);
+            }
+        }
+        if raised {
+            self.spaces[space as usize].largest_acked_packet = Some(largest);
+        }
+        if let (Some(rtt), true) = (sample, elicits) {
+            let most = match space {
+                qr::SpaceId::Data => self.max_ack_delay,
+                _ => Duration::ZERO,
+            };
+            self.path().rtt.update(ack.delay.min(most), rtt);
+        }
+        self.lost(space, now, &told.losses);
+        if self.path().sending_ecn {
+            self.counted(space, now, ack, raised, told);
+        }
+    }
+
+    /// The counts of ECN of a frame
+    fn counted(&mut self, space: qr::SpaceId, now: Instant, ack: &qr::Ack, raised: bool, told: &qr::Acknowledged) {
+        let Some(qr::EcnCounts { ect0, ect1, ce }) = ack.ecn else {
+            self.path().sending_ecn = false;
+            return;
+        };
+        if !raised {
+            return;
+        }
+        let it = &mut self.spaces[space as usize];
+        let sent = it.largest_acked_packet_sent;
+        let newly = told.numbers.len() as u64;
+        let own = match it.detect_ecn(newly, frame::EcnCounts { ect0, ect1, ce }) {
+            Ok(false) => qr::EcnEnd::Quiet,
+            Ok(true) => qr::EcnEnd::Marked,
+            Err(_) => qr::EcnEnd::Failed,
+        };
+        self.same("ecn", own, told.ecn);
+        let path = self.path();
+        path.sending_ecn = own != qr::EcnEnd::Failed;
+        if own == qr::EcnEnd::Marked {
+            path.congestion.on_congestion_event(now, sent, false, 0);
+        }
+    }
+
+    /// An event that the library has answered
+    fn told(&mut self, event: &Event<'_>, answer: &Result<Answer, Refused>, recovery: &Recovery) {
+        match *event {
+            Event::Received { space, now, number, ack_eliciting } => {
+                let now = self.at(now);
+                let it = &mut self.spaces[space as usize];
+                let is_old = it.dedup.insert(number);
+                if !is_old {
+                    it.pending_acks.insert_one(number, now);
+                    it.pending_acks.packet_received(ack_eliciting);
+                    let largest = &mut self.largest[space as usize];
+                    *largest = number.max(*largest);
+                }
+                self.same("duplicate", is_old, *answer == Ok(Answer::Duplicate));
+            }
+            Event::Send { space, now, size, ack_eliciting, largest_acked, queue } => {
+                let time_sent = self.at(now);
+                let it = &mut self.spaces[space as usize];
+                let number = it.get_tx_number();
+                let mut retransmits = spaces::ThinRetransmits::default();
+                if !queue.is_empty() {
+                    retransmits.get_or_create().retire_cids.extend(queue);
+                }
+                let packet = spaces::SentPacket {
+                    time_sent,
+                    size,
+                    ack_eliciting,
+                    largest_acked,
+                    retransmits,
+                    stream_frames: Default::default(),
+                };
+                it.sent(number, packet);
+                self.sent_on.insert((space as usize, number), self.paths.len() - 1);
+                let path = self.path();
+                path.in_flight.0 += u64::from(size);
+                path.in_flight.1 += u64::from(ack_eliciting);
+                if let Ok(Answer::Sent { number: told, forgotten }) = *answer {
+                    self.same("number", number, told);
+                    if let Some(number) = forgotten {
+                        self.leaves(space, number);
+                    }
+                }
+            }
+            Event::TakePending { space } => {
+                let pending = mem::take(&mut self.spaces[space as usize].pending);
+                let own = match self.discarded[space as usize] {
+                    true => Err(Refused::Event(Refusal::SpaceDiscarded)),
+                    false => Ok(Answer::Queue(pending.retire_cids)),
+                };
+                self.same("queue", own, answer.clone());
+            }
+            Event::NewId(frame) => {
+                let own = self.rem_cids.insert(frame::NewConnectionId {
+                    sequence: frame.sequence,
+                    retire_prior_to: frame.retire_prior_to,
+                    id: ConnectionId::new(&frame.id),
+                    reset_token: ResetToken::from(*frame.reset_token.bytes()),
+                });
+                self.retired(own, answer, recovery);
+            }
+            Event::NextId => {
+                let own = self.rem_cids.next().map(|(token, range)| (range, token));
+                self.retired(Ok(own), answer, recovery);
+            }
+            Event::InitialId(id) => self.rem_cids.update_initial_cid(ConnectionId::new(&id)),
+            Event::IssueIds { now, ids } => {
+                let now = self.at(now);
+                let issued = |it: &qr::IssuedCid| IssuedCid {
+                    sequence: it.sequence(),
+                    id: ConnectionId::new(&[]),
+                    reset_token: ResetToken::from([0; 16]),
+                };
+                let own: Vec<_> = ids.iter().map(issued).collect();
+                self.local_cids.new_cids(&own, now);
+            }
+            Event::IdTimeout => {
+                let own = self.local_cids.on_cid_timeout();
+                self.same("id timeout", Ok(Answer::Flag(own)), answer.clone());
+            }
+            Event::PeerRetired { sequence, limit } => {
+                let own: Result<bool, TransportError> = self.local_cids.on_cid_retirement(sequence, limit);
+                let told = match answer {
+                    Ok(Answer::Flag(more)) => Some(*more),
+                    _ => None,
+                };
+                self.same("peer retired", own.ok(), told);
+            }
+            Event::AcksSent { space } => self.spaces[space as usize].pending_acks.acks_sent(),
+            Event::PacerCheck { now, bytes } => {
+                let now = self.at(now);
+                let path = self.path();
+                let (window, rtt, mtu) = (path.congestion.window(), path.rtt.get(), path.mtu);
+                let own = path.pacing.delay(rtt, bytes, mtu, window, now);
+                let own = own.map(|it| self.nanos(it));
+                let told = match answer {
+                    Ok(Answer::Delayed(moment)) => Some(moment.as_nanos()),
+                    _ => None,
+                };
+                self.same("pacer's moment", own, told);
+            }
+            Event::PeerLimit { size } => {
+                self.limit = size;
+                let path = self.path();
+                path.mtu = path.mtu.min(size);
+            }
+            Event::NewPath { now, fresh, .. } => self.new_path(self.at(now), fresh),
+            _ => {}
+        }
+    }
+}
+
+impl Drop for Own {
+    /// What was compared goes into the file that QUINN_SHADOW names
+    fn drop(&mut self) {
+        let Ok(name) = std::env::var("QUINN_SHADOW") else {
+            return;
+        };
+        let test = std::thread::current().name().unwrap_or("").to_owned();
+        let mut text = String::new();
+        for (what, (compared, differ, first)) in &self.counts {
+            text += &format!("{test}\t{what}\t{compared}\t{differ}\t{first}\n");
+        }
+        let file = OpenOptions::new().append(true).create(true).open(name);
+        file.and_then(|mut it| it.write_all(text.as_bytes())).unwrap();
+    }
+}

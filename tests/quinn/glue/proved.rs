@@ -1,0 +1,493 @@
+//! A connection's loss recovery, held by the proved library alone: which packets are lost and when to probe it decides,
+//! and what is known of paths, spaces, ids and timers is read from it. Kept here are the bytes of the peer's ids.
+#[cfg(feature = "shadow")]
+use super::own::Sender;
+#[cfg(not(feature = "shadow"))]
+use qr::Sender;
+
+use qr::{Answer, Event, PathName, Refusal, Refused};
+use quic_recovery as qr;
+use std::{
+    cell::Cell,
+    collections::VecDeque,
+    mem,
+    net::SocketAddr,
+    ops::{Range, RangeInclusive},
+    time::{Duration, Instant},
+};
+
+use super::spaces::SendableFrames;
+use crate::{
+    congestion::Controller,
+    frame,
+    packet::SpaceId,
+    range_set::ArrayRangeSet,
+    shared::{ConnectionId, IssuedCid},
+    token::ResetToken,
+    Side, TransportError,
+};
+
+/// What an ACK frame says.
+pub(super) struct Acks {
+    pub ranges: ArrayRangeSet,
+    pub delay: Duration,
+}
+
+pub(super) struct Proved {
+    sender: Sender,
+    /// The moment that the library knows as its nanosecond 0
+    epoch: Instant,
+    /// What the last ACK frame came to, and its ranges: kept for their memory
+    told: qr::Acknowledged,
+    heard: Vec<(u64, u64)>,
+    /// The peer's ids by their numbers: the library tells which one is in use, and not its bytes
+    rem_ids: VecDeque<(u64, ConnectionId)>,
+    cid_len: usize,
+    /// Set by tests, which push the retirement of ids
+    retire_at_least: u64,
+    /// The current path and the spaces, as they were read last
+    seen: Cell<Option<qr::PathStats>>,
+    seen_in: [Cell<Option<qr::SpaceStats>>; 3],
+}
+
+fn space_of(space: SpaceId) -> qr::SpaceId {
+    qr::SpaceId::VALUES[space as usize]
+}
+
+pub(super) fn space_from(space: qr::SpaceId) -> SpaceId {
+    [SpaceId::Initial, SpaceId::Handshake, SpaceId::Data][space as usize]
+}
+
+/// The next number of a packet (RFC 9000, 16)
+fn number_in(rest: &mut &[u8]) -> Option<u64> {
+    let size = 1 << (rest.first()? >> 6);
+    let number = rest.get(..size)?.iter().fold(0, |sum, &it| sum << 8 | u64::from(it));
+    *rest = &rest[size..];
+    Some(number & ((1u64 << (8 * size - 2)) - 1))
+}
+
+/// Whether a packet's frames ask for an acknowledgement (RFC 9000, 13.2): looked at before any of them is handled, since
+/// the library is told with the number; nothing where they cannot be read.
+pub(super) fn is_ack_eliciting(payload: &[u8]) -> Option<bool> {
+    let mut rest = payload;
+    while let Some(kind) = rest.first().copied() {
+        rest = &rest[1..];
+        match kind {
+            0 => continue,
+            2 | 3 => {
+                number_in(&mut rest)?;
+                number_in(&mut rest)?;
+                let more = 1 + 2 * number_in(&mut rest)? + if kind == 3 { 3 } else { 0 };
+                for _ in 0..more {
+                    number_in(&mut rest)?;
+                }
+            }
+            0x1c | 0x1d => return Some(false),
+            _ => return Some(true),
+        }
+    }
+    Some(false)
+}
+
+fn id_of(id: &ConnectionId) -> qr::ConnectionId {
+    qr::ConnectionId::new(id).expect("an id has at most 20 bytes")
+}
+
+fn token_of(token: &ResetToken) -> qr::ResetToken {
+    let mut bytes = [0; 16];
+    bytes.copy_from_slice(token);
+    qr::ResetToken::from(bytes)
+}
+
+/// How a connection is closed whose peer broke the protocol
+impl From<Refused> for TransportError {
+    fn from(refused: Refused) -> Self {
+        match refused {
+            Refused::Event(Refusal::ExceedsLimit) => TransportError::CONNECTION_ID_LIMIT_ERROR(""),
+            Refused::Event(Refusal::NoMemory) => TransportError::INTERNAL_ERROR("out of memory"),
+            _ => TransportError::PROTOCOL_VIOLATION(refused.to_string()),
+        }
+    }
+}
+
+/// The settings of a connection whose MTU stays, with a window at the start
+pub(super) fn settings(
+    (remote, rem_cid): (SocketAddr, &ConnectionId),
+    initial_rtt: Duration,
+    mtu: u16,
+    window: u64,
+) -> qr::RecoveryConfig {
+    qr::RecoveryConfig {
+        transport: qr::TransportConfig {
+            initial_rtt,
+            initial_mtu: mtu,
+            min_mtu: mtu,
+            mtu_discovery_config: None,
+            congestion: qr::Congestion::NewReno(qr::NewRenoConfig {
+                initial_window: window,
+                loss_reduction_factor: (1, 2),
+            }),
+        },
+        allow_mtud: false,
+        issued: 1,
+        skips: qr::Skips::Disabled,
+        ..qr::RecoveryConfig::new(remote, id_of(rem_cid))
+    }
+}
+
+impl Proved {
+    pub fn new(side: Side, config: qr::RecoveryConfig, now: Instant) -> Self {
+        let side = [qr::Side::Client, qr::Side::Server][usize::from(side.is_server())];
+        let sender = Sender::new(side, &config, qr::Instant::from_nanos(0));
+        Self {
+            sender: sender.expect("sound settings, and memory"),
+            epoch: now,
+            told: qr::Acknowledged::default(),
+            heard: Vec::new(),
+            rem_ids: VecDeque::from([(0, ConnectionId::new(&config.initial_cid))]),
+            cid_len: config.cid_len.into(),
+            retire_at_least: 0,
+            seen: Cell::new(None),
+            seen_in: Default::default(),
+        }
+    }
+
+    fn at(&self, moment: Instant) -> qr::Instant {
+        let since = moment.saturating_duration_since(self.epoch);
+        qr::Instant::from_nanos(u64::try_from(since.as_nanos()).unwrap_or(u64::MAX))
+    }
+
+    fn moment(&self, at: qr::Instant) -> Instant {
+        self.epoch + Duration::from_nanos(at.as_nanos())
+    }
+
+    fn recovery(&self) -> &qr::Recovery {
+        self.sender.recovery()
+    }
+
+    /// For a call that may change the current path
+    fn changing(&mut self) -> &mut Sender {
+        self.seen.set(None);
+        &mut self.sender
+    }
+
+    /// For one that counts bytes, which is asked for before the path is validated alone
+    fn counting(&mut self) -> &mut Sender {
+        self.seen.set(self.seen.get().filter(|it| it.validated));
+        &mut self.sender
+    }
+
+    /// For one that may change a space
+    fn changing_in(&mut self, space: SpaceId) -> &mut Sender {
+        self.seen_in[space as usize].set(None);
+        &mut self.sender
+    }
+
+    // Paths
+
+    pub fn path(&self) -> qr::PathStats {
+        let path = self.seen.get().or_else(|| self.recovery().path(PathName::Current));
+        self.seen.set(path);
+        path.expect("there is always a current path")
+    }
+
+    /// How many bytes may go out before the peer's address is validated (RFC 9000, 8.1)
+    pub fn room(&self) -> usize {
+        let path = self.path();
+        match path.validated {
+            true => usize::MAX,
+            false => (3 * path.total_recvd).saturating_sub(path.total_sent) as usize,
+        }
+    }
+
+    /// The window, for those who look at it
+    pub fn congestion_state(&self) -> impl Controller {
+        Window(self.path().window)
+    }
+
+    pub fn new_path(&mut self, now: Instant, remote: SocketAddr, fresh: bool) {
+        let now = self.at(now);
+        let _ = self.changing().on_event(Event::NewPath { now, remote, fresh });
+    }
+
+    pub fn peer_limit(&mut self, size: u16) {
+        let _ = self.changing().on_event(Event::PeerLimit { size });
+    }
+
+    pub fn validated(&mut self) {
+        self.changing().on_address_validated();
+    }
+
+    pub fn datagram_in(&mut self, bytes: usize) {
+        // Refused where 2^64 bytes came in; then the total stays
+        let _ = self.counting().on_datagram(bytes as u64);
+    }
+
+    /// When so many bytes may go out, where that is not now
+    pub fn pace(&mut self, now: Instant, bytes: u64) -> Option<Instant> {
+        let now = self.at(now);
+        match self.sender.on_event(Event::PacerCheck { now, bytes }) {
+            Ok(Answer::Delayed(moment)) => Some(self.moment(moment)),
+            _ => None,
+        }
+    }
+
+    /// A datagram goes out that had room
+    pub fn transmitted(&mut self, now: Instant, bytes: usize) {
+        let now = self.at(now);
+        let sent = self.counting().transmit(now, bytes as u16, qr::SpaceId::Data, false);
+        debug_assert_eq!(sent, Ok(qr::Transmission::Transmitted));
+    }
+
+    // Packets that come in, and their ACKs
+
+    /// Whether it may have come before
+    pub fn received(&mut self, id: SpaceId, now: Instant, number: u64, ack_eliciting: bool) -> bool {
+        let (space, now) = (space_of(id), self.at(now));
+        let told = self.changing_in(id).on_event(Event::Received { space, now, number, ack_eliciting });
+        if told == Ok(Answer::New { arm: true }) {
+            let _ = self.sender.on_event(Event::AckDelayTimeout { space });
+        }
+        !matches!(told, Ok(Answer::New { .. }))
+    }
+
+    fn space(&self, id: SpaceId) -> Option<qr::SpaceStats> {
+        let seen = &self.seen_in[id as usize];
+        seen.set(seen.get().or_else(|| self.recovery().space(space_of(id))));
+        seen.get()
+    }
+
+    pub fn largest_received(&self, id: SpaceId) -> u64 {
+        self.space(id).map_or(0, |it| it.largest_received)
+    }
+
+    /// What of a space can be sent, where it has something else or not
+    pub fn sendable(&self, id: SpaceId, other: bool) -> SendableFrames {
+        let acks = self.can_send_acks(id);
+        SendableFrames { acks, other }
+    }
+
+    pub fn can_send_acks(&self, id: SpaceId) -> bool {
+        self.space(id).map_or(false, |it| it.can_send.acks)
+    }
+
+    pub fn acks(&self, id: SpaceId, now: Instant) -> Acks {
+        let (space, mut ranges) = (space_of(id), ArrayRangeSet::new());
+        let given: Vec<_> = self.recovery().ranges(space).collect();
+        for range in given.into_iter().rev() {
+            ranges.insert(range);
+        }
+        let delay = self.recovery().ack_delay(space, self.at(now)).unwrap_or_default();
+        Acks { ranges, delay }
+    }
+
+    pub fn acks_sent(&mut self, id: SpaceId) {
+        let space = space_of(id);
+        let _ = self.changing_in(id).on_event(Event::AcksSent { space });
+    }
+
+    // Packets that go out, and what becomes of them
+
+    pub fn next_number(&self, id: SpaceId) -> u64 {
+        self.space(id).expect("the space was not discarded").next_packet_number
+    }
+
+    /// The packet with the next number goes out; where it holds something, its number is the item that waits once it is
+    /// lost.
+    pub fn sent(
+        &mut self,
+        (id, number): (SpaceId, u64),
+        now: Instant,
+        size: u16,
+        ack_eliciting: bool,
+        largest_acked: Option<u64>,
+        holds: bool,
+    ) {
+        self.changing_in(id);
+        let queue = &[number][..usize::from(holds)];
+        let (space, now) = (space_of(id), self.at(now));
+        let sent = self.changing().send(space, now, size, ack_eliciting, largest_acked, queue);
+        assert_eq!(sent.map(|it| it.number), Ok(number), "another number was in the header");
+    }
+
+    /// An ACK frame came in. What it comes to is handed back by `keep`.
+    pub fn on_ack(
+        &mut self,
+        space: SpaceId,
+        now: Instant,
+        ack: &qr::Ack,
+        ranges: impl Iterator<Item = RangeInclusive<u64>>,
+    ) -> Result<qr::Acknowledged, Refused> {
+        self.changing_in(space);
+        let (space, now, mut told) = (space_of(space), self.at(now), mem::take(&mut self.told));
+        self.heard.clear();
+        self.heard.extend(ranges.map(|it| (*it.start(), *it.end())));
+        self.seen.set(None);
+        self.sender.on_ack_into(space, now, ack, &self.heard, &mut told)?;
+        Ok(told)
+    }
+
+    pub fn keep(&mut self, told: qr::Acknowledged) {
+        self.told = told;
+    }
+
+    /// The timer for losses may be due
+    pub fn on_timeout(&mut self, now: Instant) -> qr::Timeout {
+        let now = self.at(now);
+        let told = self.changing().on_timeout(now, false);
+        told.unwrap_or(qr::Timeout::Nothing)
+    }
+
+    /// The numbers of packets whose frames wait to be sent again
+    pub fn take_pending(&mut self, space: SpaceId) -> Vec<u64> {
+        let space = space_of(space);
+        match self.sender.on_event(Event::TakePending { space }) {
+            Ok(Answer::Queue(numbers)) => numbers,
+            _ => Vec::new(),
+        }
+    }
+
+    /// All that is tracked in the space goes
+    pub fn discard(&mut self, space: SpaceId, now: Instant) {
+        let now = self.at(now);
+        self.changing_in(space);
+        let _ = self.changing().discard(space_of(space), now);
+    }
+
+    /// What is tracked in the space was sent in vain
+    pub fn abandon(&mut self, space: SpaceId, now: Instant) {
+        let now = self.at(now);
+        let _ = self.changing().abandon(space_of(space), now);
+        self.take_pending(space);
+    }
+
+    pub fn handshake_keys(&mut self) {
+        self.sender.on_handshake_keys();
+    }
+
+    pub fn handshake_confirmed(&mut self) {
+        self.sender.on_handshake_confirmed();
+    }
+
+    pub fn peer_delay(&mut self, delay: Duration) {
+        self.sender.set_peer_max_ack_delay(delay);
+    }
+
+    /// When the timer for losses is due
+    pub fn timer(&self) -> Option<Instant> {
+        let at = self.sender.recovery().timer(qr::Timer::LossDetection)?;
+        Some(self.moment(at))
+    }
+
+    // The peer's ids
+
+    fn retire(&mut self, event: Event<'_>) -> Result<Option<(Range<u64>, ResetToken)>, Refused> {
+        let Answer::Retire(Some(range)) = self.sender.on_event(event)? else {
+            return Ok(None);
+        };
+        self.rem_ids.retain(|&(number, _)| number >= range.end);
+        let token = ResetToken::from(*self.recovery().reset_token().bytes());
+        Ok(Some((range, token)))
+    }
+
+    pub fn new_id(&mut self, frame: &frame::NewConnectionId) -> Result<Option<(Range<u64>, ResetToken)>, Refused> {
+        let told = self.retire(Event::NewId(qr::NewConnectionId {
+            sequence: frame.sequence,
+            retire_prior_to: frame.retire_prior_to,
+            id: id_of(&frame.id),
+            reset_token: token_of(&frame.reset_token),
+        }))?;
+        if !self.rem_ids.iter().any(|&(it, _)| it == frame.sequence) {
+            self.rem_ids.push_back((frame.sequence, frame.id));
+        }
+        Ok(told)
+    }
+
+    pub fn next_id(&mut self) -> Option<(Range<u64>, ResetToken)> {
+        self.retire(Event::NextId).unwrap_or(None)
+    }
+
+    pub fn initial_id(&mut self, id: ConnectionId) {
+        let _ = self.sender.on_event(Event::InitialId(id_of(&id)));
+        self.rem_ids = VecDeque::from([(0, id)]);
+    }
+
+    pub fn active_seq(&self) -> u64 {
+        self.recovery().ids().active
+    }
+
+    pub fn active_id(&self) -> ConnectionId {
+        let active = self.active_seq();
+        let found = self.rem_ids.iter().find(|&&(number, _)| number == active);
+        found.expect("the id in use is held").1
+    }
+
+    // This end's ids
+
+    pub fn cid_len(&self) -> usize {
+        self.cid_len
+    }
+
+    pub fn issue_ids(&mut self, now: Instant, ids: &[IssuedCid]) {
+        let now = self.at(now);
+        let given = |it: &IssuedCid| qr::IssuedCid::new(it.sequence, id_of(&it.id), token_of(&it.reset_token));
+        let ids: Vec<_> = ids.iter().map(given).collect();
+        let _ = self.sender.on_event(Event::IssueIds { now, ids: &ids });
+    }
+
+    /// Whether ids are to be issued in the place of those that expired
+    pub fn id_timeout(&mut self) -> bool {
+        self.sender.on_event(Event::IdTimeout) == Ok(Answer::Flag(true))
+    }
+
+    /// Whether there is room for one more id
+    pub fn peer_retired(&mut self, sequence: u64, limit: u64) -> Result<bool, Refused> {
+        let answer = self.sender.on_event(Event::PeerRetired { sequence, limit })?;
+        Ok(answer == Answer::Flag(true))
+    }
+
+    pub fn retire_prior_to(&self) -> u64 {
+        let told = self.recovery().ids().retire_prior_to;
+        told.max(self.retire_at_least)
+    }
+
+    pub fn next_expiry(&self) -> Option<Instant> {
+        let at = self.recovery().next_id_timeout()?;
+        Some(self.moment(at))
+    }
+
+    /// How many ids go newly where those below `number` are to be retired
+    #[cfg(test)]
+    pub fn retire_below(&mut self, number: u64) -> u64 {
+        number - mem::replace(&mut self.retire_at_least, number).max(self.recovery().ids().retire_prior_to)
+    }
+
+    /// The least and the last number of this end's ids that are not to be retired
+    #[cfg(test)]
+    pub fn own_ids(&self) -> (u64, u64) {
+        (self.retire_prior_to(), self.recovery().ids().issued - 1)
+    }
+}
+
+/// What is told of the controller in the library
+struct Window(u64);
+
+impl Controller for Window {
+    fn on_congestion_event(&mut self, _: Instant, _: Instant, _: bool, _: u64) {}
+
+    fn window(&self) -> u64 {
+        self.0
+    }
+
+    fn clone_box(&self) -> Box<dyn Controller> {
+        Box::new(Window(self.0))
+    }
+
+    fn initial_window(&self) -> u64 {
+        self.0
+    }
+
+    fn into_any(self: Box<Self>) -> Box<dyn std::any::Any> {
+        self
+    }
+}
