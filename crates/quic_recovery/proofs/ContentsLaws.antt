@@ -109,9 +109,9 @@ module _ {F K Q S M P T : Type 0} (run : Beginning F K Q S M P) (totals : Totals
         number_at n entry.0,
         found,
         swapped totals (measure packet.retransmits) (all_of packets) (measure other.retransmits),
-        λ (there : packet_at packets n ≡ Some packet). exchanged totals (measure entry.1.retransmits) (all_of packets) (measure packet.retransmits)
-        (measure other.retransmits) (all_of (replaced n (Some other) packets))
-        (all_replaced packets n packet other there),
+        λ (there : packet_at packets n ≡ Some packet). exchanged totals (measure entry.1.retransmits) (all_of packets)
+            (measure packet.retransmits) (measure other.retransmits) (all_of (replaced n (Some other) packets))
+            (all_replaced packets n packet other there),
       )
 
   -- one comes behind them
@@ -306,5 +306,5 @@ module _ {F K Q S M P : Type 0} (beginning : Beginning F K Q S M P) where
       kept_after (Told beginning) (LosesNothing beginning)
       (λ before event reply here kept totals measure adds space.
       reply_keeps beginning before totals measure adds space (kept totals measure adds space) event reply here)
-      (λ totals measure adds space. sym (unit_right totals (totals.plus totals.zero (measure beginning.queue.words.empty))
-      ∙ totals.unit (measure beginning.queue.words.empty) ∙ adds.empty))
+      (λ totals measure adds space. let none = measure beginning.queue.words.empty in
+      sym (unit_right totals (totals.plus totals.zero none) ∙ totals.unit none ∙ adds.empty))

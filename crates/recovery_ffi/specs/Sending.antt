@@ -184,9 +184,9 @@ abbrev pub delayed_by : ℕ → Variables → Variables
 delayed_by span variables = record variables { max_ack_delay = span }
 
 -- a challenge of the path in use is open, or none (RFC 9000, 8.2.1)
-pub record Challenges (challenge : Option ℕ) (pending : Bool) (old : Sending) (spelling : Reply) (new : Sending) : Type 0
+pub record Challenges (content : Option ℕ) (pending : Bool) (old : Sending) (spelling : Reply) (new : Sending) : Type 0
   where
-    pub does : Does (marked (challenged (parts_in old.sender) challenge pending) ∷ []) old.sender.variables old.sender
+    pub does : Does (marked (challenged (parts_in old.sender) content pending) ∷ []) old.sender.variables old.sender
         new.sender
     pub spells : spelling ≡ plain ANSWER_DONE
     pub told : new.told ≡ old.told

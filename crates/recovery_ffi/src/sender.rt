@@ -271,8 +271,8 @@ pub extern "C" fn recovery_ffi_sender_peer_delay(
 }
 
 /// A PATH_CHALLENGE frame with this content is open on the path in use, where `is_open`, and one is to be sent, where
-/// `pending` (RFC 9000, 8.2.1): `ANSWER_DONE`. While one is open the window does not grow: what is acknowledged may have
-/// gone by the path before it (RFC 9000, 9.4).
+/// `pending` (RFC 9000, 8.2.1): `ANSWER_DONE`. While one is open the window does not grow: what is acknowledged may
+/// have gone by the path before it (RFC 9000, 9.4).
 #[unsafe(no_mangle)]
 pub extern "C" fn recovery_ffi_sender_challenge(
     alloc: Global,
@@ -339,8 +339,8 @@ pub extern "C" fn recovery_ffi_told_numbers(
     count
 }
 
-/// Of each packet that was newly acknowledged as something was told last, rising: its number, how many items it carried,
-/// and these. How many words that are; they are written where there is room for all.
+/// Of each packet that was newly acknowledged as something was told last, rising: its number, how many items it
+/// carried, and these. How many words that are; they are written where there is room for all.
 #[unsafe(no_mangle)]
 pub extern "C" fn recovery_ffi_told_packets(
     alloc: Global,

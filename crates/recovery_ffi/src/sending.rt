@@ -476,6 +476,7 @@ impl Sending {
         self.sender.set_peer_max_ack_delay(span);
         Reply::plain(ANSWER_DONE)
     }
+
     fn challenge(&mut self, challenge: Option<u64>, pending: bool) -> Reply
         ensures { Challenges challenge pending self.old result self.new }
     {

@@ -7,5 +7,6 @@ pub mod sender;
 
 pub use recovery_losses::{Ack, Due};
 pub use sender::{
-    Acknowledged, EcnEnd, Losses, Newly, Refused, Sender, Side, Timeout, Transmission, Variables, passes,
+    Acknowledged, EcnEnd, Losses, Newly, Refused, Sender, Side, Timeout, Transmission, Variables,
+    passes,
 };

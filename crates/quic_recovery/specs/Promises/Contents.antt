@@ -1,6 +1,5 @@
--- Nothing is lost or doubled (RFC 9000, 13.3): by each measure that adds up, what was sent in a space is what its
--- packets carry and what waits (both by the table), with what was acknowledged, forgotten, handed out and discarded.
--- Whatever a program holds can be numbered, so that totals are numbers.
+-- Nothing is lost or doubled (RFC 9000, 13.3): by each measure that adds up (totals are numbered), what was sent is what
+-- packets carry and what waits, with what was acknowledged, forgotten, handed out and discarded.
 use Rattle.std.specs.Prelude.{◌≡◌, ℕ, List, [], ◌∷◌, Option, None, Some, Ok, if◌then◌else◌}
 use Rattle.recovery_base.specs.declared.below.SpaceId.{SpaceId}
 use Rattle.recovery_base.specs.Spaces.{same_space}
@@ -42,16 +41,15 @@ module _ {F K Q S M P T : Type 0} (run : Beginning F K Q S M P) (totals : Totals
 
     abbrev pub gone : History Q S M P → T
     gone [] = totals.zero
-    gone ((Acked there now n limited, Ok answer) ∷ earlier) =
-        totals.plus (in_it there (carried (Some n) earlier)) (gone earlier)
+    gone ((Acked there at n limited, Ok done) ∷ earlier) = totals.plus (in_it there (carried (Some n) earlier)) (gone earlier)
     gone ((Send there now size eliciting largest queue frames, Ok (Sent n forgotten)) ∷ earlier) =
         totals.plus (in_it there (carried forgotten earlier)) (gone earlier)
-    gone ((TakePending there, Ok (Queue q)) ∷ earlier) =
-        totals.plus (in_it there (measure (run.queue.contents q))) (gone earlier)
+    gone ((TakePending there, Ok (Queue pending)) ∷ earlier) =
+        totals.plus (in_it there (measure (run.queue.contents pending))) (gone earlier)
     gone ((DiscardSpace there, Ok answer) ∷ earlier) = totals.plus (in_it there (held earlier)) (gone earlier)
     gone (happened ∷ earlier) = gone earlier
 
 abbrev pub LosesNothing : {F K Q S M P : Type 0} → Beginning F K Q S M P → History Q S M P → Type 0
-LosesNothing {P = P} run history = (totals : Totals ℕ) (measure : P → ℕ) → AddsUp run.queue.words totals measure
-    → (space : SpaceId) → outgoing run totals measure space history
+LosesNothing {P = P} run history = (totals : Totals ℕ) (measure : P → ℕ) → AddsUp run.queue.words totals measure →
+    (space : SpaceId) → outgoing run totals measure space history
     ≡ totals.plus (held run totals measure space history) (gone run totals measure space history)

@@ -122,8 +122,9 @@ where
     /// two have no number between them (RFC 9000, 19.3.1); `Unsent` where a number was never sent (RFC 9000, 13.1);
     /// `SkippedAcked` where it holds the number that was skipped last (RFC 9000, 21.4); `NoMemory` where there is no
     /// room for the list of what is acknowledged. While a PATH_CHALLENGE frame is open on the path in use
-    /// ([`Sender::set_challenge`]) the window does not grow, as where the stack has too little to send. It costs its ranges, what it newly acknowledges and what is lost or
-    /// lies below the largest acknowledged, each with a logarithm.
+    /// ([`Sender::set_challenge`]) the window does not grow, as where the stack has too little to send. It costs its
+    /// ranges, what it newly acknowledges and what is lost or lies below the largest acknowledged, each with a
+    /// logarithm.
     pub fn on_ack(
         &mut self,
         space: SpaceId,
@@ -492,8 +493,8 @@ where
         Some(now - sent)
     }
 
-    /// Whether the window is not to grow: the stack had too little to send to fill it (RFC 9002, 7.8), or the path in use
-    /// is being validated, so that what comes may be for the path before it (RFC 9000, 9.4).
+    /// Whether the window is not to grow: the stack had too little to send to fill it (RFC 9002, 7.8), or the path in
+    /// use is being validated, so that what comes may be for the path before it (RFC 9000, 9.4).
     fn is_limited(&self, app_limited: bool) -> bool
         ensures { result ≡ is_limited (parts_in self.now) app_limited }
     {

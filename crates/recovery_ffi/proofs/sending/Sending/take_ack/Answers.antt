@@ -25,12 +25,15 @@ returns c = record {
   reply = Ok c.on_newly_acked-acked.result;
   comes = rw c.keep.ensures.sender (takes_ack _ _ _ _ _ _ _ _ c.in-Ok.ensures c.on_newly_acked-acked.ensures);
   spells = c.spell_acknowledged-reply.ensures;
-  told = (ap (λ told. told.acked) c.keep.ensures.told, grind (
-    arith,
-    c.keep.ensures.told,
-    c.list_packets.ensures,
-    c.if-not-list_packets.ensures,
-    c.deref.ensures.value,
-    c.on_newly_acked-acked.ensures.numbers,
-  ));
+  told = (
+    ap (λ told. told.acked) c.keep.ensures.told,
+    grind (
+      arith,
+      c.keep.ensures.told,
+      c.list_packets.ensures,
+      c.if-not-list_packets.ensures,
+      c.deref.ensures.value,
+      c.on_newly_acked-acked.ensures.numbers,
+    ),
+  );
 }
