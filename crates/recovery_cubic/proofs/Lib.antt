@@ -1,3 +1,4 @@
+mod CubicRows
 pub mod CurveLaws
 pub mod FallLaws
 pub mod FollowingLaws

@@ -92,7 +92,8 @@ impl ControllerFactory for CubicConfig {
 ///
 /// RFC 9438, 4.2, goes up to the curve of a round trip later in steps, one for each acknowledgement. Here each sets the
 /// window to the curve's at its own time, by at most half of its bytes: as in 4.2 half a window in a round trip. The
-/// window is never below what Reno's would be (4.3). An MTU of zero counts as one byte.
+/// window is never below what Reno's would be (4.3). An MTU of zero counts as one byte. Not here: a way back from a
+/// reduction for losses that were none (4.9), and another slow start (4.10).
 #[derive(Clone, Drop)]
 pub struct Cubic {
     initial_window: u64,

@@ -1,0 +1,62 @@
+-- Worked rows: a loss at a window of 120,000 bytes with datagrams of 1,200, and what is acknowledged behind it. Nothing
+-- rests on them.
+use Rattle.std.proofs.Common.{◌≡◌, true, false, [], ◌∷◌, None, refl, lit<, lit≤, arith}
+use Rattle.recovery_congestion.specs.Calls.{ControllerCall, acks, congests}
+use Rattle.recovery_congestion.specs.Rtt.{Rtt}
+use Rattle.recovery_cubic.specs.Curve.{micros, IsGreatestK}
+use Rattle.recovery_cubic.specs.History.{window_by}
+use Rattle.recovery_cubic.specs.RealCurve.{IsNearReal}
+use Rattle.recovery_cubic.specs.Following.{Begins, time_by, curve_of, curve_then}
+use Rattle.recovery_cubic.proofs.FollowingLaws.{goes_to_curve, real_curve}
+
+abbrev rtt : Rtt
+rtt = record { latest = 0; smoothed = None; variance = 0; least = 0 }
+
+-- a loss at one second, an acknowledgement a second later, and one long behind it while the application limits
+abbrev loss : ControllerCall
+loss = congests 1_000_000_000 1 false 1_200
+
+abbrev acked : ControllerCall
+acked = acks 2_000_000_000 1_500_000_000 84_000 false rtt
+
+abbrev limited : ControllerCall
+limited = acks 100_000_000_000 1_500_000_000 84_000 true rtt
+
+-- 30 datagrams are to go: K is the cube root of 75, 4.217163 seconds
+k_is : IsGreatestK micros 1_200 36_000 4_217_163
+k_is = record { fits = lit≤ tt; greatest = lit< tt }
+
+k_above_is_wrong : ¬ IsGreatestK micros 1_200 36_000 4_217_164
+k_above_is_wrong k = let fits = k.fits in omega (arith, fits)
+
+falls : window_by 120_000 0 1_200 (loss ∷ []) ≡ 84_000
+falls = refl
+
+begins : Begins 120_000 0 1_200 loss [] 4_217_163
+begins = record {
+  moment = 1_000_000_000;
+  reduced = refl;
+  before = lit≤ tt;
+  after = lit≤ tt;
+  k_is = k_is;
+}
+
+-- a second counts, and what passes while the application limits does not
+second_counts : time_by 120_000 0 1_200 (acked ∷ loss ∷ []) ≡ 1_000_000_000
+second_counts = refl
+
+limited_does_not : time_by 120_000 0 1_200 (limited ∷ acked ∷ loss ∷ []) ≡ 1_000_000_000
+limited_does_not = refl
+
+-- 120,000 - 480 (4.217163 - 1)^3 bytes
+curve_is : curve_then 120_000 0 1_200 (acked ∷ []) loss [] 4_217_163 ≡ 104_017
+curve_is = refl
+
+goes_there : window_by 120_000 0 1_200 (acked ∷ loss ∷ []) ≡ 104_017
+goes_there =
+    (goes_to_curve 120_000 0 1_200 loss [] 4_217_163 begins acked [] 2_000_000_000 84_000 tt refl).on
+    (lit≤ tt) (lit≤ tt) (lit≤ tt)
+
+-- within a datagram of the real one, as every number of parts of a nanosecond has it
+near : IsNearReal (curve_of 120_000 0 1_200 loss [] 4_217_163) 84_000 1_000_000_000
+near = real_curve 120_000 0 1_200 loss [] 4_217_163 begins (acked ∷ []) (lit< tt) (lit≤ tt)
