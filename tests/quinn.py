@@ -38,6 +38,7 @@ LINK_TESTS = 11
 LATER = [f"{LINK}gone_back"]  # which no event does yet: the previous path is used again
 SKIPPED = [word for it in LATER for word in ("--skip", it)]
 MEGABYTES = 100
+LOAD = 3  # how many times as long transfers over the link are in shadow
 TRANSFERS = [  # by which quinn, its controller, and the window at the start
     (AS_IT_IS, "reno", "as it is"),
     (PROVED, "reno", "over the library"),
@@ -231,7 +232,7 @@ def shadow(what, *words):
     """What a run in shadow compared, where it ended well."""
     file = ROOM / "compared.tsv"
     file.unlink(missing_ok=True)
-    status, said = cargo(PROVED, *words, QUINN_SHADOW=str(file))
+    status, said = cargo(PROVED, *words, QUINN_SHADOW=str(file), QUINN_LOAD=str(LOAD))
     tests.holds(f"{what} in shadow", status == 0, said[-4000:])
     rows = compared(file)
     for name, (often, differed, first) in sorted(rows.items()):
