@@ -1,11 +1,11 @@
 #!/usr/bin/env python3
 """quinn-proto 0.9.2 and quinn 0.9.3, as Debian 12 packages them, over the proved recovery in place of their own parts:
-their own tests with the library and without it; ours over a simulated link; the same in shadow, where their own parts are
-told the same beside it, and all that can be read of both is compared; and 100 MB over UDP on the loopback interface. A
-line of counts each; docs/QUINN.md says what was changed, and why.
+their own tests with the library and without it; ours over a simulated link; the same in shadow, where their own parts
+are told the same beside it, and all that can be read of both is compared; and 100 MB over UDP on the loopback interface.
+A line of counts each; docs/QUINN.md says what was changed, and why.
 
-    tests/quinn.py            all of it, in out/quinn: a quarter of an hour. Needs the library (tests/rust.py --library),
-                              cargo, and the sources of four packages; where these are missing, it says so and ends
+    tests/quinn.py            all of it, in out/quinn: ten minutes. Needs the library (tests/rust.py --library), cargo,
+                              and the sources of four packages; where these are missing, it says so and ends
     tests/quinn.py PART..     some of tests, shadow, transfer; or instructions: what a packet takes with the library and
                               without it, by valgrind
     tests/quinn.py --write    writes edits and glue, by what stands in out/quinn/proved
@@ -205,7 +205,8 @@ def run_tests():
     """Their own tests and ours over the link, with the library and without."""
     for which, what in (AS_IT_IS, "as it is"), (PROVED, "over the library"):
         skipped = SKIPPED if which == PROVED else []
-        status, said = cargo(which, "test", "-p", "quinn-proto", "-p", "quinn", "--lib", "--no-fail-fast", "--", *skipped)
+        crates = ["-p", "quinn-proto", "-p", "quinn"]
+        status, said = cargo(which, "test", *crates, "--lib", "--no-fail-fast", "--", *skipped)
         own, ours = passed(said, f"(?!{LINK})"), passed(said, LINK)["quinn_proto"]
         failed = re.findall(r"^test (\S+) \.\.\. FAILED$", said, re.M)
         tests.expect(f"their own tests, {what}; {failed or 'none'} failed", dict(own), OWN_TESTS)
