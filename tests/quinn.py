@@ -46,7 +46,6 @@ TRANSFERS = [  # by which quinn, its controller, and the window at the start
     *((AS_IT_IS, "both", str(window), f"with both from {window} bytes on") for window in (2400, 12000, 100000)),
 ]
 LONGEST = 28  # characters that a line of an edit may share with one of theirs
-JOBS = ["-j2"]
 
 OFFLINE = """[source.crates-io]
 replace-with = "debian"
@@ -188,7 +187,7 @@ def cargo(which, *words, **more):
     """What cargo, and what it runs, said in one of the workspaces."""
     folders = {"QUIC_RECOVERY_LIB": str(ROOM / "lib"), "CARGO_TARGET_DIR": str(ROOM / "target" / which)}
     how = {"env": {**os.environ, **folders, "CARGO_TERM_COLOR": "never", **more}, "stdin": subprocess.DEVNULL}
-    command = ["cargo", words[0], "--offline", *JOBS, *words[1:]]
+    command = ["cargo", words[0], "--offline", *words[1:]]
     return tree.ran(command, cwd=ROOM / which, stderr=subprocess.STDOUT, text=True, **how)[:2]
 
 
@@ -314,13 +313,13 @@ def main():
         return
     if given.write:
         return written(sources)
-    if not LIBRARY.is_file():
-        print("quinn: the library is missing: tests/rust.py --library")
-        sys.exit(1)
+    rt = shutil.which("rt")
+    if not LIBRARY.is_file() or not rt:
+        sys.exit("quinn: the library is missing: tests/rust.py --library" if rt else "quinn: rt is not on the PATH")
     without_theirs(sources)
     (ROOM / "lib").mkdir(parents=True, exist_ok=True)
-    kit = pathlib.Path(shutil.which("rt")).resolve()
-    for file in LIBRARY, next(it / "c" / "liblibc_c.a" for it in kit.parents if (it / "c" / "liblibc_c.a").is_file()):
+    kits = (it / "c" / "liblibc_c.a" for it in pathlib.Path(rt).resolve().parents)
+    for file in LIBRARY, next(it for it in kits if it.is_file()):
         shutil.copy(file, ROOM / "lib")
     for which in AS_IT_IS, PROVED:
         lay_out(which, sources)
