@@ -1,11 +1,11 @@
 #!/usr/bin/env python3
 """quinn-proto 0.9.2 and quinn 0.9.3, as Debian 12 packages them, over the proved recovery in place of their own parts:
-their own tests with the library and without it; ours over a simulated link; the same in shadow, where their own parts are
-told the same beside it, and all that can be read of both is compared; and 100 MB over UDP on the loopback interface. A
-line of counts each; docs/QUINN.md says what was changed, and why.
+their own tests with the library and without it; ours over a simulated link; the same in shadow, where their own parts
+are told the same beside it, and all that can be read of both is compared; and 100 MB over UDP on the loopback interface.
+A line of counts each; docs/QUINN.md says what was changed, and why.
 
-    tests/quinn.py            all of it, in out/quinn: a quarter of an hour. Needs the library (tests/rust.py --library),
-                              cargo, and the sources of four packages; where these are missing, it says so and ends
+    tests/quinn.py            all of it, in out/quinn: ten minutes. Needs the library (tests/rust.py --library), cargo,
+                              and the sources of four packages; where these are missing, it says so and ends
     tests/quinn.py PART..     some of tests, shadow, transfer; or instructions: what a packet takes with the library and
                               without it, by valgrind
     tests/quinn.py --write    writes edits and glue, by what stands in out/quinn/proved
@@ -38,6 +38,7 @@ LINK_TESTS = 11
 LATER = [f"{LINK}gone_back"]  # which no event does yet: the previous path is used again
 SKIPPED = [word for it in LATER for word in ("--skip", it)]
 MEGABYTES = 100
+LOAD = 3  # how many times as long transfers over the link are in shadow
 TRANSFERS = [  # by which quinn, its controller, and the window at the start
     (AS_IT_IS, "reno", "as it is"),
     (PROVED, "reno", "over the library"),
@@ -45,7 +46,6 @@ TRANSFERS = [  # by which quinn, its controller, and the window at the start
     *((AS_IT_IS, "both", str(window), f"with both from {window} bytes on") for window in (2400, 12000, 100000)),
 ]
 LONGEST = 28  # characters that a line of an edit may share with one of theirs
-JOBS = ["-j2"]
 
 OFFLINE = """[source.crates-io]
 replace-with = "debian"
@@ -187,7 +187,7 @@ def cargo(which, *words, **more):
     """What cargo, and what it runs, said in one of the workspaces."""
     folders = {"QUIC_RECOVERY_LIB": str(ROOM / "lib"), "CARGO_TARGET_DIR": str(ROOM / "target" / which)}
     how = {"env": {**os.environ, **folders, "CARGO_TERM_COLOR": "never", **more}, "stdin": subprocess.DEVNULL}
-    command = ["cargo", words[0], "--offline", *JOBS, *words[1:]]
+    command = ["cargo", words[0], "--offline", *words[1:]]
     return tree.ran(command, cwd=ROOM / which, stderr=subprocess.STDOUT, text=True, **how)[:2]
 
 
@@ -204,7 +204,8 @@ def run_tests():
     """Their own tests and ours over the link, with the library and without."""
     for which, what in (AS_IT_IS, "as it is"), (PROVED, "over the library"):
         skipped = SKIPPED if which == PROVED else []
-        status, said = cargo(which, "test", "-p", "quinn-proto", "-p", "quinn", "--lib", "--no-fail-fast", "--", *skipped)
+        crates = ["-p", "quinn-proto", "-p", "quinn"]
+        status, said = cargo(which, "test", *crates, "--lib", "--no-fail-fast", "--", *skipped)
         own, ours = passed(said, f"(?!{LINK})"), passed(said, LINK)["quinn_proto"]
         failed = re.findall(r"^test (\S+) \.\.\. FAILED$", said, re.M)
         tests.expect(f"their own tests, {what}; {failed or 'none'} failed", dict(own), OWN_TESTS)
@@ -231,7 +232,7 @@ def shadow(what, *words):
     """What a run in shadow compared, where it ended well."""
     file = ROOM / "compared.tsv"
     file.unlink(missing_ok=True)
-    status, said = cargo(PROVED, *words, QUINN_SHADOW=str(file))
+    status, said = cargo(PROVED, *words, QUINN_SHADOW=str(file), QUINN_LOAD=str(LOAD))
     tests.holds(f"{what} in shadow", status == 0, said[-4000:])
     rows = compared(file)
     for name, (often, differed, first) in sorted(rows.items()):
@@ -249,7 +250,12 @@ def run_shadow():
 
 
 def run_transfer():
-    """A transfer with the library and without, and of quinn as it is with the proved controller alone."""
+    """A transfer with the library and without, and of quinn as it is with the proved controller alone; the tests of the
+    controller's crate too."""
+    status, said = cargo(AS_IT_IS, "test", "-p", "quinn-congestion", "--release")
+    tests.holds("cargo test of quinn-congestion", status == 0 and "1 passed" in said, said[-4000:])
+    how = {"cwd": ROOT / "rust" / "quinn-congestion", "stdin": subprocess.DEVNULL, "text": True}
+    tests.holds("cargo fmt of quinn-congestion", tree.ran(["cargo", "fmt", "--check"], **how)[0] == 0)
     for which, *words, what in TRANSFERS:
         status, said = cargo(which, "run", "-p", "transfer", "--release", "--quiet", "--", str(MEGABYTES), *words)
         told = said.splitlines()[-1] if said else ""
@@ -307,13 +313,13 @@ def main():
         return
     if given.write:
         return written(sources)
-    if not LIBRARY.is_file():
-        print("quinn: the library is missing: tests/rust.py --library")
-        sys.exit(1)
+    rt = shutil.which("rt")
+    if not LIBRARY.is_file() or not rt:
+        sys.exit("quinn: the library is missing: tests/rust.py --library" if rt else "quinn: rt is not on the PATH")
     without_theirs(sources)
     (ROOM / "lib").mkdir(parents=True, exist_ok=True)
-    kit = pathlib.Path(shutil.which("rt")).resolve()
-    for file in LIBRARY, next(it / "c" / "liblibc_c.a" for it in kit.parents if (it / "c" / "liblibc_c.a").is_file()):
+    kits = (it / "c" / "liblibc_c.a" for it in pathlib.Path(rt).resolve().parents)
+    for file in LIBRARY, next(it for it in kits if it.is_file()):
         shutil.copy(file, ROOM / "lib")
     for which in AS_IT_IS, PROVED:
         lay_out(which, sources)

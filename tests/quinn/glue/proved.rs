@@ -8,8 +8,7 @@ use qr::Sender;
 use qr::{Answer, Event, PathName, Refusal, Refused};
 use quic_recovery as qr;
 use std::{
-    cell::Cell,
-    collections::VecDeque,
+    cell::OnceCell,
     mem,
     net::SocketAddr,
     ops::{Range, RangeInclusive},
@@ -40,14 +39,14 @@ pub(super) struct Proved {
     /// What the last ACK frame came to, and its ranges: kept for their memory
     told: qr::Acknowledged,
     heard: Vec<(u64, u64)>,
-    /// The peer's ids by their numbers: the library tells which one is in use, and not its bytes
-    rem_ids: VecDeque<(u64, ConnectionId)>,
+    /// The peer's ids by their numbers, the first of them in use: the library does not tell their bytes
+    rem_ids: Vec<(u64, ConnectionId)>,
     cid_len: usize,
     /// Set by tests, which push the retirement of ids
     retire_at_least: u64,
     /// The current path and the spaces, as they were read last
-    seen: Cell<Option<qr::PathStats>>,
-    seen_in: [Cell<Option<qr::SpaceStats>>; 3],
+    seen: OnceCell<qr::PathStats>,
+    seen_in: [OnceCell<Option<qr::SpaceStats>>; 3],
 }
 
 fn space_of(space: SpaceId) -> qr::SpaceId {
@@ -144,10 +143,10 @@ impl Proved {
             epoch: now,
             told: qr::Acknowledged::default(),
             heard: Vec::new(),
-            rem_ids: VecDeque::from([(0, ConnectionId::new(&config.initial_cid))]),
+            rem_ids: vec![(0, ConnectionId::new(&config.initial_cid))],
             cid_len: config.cid_len.into(),
             retire_at_least: 0,
-            seen: Cell::new(None),
+            seen: OnceCell::new(),
             seen_in: Default::default(),
         }
     }
@@ -167,28 +166,29 @@ impl Proved {
 
     /// For a call that may change the current path
     fn changing(&mut self) -> &mut Sender {
-        self.seen.set(None);
+        self.seen.take();
         &mut self.sender
     }
 
     /// For one that counts bytes, which is asked for before the path is validated alone
     fn counting(&mut self) -> &mut Sender {
-        self.seen.set(self.seen.get().filter(|it| it.validated));
+        if !self.path().validated {
+            self.seen.take();
+        }
         &mut self.sender
     }
 
     /// For one that may change a space
     fn changing_in(&mut self, space: SpaceId) -> &mut Sender {
-        self.seen_in[space as usize].set(None);
+        self.seen_in[space as usize].take();
         &mut self.sender
     }
 
     // Paths
 
-    pub fn path(&self) -> qr::PathStats {
-        let path = self.seen.get().or_else(|| self.recovery().path(PathName::Current));
-        self.seen.set(path);
-        path.expect("there is always a current path")
+    pub fn path(&self) -> &qr::PathStats {
+        let read = || self.recovery().path(PathName::Current);
+        self.seen.get_or_init(|| read().expect("there is always a current path"))
     }
 
     /// How many bytes may go out before the peer's address is validated (RFC 9000, 8.1)
@@ -251,10 +251,9 @@ impl Proved {
         !matches!(told, Ok(Answer::New { .. }))
     }
 
-    fn space(&self, id: SpaceId) -> Option<qr::SpaceStats> {
-        let seen = &self.seen_in[id as usize];
-        seen.set(seen.get().or_else(|| self.recovery().space(space_of(id))));
-        seen.get()
+    fn space(&self, id: SpaceId) -> Option<&qr::SpaceStats> {
+        let seen = self.seen_in[id as usize].get_or_init(|| self.recovery().space(space_of(id)));
+        seen.as_ref()
     }
 
     pub fn largest_received(&self, id: SpaceId) -> u64 {
@@ -322,7 +321,7 @@ impl Proved {
         let (space, now, mut told) = (space_of(space), self.at(now), mem::take(&mut self.told));
         self.heard.clear();
         self.heard.extend(ranges.map(|it| (*it.start(), *it.end())));
-        self.seen.set(None);
+        self.seen.take();
         self.sender.on_ack_into(space, now, ack, &self.heard, &mut told)?;
         Ok(told)
     }
@@ -381,35 +380,42 @@ impl Proved {
 
     // The peer's ids
 
-    fn retire(&mut self, event: Event<'_>) -> Result<Option<(Range<u64>, ResetToken)>, Refused> {
-        let Answer::Retire(Some(range)) = self.sender.on_event(event)? else {
+    /// An event by which another id may come into use, after one that the peer issued
+    fn retire(
+        &mut self,
+        event: Event<'_>,
+        issued: Option<(u64, ConnectionId)>,
+    ) -> Result<Option<(Range<u64>, ResetToken)>, Refused> {
+        let told = self.sender.on_event(event)?;
+        let is_held = |id: &(u64, ConnectionId)| self.rem_ids.iter().any(|it| it.0 == id.0);
+        let (active, issued) = (self.active_seq(), issued.filter(|it| !is_held(it)));
+        self.rem_ids.extend(issued);
+        self.rem_ids.retain(|it| it.0 >= active);
+        self.rem_ids.sort_by_key(|it| it.0);
+        let Answer::Retire(Some(range)) = told else {
             return Ok(None);
         };
-        self.rem_ids.retain(|&(number, _)| number >= range.end);
         let token = ResetToken::from(*self.recovery().reset_token().bytes());
         Ok(Some((range, token)))
     }
 
     pub fn new_id(&mut self, frame: &frame::NewConnectionId) -> Result<Option<(Range<u64>, ResetToken)>, Refused> {
-        let told = self.retire(Event::NewId(qr::NewConnectionId {
+        let event = Event::NewId(qr::NewConnectionId {
             sequence: frame.sequence,
             retire_prior_to: frame.retire_prior_to,
             id: id_of(&frame.id),
             reset_token: token_of(&frame.reset_token),
-        }))?;
-        if !self.rem_ids.iter().any(|&(it, _)| it == frame.sequence) {
-            self.rem_ids.push_back((frame.sequence, frame.id));
-        }
-        Ok(told)
+        });
+        self.retire(event, Some((frame.sequence, frame.id)))
     }
 
     pub fn next_id(&mut self) -> Option<(Range<u64>, ResetToken)> {
-        self.retire(Event::NextId).unwrap_or(None)
+        self.retire(Event::NextId, None).unwrap_or(None)
     }
 
     pub fn initial_id(&mut self, id: ConnectionId) {
         let _ = self.sender.on_event(Event::InitialId(id_of(&id)));
-        self.rem_ids = VecDeque::from([(0, id)]);
+        self.rem_ids = vec![(0, id)];
     }
 
     pub fn active_seq(&self) -> u64 {
@@ -417,9 +423,7 @@ impl Proved {
     }
 
     pub fn active_id(&self) -> ConnectionId {
-        let active = self.active_seq();
-        let found = self.rem_ids.iter().find(|&&(number, _)| number == active);
-        found.expect("the id in use is held").1
+        self.rem_ids[0].1
     }
 
     // This end's ids
