@@ -1,5 +1,4 @@
--- Nothing is lost or doubled (RFC 9000, 13.3): by each measure that adds up (totals are numbered), what was sent is what
--- packets carry and what waits, with what was acknowledged, forgotten, handed out and discarded.
+-- Nothing is lost or doubled (RFC 9000, 13.3): by each measure that adds up, what was sent is held still, or gone.
 use Rattle.std.specs.Prelude.{◌≡◌, ℕ, List, [], ◌∷◌, Option, None, Some, Ok, if◌then◌else◌}
 use Rattle.recovery_base.specs.declared.below.SpaceId.{SpaceId}
 use Rattle.recovery_base.specs.Spaces.{same_space}
@@ -21,7 +20,7 @@ module _ {F K Q S M P T : Type 0} (run : Beginning F K Q S M P) (totals : Totals
     carried None history = totals.zero
     carried (Some n) history = measure (contents_or run.queue.words.empty (packet_at (known history).sent.tracked n))
 
-    -- what all do, with what waits to be sent again
+    -- what all do, with what waits to be sent again, both by the table
     abbrev pub all : Packets P M → T
     all [] = totals.zero
     all (sent ∷ packets) = totals.plus (measure sent.1.retransmits) (all packets)
@@ -41,7 +40,8 @@ module _ {F K Q S M P T : Type 0} (run : Beginning F K Q S M P) (totals : Totals
 
     abbrev pub gone : History Q S M P → T
     gone [] = totals.zero
-    gone ((Acked there at n limited, Ok done) ∷ earlier) = totals.plus (in_it there (carried (Some n) earlier)) (gone earlier)
+    gone ((Acked there now n limited, Ok answer) ∷ earlier) =
+        totals.plus (in_it there (carried (Some n) earlier)) (gone earlier)
     gone ((Send there now size eliciting largest queue frames, Ok (Sent n forgotten)) ∷ earlier) =
         totals.plus (in_it there (carried forgotten earlier)) (gone earlier)
     gone ((TakePending there, Ok (Queue pending)) ∷ earlier) =
