@@ -66,8 +66,8 @@ fn number_in(rest: &mut &[u8]) -> Option<u64> {
     Some(number & ((1u64 << (8 * size - 2)) - 1))
 }
 
-/// Whether a packet's frames ask for an acknowledgement (RFC 9000, 13.2): looked at before any of them is handled, since
-/// the library is told with the number; nothing where they cannot be read.
+/// Whether a packet's frames ask for an acknowledgement (RFC 9000, 13.2): looked at before any of them is handled,
+/// since the library is told with the number; nothing where they cannot be read.
 pub(super) fn is_ack_eliciting(payload: &[u8]) -> Option<bool> {
     let mut rest = payload;
     while let Some(kind) = rest.first().copied() {
