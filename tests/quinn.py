@@ -1,8 +1,8 @@
 #!/usr/bin/env python3
 """quinn-proto 0.9.2 and quinn 0.9.3, as Debian 12 packages them, over the proved recovery in place of their own parts:
 their own tests with the library and without it; ours over a simulated link; the same in shadow, where their own parts
-are told the same beside it, and all that can be read of both is compared; and 100 MB over UDP on the loopback interface.
-A line of counts each; docs/QUINN.md says what was changed, and why.
+are told the same beside it, and all that can be read of both is compared; and 100 MB over UDP on the loopback
+interface. A line of counts each; docs/QUINN.md says what was changed, and why.
 
     tests/quinn.py            all of it, in out/quinn: ten minutes. Needs the library (tests/rust.py --library), cargo,
                               and the sources of four packages; where these are missing, it says so and ends

@@ -51,7 +51,14 @@ struct Own {
     spaces: [spaces::PacketSpace; 3],
     largest: [u64; 3],
     discarded: [bool; 3],
+    /// What the timer for losses goes by (RFC 9002, A.3)
+    is_server: bool,
     max_ack_delay: Duration,
+    pto_count: u32,
+    has_handshake_keys: bool,
+    is_confirmed: bool,
+    is_address_known: bool,
+    base: Instant,
     /// The paths so far: the last one is in use
     paths: Vec<Path>,
     /// On which path a packet was sent
@@ -144,12 +151,14 @@ impl Sender {
     pub fn discard(&mut self, space: qr::SpaceId, now: qr::Instant) -> Result<(), Refused> {
         self.compare().discard(space, now)?;
         self.own.discarded(space);
+        self.own.begin_anew(now);
         Ok(())
     }
 
     pub fn abandon(&mut self, space: qr::SpaceId, now: qr::Instant) -> Result<Vec<u64>, Refused> {
         let numbers = self.compare().abandon(space, now)?;
         self.own.abandoned(space, &numbers);
+        self.own.begin_anew(now);
         Ok(numbers)
     }
 
@@ -166,10 +175,12 @@ impl Sender {
 
     pub fn on_handshake_keys(&mut self) {
         self.sender.on_handshake_keys();
+        self.own.has_handshake_keys = true;
     }
 
     pub fn on_handshake_confirmed(&mut self) {
         self.sender.on_handshake_confirmed();
+        (self.own.is_confirmed, self.own.is_address_known) = (true, true);
     }
 
     pub fn set_peer_max_ack_delay(&mut self, delay: Duration) {
@@ -197,7 +208,13 @@ impl Own {
             spaces: [(); 3].map(|_| spaces::PacketSpace::new(now)),
             largest: [0; 3],
             discarded: [false; 3],
+            is_server: side == qr::Side::Server,
             max_ack_delay: Duration::from_millis(25),
+            pto_count: 0,
+            has_handshake_keys: false,
+            is_confirmed: false,
+            is_address_known: false,
+            base: now,
             paths: Vec::new(),
             sent_on: BTreeMap::new(),
             rem_cids: CidQueue::new(ConnectionId::new(&config.initial_cid)),
@@ -287,6 +304,9 @@ impl Own {
             self.same("can send acks", can_send, told.can_send.acks);
             self.same("ack ranges", own, recovery.ranges(id).collect());
         }
+        let own = self.due().map(|it| self.nanos(it));
+        let told = recovery.timer(qr::Timer::LossDetection).map(|it| it.as_nanos());
+        self.same("timer for losses", own, told);
         let ids = recovery.ids();
         self.same("id in use", self.rem_cids.active_seq(), ids.active);
         let own = self.local_cids.retire_prior_to();
@@ -339,6 +359,7 @@ impl Own {
         for number in own {
             self.loses(space, number);
         }
+        self.spaces[space as usize].loss_time = None;
     }
 
     fn tracked(&self, space: qr::SpaceId) -> Vec<u64> {
@@ -352,21 +373,49 @@ impl Own {
         Some((packet, on))
     }
 
-    /// Which packets of a space are lost (RFC 9002, 6.1)
-    fn lost_now(&mut self, space: qr::SpaceId, now: Instant) -> Vec<u64> {
+    fn begin_anew(&mut self, now: qr::Instant) {
+        (self.pto_count, self.base) = (0, self.at(now));
+    }
+
+    /// When the timer for losses is due (RFC 9002, 6.2 and A.8)
+    fn due(&mut self) -> Option<Instant> {
+        let lives = |it: &usize| !self.discarded[*it];
+        let lost = (0..3).filter(lives).filter_map(|it| self.spaces[it].loss_time).min();
+        let path = &self.paths[self.paths.len() - 1];
+        if lost.is_some() || !path.validated && 3 * path.total_recvd < path.total_sent + 1 {
+            return lost;
+        }
+        let span = |it: usize| {
+            let late = if it == 2 { self.max_ack_delay } else { Duration::ZERO };
+            (path.rtt.pto_base() + late) * 2u32.pow(self.pto_count.min(16))
+        };
+        let probe = |it: usize| {
+            let here = &self.spaces[it];
+            let is_due = here.sent_packets.values().any(|it| it.ack_eliciting) && (it < 2 || self.is_confirmed);
+            Some(here.time_of_last_ack_eliciting_packet.filter(|_| is_due)? + span(it))
+        };
+        let probes = (0..3).filter(lives).filter_map(probe).min();
+        let space = usize::from(self.has_handshake_keys && !self.discarded[1]);
+        let is_stuck = !self.is_server && !self.is_address_known && !self.discarded[space];
+        probes.or(is_stuck.then(|| self.base + span(space)))
+    }
+
+    /// Which packets of a space are lost, and when the next one is (RFC 9002, 6.1)
+    fn look(&mut self, space: qr::SpaceId, now: Instant) -> (Vec<u64>, Option<Instant>) {
         let delay = (self.path().rtt.conservative() * 9 / 8).max(Duration::from_millis(1));
         let here = &self.spaces[space as usize];
-        let Some(largest) = here.largest_acked_packet else {
-            return Vec::new();
-        };
-        let below = here.sent_packets.range(..largest);
-        let lost = below.filter(|(&at, it)| largest >= at + 3 || it.time_sent + delay <= now);
-        lost.map(|(&at, _)| at).collect()
+        let largest = here.largest_acked_packet.unwrap_or(0);
+        let is_lost = |at: u64, it: &spaces::SentPacket| largest >= at + 3 || it.time_sent + delay <= now;
+        let below = || here.sent_packets.range(..largest);
+        let lost = below().filter(|it| is_lost(*it.0, it.1)).map(|it| *it.0);
+        let rest = below().filter(|it| !is_lost(*it.0, it.1)).map(|it| it.1.time_sent + delay);
+        (lost.collect(), rest.min())
     }
 
     fn lost(&mut self, space: qr::SpaceId, now: Instant, losses: &qr::Losses) {
-        let own = self.lost_now(space, now);
+        let (own, time) = self.look(space, now);
         self.same("lost", &own, &losses.numbers);
+        self.spaces[space as usize].loss_time = time;
         let here = self.paths.len() - 1;
         let (mut bytes, mut last) = (0, None);
         for &number in &losses.numbers {
@@ -388,7 +437,12 @@ impl Own {
         let now = self.at(now);
         match told {
             qr::Timeout::Lost(losses) => {
-                let due = SPACES.into_iter().find(|&it| !self.lost_now(it, now).is_empty());
+                let due = SPACES.into_iter().find(|it| {
+                    let time = self.spaces[*it as usize].loss_time;
+                    !self.discarded[*it as usize] && time.map_or(false, |time| time <= now)
+                });
+                self.same("a space has losses", true, due.is_some());
+                self.base = now;
                 if let Some(space) = due {
                     self.lost(space, now, losses);
                 }
@@ -397,6 +451,7 @@ impl Own {
                 let it = &mut self.spaces[*space as usize];
                 it.loss_probes = 1;
                 it.maybe_queue_probe(&self.streams);
+                (self.pto_count, self.base) = (self.pto_count + 1, now);
             }
             _ => {}
         }
@@ -419,6 +474,11 @@ impl Own {
         self.same("newly acknowledged", &own, &told.numbers);
         if told.numbers.is_empty() {
             return;
+        }
+        self.base = now;
+        self.is_address_known |= space == qr::SpaceId::Handshake;
+        if self.is_server || self.is_address_known {
+            self.pto_count = 0;
         }
         let (largest, current) = (ranges[0].1, self.paths.len() - 1);
         let (mut elicits, mut sample) = (false, None);
@@ -513,6 +573,12 @@ impl Own {
                     stream_frames: Default::default(),
                 };
                 it.sent(number, packet);
+                if ack_eliciting {
+                    it.time_of_last_ack_eliciting_packet = Some(time_sent);
+                }
+                if size > 0 {
+                    self.base = time_sent;
+                }
                 self.sent_on.insert((space as usize, number), self.paths.len() - 1);
                 let path = self.path();
                 path.in_flight.0 += u64::from(size);

@@ -12,12 +12,13 @@ use std::{
     mem,
     net::SocketAddr,
     ops::{Range, RangeInclusive},
+    sync::Arc,
     time::{Duration, Instant},
 };
 
 use super::spaces::SendableFrames;
 use crate::{
-    congestion::Controller,
+    congestion::{NewReno, NewRenoConfig},
     frame,
     packet::SpaceId,
     range_set::ArrayRangeSet,
@@ -33,11 +34,11 @@ pub(super) struct Acks {
 }
 
 pub(super) struct Proved {
-    sender: Sender,
+    pub sender: Sender,
     /// The moment that the library knows as its nanosecond 0
     epoch: Instant,
     /// What the last ACK frame came to, and its ranges: kept for their memory
-    told: qr::Acknowledged,
+    pub told: qr::Acknowledged,
     heard: Vec<(u64, u64)>,
     /// The peer's ids by their numbers, the first of them in use: the library does not tell their bytes
     rem_ids: Vec<(u64, ConnectionId)>,
@@ -65,8 +66,8 @@ fn number_in(rest: &mut &[u8]) -> Option<u64> {
     Some(number & ((1u64 << (8 * size - 2)) - 1))
 }
 
-/// Whether a packet's frames ask for an acknowledgement (RFC 9000, 13.2): looked at before any of them is handled, since
-/// the library is told with the number; nothing where they cannot be read.
+/// Whether a packet's frames ask for an acknowledgement (RFC 9000, 13.2): looked at before any of them is handled,
+/// since the library is told with the number; nothing where they cannot be read.
 pub(super) fn is_ack_eliciting(payload: &[u8]) -> Option<bool> {
     let mut rest = payload;
     while let Some(kind) = rest.first().copied() {
@@ -201,8 +202,10 @@ impl Proved {
     }
 
     /// The window, for those who look at it
-    pub fn congestion_state(&self) -> impl Controller {
-        Window(self.path().window)
+    pub fn congestion_state(&self) -> NewReno {
+        let mut shown = NewRenoConfig::default();
+        shown.initial_window(self.path().window);
+        NewReno::new(Arc::new(shown), self.epoch)
     }
 
     pub fn new_path(&mut self, now: Instant, remote: SocketAddr, fresh: bool) {
@@ -251,13 +254,9 @@ impl Proved {
         !matches!(told, Ok(Answer::New { .. }))
     }
 
-    fn space(&self, id: SpaceId) -> Option<&qr::SpaceStats> {
+    pub fn space(&self, id: SpaceId) -> Option<&qr::SpaceStats> {
         let seen = self.seen_in[id as usize].get_or_init(|| self.recovery().space(space_of(id)));
         seen.as_ref()
-    }
-
-    pub fn largest_received(&self, id: SpaceId) -> u64 {
-        self.space(id).map_or(0, |it| it.largest_received)
     }
 
     /// What of a space can be sent, where it has something else or not
@@ -309,7 +308,7 @@ impl Proved {
         assert_eq!(sent.map(|it| it.number), Ok(number), "another number was in the header");
     }
 
-    /// An ACK frame came in. What it comes to is handed back by `keep`.
+    /// An ACK frame came in. What it comes to goes back to `told`.
     pub fn on_ack(
         &mut self,
         space: SpaceId,
@@ -324,10 +323,6 @@ impl Proved {
         self.seen.take();
         self.sender.on_ack_into(space, now, ack, &self.heard, &mut told)?;
         Ok(told)
-    }
-
-    pub fn keep(&mut self, told: qr::Acknowledged) {
-        self.told = told;
     }
 
     /// The timer for losses may be due
@@ -358,18 +353,6 @@ impl Proved {
         let now = self.at(now);
         let _ = self.changing().abandon(space_of(space), now);
         self.take_pending(space);
-    }
-
-    pub fn handshake_keys(&mut self) {
-        self.sender.on_handshake_keys();
-    }
-
-    pub fn handshake_confirmed(&mut self) {
-        self.sender.on_handshake_confirmed();
-    }
-
-    pub fn peer_delay(&mut self, delay: Duration) {
-        self.sender.set_peer_max_ack_delay(delay);
     }
 
     /// When the timer for losses is due
@@ -470,28 +453,5 @@ impl Proved {
     #[cfg(test)]
     pub fn own_ids(&self) -> (u64, u64) {
         (self.retire_prior_to(), self.recovery().ids().issued - 1)
-    }
-}
-
-/// What is told of the controller in the library
-struct Window(u64);
-
-impl Controller for Window {
-    fn on_congestion_event(&mut self, _: Instant, _: Instant, _: bool, _: u64) {}
-
-    fn window(&self) -> u64 {
-        self.0
-    }
-
-    fn clone_box(&self) -> Box<dyn Controller> {
-        Box::new(Window(self.0))
-    }
-
-    fn initial_window(&self) -> u64 {
-        self.0
-    }
-
-    fn into_any(self: Box<Self>) -> Box<dyn std::any::Any> {
-        self
     }
 }
