@@ -21,8 +21,9 @@ PICTURES = [  # the picture, the arguments, and the input
     ("pace-unchecked.svg", ["burst"], "42000 unchecked 110\n"),
     ("pace-fixed.svg", ["burst"], "42000 paced 110\n"),
     ("pace-newreno.svg", ["burst"], "newreno paced 400\n"),
+    ("windows.svg", ["windows"], "20000 rate=2000 queue=40 loss=500\n"),
 ]
-USAGE = "usage: recovery-pictures connection [from=MOMENT] [to=MOMENT] [SEED [WINDOW]] | tunnel | burst\n"
+USAGE = "usage: recovery-pictures connection [from=MOMENT] [to=MOMENT] [SEED [WINDOW]] | tunnel | burst | windows\n"
 LINE = "the input is no line as '42000 paced 400 rate=5000 loss=100': docs/PROGRAMS.md has its words and limits\n"
 REFUSED = [  # the arguments, the input, and what is told
     ([], "", USAGE),
@@ -37,6 +38,11 @@ REFUSED = [  # the arguments, the input, and what is told
     (["connection"], "validated current\nnothing\n", "line 2: cannot be read\n"),
     (["tunnel"], "1400 yes\n1400\n", "line 2: not 'SIZE yes' or 'SIZE no'\n"),
     (["burst"], "", LINE),
+    (["windows"], "", LINE),
+    (["windows"], "0\n", LINE),
+    (["windows"], "60001\n", LINE),
+    (["windows"], "newreno paced 400\n", LINE),
+    (["windows", "-"], "400\n", USAGE),
 ]
 REFUSED += [(["burst"], f"newreno paced 400 {word}\n", LINE) for word in
             ("rate=0", "rate=1000001", "delay=0", "delay=1001", "queue=0", "queue=1001", "loss=1000001", "loss", "speed=1")]

@@ -6,6 +6,7 @@ mod link;
 mod picture;
 mod sender;
 mod settings;
+mod windows;
 
 use crate::failure::Failure;
 use crate::start::Window;
@@ -13,10 +14,12 @@ use closed_loop::{ClosedLoop, Log};
 use link::Link;
 use picture::draw;
 use quic_recovery::congestion::{ControllerFactory, NewRenoConfig};
+use recovery_cubic::CubicConfig;
 use recovery_replay::fixed_window::FixedWindowConfig;
 use sender::Burst;
 use settings::Settings;
 use std::alloc::Global;
+pub use windows::picture_of as windows_of;
 
 /// The picture of a run, by a line of settings.
 pub fn picture_of(alloc: Global, text: &str) -> Result<String, Failure> {
@@ -27,6 +30,7 @@ pub fn picture_of(alloc: Global, text: &str) -> Result<String, Failure> {
         Window::Fixed(bytes) if bytes > 0 => {
             drawn(alloc, FixedWindowConfig::new(bytes), &settings)
         }
+        Window::Cubic => drawn(alloc, CubicConfig::default(), &settings),
         _ => drawn(alloc, NewRenoConfig::default(), &settings),
     }
 }
@@ -39,7 +43,11 @@ where
 {
     let rtt = settings.link.there_and_back();
     let sender = Burst::new(alloc, factory, settings.is_checked, rtt)?;
-    let mut ends = ClosedLoop::new(sender, Link::new(alloc, settings.link), Log::new(alloc));
+    let mut ends = ClosedLoop::new(
+        sender,
+        Link::new(alloc, settings.link),
+        Log::new(alloc, settings.end),
+    );
     let picture = run_and_draw(alloc, settings, &mut ends);
     drop(ends);
     picture

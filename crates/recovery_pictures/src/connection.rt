@@ -17,6 +17,7 @@ use quic_recovery::feeding::{Sink, Source};
 use quic_recovery::time::Instant;
 use rand_core::SeedableRng;
 use rand_pcg::Pcg32;
+use recovery_cubic::CubicConfig;
 use recovery_queue::items::ItemQueue;
 use recovery_replay::fixed_window::FixedWindowConfig;
 use recovery_replay::script::{Ending, ScriptReader};
@@ -30,6 +31,10 @@ pub fn picture_of(alloc: Global, choice: Choice, input: &mut impl Read) -> Resul
         Window::Fixed(bytes) if bytes > 0 => {
             let factory = FixedWindowConfig::new(bytes);
             ("a fixed window", gathered(alloc, factory, choice, events)?)
+        }
+        Window::Cubic => {
+            let factory = CubicConfig::default();
+            ("CUBIC", gathered(alloc, factory, choice, events)?)
         }
         _ => {
             let factory = NewRenoConfig::default();

@@ -10,7 +10,7 @@ use thiserror::Error;
 /// Why no picture is written.
 #[derive(Clone, Copy, Debug, Error)]
 pub enum Failure {
-    #[error("usage: recovery-pictures connection [from=MOMENT] [to=MOMENT] [SEED [WINDOW]] | tunnel | burst")]
+    #[error("usage: recovery-pictures connection [from=MOMENT] [to=MOMENT] [SEED [WINDOW]] | tunnel | burst | windows")]
     Usage,
     #[error("line {0}: cannot be read")]
     BadLine(u64),

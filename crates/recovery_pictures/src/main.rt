@@ -40,6 +40,7 @@ fn run(rt: &HostRuntime) -> Result<(), Failure> {
         }
         Request::Tunnel => tunnel::picture_of(rt.alloc(), text(rt)?.as_str())?,
         Request::Burst => burst::picture_of(rt.alloc(), text(rt)?.as_str())?,
+        Request::Windows => burst::windows_of(rt.alloc(), text(rt)?.as_str())?,
         Request::Help => return write(rt, HELP),
         Request::Version => return write(rt, VERSION),
         Request::Unknown => return Err(Failure::Usage),

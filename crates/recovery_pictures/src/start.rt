@@ -13,6 +13,8 @@ use std::net::{IpAddr, Ipv4Addr, SocketAddr};
 pub enum Window {
     /// NewReno's (RFC 9002, 7).
     NewReno,
+    /// CUBIC's (RFC 9438).
+    Cubic,
     /// So many bytes, above zero.
     Fixed(u64),
 }

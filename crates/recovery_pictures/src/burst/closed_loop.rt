@@ -12,6 +12,9 @@ use std::alloc::Global;
 /// How many steps a run has at most.
 const STEPS: u64 = 20_000;
 
+/// How many moments of a run have a window that is drawn, but for those at which it falls.
+const WINDOWS: u64 = 1_000;
+
 /// How many packets go out at one moment at most.
 const AT_ONCE: u64 = 1_000;
 
@@ -26,16 +29,23 @@ pub struct Log {
     pub bound: Vec<Point>,
     /// The moments that the pacer named.
     pub named: Vec<u64>,
+    /// The congestion window.
+    pub windows: Vec<Point>,
+    /// How far moments of windows are apart, where it does not fall.
+    grain: u64,
 }
 
 impl Log {
-    pub fn new(alloc: Global) -> Self {
+    /// Of a run up to a moment.
+    pub fn new(alloc: Global, end: u64) -> Self {
         Log {
             total: 0,
             spans: Bound::new(alloc),
             sent: Vec::new(alloc),
             bound: Vec::new(alloc),
             named: Vec::new(alloc),
+            windows: Vec::new(alloc),
+            grain: end / WINDOWS,
         }
     }
 
@@ -55,6 +65,18 @@ impl Log {
         match asked.until {
             Some(until) if self.named.last() != Some(&until) => self.named.push(until)?,
             _ => {}
+        }
+        Ok(())
+    }
+
+    /// Notes the window, where it fell or some time has passed.
+    fn window(&mut self, now: u64, window: u64) -> Result<(), NoMemory> {
+        let is_told = match self.windows.last() {
+            Some(last) => window >= last.y && now < last.x.saturating_add(self.grain),
+            None => false,
+        };
+        if !is_told {
+            self.windows.push(Point { x: now, y: window })?;
         }
         Ok(())
     }
@@ -137,6 +159,7 @@ where
             self.sender.acknowledged(now, number)?;
         }
         self.sender.expire(now)?;
+        self.log.window(now, self.sender.window())?;
         self.send(now)
     }
 

@@ -37,6 +37,7 @@ fn title(alloc: Global, settings: &Settings) -> Result<String, AllocError> {
     )?;
     match settings.window {
         Window::NewReno => format!(in alloc; "NewReno, {over}"),
+        Window::Cubic => format!(in alloc; "CUBIC, {over}"),
         Window::Fixed(bytes) => format!(in alloc; "A window of {bytes} bytes, {over}"),
     }
 }

@@ -90,6 +90,11 @@ where
         self.is_checked
     }
 
+    /// The congestion window, in bytes (RFC 9002, 7).
+    pub fn window(&self) -> u64 {
+        self.sender.recovery().current().congestion.window()
+    }
+
     /// Whether the window has room for a packet (RFC 9002, 7), or a probe is due, which goes out beyond it (7.5).
     pub fn may_send(&self) -> bool {
         let path = self.sender.recovery().current();

@@ -7,6 +7,9 @@ use crate::start::Window;
 /// The longest run, in milliseconds.
 const LONGEST: u64 = 5_000;
 
+/// The longest run of which windows are drawn, in milliseconds.
+const LONGEST_WINDOWS: u64 = 60_000;
+
 /// The greatest fixed window, in bytes.
 const GREATEST: u64 = 1_000_000;
 
@@ -34,8 +37,8 @@ pub struct Settings {
 }
 
 impl Settings {
-    /// What a line says: `newreno` or a window in bytes, `paced` or `unchecked`, milliseconds, and what of the link is
-    /// not usual.
+    /// What a line says: `newreno`, `cubic` or a window in bytes, `paced` or `unchecked`, milliseconds, and what of the
+    /// link is not usual.
     pub fn read(line: &str) -> Option<Settings> {
         let mut words = line.split(' ');
         let window = window_in(words.next()?)?;
@@ -50,6 +53,25 @@ impl Settings {
             is_checked,
             end: millis.saturating_mul(MILLISECOND),
             link,
+        })
+    }
+}
+
+impl Settings {
+    /// What a line of windows says, over a link of this delay in milliseconds: milliseconds, and what else of the link
+    /// is not usual.
+    pub fn read_windows(line: &str, delay: u64) -> Option<Settings> {
+        let mut words = line.split(' ');
+        let millis = within(words.next()?.parse().ok()?, LONGEST_WINDOWS)?;
+        let mut link = Shape::usual();
+        for word in words {
+            link = link_with(link, word)?;
+        }
+        Some(Settings {
+            window: Window::NewReno,
+            is_checked: true,
+            end: millis.saturating_mul(MILLISECOND),
+            link: Shape { delay, ..link },
         })
     }
 }
@@ -80,8 +102,10 @@ fn link_with(link: Shape, word: &str) -> Option<Shape> {
 }
 
 fn window_in(word: &str) -> Option<Window> {
-    if word == "newreno" {
-        return Some(Window::NewReno);
+    match word {
+        "newreno" => return Some(Window::NewReno),
+        "cubic" => return Some(Window::Cubic),
+        _ => {}
     }
     let bytes = within(word.parse().ok()?, GREATEST)?;
     Some(Window::Fixed(bytes))
