@@ -9,6 +9,7 @@ use qr::{Answer, Event, PathName, Refusal, Refused};
 use quic_recovery as qr;
 use std::{
     cell::OnceCell,
+    collections::VecDeque,
     mem,
     net::SocketAddr,
     ops::{Range, RangeInclusive},
@@ -16,12 +17,12 @@ use std::{
     time::{Duration, Instant},
 };
 
-use super::spaces::SendableFrames;
+use super::spaces::{SendableFrames, SentPacket};
 use crate::{
+    coding::BufMutExt,
     congestion::{NewReno, NewRenoConfig},
     frame,
     packet::SpaceId,
-    range_set::ArrayRangeSet,
     shared::{ConnectionId, IssuedCid},
     token::ResetToken,
     Side, TransportError,
@@ -29,8 +30,29 @@ use crate::{
 
 /// What an ACK frame says.
 pub(super) struct Acks {
-    pub ranges: ArrayRangeSet,
+    /// The numbers, rising
+    pub ranges: Vec<Range<u64>>,
     pub delay: Duration,
+}
+
+impl Acks {
+    /// The frame (RFC 9000, 19.3)
+    pub fn encode(&self, delay: u64, ecn: Option<&frame::EcnCounts>, buf: &mut Vec<u8>) {
+        buf.write_var(2 + u64::from(ecn.is_some()));
+        let mut above = None;
+        for range in self.ranges.iter().rev() {
+            match above {
+                None => {
+                    [range.end - 1, delay, self.ranges.len() as u64 - 1].into_iter().for_each(|it| buf.write_var(it))
+                }
+                Some(start) => buf.write_var(start - range.end - 1),
+            }
+            buf.write_var(range.end - range.start - 1);
+            above = Some(range.start);
+        }
+        let counts = ecn.into_iter().flat_map(|it| [it.ect0, it.ect1, it.ce]);
+        counts.for_each(|it| buf.write_var(it));
+    }
 }
 
 pub(super) struct Proved {
@@ -48,6 +70,38 @@ pub(super) struct Proved {
     /// The current path and the spaces, as they were read last
     seen: OnceCell<qr::PathStats>,
     seen_in: [OnceCell<Option<qr::SpaceStats>>; 3],
+}
+
+/// What packets hold that are tracked, by their numbers, which rise as they are put in
+#[derive(Default)]
+pub(crate) struct Packets {
+    first: u64,
+    packets: VecDeque<Option<SentPacket>>,
+}
+
+impl Packets {
+    pub fn insert(&mut self, number: u64, packet: SentPacket) {
+        if self.packets.is_empty() {
+            self.first = number;
+        }
+        let above = usize::try_from(number - self.first).expect("fewer packets than memory has bytes");
+        self.packets.resize_with(above, || None);
+        self.packets.push_back(Some(packet));
+    }
+
+    pub fn remove(&mut self, number: u64) -> Option<SentPacket> {
+        let at = usize::try_from(number.checked_sub(self.first)?).ok()?;
+        let packet = self.packets.get_mut(at)?.take();
+        while let Some(None) = self.packets.front() {
+            self.packets.pop_front();
+            self.first += 1;
+        }
+        packet
+    }
+
+    pub fn into_values(self) -> impl Iterator<Item = SentPacket> {
+        self.packets.into_iter().flatten()
+    }
 }
 
 fn space_of(space: SpaceId) -> qr::SpaceId {
@@ -270,13 +324,9 @@ impl Proved {
     }
 
     pub fn acks(&self, id: SpaceId, now: Instant) -> Acks {
-        let (space, mut ranges) = (space_of(id), ArrayRangeSet::new());
-        let given: Vec<_> = self.recovery().ranges(space).collect();
-        for range in given.into_iter().rev() {
-            ranges.insert(range);
-        }
-        let delay = self.recovery().ack_delay(space, self.at(now)).unwrap_or_default();
-        Acks { ranges, delay }
+        let space = space_of(id);
+        let delay = self.recovery().ack_delay(space, self.at(now));
+        Acks { ranges: self.recovery().ranges(space).collect(), delay: delay.unwrap_or_default() }
     }
 
     pub fn acks_sent(&mut self, id: SpaceId) {
