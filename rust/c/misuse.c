@@ -55,7 +55,7 @@ static void settings(void) {
     window.initial_window = 0;
     skip.first_skip = 64;
     many.issued = (1ull << 62) + 1;
-    controller.controller = 2;
+    controller.controller = 3;
     skips.skips = 3;
     struct recovery_handle none = {0};
     expect("all zeros", made(&none, zero, 8) == RECOVERY_NEW_ZERO_MTU);
@@ -64,7 +64,7 @@ static void settings(void) {
     expect("a window of zero", made(&none, window, 8) == RECOVERY_NEW_ZERO_WINDOW);
     expect("a first skip of 64", made(&none, skip, 8) == RECOVERY_NEW_SKIP_TOO_LARGE);
     expect("too many ids", made(&none, many, 8) == RECOVERY_NEW_TOO_MANY_ISSUED);
-    expect("controller 2", made(&none, controller, 8) == RECOVERY_NEW_UNKNOWN_CONTROLLER);
+    expect("controller 3", made(&none, controller, 8) == RECOVERY_NEW_UNKNOWN_CONTROLLER);
     expect("skips 3", made(&none, skips, 8) == RECOVERY_NEW_UNKNOWN_SKIPS);
     expect("an id of 21 bytes", made(&none, sound, 21) == RECOVERY_NEW_CID_TOO_LONG);
     expect("nothing is held then", none.ptr == NULL);
