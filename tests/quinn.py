@@ -35,8 +35,6 @@ MISSING = ["anyhow", "bencher", "clap", "rustls-pemfile", "url"]  # what quinn's
 OWN_TESTS = {"quinn_proto": 162, "quinn": 17}
 LINK = "tests::load::"  # our tests over a link
 LINK_TESTS = 11
-LATER = [f"{LINK}gone_back"]  # which no event does yet: the previous path is used again
-SKIPPED = [word for it in LATER for word in ("--skip", it)]
 MEGABYTES = 100
 LOAD = 3  # how many times as long transfers over the link are in shadow
 TRANSFERS = [  # by which quinn, its controller, and the window at the start
@@ -203,13 +201,11 @@ def passed(said, form):
 def run_tests():
     """Their own tests and ours over the link, with the library and without."""
     for which, what in (AS_IT_IS, "as it is"), (PROVED, "over the library"):
-        skipped = SKIPPED if which == PROVED else []
-        crates = ["-p", "quinn-proto", "-p", "quinn"]
-        status, said = cargo(which, "test", *crates, "--lib", "--no-fail-fast", "--", *skipped)
+        status, said = cargo(which, "test", "-p", "quinn-proto", "-p", "quinn", "--lib", "--no-fail-fast")
         own, ours = passed(said, f"(?!{LINK})"), passed(said, LINK)["quinn_proto"]
         failed = re.findall(r"^test (\S+) \.\.\. FAILED$", said, re.M)
         tests.expect(f"their own tests, {what}; {failed or 'none'} failed", dict(own), OWN_TESTS)
-        tests.expect(f"tests over a simulated link, {what}", ours, LINK_TESTS - (len(LATER) if which == PROVED else 0))
+        tests.expect(f"tests over a simulated link, {what}", ours, LINK_TESTS)
         tests.holds(f"cargo test, {what}", status == 0, said[-4000:])
         tests.passed += sum(own.values()) + ours
         theirs = " and ".join(f"{count} of {crate}" for crate, count in sorted(own.items()))
@@ -245,7 +241,7 @@ def shadow(what, *words):
 def run_shadow():
     """The same with their own parts beside the library."""
     how = ["--release", "--features", "quinn-proto/shadow"]
-    shadow("the tests", "test", "-p", "quinn-proto", "--lib", *how, "--", *SKIPPED)
+    shadow("the tests", "test", "-p", "quinn-proto", "--lib", *how)
     shadow("a transfer", "run", "-p", "transfer", *how, "--", str(MEGABYTES), "reno")
 
 

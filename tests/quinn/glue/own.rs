@@ -59,8 +59,10 @@ struct Own {
     is_confirmed: bool,
     is_address_known: bool,
     base: Instant,
-    /// The paths so far: the last one is in use
+    /// The paths so far; which one is in use, and which one was before it
     paths: Vec<Path>,
+    current: usize,
+    previous: Option<usize>,
     /// On which path a packet was sent
     sent_on: BTreeMap<(usize, u64), usize>,
     rem_cids: CidQueue,
@@ -216,6 +218,8 @@ impl Own {
             is_address_known: false,
             base: now,
             paths: Vec::new(),
+            current: 0,
+            previous: None,
             sent_on: BTreeMap::new(),
             rem_cids: CidQueue::new(ConnectionId::new(&config.initial_cid)),
             local_cids: CidState::new(config.cid_len.into(), config.cid_lifetime, now),
@@ -228,17 +232,19 @@ impl Own {
     }
 
     fn path(&mut self) -> &mut Path {
-        self.paths.last_mut().unwrap()
+        &mut self.paths[self.current]
     }
 
     fn new_path(&mut self, now: Instant, fresh: bool) {
-        let (rtt, congestion, mtu) = match self.paths.last() {
+        let (rtt, congestion, mtu) = match self.paths.get(self.current) {
             Some(path) if !fresh => (path.rtt, path.congestion.clone_box(), path.mtu),
             _ => {
                 let rtt = RttEstimator::new(self.initial_rtt);
                 (rtt, self.reno.build(now), self.initial_mtu.min(self.limit))
             }
         };
+        self.previous = (!self.paths.is_empty()).then_some(self.current);
+        self.current = self.paths.len();
         self.paths.push(Path {
             pacing: Pacer::new(rtt.get(), congestion.window(), mtu, now),
             rtt,
@@ -381,7 +387,7 @@ impl Own {
     fn due(&mut self) -> Option<Instant> {
         let lives = |it: &usize| !self.discarded[*it];
         let lost = (0..3).filter(lives).filter_map(|it| self.spaces[it].loss_time).min();
-        let path = &self.paths[self.paths.len() - 1];
+        let path = &self.paths[self.current];
         if lost.is_some() || !path.validated && 3 * path.total_recvd < path.total_sent + 1 {
             return lost;
         }
@@ -416,7 +422,7 @@ impl Own {
         let (own, time) = self.look(space, now);
         self.same("lost", &own, &losses.numbers);
         self.spaces[space as usize].loss_time = time;
-        let here = self.paths.len() - 1;
+        let here = self.current;
         let (mut bytes, mut last) = (0, None);
         for &number in &losses.numbers {
             let Some((packet, on)) = self.loses(space, number) else { continue };
@@ -480,7 +486,7 @@ impl Own {
         if self.is_server || self.is_address_known {
             self.pto_count = 0;
         }
-        let (largest, current) = (ranges[0].1, self.paths.len() - 1);
+        let (largest, current) = (ranges[0].1, self.current);
         let (mut elicits, mut sample) = (false, None);
         for &number in &told.numbers {
             let Some((packet, on)) = self.leaves(space, number) else { continue };
@@ -579,7 +585,7 @@ impl Own {
                 if size > 0 {
                     self.base = time_sent;
                 }
-                self.sent_on.insert((space as usize, number), self.paths.len() - 1);
+                self.sent_on.insert((space as usize, number), self.current);
                 let path = self.path();
                 path.in_flight.0 += u64::from(size);
                 path.in_flight.1 += u64::from(ack_eliciting);
@@ -653,6 +659,7 @@ impl Own {
                 path.mtu = path.mtu.min(size);
             }
             Event::NewPath { now, fresh, .. } => self.new_path(self.at(now), fresh),
+            Event::RevertPath => self.current = self.previous.take().unwrap_or(self.current),
             _ => {}
         }
     }

@@ -267,6 +267,11 @@ impl Proved {
         let _ = self.changing().on_event(Event::NewPath { now, remote, fresh });
     }
 
+    /// The path before the current one is used again
+    pub fn revert_path(&mut self) {
+        let _ = self.changing().on_event(Event::RevertPath);
+    }
+
     pub fn peer_limit(&mut self, size: u16) {
         let _ = self.changing().on_event(Event::PeerLimit { size });
     }
