@@ -93,6 +93,8 @@ pub struct Sender {
     /// Of the current path.
     first_behind_sample: Option<(Space, u64)>,
     sending_ecn: bool,
+    /// The same of the previous one.
+    previous: (Option<(Space, u64)>, bool),
 }
 
 fn later(moment: Moment, span: Span) -> Moment {
@@ -127,6 +129,7 @@ impl Sender {
             loss_times: [None; 3],
             first_behind_sample: None,
             sending_ecn: true,
+            previous: (None, true),
         };
         sender.begin_window();
         sender.set_timer();
@@ -193,6 +196,7 @@ impl Sender {
             Event::ResetPath { .. } => (false, true),
             _ => (false, false),
         };
+        let goes_back = matches!(event, Event::RevertPath);
         let holds_skipped = match event {
             Event::CheckAck { space, low, high } => self.is_skipped(space, &[(low, high)]),
             _ => false,
@@ -212,8 +216,12 @@ impl Sender {
             self.begin_window();
         }
         if moves {
+            self.previous = (self.first_behind_sample, self.sending_ecn);
             self.sending_ecn = true;
             self.first_behind_sample = self.first_behind_sample.filter(|_| !fresh);
+        }
+        if goes_back {
+            (self.first_behind_sample, self.sending_ecn) = self.previous;
         }
         if holds_skipped { Err(SKIPPED_ACKED) } else { Ok(answer) }
     }
