@@ -763,8 +763,8 @@ struct recovery_reply recovery_ffi_sender_handshake_confirmed(struct recovery_ha
 struct recovery_reply recovery_ffi_sender_peer_delay(struct recovery_handle *handle, uint64_t secs, uint32_t nanos);
 
 // A PATH_CHALLENGE frame with this content is open on the path in use, where `is_open`, and one is to be sent, where
-// `pending` (RFC 9000, 8.2.1): `RECOVERY_ANSWER_DONE`. While one is open the window does not grow: what is acknowledged may have
-// gone by the path before it (RFC 9000, 9.4).
+// `pending` (RFC 9000, 8.2.1): `RECOVERY_ANSWER_DONE`. While one is open the window does not grow: what is acknowledged may
+// have gone by the path before it (RFC 9000, 9.4).
 struct recovery_reply recovery_ffi_sender_challenge(struct recovery_handle *handle, uint64_t content, bool is_open, bool pending);
 
 // How many probe timeouts expired in a row, by which the next one is doubled (RFC 9002, 6.2.1); 0 where there is no
@@ -779,8 +779,8 @@ struct recovery_toldview recovery_ffi_told(struct recovery_handle *handle);
 // without that of the MTU's probe; they are written, rising, where there is room for all.
 size_t recovery_ffi_told_numbers(struct recovery_handle *handle, bool lost, uint64_t *out, size_t out_len);
 
-// Of each packet that was newly acknowledged as something was told last, rising: its number, how many items it carried,
-// and these. How many words that are; they are written where there is room for all.
+// Of each packet that was newly acknowledged as something was told last, rising: its number, how many items it
+// carried, and these. How many words that are; they are written where there is room for all.
 size_t recovery_ffi_told_packets(struct recovery_handle *handle, uint64_t *out, size_t out_len);
 
 // The default settings: an address that is not validated, ACKs 25 ms late at most, ids of 8 bytes that last 10 s, one

@@ -871,8 +871,8 @@ unsafe extern "C" {
     pub fn recovery_ffi_sender_peer_delay(handle: *mut Handle, secs: u64, nanos: u32) -> Reply;
 
     /// A PATH_CHALLENGE frame with this content is open on the path in use, where `is_open`, and one is to be sent, where
-    /// `pending` (RFC 9000, 8.2.1): `ANSWER_DONE`. While one is open the window does not grow: what is acknowledged may have
-    /// gone by the path before it (RFC 9000, 9.4).
+    /// `pending` (RFC 9000, 8.2.1): `ANSWER_DONE`. While one is open the window does not grow: what is acknowledged may
+    /// have gone by the path before it (RFC 9000, 9.4).
     pub fn recovery_ffi_sender_challenge(
         handle: *mut Handle,
         content: u64,
@@ -897,8 +897,8 @@ unsafe extern "C" {
         out_len: usize,
     ) -> usize;
 
-    /// Of each packet that was newly acknowledged as something was told last, rising: its number, how many items it carried,
-    /// and these. How many words that are; they are written where there is room for all.
+    /// Of each packet that was newly acknowledged as something was told last, rising: its number, how many items it
+    /// carried, and these. How many words that are; they are written where there is room for all.
     pub fn recovery_ffi_told_packets(handle: *mut Handle, out: *mut u64, out_len: usize) -> usize;
 
     /// The default settings: an address that is not validated, ACKs 25 ms late at most, ids of 8 bytes that last 10 s, one
