@@ -1,4 +1,4 @@
-use Rattle.quic_recovery.specs.History.{queue_meaning}
+use Rattle.recovery_history.specs.History.{queue_meaning}
 use Rattle.recovery_sender.specs.Senders.{parts_in}
 use Rattle.recovery_sender.specs.Timer.{TimerIsSet}
 use Rattle.recovery_sender.proofs.AliveLaws.{never_stalls}
