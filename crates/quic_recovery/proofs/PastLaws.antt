@@ -20,19 +20,21 @@ use Rattle.quic_recovery.proofs.FewLaws.{few_told}
 use Rattle.quic_recovery.proofs.ForgottenLaws.{forgets_oldest}
 use Rattle.quic_recovery.proofs.FrequencyLaws.{takes_newest}
 use Rattle.quic_recovery.proofs.FullLaws.{overflows_full}
+use Rattle.quic_recovery.proofs.HalvingLaws.{halves_told}
 use Rattle.quic_recovery.proofs.HolesLaws.{holes_told}
 use Rattle.quic_recovery.proofs.LeftLaws.{changes_by_logs, left_after}
 use Rattle.quic_recovery.proofs.MtuLaws.{mtu_told}
 use Rattle.quic_recovery.proofs.NearLaws.{near_told}
 use Rattle.quic_recovery.proofs.NewNumbersLaws.{numbers_told}
 use Rattle.quic_recovery.proofs.OneFateLaws.{have_one_fate, leave_once}
-use Rattle.quic_recovery.proofs.OwnIdsLaws.{issues_ids}
+use Rattle.quic_recovery.proofs.OwnIdsLaws.{asks_to_retire, issues_ids}
 use Rattle.quic_recovery.proofs.PacingLaws.{delayed, rate, soon, named, covered, paid}
 use Rattle.quic_recovery.proofs.PeerIdsLaws.{accepts_ids}
+use Rattle.quic_recovery.proofs.PendingLaws.{hands_out}
 use Rattle.quic_recovery.proofs.RefusedLaws.{refuses_rightly}
 use Rattle.quic_recovery.proofs.SendableLaws.{finds_to_send}
 use Rattle.quic_recovery.proofs.SizesLaws.{sizes_told}
-use Rattle.quic_recovery.proofs.SkippedLaws.{keeps_next, keeps_skipped, sends_unless}
+use Rattle.quic_recovery.proofs.SkippedLaws.{keeps_next, keeps_skipped, sends_unless, skips_none}
 use Rattle.quic_recovery.proofs.StartsLaws.{starts_timer}
 use Rattle.quic_recovery.proofs.ThreefoldLaws.{sends_threefold}
 use Rattle.quic_recovery.proofs.PlainLaws.{timers_told}
@@ -91,6 +93,10 @@ module _ {F K Q S M P : Type 0} (beginning : Beginning F K Q S M P) where
         frequency = (takes_newest beginning now all).0;
         full = (overflows_full beginning now all).0;
         tries = (tries_told beginning now all).0;
+        halving = (halves_told beginning now all).0;
+        lifetimes = (asks_to_retire beginning now all).0;
+        pending = hands_out beginning before event reply all.0;
+        unskipped = (skips_none beginning now all).0;
       }
 
   -- from every past by which it came here it goes on: each clause of whole runs, at the event that is put behind it
