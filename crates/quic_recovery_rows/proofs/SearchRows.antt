@@ -1,7 +1,8 @@
 -- Worked rows of the promises of searches for the MTU and of black holes, computed: with the right answer each holds,
 -- and with a wrong one it does not. Nothing rests on them.
 use Rattle.std.proofs.lemmas.Bool.Decides.{nat_tests}
-use Rattle.std.proofs.Common.{◌≡◌, ℕ, ◌<◌, ◌≤◌, zero, suc, true, false, List, [], ◌∷◌, Option, None, Some, Ok, Err, inl, inr, refl, arith}
+use Rattle.std.proofs.lemmas.Option.{none-some, same_Some}
+use Rattle.std.proofs.Common.{◌≡◌, ℕ, ◌<◌, ◌≤◌, zero, suc, true, false, List, [], ◌∷◌, Option, None, Some, Ok, Err, inl, inr, refl, sym, arith}
 use Rattle.std.specs.Prelude.{All}
 use Rattle.std.specs.declared.net.socket_addr.SocketAddr.{SocketAddr}
 use Rattle.rand_core.specs.Stream.{Stream}
@@ -224,16 +225,18 @@ module _ (remote : SocketAddr) (random : Stream) where
   within_the_limit = refl
 
   one_less_is_wrong : ¬ RowHalves [] (Ok (answer.Probe 0 1325))
-  one_less_is_wrong = λ halves. let is = halves _ refl (omega arith) in cc
+  one_less_is_wrong = λ halves.
+      let is : Some 1326 ≡ Some 1325 = halves _ refl (omega arith) in omega (arith, same_Some 1326 1325 is)
 
   none_is_wrong : ¬ RowHalves [] (Ok answer.NoProbe)
-  none_is_wrong = λ halves. let is = halves _ refl (omega arith) refl refl in cc
+  none_is_wrong = λ halves. none-some 1326 (sym (halves _ refl (omega arith) refl refl))
 
   another_after_one_loss_is_wrong : ¬ RowHalves (fails 1389 (passes 1326 [])) (Ok (answer.Probe 0 1357))
-  another_after_one_loss_is_wrong = λ halves. let is = halves _ refl (omega arith) in cc
+  another_after_one_loss_is_wrong = λ halves.
+      let is : Some 1389 ≡ Some 1357 = halves _ refl (omega arith) in omega (arith, same_Some 1389 1357 is)
 
   one_more_is_wrong : ¬ RowHalves over (Ok (answer.Probe 0 1372))
-  one_more_is_wrong = λ halves. let is = halves _ refl (omega arith) in cc
+  one_more_is_wrong = λ halves. none-some 1372 (halves _ refl (omega arith))
 
 -- ---- in turn: a probe is in flight as packet 7
 
