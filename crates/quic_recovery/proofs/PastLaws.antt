@@ -31,7 +31,7 @@ use Rattle.quic_recovery.proofs.OwnIdsLaws.{asks_to_retire, issues_ids}
 use Rattle.quic_recovery.proofs.PacingLaws.{delayed, rate, soon, named, covered, paid}
 use Rattle.quic_recovery.proofs.PeerIdsLaws.{accepts_ids}
 use Rattle.quic_recovery.proofs.PendingLaws.{hands_out}
-use Rattle.quic_recovery.proofs.RefusedLaws.{refuses_rightly}
+use Rattle.quic_recovery.proofs.RefusedLaws.{refuses_rightly, spares_memory}
 use Rattle.quic_recovery.proofs.SendableLaws.{finds_to_send}
 use Rattle.quic_recovery.proofs.SizesLaws.{sizes_told}
 use Rattle.quic_recovery.proofs.SkippedLaws.{keeps_next, keeps_skipped, sends_unless, skips_none}
@@ -97,6 +97,7 @@ module _ {F K Q S M P : Type 0} (beginning : Beginning F K Q S M P) where
         lifetimes = (asks_to_retire beginning now all).0;
         pending = hands_out beginning before event reply all.0;
         unskipped = (skips_none beginning now all).0;
+        spares = spares_memory beginning before event reply all.0;
       }
 
   -- from every past by which it came here it goes on: each clause of whole runs, at the event that is put behind it

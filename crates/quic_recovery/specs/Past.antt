@@ -36,6 +36,7 @@ use Rattle.quic_recovery.specs.Promises.Sendable.{FindsToSend}
 use Rattle.quic_recovery.specs.Promises.Sends.{SendsUnless}
 use Rattle.quic_recovery.specs.Promises.Sizes.{ProbesWithin}
 use Rattle.quic_recovery.specs.Promises.Skipped.{GivesNext, ChecksAcks}
+use Rattle.quic_recovery.specs.Promises.Spares.{SparesMemory}
 use Rattle.quic_recovery.specs.Promises.Starts.{StartsTimer}
 use Rattle.quic_recovery.specs.Promises.Threefold.{KeepsThreefold}
 use Rattle.quic_recovery.specs.Promises.Timeouts.{TellsTimers}
@@ -182,6 +183,8 @@ module _ {F K Q S M P : Type 0} (beginning : Beginning F K Q S M P) where
     -- Where no numbers are to be skipped, a packet goes out under the first number above all that were given out in
     -- its space (RFC 9000, 12.3).
     pub unskipped : SkipsNone beginning before event reply
+    -- Memory is refused to an event only where something may grow by it.
+    pub spares : SparesMemory event reply
 
   -- from a past to that past with one event more
   pub record ExtendsFrom (past : History Q S M P) (event : Event Q S M P) (reply : Reply Q) (new : Parts K P M) : Type 0

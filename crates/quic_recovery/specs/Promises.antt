@@ -34,6 +34,7 @@ pub mod Sendable
 pub mod Sends
 pub mod Sizes
 pub mod Skipped
+pub mod Spares
 pub mod Starts
 pub mod Threefold
 pub mod Timeouts
