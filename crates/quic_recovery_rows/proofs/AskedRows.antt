@@ -1,10 +1,11 @@
--- Worked rows of the promises on counts of ECN, on requests for fewer ACKs and on counters that are full, computed:
--- with the right answer each holds, and with a wrong one it does not. Nothing rests on them.
-use Rattle.std.proofs.Common.{◌^◌, ◌-◌, ℕ, true, false, [], ◌∷◌, Ok, Err, refl, arith}
+-- Worked rows of the promises on counts of ECN, on requests for fewer ACKs, on counters that are full and on memory,
+-- computed: with the right answer each holds, and with a wrong one it does not. Nothing rests on them.
+use Rattle.std.proofs.Common.{◌≡◌, ◌^◌, ◌-◌, ℕ, true, false, [], ◌∷◌, Ok, Err, refl, arith}
 use Rattle.std.specs.declared.net.socket_addr.SocketAddr.{SocketAddr}
 use Rattle.recovery_base.specs.declared.below.SpaceId.TheVariants.{Initial, Data}
 use Rattle.recovery_base.specs.declared.below.frames.EcnCounts.{EcnCounts}
 use Rattle.recovery_paths.specs.declared.path_pair.PathName.TheVariants.{Current, Previous}
+use Rattle.recovery_events.specs.declared.event.Event.{Event}
 use Rattle.recovery_events.specs.declared.event.Event.TheVariants as event
 use Rattle.recovery_events.specs.declared.event.Answer.TheVariants as answer
 use Rattle.recovery_events.specs.declared.event.Refusal.TheVariants as refusal
@@ -12,6 +13,7 @@ use Rattle.recovery_history.specs.History.{History}
 use Rattle.recovery_history.specs.Promises.Ecn.{ChecksEcn}
 use Rattle.recovery_history.specs.Promises.Frequency.{TakesNewest}
 use Rattle.recovery_history.specs.Promises.Full.{OverflowsFull}
+use Rattle.recovery_history.specs.Promises.Spares.{SparesMemory}
 use Rattle.quic_recovery_rows.proofs.RowStart.{ack_frame}
 
 module _ (Q S M P : Type 0) (remote : SocketAddr) where
@@ -93,3 +95,25 @@ module _ (Q S M P : Type 0) (remote : SocketAddr) where
 
   two_paths_are_few : ¬ OverflowsFull moved (event.NewPath 6 remote true) (Err refusal.Overflow)
   two_paths_are_few = λ many. omega (arith, many)
+
+-- ---- memory: to lose a packet may take some, for what waits grows; to hand that out takes none
+
+module _ (Q S M P : Type 0) (remote : SocketAddr) where
+  abbrev Spares : Event Q S M P → Type 0
+  Spares event = SparesMemory event (Err refusal.NoMemory)
+
+  lost_may_grow : Spares (event.Lost Data 1)
+  lost_may_grow = refl
+
+  taken_is_wrong : ¬ Spares (event.TakePending Data)
+  taken_is_wrong = λ e. cc
+
+  acked_is_wrong : ¬ Spares (event.Acked Data 5 1 false)
+  acked_is_wrong = λ e. cc
+
+  -- a path that goes on has a second controller, a fresh one a new one
+  path_may_grow : Spares (event.NewPath 5 remote false)
+  path_may_grow = refl
+
+  fresh_path_is_wrong : ¬ Spares (event.NewPath 5 remote true)
+  fresh_path_is_wrong = λ e. cc

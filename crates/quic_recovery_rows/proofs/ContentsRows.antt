@@ -1,10 +1,12 @@
--- Worked rows of the promise that contents are neither lost nor doubled, computed: with the right answers it comes out,
--- and with a wrong one it does not. Nothing rests on them.
-use Rattle.std.proofs.Common.{◌≡◌, ℕ, ◌+◌, ◌==◌, max, true, false, [], ◌∷◌, None, Some, Ok, Err, refl, arith}
+-- Worked rows of the promises that contents are neither lost nor doubled, and are handed out in their order, computed:
+-- with the right answers they come out, and with a wrong one they do not. Nothing rests on them.
+use Rattle.std.proofs.Common.{◌≡◌, ℕ, ◌+◌, ◌==◌, max, true, false, List, [], ◌∷◌, None, Some, Ok, Err, refl, arith}
+use Rattle.std.specs.declared.net.socket_addr.SocketAddr.{SocketAddr}
 use Rattle.rand_core.specs.Stream.{Stream}
 use Rattle.recovery_base.specs.declared.below.SpaceId.TheVariants.{Initial, Handshake}
 use Rattle.recovery_congestion.specs.Controllers.{ControllerWords}
 use Rattle.recovery_queue.specs.Queues.{QueueWords}
+use Rattle.recovery_skips.specs.declared.filter.Skips.TheVariants.{Disabled}
 use Rattle.recovery_history.specs.declared.config.RecoveryConfig.{RecoveryConfig}
 use Rattle.recovery_events.specs.declared.event.Event.TheVariants as event
 use Rattle.recovery_events.specs.declared.event.Answer.TheVariants as answer
@@ -12,6 +14,8 @@ use Rattle.recovery_events.specs.declared.event.Refusal.TheVariants as refusal
 use Rattle.recovery_history.specs.History.{Beginning, History, begins, queue_meaning}
 use Rattle.recovery_history.specs.Promises.Contents.{LosesNothing, outgoing, held, gone}
 use Rattle.recovery_history.specs.Promises.Measures.{AddsUp, Totals}
+use Rattle.recovery_history.specs.Promises.Pending.{HandsOutInOrder}
+use Rattle.quic_recovery_rows.proofs.RowStart.{RowHistory, row_start}
 
 -- contents that are numbers of bytes, which are joined by adding them
 abbrev words : QueueWords ℕ (Unit {0})
@@ -131,3 +135,51 @@ module _ (F K M : Type 0) (built : F → ℕ → ℕ → K) (controller : Contro
       ∷ (event.Send Initial 4 1200 true None 1 frames, Ok (answer.Sent 0 None))
       ∷ [])
   lost_is_wrong = λ e. let gone = e flags bytes joins Initial in omega (arith, gone)
+
+-- ---- in which order they are handed out: items 5 and 6 went out under 0, and 3 under 1
+
+module _ (remote : SocketAddr) (random : Stream) where
+  abbrev RowHands : RowHistory → List ℕ → Type 0
+  RowHands history handed = HandsOutInOrder (row_start remote random 8 Disabled) history (event.TakePending Initial)
+      (Ok (answer.Queue handed))
+
+  abbrev two_out : RowHistory
+  two_out =
+      (event.Send Initial 5 1200 true None (3 ∷ []) tt, Ok (answer.Sent 1 None))
+      ∷ (event.Send Initial 4 1200 true None (5 ∷ 6 ∷ []) tt, Ok (answer.Sent 0 None))
+      ∷ []
+
+  abbrev lost : ℕ → RowHistory → RowHistory
+  lost number earlier = (event.Lost Initial number, Ok (answer.Lost false)) ∷ earlier
+
+  by_their_losses : RowHands (lost 0 (lost 1 two_out)) (3 ∷ 5 ∷ 6 ∷ [])
+  by_their_losses = refl
+
+  by_their_numbers_is_wrong : ¬ RowHands (lost 0 (lost 1 two_out)) (5 ∷ 6 ∷ 3 ∷ [])
+  by_their_numbers_is_wrong = λ e. cc
+
+  -- a probe found the first of them
+  abbrev probed : RowHistory
+  probed = (event.QueueProbe Initial false tt, Ok (answer.Sendable record { acks = false; other = true })) ∷ two_out
+
+  found_first : RowHands (lost 0 (lost 1 probed)) (5 ∷ 6 ∷ 3 ∷ [])
+  found_first = refl
+
+  lost_twice_is_wrong : ¬ RowHands (lost 0 (lost 1 probed)) (5 ∷ 6 ∷ 3 ∷ 5 ∷ 6 ∷ [])
+  lost_twice_is_wrong = λ e. cc
+
+  -- what was handed out waits no more, and a loss that is refused adds nothing
+  abbrev taken : RowHistory
+  taken =
+      (event.Lost Initial 1, Err refusal.NotTracked)
+      ∷ (event.TakePending Initial, Ok (answer.Queue (3 ∷ [])))
+      ∷ lost 1 two_out
+
+  none_waits : RowHands taken []
+  none_waits = refl
+
+  again_is_wrong : ¬ RowHands taken (3 ∷ [])
+  again_is_wrong = λ e. cc
+
+  another_space : RowHands ((event.TakePending Handshake, Ok (answer.Queue [])) ∷ lost 1 two_out) (3 ∷ [])
+  another_space = refl

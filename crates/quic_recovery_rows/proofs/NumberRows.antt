@@ -4,15 +4,17 @@ use Rattle.std.proofs.lemmas.Bool.Decides.{nat_tests}
 use Rattle.std.proofs.lemmas.List.{length-append}
 use Rattle.std.proofs.Common.{◌≡◌, ◌≤◌, ◌+◌, ◌-◌, ◌^◌, ℕ, zero, suc, Bool, true, false, List, [], ◌∷◌, ◌++◌, length, None, Some, Ok, Err, inl, inr, refl, ap, ◌∙◌, arith, add-one}
 use Rattle.recovery_base.specs.declared.below.SpaceId.TheVariants.{Initial, Data}
+use Rattle.recovery_skips.specs.declared.filter.Skips.TheVariants.{Disabled}
 use Rattle.recovery_events.specs.declared.event.Event.{Event}
 use Rattle.recovery_events.specs.declared.event.Event.TheVariants as event
 use Rattle.recovery_events.specs.declared.event.Answer.TheVariants as answer
 use Rattle.recovery_events.specs.declared.event.Refusal.TheVariants as refusal
-use Rattle.recovery_history.specs.History.{History, Reply}
+use Rattle.recovery_history.specs.History.{Beginning, History, Reply}
 use Rattle.recovery_history.specs.Promises.Fates.{times, is_given}
 use Rattle.recovery_history.specs.Promises.Forgotten.{oldest, silent_since, ForgetsOldest}
 use Rattle.recovery_history.specs.Promises.Sends.{SendsUnless}
 use Rattle.recovery_history.specs.Promises.Skipped.{IsNext, WasSkipped, ChecksAcks}
+use Rattle.recovery_history.specs.Promises.Unskipped.{SkipsNone}
 
 module _ (Q S M P : Type 0) (queue : Q) (frames : M) where
   abbrev send : ℕ → Bool → Event Q S M P
@@ -160,3 +162,19 @@ module _ (Q S M P : Type 0) (queue : Q) (frames : M) where
 
   eliciting_is_not_forgotten : ¬ ForgetsOldest (sent 0 ∷ []) (send 40 false) (Ok (answer.Sent 1 (Some 0)))
   eliciting_is_not_forgotten = λ told. cc
+
+-- ---- where no numbers are to be skipped: 0 went out
+
+module _ {F K Q S M P : Type 0} (beginning : Beginning F K Q S M P) (queue : Q) (frames : M) where
+  abbrev zero_sent : History Q S M P
+  zero_sent = sent Q S M P queue frames 0 ∷ []
+
+  above_zero : (n : ℕ) → 1 ≤ n → times (is_given Data n) zero_sent ≡ 0
+  above_zero = λ n above. grind (arith, nat_tests, above)
+
+  one_goes : SkipsNone beginning zero_sent (send Q S M P queue frames 1200 true) (Ok (answer.Sent 1 None))
+  one_goes = λ none space number goes m above. (let zero = above 0 in grind (arith, nat_tests, goes, zero))
+
+  two_skips_one : beginning.config.skips ≡ Disabled
+      → ¬ SkipsNone beginning zero_sent (send Q S M P queue frames 1200 true) (Ok (answer.Sent 2 None))
+  two_skips_one = λ none skips. let small = skips none Data 2 refl 1 above_zero in omega (arith, small)

@@ -1,7 +1,8 @@
 -- Worked rows of the promises of searches for the MTU and of black holes, computed: with the right answer each holds,
 -- and with a wrong one it does not. Nothing rests on them.
 use Rattle.std.proofs.lemmas.Bool.Decides.{nat_tests}
-use Rattle.std.proofs.Common.{◌≡◌, ℕ, ◌<◌, ◌≤◌, zero, suc, true, false, [], ◌∷◌, None, Some, Ok, Err, inl, inr, refl, arith}
+use Rattle.std.proofs.lemmas.Option.{none-some, same_Some}
+use Rattle.std.proofs.Common.{◌≡◌, ℕ, ◌<◌, ◌≤◌, zero, suc, true, false, List, [], ◌∷◌, Option, None, Some, Ok, Err, inl, inr, refl, sym, arith}
 use Rattle.std.specs.Prelude.{All}
 use Rattle.std.specs.declared.net.socket_addr.SocketAddr.{SocketAddr}
 use Rattle.rand_core.specs.Stream.{Stream}
@@ -15,6 +16,7 @@ use Rattle.recovery_events.specs.declared.event.Refusal.TheVariants as refusal
 use Rattle.recovery_history.specs.History.{Beginning, History, Reply}
 use Rattle.recovery_history.specs.Promises.Bursts.{open_run, size_of}
 use Rattle.recovery_history.specs.Promises.Few.{ProbesFew, is_in_flight, sizes_probed}
+use Rattle.recovery_history.specs.Promises.Halving.{HalvesSizes, next_size}
 use Rattle.recovery_history.specs.Promises.Holes.{ReportsAtFour}
 use Rattle.recovery_history.specs.Promises.Mtu.{mtu}
 use Rattle.recovery_history.specs.Promises.Near.{IsNear, next, start}
@@ -171,6 +173,70 @@ module _ (remote : SocketAddr) (random : Stream) where
 
   what_is_in_use : ¬ Fits through 1326
   what_is_in_use = λ fits. let above = (fits.2 _ refl (omega arith)).0 in omega (arith, above)
+
+-- ---- the sizes of a search, one after another: from 1200, by steps of 20 up to 1452
+
+module _ (remote : SocketAddr) (random : Stream) where
+  abbrev RowHalves : RowHistory → Reply (List ℕ) → Type 0
+  RowHalves history reply = HalvesSizes (row_start remote random 8 Disabled) history (event.PollMtu 9) reply
+
+  -- what comes next, and what became of a probe of that size
+  abbrev Next : RowHistory → Option ℕ → Type 0
+  Next history size =
+      let config : MtuDiscoveryConfig =
+      record { interval = 600; upper_bound = 1452; minimum_change = 20; black_hole_cooldown = 60 } in
+      next_size (row_start remote random 8 Disabled) config history ≡ size
+
+  abbrev probed : ℕ → RowHistory → RowHistory
+  probed size earlier = (event.PollMtu 9, Ok (answer.Probe 0 size)) ∷ earlier
+
+  abbrev passes : ℕ → RowHistory → RowHistory
+  passes size earlier = (event.Acked Data 9 0 false, Ok (answer.Acked true)) ∷ probed size earlier
+
+  abbrev fails : ℕ → RowHistory → RowHistory
+  fails size earlier = (event.Lost Data 0, Ok (answer.Lost true)) ∷ probed size earlier
+
+  the_middle_first : Next [] (Some 1326)
+  the_middle_first = refl
+
+  then_above_it : Next (passes 1326 []) (Some 1389)
+  then_above_it = refl
+
+  again_once_lost : Next (fails 1389 (passes 1326 [])) (Some 1389)
+  again_once_lost = refl
+
+  abbrev too_large : RowHistory
+  too_large = fails 1389 (fails 1389 (fails 1389 (passes 1326 [])))
+
+  below_once_thrice_lost : Next too_large (Some 1357)
+  below_once_thrice_lost = refl
+
+  the_most_at_last : Next (passes 1357 too_large) (Some 1388)
+  the_most_at_last = refl
+
+  abbrev over : RowHistory
+  over = fails 1388 (fails 1388 (fails 1388 (passes 1357 too_large)))
+
+  none_is_left : Next over None
+  none_is_left = refl
+
+  -- what the peer takes is a bound
+  within_the_limit : Next ((event.PeerLimit 1300, Ok answer.Done) ∷ []) (Some 1250)
+  within_the_limit = refl
+
+  one_less_is_wrong : ¬ RowHalves [] (Ok (answer.Probe 0 1325))
+  one_less_is_wrong = λ halves.
+      let is : Some 1326 ≡ Some 1325 = halves _ refl (omega arith) in omega (arith, same_Some 1326 1325 is)
+
+  none_is_wrong : ¬ RowHalves [] (Ok answer.NoProbe)
+  none_is_wrong = λ halves. none-some 1326 (sym (halves _ refl (omega arith) refl refl))
+
+  another_after_one_loss_is_wrong : ¬ RowHalves (fails 1389 (passes 1326 [])) (Ok (answer.Probe 0 1357))
+  another_after_one_loss_is_wrong = λ halves.
+      let is : Some 1389 ≡ Some 1357 = halves _ refl (omega arith) in omega (arith, same_Some 1389 1357 is)
+
+  one_more_is_wrong : ¬ RowHalves over (Ok (answer.Probe 0 1372))
+  one_more_is_wrong = λ halves. none-some 1372 (halves _ refl (omega arith))
 
 -- ---- in turn: a probe is in flight as packet 7
 

@@ -9,6 +9,7 @@ use Rattle.recovery_skips.specs.declared.filter.Skips.TheVariants.{Disabled}
 use Rattle.recovery_events.specs.declared.event.Event.TheVariants as event
 use Rattle.recovery_events.specs.declared.event.Answer.TheVariants as answer
 use Rattle.recovery_events.specs.declared.event.Refusal.TheVariants as refusal
+use Rattle.recovery_history.specs.Promises.Lifetimes.{AsksToRetire}
 use Rattle.recovery_history.specs.Told.{Told}
 use Rattle.quic_recovery_rows.proofs.RowStart.{RowEvent, RowReply, RowHistory, row_start, AllTold, ◌⊳◌}
 use Rattle.quic_recovery_rows.proofs.RowLaws.{small, starts, stays, differ, unlike}
@@ -102,6 +103,44 @@ module _ (remote : SocketAddr) (random : Stream) (given : Vec IssuedCid) where
       ⊳ (small refl, (λ other. other refl, refl))
       ⊳ refl
       ⊳ refl
+
+  -- ---- when the peer is to be asked, by the lifetimes alone
+
+  abbrev RowAsks : RowHistory → RowReply → Type 0
+  RowAsks before reply = AsksToRetire (row_start remote random 8 Disabled) before event.IdTimeout reply
+
+  asked_for_all : RowAsks (drop 5 own) (Ok (answer.Flag true))
+  asked_for_all = refl
+
+  not_asked_is_wrong : ¬ RowAsks (drop 5 own) (Ok (answer.Flag false))
+  not_asked_is_wrong = λ e. cc
+
+  none_is_over : RowAsks (drop 2 own) (Ok (answer.Flag false))
+  none_is_over = refl
+
+  asked_twice_is_wrong : ¬ RowAsks (drop 2 own) (Ok (answer.Flag true))
+  asked_twice_is_wrong = λ e. cc
+
+  -- two ids more lived from 7 on; the peer was asked to retire number 0
+  abbrev second : RowHistory
+  second = (event.IdTimeout, Ok (answer.Flag true)) ∷ (issued 7 (1 ∷ 2 ∷ []) (omega arith), Ok answer.Done) ∷ []
+
+  asked_and_not_done : RowAsks second (Ok (answer.Flag false))
+  asked_and_not_done = refl
+
+  asked_on_is_wrong : ¬ RowAsks second (Ok (answer.Flag true))
+  asked_on_is_wrong = λ e. cc
+
+  abbrev done : RowHistory
+  done = (event.PeerRetired 0 5, Ok (answer.Flag true)) ∷ second
+
+  asked_for_the_next : RowAsks done (Ok (answer.Flag true))
+  asked_for_the_next = refl
+
+  all_are_retired : RowAsks
+      ((event.PeerRetired 2 5, Ok (answer.Flag true)) ∷ (event.PeerRetired 1 5, Ok (answer.Flag true)) ∷ done)
+      (Ok (answer.Flag false))
+  all_are_retired = refl
 
   -- ---- a number may be retired again
 

@@ -20,9 +20,11 @@ pub mod FieldLaws
 pub mod ForgottenLaws
 pub mod FrequencyLaws
 pub mod FullLaws
+pub mod HalvingLaws
 pub mod HolesLaws
 pub mod LeftLaws
 pub mod LeftMtuLaws
+pub mod LifetimesLaws
 pub mod LogLaws
 pub mod LossTimeLaws
 pub mod MadeLaws
@@ -38,6 +40,7 @@ pub mod PastLaws
 pub mod PathLaws
 pub mod PathStepLaws
 pub mod PeerIdsLaws
+pub mod PendingLaws
 pub mod PlainLaws
 pub mod ProbeStepLaws
 pub mod RefusedLaws

@@ -1,13 +1,14 @@
--- Ids of this end are issued and retired as the history itself says: the clause `own_ids` of `run`.
+-- Ids of this end are issued, retired and asked back as the history itself says: the clauses `own_ids` and `lifetimes`
+-- of `run`.
 use Rattle.std.proofs.lemmas.Bool.Decides.{nat_tests}
-use Rattle.std.proofs.Common.{arith, ◌≡◌, ◌≤◌, ◌<◌, ◌+◌, ℕ, zero, suc, true, ◌++◌, ◌==◌, ◌||◌, nat_lt, nat_le, not, Bool, List, [], ◌∷◌, length, map, filter, Ok, Err, refl, ap, ◌∙◌}
-use Rattle.std.specs.Prelude.{if◌then◌else◌}
+use Rattle.std.proofs.Common.{arith, ◌≡◌, ◌≤◌, ◌<◌, ◌+◌, ℕ, zero, suc, true, false, ◌++◌, ◌==◌, ◌||◌, nat_lt, nat_le, not, Bool, List, [], ◌∷◌, length, map, filter, Ok, Err, refl, ap, subst, sym, ◌∙◌}
+use Rattle.std.specs.Prelude.{◌&&◌, drop, if◌then◌else◌}
 use Rattle.std.specs.Bool.{Decides}
 use Rattle.std.specs.List.{range_with_len}
 use Rattle.std.proofs.lemmas.List.Elements.{filter-append}
 use Rattle.std.proofs.lemmas.List.Sums.{length-filter}
 use Rattle.recovery_base.specs.declared.below.ids.IssuedCid.{IssuedCid}
-use Rattle.recovery_ids.specs.LocalIds.{LocalIds, no_ids, with_issued, without_number}
+use Rattle.recovery_ids.specs.LocalIds.{LocalIds, deadlines_with, deadlines_with_last, next_mark, no_ids, timed_out, with_issued, without_number}
 use Rattle.recovery_events.specs.declared.event.Event.TheVariants.{IdTimeout, IssueIds, PeerRetired}
 use Rattle.recovery_events.specs.declared.event.Answer.TheVariants.{Flag}
 use Rattle.recovery_events.specs.declared.event.Refusal.TheVariants.{NoMemory, CidsNotInUse, UnissuedCid}
@@ -15,7 +16,9 @@ use Rattle.recovery_history.specs.History.{Beginning, History, Reply}
 use Rattle.recovery_history.specs.IdReplies.{IssueReply, RetirementReply}
 use Rattle.recovery_history.specs.Told.{first_ids, Told}
 use Rattle.recovery_history.specs.Table.{own_ids}
+use Rattle.recovery_history.specs.Promises.Lifetimes.{AsksToRetire, asked_below, lifetimes, lives_below, oldest_end}
 use Rattle.recovery_history.specs.Promises.OwnIds.{go_on, IsIssue, issued, is_retired, IssuesIds}
+use Rattle.recovery_history.proofs.LifetimesLaws.{AreAsked, AreLeft, AreMarked, answer, asked_less, asked_more, deadlines_more, is_asked, lifetime_stays, marked_more, timed_asked, timed_marked}
 use Rattle.recovery_history.proofs.Runs.{AllAlong, throughout_kept}
 use Rattle.recovery_history.proofs.SearchSaid.{Follows, Keeps}
 
@@ -45,11 +48,6 @@ filter_whole p a (suc n) all =
     grind (arith, all a (omega arith), filter_whole p (a + 1) n (λ m above. all m (omega (arith, above))))
 
 -- ---- what was issued and retired
-
--- those are left that pass a test, which all do that are not issued yet
-abbrev AreLeft : (ℕ → Bool) → LocalIds → Type 0
-AreLeft p ids = (ids.unretired ≡ filter p (range_with_len 0 ids.issued))
-    × ((n : ℕ) → ids.issued ≤ n → p n ≡ true)
 
 issued_more : (p : ℕ → Bool) (count now : ℕ) (ids : LocalIds) → AreLeft p ids
     → (let more = with_issued count now ids in (more.cid_len ≡ ids.cid_len) × (ids.issued + count ≡ more.issued)
@@ -148,3 +146,112 @@ module _ {F K Q S M P : Type 0} (beginning : Beginning F K Q S M P) where
   issues_ids =
       throughout_kept beginning OwnHeld (IssuesIds beginning.config.issued beginning.config.cid_len) own_after
       issues_here own_first
+
+-- ---- lifetimes of ids
+
+module _ {F K Q S M P : Type 0} (beginning : Beginning F K Q S M P) where
+  abbrev ids_by : History Q S M P → LocalIds
+  ids_by = own_ids (first_ids beginning)
+
+  abbrev still : History Q S M P → ℕ → Bool
+  still history n = not (is_retired history n)
+
+  -- the ids that are held, the lifetimes that run, and which ids the peer was asked to retire
+  abbrev Kept : History Q S M P → Type 0
+  Kept history = OwnHeld beginning history × ((ids_by history).cid_lifetime ≡ beginning.config.cid_lifetime)
+      × ((ids_by history).deadlines ≡ lifetimes beginning history) × AreMarked (ids_by history)
+      × AreAsked (still history) (asked_below beginning history) (ids_by history)
+
+  first_kept : Kept []
+  first_kept =
+      let config = beginning.config in let none = no_ids config.cid_len config.cid_lifetime in (
+        own_first beginning,
+        lifetime_stays config.issued beginning.start none,
+        first_deadlines config.issued,
+        marked_more config.issued beginning.start none (omega arith, omega arith),
+        asked_more (λ n. true) 0 config.issued beginning.start none (record {
+          first = λ n below. absurd (omega (arith, below));
+          low = omega arith;
+          second = λ n above below. absurd (omega (arith, below));
+        }),
+      )
+    where
+      first_deadlines : (count : ℕ)
+          → (let config = beginning.config in
+          (with_issued count beginning.start (no_ids config.cid_len config.cid_lifetime)).deadlines
+          ≡ deadlines_with_last config.cid_lifetime beginning.start count [])
+      first_deadlines zero = refl
+      first_deadlines (suc count) =
+          let none : 0 + count ≡ count = omega arith in
+          ap (λ n. deadlines_with beginning.config.cid_lifetime beginning.start n []) none
+
+  module _ (before : History Q S M P) (kept : Kept before) where
+    abbrev old : LocalIds
+    old = ids_by before
+
+    abbrev says : Bool
+    says = answer (still before) (asked_below beginning before) old kept.0.2 kept.3 kept.4
+
+    ends : drop 1 old.deadlines ≡ (timed_out old).deadlines
+    ends = grind arith
+
+    stays : old.cid_lifetime ≡ (timed_out old).cid_lifetime
+    stays = grind arith
+
+    asked_then : (flag : Bool) → says ≡ flag → AreAsked (still before)
+        (if flag then oldest_end beginning before else asked_below beginning before) (timed_out old)
+    asked_then flag is = subst (λ deadlines. AreAsked (still before)
+        (if flag then next_mark 0 deadlines else asked_below beginning before) (timed_out old)) kept.2
+        (timed_asked (still before) (asked_below beginning before) old kept.0.2 kept.3 kept.4 flag is)
+
+    told_so : says ≡ (not (lives_below beginning (asked_below beginning before) before)
+        && lives_below beginning (oldest_end beginning before) before)
+    told_so = subst (λ deadlines. says ≡ (not (lives_below beginning (asked_below beginning before) before)
+        && lives_below beginning (next_mark 0 deadlines) before)) kept.2
+        (is_asked (still before) (asked_below beginning before) old kept.0.2 kept.3 kept.4)
+
+    marked_then : AreMarked (timed_out old)
+    marked_then = timed_marked (still before) (asked_below beginning before) old kept.0.2 kept.3 kept.4
+
+  own_asked : Keeps (Told beginning) Kept
+  own_asked before (IssueIds now ids) (Ok given) told kept =
+      let count = length ids.items in let old = ids_by before in (
+        own_after beginning before (IssueIds now ids) (Ok given) told kept.0,
+        lifetime_stays count now old ∙ kept.1,
+        deadlines_more count now old ∙ grind (arith, kept.1, kept.2, kept.0.1),
+        marked_more count now old kept.3,
+        asked_more (still before) (asked_below beginning before) count now old kept.4,
+      )
+  own_asked before IdTimeout (Ok (Flag true)) told kept = (
+    own_after beginning before IdTimeout (Ok (Flag true)) told kept.0,
+    sym (stays before kept) ∙ kept.1,
+    sym (ends before kept) ∙ ap (drop 1) kept.2,
+    marked_then before kept,
+    asked_then before kept true (cc),
+  )
+  own_asked before IdTimeout (Ok (Flag false)) told kept = (
+    own_after beginning before IdTimeout (Ok (Flag false)) told kept.0,
+    sym (stays before kept) ∙ kept.1,
+    sym (ends before kept) ∙ ap (drop 1) kept.2,
+    marked_then before kept,
+    asked_then before kept false (cc),
+  )
+  own_asked before IdTimeout (Ok given) told kept = absurd (cc)
+  own_asked before (PeerRetired sequence limit) (Ok given) told kept = (
+    own_after beginning before (PeerRetired sequence limit) (Ok given) told kept.0,
+    kept.1,
+    kept.2,
+    kept.3,
+    asked_less (still before) (λ n. not (n == sequence || is_retired before n)) (asked_below beginning before)
+        (ids_by before) _ (λ n is. grind (arith, nat_tests, is)) refl refl kept.4,
+  )
+  own_asked before event reply told kept = kept
+
+  asks_here : Follows (Told beginning) Kept (AsksToRetire beginning)
+  asks_here before IdTimeout (Ok given) told kept = ap (λ given. Ok given) (told ∙ ap Flag (told_so before kept))
+  asks_here before IdTimeout (Err NoMemory) told kept = absurd told
+  asks_here before IdTimeout (Err refusal) told kept = absurd told
+  asks_here before event reply told kept = tt
+
+  pub asks_to_retire : AllAlong beginning (AsksToRetire beginning)
+  asks_to_retire = throughout_kept beginning Kept (AsksToRetire beginning) own_asked asks_here first_kept

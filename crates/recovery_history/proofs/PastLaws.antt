@@ -20,19 +20,21 @@ use Rattle.recovery_history.proofs.FewLaws.{few_told}
 use Rattle.recovery_history.proofs.ForgottenLaws.{forgets_oldest}
 use Rattle.recovery_history.proofs.FrequencyLaws.{takes_newest}
 use Rattle.recovery_history.proofs.FullLaws.{overflows_full}
+use Rattle.recovery_history.proofs.HalvingLaws.{halves_told}
 use Rattle.recovery_history.proofs.HolesLaws.{holes_told}
 use Rattle.recovery_history.proofs.LeftLaws.{changes_by_logs, left_after}
 use Rattle.recovery_history.proofs.MtuLaws.{mtu_told}
 use Rattle.recovery_history.proofs.NearLaws.{near_told}
 use Rattle.recovery_history.proofs.NewNumbersLaws.{numbers_told}
 use Rattle.recovery_history.proofs.OneFateLaws.{have_one_fate, leave_once}
-use Rattle.recovery_history.proofs.OwnIdsLaws.{issues_ids}
+use Rattle.recovery_history.proofs.OwnIdsLaws.{asks_to_retire, issues_ids}
 use Rattle.recovery_history.proofs.PacingLaws.{delayed, rate, soon, named, covered, paid}
 use Rattle.recovery_history.proofs.PeerIdsLaws.{accepts_ids}
-use Rattle.recovery_history.proofs.RefusedLaws.{refuses_rightly}
+use Rattle.recovery_history.proofs.PendingLaws.{hands_out}
+use Rattle.recovery_history.proofs.RefusedLaws.{refuses_rightly, spares_memory}
 use Rattle.recovery_history.proofs.SendableLaws.{finds_to_send}
 use Rattle.recovery_history.proofs.SizesLaws.{sizes_told}
-use Rattle.recovery_history.proofs.SkippedLaws.{keeps_next, keeps_skipped, sends_unless}
+use Rattle.recovery_history.proofs.SkippedLaws.{keeps_next, keeps_skipped, sends_unless, skips_none}
 use Rattle.recovery_history.proofs.StartsLaws.{starts_timer}
 use Rattle.recovery_history.proofs.ThreefoldLaws.{sends_threefold}
 use Rattle.recovery_history.proofs.PlainLaws.{timers_told}
@@ -91,6 +93,11 @@ module _ {F K Q S M P : Type 0} (beginning : Beginning F K Q S M P) where
         frequency = (takes_newest beginning now all).0;
         full = (overflows_full beginning now all).0;
         tries = (tries_told beginning now all).0;
+        halving = (halves_told beginning now all).0;
+        lifetimes = (asks_to_retire beginning now all).0;
+        pending = hands_out beginning before event reply all.0;
+        unskipped = (skips_none beginning now all).0;
+        spares = spares_memory beginning before event reply all.0;
       }
 
   -- from every past by which it came here it goes on: each clause of whole runs, at the event that is put behind it

@@ -1,6 +1,7 @@
--- Refusals that follow from the history are given exactly where it says so: the clause `refused` of `run`.
-use Rattle.std.proofs.Common.{◌≡◌, ℕ, ◌==◌, Bool, false, Option, None, Some, Ok, Err, refl, sym, ap, ◌∙◌, arith}
-use Rattle.std.specs.Prelude.{is_some, option_map}
+-- Refusals that follow from the history are given exactly where it says so, and memory is refused only where something
+-- may grow: the clauses `refused` and `spares` of `run`.
+use Rattle.std.proofs.Common.{◌≡◌, ℕ, ◌==◌, Bool, true, false, Option, None, Some, Ok, Err, refl, sym, ap, ◌∙◌, arith}
+use Rattle.std.specs.Prelude.{IsTrue, is_some, option_map}
 use Rattle.std.proofs.lemmas.Bool.Decides.{nat_tests}
 use Rattle.recovery_base.specs.declared.below.SpaceId.{SpaceId}
 use Rattle.recovery_base.specs.declared.below.frames.EcnCounts.{EcnCounts}
@@ -17,10 +18,11 @@ use Rattle.recovery_events.specs.Refusals.{refusal_number}
 use Rattle.recovery_history.specs.Told.{known_by, Told}
 use Rattle.recovery_history.specs.History.{Beginning, History, Reply}
 use Rattle.recovery_history.specs.Known.{SpaceKnown, Known}
-use Rattle.recovery_history.specs.Replies.{Refuses, Answers}
+use Rattle.recovery_history.specs.Replies.{AlwaysAnswers, Answers, Refuses, same_refusal}
 use Rattle.recovery_history.specs.PartReplies.{EcnAnswer, InSpace, Is, LeaveReply, OnPath, MtuProbeReply}
 use Rattle.recovery_history.specs.Promises.Paths.{generation_by}
 use Rattle.recovery_history.specs.Promises.Refused.{unless, in_space, RefusesRightly, first_cause}
+use Rattle.recovery_history.specs.Promises.Spares.{SparesMemory, may_grow}
 use Rattle.recovery_history.specs.Promises.Tracked.{is_tracked}
 use Rattle.recovery_history.proofs.ReplyLaws.{only_refusal}
 use Rattle.recovery_history.proofs.Runs.{AllAlong, throughout_kept}
@@ -136,3 +138,43 @@ module _ {F K Q S M P : Type 0} (beginning : Beginning F K Q S M P) where
       throughout_kept beginning (AllTracked beginning) RefusesRightly (keeps_tracked beginning)
       (λ before event reply here tracked. by_name before event reply (names before tracked event reply here))
       (none_tracked beginning)
+
+-- ---- memory is refused only where something may grow
+
+module _ {Q : Type 0} where
+  -- memory is refused only where this holds
+  abbrev Only : Type 0 → (Reply Q → Type 0) → Type 0
+  Only Grows Holds = Holds (Err NoMemory) → Grows
+
+  grows : (Holds : Reply Q → Type 0) → Only (true ≡ true) Holds
+  grows Holds told = refl
+
+  spared : {Grows : Type 0} (IsAnswer : Answer Q → Type 0) → Only Grows (AlwaysAnswers IsAnswer)
+  spared IsAnswer told = absurd told
+
+  grows_if : (b : Bool) (IsAnswer : Answer Q → Type 0) → Only (b ≡ true) (Answers (IsTrue b) IsAnswer)
+  grows_if b IsAnswer told = told
+
+  -- another cause is not it
+  passed_over : {Grows : Type 0} (other : Refusal) (Cause : Type 0) (Otherwise : Reply Q → Type 0)
+      → same_refusal NoMemory other ≡ false → Only Grows Otherwise → Only Grows (Refuses other Cause Otherwise)
+  passed_over other Cause Otherwise apart rest told = rest (rw apart at told).1
+
+  where_lives : {K Grows : Type 0} (found : Option (PathKnown K)) (Replies : PathKnown K → Reply Q → Type 0)
+      → ((path : PathKnown K) → Only Grows (Replies path)) → Only Grows (OnPath found Replies)
+  where_lives None Replies rest told = absurd told.1
+  where_lives (Some path) Replies rest told = rest path told
+
+in_counts : (Q : Type 0) {P M Grows : Type 0} (here : SpaceKnown P M) (newly : ℕ) (counts : EcnCounts)
+    → Only {Q = Q} Grows (EcnAnswer here newly counts)
+in_counts Q here newly counts told = absurd told
+
+module _ {F K Q S M P : Type 0} (beginning : Beginning F K Q S M P) (history : History Q S M P) where
+  only : (event : Event Q S M P) → Only (may_grow event ≡ true) (Told beginning history event)
+  only (InitialId id) = search (passed_over, spared)
+  only event = search (grows, spared, grows_if, passed_over, where_lives, in_counts) depth 12
+
+  pub spares_memory : (event : Event Q S M P) (reply : Reply Q) → Told beginning history event reply
+      → SparesMemory event reply
+  spares_memory event (Err NoMemory) told = only event told
+  spares_memory event reply told = tt

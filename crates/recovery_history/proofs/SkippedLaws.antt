@@ -1,16 +1,18 @@
 -- Which number a packet goes out under, which numbers were skipped, and which packets are refused, by the history: the
--- clauses `next`, `skipped` and `sends` of `run`.
+-- clauses `next`, `unskipped`, `skipped` and `sends` of `run`.
 use Rattle.std.proofs.lemmas.Bool.Decides.{nat_tests}
 use Rattle.std.proofs.lemmas.Bool.{cases_lt, false≢true}
-use Rattle.std.proofs.Common.{◌≡◌, ◌<◌, ◌≤◌, ◌+◌, ◌-◌, ◌^◌, ℕ, ◌==◌, ◌&&◌, Bool, true, false, cond, List, [], ◌∷◌, Option, None, Some, Ok, Err, ◌⊎◌, inl, inr, ◌↔◌, if◌then◌else◌, refl, arith}
+use Rattle.std.proofs.Common.{◌≡◌, ◌<◌, ◌≤◌, ◌+◌, ◌-◌, ◌^◌, ℕ, zero, suc, ◌==◌, ◌&&◌, nat_lt, Bool, true, false, cond, List, [], ◌∷◌, Option, None, Some, Ok, Err, ◌⊎◌, inl, inr, ◌↔◌, if◌then◌else◌, refl, sym, ap, ◌∙◌, arith}
 use Rattle.std.specs.Prelude.{IsSomeAnd}
+use Rattle.rand_core.specs.Stream.{Stream}
 use Rattle.recovery_base.specs.declared.below.SpaceId.{SpaceId}
 use Rattle.recovery_base.specs.declared.below.SpaceId.TheVariants.{Data}
 use Rattle.recovery_base.specs.Spaces.{same_space}
 use Rattle.recovery_ledger.specs.Packets.{Packet}
 use Rattle.recovery_ledger.specs.SpaceLog.{SpaceEntry, sends}
 use Rattle.recovery_ledger.specs.Tracked.{sent_by}
-use Rattle.recovery_skips.specs.Skips.{is_skipped, skip_before, number_from, IsGreatestBelow}
+use Rattle.recovery_skips.specs.Skips.{is_at, is_skipped, next_skip, skip_at, skips_below, skip_before, number_from, IsGreatestBelow}
+use Rattle.recovery_skips.specs.declared.filter.Skips.TheVariants.{Disabled}
 use Rattle.recovery_skips.proofs.SkipCountLaws.{skip_before_greatest}
 use Rattle.recovery_skips.proofs.SkipLaws.{number_not_skipped}
 use Rattle.recovery_events.specs.declared.event.Event.{Event}
@@ -25,7 +27,9 @@ use Rattle.recovery_history.specs.Logs.{onto}
 use Rattle.recovery_history.specs.PartReplies.{skipped_in}
 use Rattle.recovery_history.specs.Promises.Fates.{more_if, times, is_given}
 use Rattle.recovery_history.specs.Promises.Sends.{Overfills, SendsUnless}
-use Rattle.recovery_history.specs.Promises.Skipped.{IsNext, GivesNext, ChecksAcks}
+use Rattle.recovery_history.specs.Promises.Skipped.{IsAboveAll, IsNext, GivesNext, ChecksAcks}
+use Rattle.recovery_history.specs.Promises.Tracked.{goes_out}
+use Rattle.recovery_history.specs.Promises.Unskipped.{SkipsNone}
 use Rattle.recovery_history.proofs.AnswerLaws.{past_four}
 use Rattle.recovery_history.proofs.CountedLaws.{Kept, keeps_counts, none_counted, flight_now}
 use Rattle.recovery_history.proofs.EntryKinds.{sends_none, space_kind, space_kept}
@@ -111,6 +115,19 @@ module _ (skip : ℕ → Bool) (next : ℕ) (count : ℕ → ℕ) (all : (n : �
   holds_from (Some s) greatest low high holds =
       grind (arith, holds, to_skipped s greatest.0 greatest.1, at_most s greatest holds.0 holds.1)
 
+-- ---- where none are to be skipped
+
+behind_none : (exponent : ℕ) (at : Option ℕ × Stream) → at.0 ≡ None → (next_skip exponent at).0 ≡ None
+behind_none exponent (None, words) none = refl
+behind_none exponent (Some s, words) none = absurd (cc)
+
+no_skip : (words : Stream) (k : ℕ) → (skip_at Disabled words k).0 ≡ None
+no_skip words zero = refl
+no_skip words (suc k) = behind_none (6 + k) (skip_at Disabled words k) (no_skip words k)
+
+none_is_skipped : (words : Stream) (n : ℕ) → is_skipped Disabled words n ≡ false
+none_is_skipped words n = ap (is_at n) (no_skip words (skips_below Disabled words n))
+
 -- ---- what an event does to them
 
 module _ {F K Q S M P : Type 0} (beginning : Beginning F K Q S M P) where
@@ -118,6 +135,11 @@ module _ {F K Q S M P : Type 0} (beginning : Beginning F K Q S M P) where
   abbrev skip_in : SpaceId → ℕ → Bool
   skip_in Data n = is_skipped beginning.config.skips beginning.random n
   skip_in space n = false
+
+  -- where none are to be skipped none is
+  never : beginning.config.skips ≡ Disabled → (space : SpaceId) (n : ℕ) → skip_in space n ≡ false
+  never none Data n = rw none (none_is_skipped beginning.random n)
+  never none space n = refl
 
   only_data : (space : SpaceId) (n : ℕ) → skip_in space n ≡ true → space ≡ Data
   only_data Data n is = refl
@@ -213,21 +235,50 @@ module _ {F K Q S M P : Type 0} (beginning : Beginning F K Q S M P) where
               ),
         )
 
-    next_told : (there : SpaceId) (given : ℕ) → given ≡ number_in (known_by beginning before) there
+    -- a packet that goes out has that number
+    goes_as : (there : SpaceId) (given : ℕ) → given ≡ number_in (known_by beginning before) there
         → (space : SpaceId) (number : ℕ) → (same_space there space && given == number) ≡ true
-        → IsNext space number before
-    next_told there given is space number goes =
+        → number ≡ number_in (known_by beginning before) space
+    goes_as there given is space number goes =
         let same : number ≡ given = grind (arith, nat_tests, goes) in
         let at = one_space there space (grind (arith, nat_tests, goes)) in
-        rw (same, is, ← at) (is_next there)
+        rw (same, is, ← at) refl
+
+    number_told : (event : Event Q S M P) (reply : Reply Q) → Told beginning before event reply
+        → (space : SpaceId) (number : ℕ) → goes_out (event, reply) space number ≡ true
+        → number ≡ number_in (known_by beginning before) space
+    number_told (Send there now size eliciting largest queue frames) (Ok (answers.Sent number forgotten)) told =
+        let is = past_four told in goes_as there number (cc)
+    number_told (PollMtu now) (Ok (Probe number size)) told =
+        goes_as Data number (probe_number beginning.queue (known_by beginning before) now _ number size told.1.1)
+    number_told event reply told = λ space number goes. absurd (false≢true goes)
 
     gives_next : (event : Event Q S M P) (reply : Reply Q) → Told beginning before event reply
         → GivesNext before event reply
-    gives_next (Send there now size eliciting largest queue frames) (Ok (answers.Sent number forgotten)) told =
-        let is = past_four told in next_told there number (cc)
-    gives_next (PollMtu now) (Ok (Probe number size)) told =
-        next_told Data number (probe_number beginning.queue (known_by beginning before) now _ number size told.1.1)
-    gives_next event reply told = λ space number goes. absurd (false≢true goes)
+    gives_next event reply told = λ space number goes.
+        rw (number_told event reply told space number goes) (is_next space)
+
+    -- ---- where none is skipped
+
+    is_first : beginning.config.skips ≡ Disabled → (space : SpaceId) (m : ℕ) → IsAboveAll space m before
+        → number_in (known_by beginning before) space ≤ m
+    is_first none space m above = go (nat_lt m number) refl
+      where
+        number : ℕ
+        number = number_in (known_by beginning before) space
+
+        go : (b : Bool) → nat_lt m number ≡ b → number_in (known_by beginning before) space ≤ m
+        go false least = grind (arith, nat_tests, least)
+        go true less =
+            let next = (sent_in beginning before space).next in
+            let is = between (skip_in space) next (λ n. times (is_given space n) before) (all space) number m
+            (may_go before space) above (grind (arith, nat_tests, less)) in
+            absurd (false≢true (sym (never none space next) ∙ is.0))
+
+    first_told : (event : Event Q S M P) (reply : Reply Q) → Told beginning before event reply
+        → SkipsNone beginning before event reply
+    first_told event reply told none space number goes m above =
+        rw (number_told event reply told space number goes) (is_first none space m above)
 
     -- ---- the last skip
 
@@ -278,6 +329,10 @@ module _ {F K Q S M P : Type 0} (beginning : Beginning F K Q S M P) where
   pub keeps_next : AllAlong beginning GivesNext
   keeps_next = throughout_kept beginning AllGiven GivesNext keeps_given
       (λ before event reply here all. gives_next before all event reply here) none_given
+
+  pub skips_none : AllAlong beginning (SkipsNone beginning)
+  skips_none = throughout_kept beginning AllGiven (SkipsNone beginning) keeps_given
+      (λ before event reply here all. first_told before all event reply here) none_given
 
   pub keeps_skipped : AllAlong beginning ChecksAcks
   keeps_skipped = throughout_kept beginning AllGiven ChecksAcks keeps_given

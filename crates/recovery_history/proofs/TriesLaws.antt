@@ -23,12 +23,12 @@ use Rattle.recovery_history.proofs.Runs.{AllAlong}
 use Rattle.recovery_history.proofs.SearchLaws.{searched_one}
 use Rattle.recovery_history.proofs.SearchSteps.{throughout_facts}
 
-abbrev flying : Option ℕ → ℕ
+abbrev pub flying : Option ℕ → ℕ
 flying None = 0
 flying (Some number) = 1
 
 -- so often was the last size tried: it is in flight, or was lost
-abbrev tried : Probing → ℕ
+abbrev pub tried : Probing → ℕ
 tried p = p.losses + flying p.in_flight
 
 -- the last size lies within the bounds, above the lower one while it is tried; it was probed as often as it was tried,
@@ -44,11 +44,11 @@ pub record Tries (probed : List ℕ) (p : Probing) : Type 0 where
 module _ (change size : ℕ) (probed : List ℕ) (p : Probing) (here : Tries probed p) (wide : 3 ≤ change)
     (empty : p.in_flight ≡ None) where
   -- another one lies within the bounds then
-  other_within : repeats p ≡ false → size_to_probe change p ≡ Some size
+  pub other_within : repeats p ≡ false → size_to_probe change p ≡ Some size
       → ((narrowed p).lower < size) × (size ≤ (narrowed p).upper)
   other_within same is = grind (arith, nat_tests, same, is, here.within, here.above, wide, empty)
 
-  other_is_new : repeats p ≡ false → size_to_probe change p ≡ Some size → tries size probed ≡ 0
+  pub other_is_new : repeats p ≡ false → size_to_probe change p ≡ Some size → tries size probed ≡ 0
   other_is_new same is =
       grind (arith, nat_tests, other_within same is, same, here.outside size, here.within, here.above, empty)
 
@@ -75,11 +75,11 @@ module _ (probed : List ℕ) (p : Probing) (here : Tries probed p) where
 -- ---- what a call leaves
 
 -- of the search that runs
-abbrev Tied : List MtuEntry → Option Probing → Type 0
+abbrev pub Tied : List MtuEntry → Option Probing → Type 0
 Tied entries None = Unit {0}
 Tied entries (Some p) = Tries (probed_sizes (search_of entries)) p
 
-abbrev probing_of : Discovery → Option Probing
+abbrev pub probing_of : Discovery → Option Probing
 probing_of discovery = option_and_then (λ own. own.probing) discovery.search
 
 module _ (made : Discovery) (settings : MtuDiscoveryConfig) (wide : 3 ≤ settings.minimum_change)
@@ -155,11 +155,11 @@ module _ (made : Discovery) (settings : MtuDiscoveryConfig) (new : IsUntold made
       leaves made search.settings (rw own wide) entries old.mtu search.limit search.activation old.bursts call
       search.probing holds here
 
-  abbrev Kept : List MtuCall → Type 0
+  abbrev pub Kept : List MtuCall → Type 0
   Kept calls = let now = discovery_by made calls in
       (search_settings now ≡ Some settings) × Tied (entries_by made calls) (probing_of now)
 
-  kept_by : (calls : List MtuCall) → Kept calls
+  pub kept_by : (calls : List MtuCall) → Kept calls
   kept_by [] = (is, first made.search new.search)
   kept_by (call ∷ earlier) =
       let kept = kept_by earlier in

@@ -19,24 +19,29 @@ use Rattle.recovery_history.specs.Promises.Few.{ProbesFew}
 use Rattle.recovery_history.specs.Promises.Forgotten.{ForgetsOldest}
 use Rattle.recovery_history.specs.Promises.Frequency.{TakesNewest}
 use Rattle.recovery_history.specs.Promises.Full.{OverflowsFull}
+use Rattle.recovery_history.specs.Promises.Halving.{HalvesSizes}
 use Rattle.recovery_history.specs.Promises.Holes.{ReportsAtFour}
+use Rattle.recovery_history.specs.Promises.Lifetimes.{AsksToRetire}
 use Rattle.recovery_history.specs.Promises.Mtu.{UsesMtu}
 use Rattle.recovery_history.specs.Promises.Near.{EndsNearBy}
 use Rattle.recovery_history.specs.Promises.NewNumbers.{CallsNew}
 use Rattle.recovery_history.specs.Promises.Once.{LeaveOnceEach}
 use Rattle.recovery_history.specs.Promises.OwnIds.{IssuesIds}
 use Rattle.recovery_history.specs.Promises.PeerIds.{AcceptsIds}
+use Rattle.recovery_history.specs.Promises.Pending.{HandsOutInOrder}
 use Rattle.recovery_history.specs.Promises.Refused.{RefusesRightly}
 use Rattle.recovery_history.specs.Promises.Rising.{GivesRising}
 use Rattle.recovery_history.specs.Promises.Sendable.{FindsToSend}
 use Rattle.recovery_history.specs.Promises.Sends.{SendsUnless}
 use Rattle.recovery_history.specs.Promises.Sizes.{ProbesWithin}
 use Rattle.recovery_history.specs.Promises.Skipped.{GivesNext, ChecksAcks}
+use Rattle.recovery_history.specs.Promises.Spares.{SparesMemory}
 use Rattle.recovery_history.specs.Promises.Starts.{StartsTimer}
 use Rattle.recovery_history.specs.Promises.Threefold.{KeepsThreefold}
 use Rattle.recovery_history.specs.Promises.Timeouts.{TellsTimers}
 use Rattle.recovery_history.specs.Promises.Tries.{TriesThrice}
 use Rattle.recovery_history.specs.Promises.Turns.{SearchesInTurn}
+use Rattle.recovery_history.specs.Promises.Unskipped.{SkipsNone}
 use Rattle.recovery_history.specs.Left.{PartsLeft}
 use Rattle.recovery_history.specs.Told.{Told}
 
@@ -164,6 +169,21 @@ module _ {F K Q S M P : Type 0} (beginning : Beginning F K Q S M P) where
     -- Where paths are searched with a least change of at least 3, a search probes each size three times at most (RFC
     -- 8899, 5.1.2).
     pub tries : TriesThrice beginning before event reply
+    -- Where they are searched so, a probe has the size of the last one, if that did not get through and was lost less
+    -- than three times; else the middle of what gets through and of what may, or the most that may, whichever first
+    -- lies a least change from the last size; and a search ends where there is none (RFC 8899, 5.3).
+    pub halving : HalvesSizes beginning before event reply
+    -- As the oldest lifetime of ids of this end is over, the peer is to be asked to retire all up to these exactly
+    -- where it retired all that it was asked to before, and not yet all of these (RFC 9000, 5.1.2 and 19.15).
+    pub lifetimes : AsksToRetire beginning before event reply
+    -- What is to be sent again is handed out in the order in which its packets were lost, or found by probes (RFC 9000,
+    -- 13.3).
+    pub pending : HandsOutInOrder beginning before event reply
+    -- Where no numbers are to be skipped, a packet goes out under the first number above all that were given out in
+    -- its space (RFC 9000, 12.3).
+    pub unskipped : SkipsNone beginning before event reply
+    -- Memory is refused to an event only where something may grow by it.
+    pub spares : SparesMemory event reply
 
   -- from a past to that past with one event more
   pub record ExtendsFrom (past : History Q S M P) (event : Event Q S M P) (reply : Reply Q) (new : Parts K P M) : Type 0

@@ -1,5 +1,5 @@
--- Promises of events and answers, a file each, some over the words of others. Six name the table on one side: what
--- is held of contents (Contents), when an ACK is required (Duty, Starts, Sendable), what is to be acknowledged
+-- Promises of events and answers, a file each, some over the words of others. Seven name the table on one side: what
+-- is held of contents (Contents, Pending), when an ACK is required (Duty, Starts, Sendable), what is to be acknowledged
 -- (Acknowledged), and the MTU in use (Mtu).
 pub mod Acknowledged
 pub mod Blocked
@@ -15,7 +15,9 @@ pub mod Forgotten
 pub mod Frequency
 pub mod Full
 pub mod GivenIds
+pub mod Halving
 pub mod Holes
+pub mod Lifetimes
 pub mod Measures
 pub mod Mtu
 pub mod Near
@@ -24,6 +26,7 @@ pub mod Once
 pub mod OwnIds
 pub mod Paths
 pub mod PeerIds
+pub mod Pending
 pub mod Probes
 pub mod Refused
 pub mod Rising
@@ -31,9 +34,11 @@ pub mod Sendable
 pub mod Sends
 pub mod Sizes
 pub mod Skipped
+pub mod Spares
 pub mod Starts
 pub mod Threefold
 pub mod Timeouts
 pub mod Tracked
 pub mod Tries
 pub mod Turns
+pub mod Unskipped
