@@ -1,13 +1,11 @@
 -- The MTU of the path before the one in use is that of when it was left, by the history alone: it is the one that a
 -- path has which is used again. `NearLaws` and `MtuLaws` rest on it.
-use Rattle.std.proofs.Common.{◌≡◌, ℕ, Bool, true, false, [], ◌∷◌, Option, None, Some, Ok, Err, refl, sym, ap, subst, ◌∙◌}
+use Rattle.std.proofs.Common.{◌≡◌, ℕ, Bool, true, false, [], ◌∷◌, Option, None, Some, Ok, refl, sym, ap, subst, ◌∙◌}
 use Rattle.std.proofs.lemmas.Option.{none-some}
-use Rattle.std.specs.Prelude.{option_map}
 use Rattle.std.specs.Option.{ForSome}
 use Rattle.recovery_config.specs.Settings.{initial_mtu_of}
 use Rattle.recovery_paths.specs.declared.path_pair.PathName.TheVariants.{Previous}
 use Rattle.recovery_paths.specs.PathLog.{OfPaths, PathPast, is_validated, past_following, past_with, receives, returns, reverted}
-use Rattle.recovery_paths.proofs.PathLogLaws.{some_same}
 use Rattle.recovery_events.specs.declared.event.Event.{Event}
 use Rattle.recovery_events.specs.declared.event.Event.TheVariants.{NewPath, DropPrevious, RevertPath}
 use Rattle.recovery_history.specs.Told.{pasts_of, settings_of, Told}

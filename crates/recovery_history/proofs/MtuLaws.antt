@@ -1,7 +1,6 @@
 -- By the history alone the MTU in use is the one that is kept, on both paths: the clause `mtu` of `run`.
 use Rattle.std.proofs.Common.{ℕ, ◌≡◌, Bool, true, false, List, [], ◌∷◌, Option, None, Some, Ok, Err, refl, sym, subst, ◌∙◌, arith}
 use Rattle.std.specs.Prelude.{is_some, option_map}
-use Rattle.std.specs.Option.{ForSome}
 use Rattle.recovery_base.specs.declared.below.SpaceId.TheVariants as space
 use Rattle.recovery_config.specs.Settings.{initial_mtu_of}
 use Rattle.recovery_mtud.specs.declared.config.MtuDiscoveryConfig.{MtuDiscoveryConfig}
@@ -13,7 +12,7 @@ use Rattle.recovery_paths.specs.declared.path_pair.PathName.TheVariants.{Previou
 use Rattle.recovery_events.specs.declared.event.Event.{Event}
 use Rattle.recovery_events.specs.declared.event.Event.TheVariants.{PollMtu, Acked, Lost, NewPath, RevertPath}
 use Rattle.recovery_events.specs.declared.event.Answer.TheVariants as answer
-use Rattle.recovery_history.specs.Told.{pasts_of, settings_of}
+use Rattle.recovery_history.specs.Told.{settings_of}
 use Rattle.recovery_history.specs.Table.{limit}
 use Rattle.recovery_history.specs.History.{Beginning, History, Reply}
 use Rattle.recovery_history.specs.Promises.Mtu.{UsesMtu, mtu, mtu_in_use, mtu_on}

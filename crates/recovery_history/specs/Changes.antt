@@ -19,7 +19,6 @@ use Rattle.recovery_history.specs.Known.{Known}
 use Rattle.recovery_history.specs.Logs.{StepBy}
 use Rattle.recovery_history.specs.Parts.{Parts}
 use Rattle.recovery_history.specs.Plain.{plain_of}
-use Rattle.recovery_history.specs.Promises.Timeouts.{moment_of}
 
 -- ---- what is known
 

@@ -1,5 +1,5 @@
 -- Nothing is lost or doubled (RFC 9000, 13.3): by each measure that adds up, what was sent is held still, or gone.
-use Rattle.std.specs.Prelude.{◌≡◌, ℕ, List, [], ◌∷◌, Option, None, Some, Ok, if◌then◌else◌}
+use Rattle.std.specs.Prelude.{◌≡◌, ℕ, [], ◌∷◌, Option, None, Some, Ok, if◌then◌else◌}
 use Rattle.recovery_base.specs.declared.below.SpaceId.{SpaceId}
 use Rattle.recovery_base.specs.Spaces.{same_space}
 use Rattle.recovery_ledger.specs.Packets.{Packets, contents_or, packet_at}
