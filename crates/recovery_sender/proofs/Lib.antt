@@ -9,6 +9,7 @@ pub mod DueLaws
 pub mod FindLaws
 pub mod KeptLaws
 pub mod LeadLaws
+pub mod LeavingLaws
 pub mod PastLaws
 pub mod PromiseLaws
 pub mod StepLaws

@@ -1,4 +1,4 @@
-use Rattle.std.proofs.Common.{refl, sym, ◌∙◌}
+use Rattle.std.proofs.Common.{false, refl, sym, ◌∙◌}
 use Rattle.recovery_sender.proofs.sender.Sender.compare_ecn.Goals as goal
 
 pub returns-in_default : goal.returns-in_default
@@ -26,6 +26,8 @@ returns g c = (
     alloc = c.args.self.now.alloc;
     recovery = c.apply.new.self;
     variables = c.args.self.now.variables;
+    is_timed = false;
+    timed = λ is. absurd cc;
   },
   sym c.is_marked.ensures ∙ c.if-not-is_marked.false,
   record { leads = (_, c.in-Ok.ensures.changes, c.in-Ok.ensures.extends, refl); variables = refl },

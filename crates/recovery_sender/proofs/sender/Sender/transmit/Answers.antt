@@ -18,4 +18,4 @@ returns-clause-window g c =
 pub returns-clause-steps : goal.returns-clause-steps
 returns-clause-steps g c =
     rw (known_from _ _ _ (sym c.is_checked.ensures ∙ c.in-Some.is)).1
-    (does_behind _ _ _ _ c.transmit_where_it_may-sent.ensures.steps c.set_loss_detection_timer.ensures)
+    (does_behind _ _ _ _ c.transmit_where_it_may-sent.ensures.steps c.time_on.ensures)
