@@ -13,8 +13,8 @@ import sys
 
 ROOT = pathlib.Path(__file__).resolve().parent.parent
 DRIVER = ROOT / "crates" / "quic_recovery" / "src" / "driver.rt"
-PAST = ROOT / "crates" / "quic_recovery" / "specs" / "Past.antt"
-PROMISES = ROOT / "crates" / "quic_recovery" / "specs" / "Promises"
+PAST = ROOT / "crates" / "recovery_history" / "specs" / "Past.antt"
+PROMISES = ROOT / "crates" / "recovery_history" / "specs" / "Promises"
 PAGE = ROOT / "docs" / "DEFINITIONS.md"
 BEGINS, ENDS = "<!-- this table is written by tests/definitions.py --write -->\n", "<!-- its end -->\n"
 LONGEST = 55  # lines of a file of promises
@@ -135,7 +135,7 @@ def main():
     for clause, words in clauses():
         told[clause] = rests_on(words, every)
         print(f"definitions: {clause}: {size(told[clause])} lines")
-    live = rests_on([("Rattle.quic_recovery.specs.Past", "Extended")], every)
+    live = rests_on([("Rattle.quic_recovery.specs.Live", "Extended")], every)
     direct = {path.stem: len(path.read_text().split("\n")) - 1 for path in sorted(PROMISES.glob("*.antt"))}
     for name, lines in direct.items():
         if lines > LONGEST:

@@ -243,7 +243,7 @@ def launched(place, name, crate):
     link.symlink_to(place.root / name)
     tests.expect(f"{name}: by a link", place.ran(str(link), *words), proved)
     link.unlink()
-    for path in "crates/recovery_base/src/time.rt", "crates/quic_recovery/proofs", f"crates/{crate}/src/main.rt":
+    for path in "crates/recovery_base/src/time.rt", "crates/recovery_history/proofs", f"crates/{crate}/src/main.rt":
         touch(place.root / path, 20)
         tests.expect(f"{name}: a newer {path}", ran(), unproved("changed since it was proved"))
         touch(place.root / path, 0)

@@ -7,17 +7,18 @@ use Rattle.recovery_congestion.specs.Controllers.{ControllerWords}
 use Rattle.recovery_paths.specs.PathLog.{OfPaths, paths_marks}
 use Rattle.recovery_paths.specs.PathStates.{PathMarks}
 use Rattle.recovery_events.specs.declared.event.Event.{Event}
-use Rattle.quic_recovery.specs.declared.driver.RecoveryConfig.{RecoveryConfig}
-use Rattle.quic_recovery.specs.Above.{AreFresh, HasNoLossTime}
+use Rattle.recovery_history.specs.declared.config.RecoveryConfig.{RecoveryConfig}
+use Rattle.recovery_history.specs.Above.{AreFresh, HasNoLossTime}
 use Rattle.recovery_events.specs.Feeding.{PushesInto, TakesAll}
-use Rattle.quic_recovery.specs.History.{Beginning, QueueMeaning, Reply, begins, history, Throughout}
+use Rattle.recovery_history.specs.History.{Beginning, QueueMeaning, Reply, begins, history, Throughout}
 use Rattle.quic_recovery.specs.Over.{RunsFrom}
-use Rattle.quic_recovery.specs.Parts.{Parts}
-use Rattle.quic_recovery.specs.Past.{Reached, ExtendsOn, ExtendsFrom, Keeps}
-use Rattle.quic_recovery.specs.State.{Changes, Left, known_to}
-use Rattle.quic_recovery.proofs.AboveLaws.{fresh_after, loss_times_after}
+use Rattle.recovery_history.specs.Parts.{Parts}
+use Rattle.recovery_history.specs.Past.{Reached, ExtendsOn, ExtendsFrom, Keeps}
+use Rattle.recovery_history.specs.Changes.{Changes, known_to}
+use Rattle.recovery_history.specs.Left.{Left}
+use Rattle.recovery_history.proofs.AboveLaws.{fresh_after, loss_times_after}
 use Rattle.recovery_events.proofs.FeedingLaws.{fills, takes_push}
-use Rattle.quic_recovery.proofs.Runs.{after_push, throughout_more}
+use Rattle.recovery_history.proofs.Runs.{after_push, throughout_more}
 
 -- a sink of events that goes on by each, and puts its reply into a sink of replies, went on by all of them
 module _ {F K Q S M P T A : Type 0} (built : F → ℕ → ℕ → K) (words : ControllerWords K) (queue : QueueMeaning Q S M P)

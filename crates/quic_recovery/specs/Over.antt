@@ -2,11 +2,12 @@
 use Rattle.std.specs.Prelude.{List}
 use Rattle.quic_recovery.specs.declared.driver.Recovery.{Recovery}
 use Rattle.recovery_events.specs.declared.event.Event.{Event}
-use Rattle.quic_recovery.specs.History.{Beginning, Reply, history, Throughout}
-use Rattle.quic_recovery.specs.Parts.{Parts}
+use Rattle.recovery_history.specs.History.{Beginning, Reply, history, Throughout}
+use Rattle.recovery_history.specs.Parts.{Parts}
 use Rattle.recovery_paths.specs.PathLog.{paths_marks}
-use Rattle.quic_recovery.specs.Above.{AreFresh, HasNoLossTime}
-use Rattle.quic_recovery.specs.Past.{Reached, Extends, Keeps}
+use Rattle.recovery_history.specs.Above.{AreFresh, HasNoLossTime}
+use Rattle.recovery_history.specs.Past.{Reached, Keeps}
+use Rattle.quic_recovery.specs.Live.{Extends}
 use Rattle.quic_recovery.specs.State.{Transition}
 
 -- an event was done, and its one reply was put into the sink

@@ -2,11 +2,15 @@
 ghost use Rattle.std.specs.Prelude.{◌≡◌, ◌<◌, ◌≤◌, ◌^◌, IfOk, OnErr, []};
 ghost use Rattle.recovery_skips.specs.Skips.{IsSkips};
 ghost use Rattle.recovery_paths.specs.PathLog.{paths_marks};
-ghost use Rattle.quic_recovery.specs.Above.{AreFresh, HasNoLossTime, marks_at, with_marks_at, with_loss_time_at};
-ghost use Rattle.quic_recovery.specs.Past.{Reached, Extends, IsReachable, KeepsPasts, Extended};
-ghost use Rattle.quic_recovery.specs.State.{parts_of, begun, known_to, Transition, InFlightLeft};
+ghost use Rattle.recovery_history.specs.Above.{AreFresh, HasNoLossTime, marks_at, with_marks_at, with_loss_time_at};
+ghost use Rattle.recovery_history.specs.Past.{Reached};
+ghost use Rattle.quic_recovery.specs.Live.{Extends, IsReachable, KeepsPasts, Extended};
+ghost use Rattle.quic_recovery.specs.State.{parts_of, begun, Transition};
+ghost use Rattle.recovery_history.specs.Changes.{known_to};
+ghost use Rattle.recovery_history.specs.Left.{InFlightLeft};
 
-use crate::driver::{Recovery, RecoveryConfig};
+use crate::driver::Recovery;
+use recovery_history::RecoveryConfig;
 use rand_core::Rng;
 use recovery_base::below::{NoMemory, SpaceId};
 use recovery_base::time::Instant;

@@ -5,7 +5,8 @@ ghost use Rattle.quic_recovery.specs.State.{begun, parts_of};
 ghost use Rattle.recovery_events.specs.Feeding.{TakesAll};
 ghost use Rattle.quic_recovery.specs.Over.{PassesOn, RunsFrom};
 
-use crate::driver::{Recovery, RecoveryConfig};
+use crate::driver::Recovery;
+use recovery_history::RecoveryConfig;
 use rand_core::Rng;
 use recovery_base::below::NoMemory;
 use recovery_base::time::Instant;

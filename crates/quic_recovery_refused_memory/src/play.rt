@@ -7,7 +7,7 @@ use crate::scarce::ScarceConfig;
 use crate::script::{Event, Reply, STEPS, Said, Scarce, event_at, said_by, wanted_at};
 use quic_recovery::below::NoMemory;
 use quic_recovery::config::TransportConfig;
-use quic_recovery::driver::{Recovery, RecoveryConfig};
+use quic_recovery::{Recovery, RecoveryConfig};
 use quic_recovery::time::Instant;
 use quic_recovery_rows::config::{settings_with, words};
 use recovery_parts_tests::halving::HalvingConfig;

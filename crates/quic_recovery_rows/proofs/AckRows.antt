@@ -11,12 +11,12 @@ use Rattle.recovery_ledger.specs.Acks.{IsRequired}
 use Rattle.recovery_events.specs.declared.event.Event.{Event}
 use Rattle.recovery_events.specs.declared.event.Event.TheVariants as event
 use Rattle.recovery_events.specs.declared.event.Answer.TheVariants as answer
-use Rattle.quic_recovery.specs.Told.{logs_of}
-use Rattle.quic_recovery.specs.History.{Beginning, History, Reply}
-use Rattle.quic_recovery.specs.Promises.Acknowledged.{HasCome, WasDropped, largest_in}
-use Rattle.quic_recovery.specs.Promises.Duty.{AcknowledgesInTime, timer_runs, waits}
-use Rattle.quic_recovery.specs.Promises.Sendable.{StaysFull, FindsToSend}
-use Rattle.quic_recovery.specs.Promises.Starts.{StartsTimer}
+use Rattle.recovery_history.specs.Told.{logs_of}
+use Rattle.recovery_history.specs.History.{Beginning, History, Reply}
+use Rattle.recovery_history.specs.Promises.Acknowledged.{HasCome, WasDropped, largest_in}
+use Rattle.recovery_history.specs.Promises.Duty.{AcknowledgesInTime, timer_runs, waits}
+use Rattle.recovery_history.specs.Promises.Sendable.{StaysFull, FindsToSend}
+use Rattle.recovery_history.specs.Promises.Starts.{StartsTimer}
 
 -- ---- ranges
 

@@ -8,10 +8,10 @@ use Rattle.recovery_paths.specs.declared.path_pair.PathName.TheVariants.{Current
 use Rattle.recovery_events.specs.declared.event.Event.TheVariants as event
 use Rattle.recovery_events.specs.declared.event.Answer.TheVariants as answer
 use Rattle.recovery_events.specs.declared.event.Refusal.TheVariants as refusal
-use Rattle.quic_recovery.specs.History.{History}
-use Rattle.quic_recovery.specs.Promises.Ecn.{ChecksEcn}
-use Rattle.quic_recovery.specs.Promises.Frequency.{TakesNewest}
-use Rattle.quic_recovery.specs.Promises.Full.{OverflowsFull}
+use Rattle.recovery_history.specs.History.{History}
+use Rattle.recovery_history.specs.Promises.Ecn.{ChecksEcn}
+use Rattle.recovery_history.specs.Promises.Frequency.{TakesNewest}
+use Rattle.recovery_history.specs.Promises.Full.{OverflowsFull}
 use Rattle.quic_recovery_rows.proofs.RowStart.{ack_frame}
 
 module _ (Q S M P : Type 0) (remote : SocketAddr) where

@@ -5,13 +5,13 @@ use Rattle.rand_core.specs.Stream.{Stream}
 use Rattle.recovery_base.specs.declared.below.SpaceId.TheVariants.{Initial, Handshake}
 use Rattle.recovery_congestion.specs.Controllers.{ControllerWords}
 use Rattle.recovery_queue.specs.Queues.{QueueWords}
-use Rattle.quic_recovery.specs.declared.driver.RecoveryConfig.{RecoveryConfig}
+use Rattle.recovery_history.specs.declared.config.RecoveryConfig.{RecoveryConfig}
 use Rattle.recovery_events.specs.declared.event.Event.TheVariants as event
 use Rattle.recovery_events.specs.declared.event.Answer.TheVariants as answer
 use Rattle.recovery_events.specs.declared.event.Refusal.TheVariants as refusal
-use Rattle.quic_recovery.specs.History.{Beginning, History, begins, queue_meaning}
-use Rattle.quic_recovery.specs.Promises.Contents.{LosesNothing, outgoing, held, gone}
-use Rattle.quic_recovery.specs.Promises.Measures.{AddsUp, Totals}
+use Rattle.recovery_history.specs.History.{Beginning, History, begins, queue_meaning}
+use Rattle.recovery_history.specs.Promises.Contents.{LosesNothing, outgoing, held, gone}
+use Rattle.recovery_history.specs.Promises.Measures.{AddsUp, Totals}
 
 -- contents that are numbers of bytes, which are joined by adding them
 abbrev words : QueueWords ℕ (Unit {0})

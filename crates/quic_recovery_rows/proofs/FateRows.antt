@@ -6,9 +6,9 @@ use Rattle.recovery_base.specs.declared.below.SpaceId.TheVariants.{Initial, Data
 use Rattle.recovery_events.specs.declared.event.Event.TheVariants as event
 use Rattle.recovery_events.specs.declared.event.Answer.TheVariants as answer
 use Rattle.recovery_events.specs.declared.event.Refusal.TheVariants as refusal
-use Rattle.quic_recovery.specs.History.{History}
-use Rattle.quic_recovery.specs.Promises.Fates.{times, fates, is_given, HaveOneFate}
-use Rattle.quic_recovery.specs.Promises.Rising.{GivesRising}
+use Rattle.recovery_history.specs.History.{History}
+use Rattle.recovery_history.specs.Promises.Fates.{times, fates, is_given, HaveOneFate}
+use Rattle.recovery_history.specs.Promises.Rising.{GivesRising}
 
 module _ (Q S M P : Type 0) (queue : Q) (frames : M) where
   -- of 1-RTT packets 0 was forgotten, 1 lost, 2 is a probe of the MTU; 0 of Initial ones was discarded with its space

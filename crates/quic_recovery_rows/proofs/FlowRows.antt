@@ -6,10 +6,10 @@ use Rattle.recovery_base.specs.declared.below.SpaceId.TheVariants.{Data}
 use Rattle.recovery_paths.specs.declared.path_pair.PathName.TheVariants.{Current, Previous}
 use Rattle.recovery_events.specs.declared.event.Event.TheVariants as event
 use Rattle.recovery_events.specs.declared.event.Answer.TheVariants as answer
-use Rattle.quic_recovery.specs.History.{History}
-use Rattle.quic_recovery.specs.Promises.Blocked.{BlocksExactly}
-use Rattle.quic_recovery.specs.Promises.Counted.{CountsInFlight}
-use Rattle.quic_recovery.specs.Promises.Threefold.{SendsThreefold}
+use Rattle.recovery_history.specs.History.{History}
+use Rattle.recovery_history.specs.Promises.Blocked.{BlocksExactly}
+use Rattle.recovery_history.specs.Promises.Counted.{CountsInFlight}
+use Rattle.recovery_history.specs.Promises.Threefold.{SendsThreefold}
 
 module _ (Q S M P : Type 0) (remote : SocketAddr) where
   -- ---- amplification: 10 bytes came in, and 25 went out

@@ -10,12 +10,12 @@ use Rattle.recovery_events.specs.declared.event.Event.{Event}
 use Rattle.recovery_events.specs.declared.event.Event.TheVariants as event
 use Rattle.recovery_events.specs.declared.event.Answer.TheVariants as answer
 use Rattle.recovery_events.specs.declared.event.Refusal.TheVariants as refusal
-use Rattle.quic_recovery.specs.History.{History, Reply}
-use Rattle.quic_recovery.specs.Promises.OwnIds.{IsIssue, IssuesIds}
-use Rattle.quic_recovery.specs.Promises.Paths.{generation_by}
-use Rattle.quic_recovery.specs.Promises.PeerIds.{AcceptsIds}
-use Rattle.quic_recovery.specs.Promises.Refused.{RefusesRightly}
-use Rattle.quic_recovery.specs.Promises.Tracked.{is_tracked}
+use Rattle.recovery_history.specs.History.{History, Reply}
+use Rattle.recovery_history.specs.Promises.OwnIds.{IsIssue, IssuesIds}
+use Rattle.recovery_history.specs.Promises.Paths.{generation_by}
+use Rattle.recovery_history.specs.Promises.PeerIds.{AcceptsIds}
+use Rattle.recovery_history.specs.Promises.Refused.{RefusesRightly}
+use Rattle.recovery_history.specs.Promises.Tracked.{is_tracked}
 
 -- the end of the range that a reply retires
 abbrev end_of : {Q : Type 0} → Reply Q → ℕ

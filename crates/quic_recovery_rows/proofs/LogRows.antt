@@ -7,8 +7,8 @@ use Rattle.recovery_ledger.specs.Tracked.{packet_sent, sent_by}
 use Rattle.recovery_events.specs.declared.event.Event.TheVariants.{Received, Send, SetTimer, StopTimer}
 use Rattle.recovery_events.specs.declared.event.Answer.TheVariants as answer
 use Rattle.recovery_events.specs.declared.event.Refusal.TheVariants.{NumberTooLarge}
-use Rattle.quic_recovery.specs.Told.{known_by, logs_of}
-use Rattle.quic_recovery.specs.History.{Beginning, History}
+use Rattle.recovery_history.specs.Told.{known_by, logs_of}
+use Rattle.recovery_history.specs.History.{Beginning, History}
 
 module _ {F K Q S M P : Type 0} (beginning : Beginning F K Q S M P) (queue : Q) (frames : M) where
   -- packet 0 came, one too large was refused, one was sent, Idle was set to 50 and Pacing to 20, and Pacing was stopped

@@ -8,11 +8,11 @@ use Rattle.recovery_events.specs.declared.event.Event.{Event}
 use Rattle.recovery_events.specs.declared.event.Event.TheVariants as event
 use Rattle.recovery_events.specs.declared.event.Answer.TheVariants as answer
 use Rattle.recovery_events.specs.declared.event.Refusal.TheVariants as refusal
-use Rattle.quic_recovery.specs.History.{History, Reply}
-use Rattle.quic_recovery.specs.Promises.Fates.{times, is_given}
-use Rattle.quic_recovery.specs.Promises.Forgotten.{oldest, silent_since, ForgetsOldest}
-use Rattle.quic_recovery.specs.Promises.Sends.{SendsUnless}
-use Rattle.quic_recovery.specs.Promises.Skipped.{IsNext, WasSkipped, ChecksAcks}
+use Rattle.recovery_history.specs.History.{History, Reply}
+use Rattle.recovery_history.specs.Promises.Fates.{times, is_given}
+use Rattle.recovery_history.specs.Promises.Forgotten.{oldest, silent_since, ForgetsOldest}
+use Rattle.recovery_history.specs.Promises.Sends.{SendsUnless}
+use Rattle.recovery_history.specs.Promises.Skipped.{IsNext, WasSkipped, ChecksAcks}
 
 module _ (Q S M P : Type 0) (queue : Q) (frames : M) where
   abbrev send : ℕ → Bool → Event Q S M P

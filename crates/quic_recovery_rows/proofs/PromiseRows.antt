@@ -7,10 +7,10 @@ use Rattle.recovery_events.specs.declared.event.Event.{Event}
 use Rattle.recovery_events.specs.declared.event.Event.TheVariants as event
 use Rattle.recovery_events.specs.declared.event.Answer.TheVariants as answer
 use Rattle.recovery_events.specs.declared.event.Refusal.TheVariants as refusal
-use Rattle.quic_recovery.specs.History.{History, Reply}
-use Rattle.quic_recovery.specs.Promises.NewNumbers.{CallsNew}
-use Rattle.quic_recovery.specs.Promises.Once.{departures_of}
-use Rattle.quic_recovery.specs.Promises.Timeouts.{TellsTimers}
+use Rattle.recovery_history.specs.History.{History, Reply}
+use Rattle.recovery_history.specs.Promises.NewNumbers.{CallsNew}
+use Rattle.recovery_history.specs.Promises.Once.{departures_of}
+use Rattle.recovery_history.specs.Promises.Timeouts.{TellsTimers}
 
 module _ (Q S M P : Type 0) where
   abbrev came : ℕ → Event Q S M P × Reply Q

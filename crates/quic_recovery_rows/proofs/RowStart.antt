@@ -10,11 +10,11 @@ use Rattle.recovery_congestion.specs.NewReno.{reno_made, reno_words}
 use Rattle.recovery_congestion.specs.RenoSettings.{RenoSettings, default_reno}
 use Rattle.recovery_queue.specs.Queues.{QueueWords}
 use Rattle.recovery_skips.specs.declared.filter.Skips.{Skips}
-use Rattle.quic_recovery.specs.declared.driver.RecoveryConfig.{RecoveryConfig}
+use Rattle.recovery_history.specs.declared.config.RecoveryConfig.{RecoveryConfig}
 use Rattle.recovery_events.specs.declared.event.Event.{Event}
-use Rattle.quic_recovery.specs.Config.{config_with}
-use Rattle.quic_recovery.specs.History.{Beginning, History, QueueMeaning, Reply, begins, queue_meaning}
-use Rattle.quic_recovery.specs.Told.{Told}
+use Rattle.recovery_history.specs.Config.{config_with}
+use Rattle.recovery_history.specs.History.{Beginning, History, QueueMeaning, Reply, begins, queue_meaning}
+use Rattle.recovery_history.specs.Told.{Told}
 
 -- numbered items; those that come are put behind those that were there
 abbrev pub item_words : QueueWords (List ℕ) (Unit {0})

@@ -12,17 +12,17 @@ use Rattle.recovery_events.specs.declared.event.Event.{Event}
 use Rattle.recovery_events.specs.declared.event.Event.TheVariants as event
 use Rattle.recovery_events.specs.declared.event.Answer.TheVariants as answer
 use Rattle.recovery_events.specs.declared.event.Refusal.TheVariants as refusal
-use Rattle.quic_recovery.specs.History.{Beginning, History, Reply}
-use Rattle.quic_recovery.specs.Promises.Bursts.{open_run, size_of}
-use Rattle.quic_recovery.specs.Promises.Few.{ProbesFew, is_in_flight, sizes_probed}
-use Rattle.quic_recovery.specs.Promises.Holes.{ReportsAtFour}
-use Rattle.quic_recovery.specs.Promises.Mtu.{mtu}
-use Rattle.quic_recovery.specs.Promises.Near.{IsNear, next, start}
-use Rattle.quic_recovery.specs.Promises.Probes.{acked_probes, lost_probes}
-use Rattle.quic_recovery.specs.Promises.Sizes.{ProbesWithin}
-use Rattle.quic_recovery.specs.Promises.Tries.{TriesThrice}
-use Rattle.quic_recovery.specs.Promises.Turns.{SearchesInTurn}
-use Rattle.quic_recovery.specs.Search.{discovery_settings}
+use Rattle.recovery_history.specs.History.{Beginning, History, Reply}
+use Rattle.recovery_history.specs.Promises.Bursts.{open_run, size_of}
+use Rattle.recovery_history.specs.Promises.Few.{ProbesFew, is_in_flight, sizes_probed}
+use Rattle.recovery_history.specs.Promises.Holes.{ReportsAtFour}
+use Rattle.recovery_history.specs.Promises.Mtu.{mtu}
+use Rattle.recovery_history.specs.Promises.Near.{IsNear, next, start}
+use Rattle.recovery_history.specs.Promises.Probes.{acked_probes, lost_probes}
+use Rattle.recovery_history.specs.Promises.Sizes.{ProbesWithin}
+use Rattle.recovery_history.specs.Promises.Tries.{TriesThrice}
+use Rattle.recovery_history.specs.Promises.Turns.{SearchesInTurn}
+use Rattle.recovery_history.specs.Search.{discovery_settings}
 use Rattle.quic_recovery_rows.proofs.RowStart.{RowHistory, row_start}
 
 -- ---- too many probes, and too many sizes

@@ -10,7 +10,7 @@ use Rattle.recovery_skips.proofs.SkipLaws.{behind_not_skipped}
 use Rattle.recovery_events.specs.declared.event.Event.TheVariants as event
 use Rattle.recovery_events.specs.declared.event.Answer.TheVariants as answer
 use Rattle.recovery_events.specs.declared.event.Refusal.TheVariants as refusal
-use Rattle.quic_recovery.specs.Told.{Told}
+use Rattle.recovery_history.specs.Told.{Told}
 use Rattle.quic_recovery_rows.proofs.RowStart.{ack_frame, RowEvent, RowReply, RowHistory, row_start, AllTold, ◌⊳◌}
 use Rattle.quic_recovery_rows.proofs.RowLaws.{unrefused, small, fits, calm, at_first, starts, stays, in_turn, one_run, unlike, uneven, some_is_none}
 

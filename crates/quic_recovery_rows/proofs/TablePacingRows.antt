@@ -15,8 +15,8 @@ use Rattle.recovery_paths.specs.declared.path_pair.PathName.TheVariants.{Current
 use Rattle.recovery_skips.specs.declared.filter.Skips.TheVariants.{Disabled}
 use Rattle.recovery_events.specs.declared.event.Event.TheVariants as event
 use Rattle.recovery_events.specs.declared.event.Answer.TheVariants as answer
-use Rattle.quic_recovery.specs.Pacing.{DelaysExactly, PaysAtRate}
-use Rattle.quic_recovery.specs.Told.{Told, pasts_of}
+use Rattle.recovery_history.specs.Pacing.{DelaysExactly, PaysAtRate}
+use Rattle.recovery_history.specs.Told.{Told, pasts_of}
 use Rattle.quic_recovery_rows.proofs.RowStart.{RowEvent, RowReply, RowHistory, row_start, AllTold, ◌⊳◌}
 use Rattle.quic_recovery_rows.proofs.RowLaws.{unrefused, small, unlike, uneven}
 

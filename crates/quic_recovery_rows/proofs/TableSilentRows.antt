@@ -9,7 +9,7 @@ use Rattle.std.specs.declared.net.socket_addr.SocketAddr.{SocketAddr}
 use Rattle.rand_core.specs.Stream.{Stream}
 use Rattle.recovery_base.specs.declared.below.SpaceId.TheVariants.{Initial, Handshake, Data}
 use Rattle.recovery_congestion.specs.declared.congestion.new_reno.NewReno.{NewReno}
-use Rattle.quic_recovery.specs.Promises.NewNumbers.{is_discarded}
+use Rattle.recovery_history.specs.Promises.NewNumbers.{is_discarded}
 use Rattle.recovery_ledger.specs.InFlight.{size_in, eliciting_in}
 use Rattle.recovery_ledger.specs.declared.paths.InFlight.{InFlight}
 use Rattle.recovery_ledger.specs.SpaceLog.{SpaceEntry}
@@ -21,8 +21,8 @@ use Rattle.recovery_skips.specs.declared.filter.Skips.TheVariants.{Disabled}
 use Rattle.recovery_events.specs.declared.event.Event.TheVariants as event
 use Rattle.recovery_events.specs.declared.event.Answer.{Answer}
 use Rattle.recovery_events.specs.declared.event.Answer.TheVariants as answer
-use Rattle.quic_recovery.specs.Told.{logs_of, known_by, Logs, Told}
-use Rattle.quic_recovery.specs.Known.{Known, current_in_flight}
+use Rattle.recovery_history.specs.Told.{logs_of, known_by, Logs, Told}
+use Rattle.recovery_history.specs.Known.{Known, current_in_flight}
 use Rattle.quic_recovery_rows.proofs.RowStart.{RowEvent, RowReply, RowHistory, item_words, row_start}
 use Rattle.quic_recovery_rows.proofs.RowLaws.{unrefused, some_is_none, said}
 

@@ -8,7 +8,7 @@ use crate::refusals::is;
 use crate::shown::{Shown, given, wanted};
 use crate::tally::Tally;
 use quic_recovery::congestion::{ControllerFactory, NewRenoConfig};
-use quic_recovery::driver::{Recovery, RecoveryConfig};
+use quic_recovery::{Recovery, RecoveryConfig};
 use rand_core::Rng;
 use std::alloc::Global;
 use thiserror::Error;

@@ -4,7 +4,7 @@ use Rattle.std.specs.Global.{Global}
 use Rattle.std.specs.declared.net.socket_addr.SocketAddr.{SocketAddr}
 use Rattle.recovery_base.specs.declared.below.ids.IssuedCid.{IssuedCid}
 use Rattle.recovery_events.specs.declared.event.Event.TheVariants.{IssueIds, NewPath}
-use Rattle.quic_recovery.specs.History as History
+use Rattle.recovery_history.specs.History as History
 use Rattle.recovery_ffi.specs.Codes.{issued_of, IsAt}
 use Rattle.recovery_ffi.specs.Kept.{Comes, ItemEvent, Lets}
 use Rattle.recovery_ffi.specs.declared.codes.Address.{Address}

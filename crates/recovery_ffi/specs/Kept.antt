@@ -13,12 +13,15 @@ use Rattle.recovery_sender.specs.declared.sender.losses.Losses.{Losses}
 use Rattle.recovery_sender.specs.declared.sender.Refused.{Refused}
 use Rattle.recovery_sender.specs.declared.sender.Refused.TheVariants as refused
 use Rattle.recovery_sender.specs.declared.sender.Side.{Side}
-use Rattle.quic_recovery.specs.History as History
-use Rattle.quic_recovery.specs.Parts.{Parts}
-use Rattle.quic_recovery.specs.Past.{Extends, Extended, Reached}
-use Rattle.quic_recovery.specs.State.{parts_of, known_to, Transition, InFlightLeft}
+use Rattle.recovery_history.specs.History as History
+use Rattle.recovery_history.specs.Parts.{Parts}
+use Rattle.quic_recovery.specs.Live.{Extends, Extended}
+use Rattle.recovery_history.specs.Past.{Reached}
+use Rattle.quic_recovery.specs.State.{parts_of, Transition}
+use Rattle.recovery_history.specs.Changes.{known_to}
+use Rattle.recovery_history.specs.Left.{InFlightLeft}
 use Rattle.quic_recovery.specs.declared.driver.Recovery.{Recovery}
-use Rattle.quic_recovery.specs.declared.driver.RecoveryConfig.{RecoveryConfig}
+use Rattle.recovery_history.specs.declared.config.RecoveryConfig.{RecoveryConfig}
 use Rattle.recovery_ffi.specs.Settings.{beginning}
 use Rattle.recovery_ffi.specs.declared.controllers.Chosen.{Chosen}
 use Rattle.recovery_ffi.specs.declared.controllers.ChosenConfig.{ChosenConfig}

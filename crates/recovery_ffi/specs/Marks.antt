@@ -4,8 +4,8 @@ use Rattle.std.specs.Option.{option_map_or}
 use Rattle.recovery_base.specs.declared.below.SpaceId.{SpaceId}
 use Rattle.recovery_paths.specs.PathStates.{PathMarks}
 use Rattle.recovery_paths.specs.declared.path_pair.PathName.{PathName}
-use Rattle.quic_recovery.specs.Above.{marks_at, with_marks_at}
-use Rattle.quic_recovery.specs.Past.{KeepsPasts}
+use Rattle.recovery_history.specs.Above.{marks_at, with_marks_at}
+use Rattle.quic_recovery.specs.Live.{KeepsPasts}
 use Rattle.quic_recovery.specs.State.{parts_of}
 use Rattle.quic_recovery.specs.declared.driver.Recovery.{Recovery}
 use Rattle.recovery_ffi.specs.Codes.{maybe, space_coded, space_number}

@@ -2,7 +2,7 @@
 use Rattle.std.specs.Prelude.{ℕ, List, Option, true, false, Some, None, Ok, Err, if◌then◌else◌, bytes_eq}
 use lib.Chars.{codes}
 use Rattle.std.specs.declared.ops.Range.{Range}
-use Rattle.quic_recovery.specs.History as History
+use Rattle.recovery_history.specs.History as History
 use Rattle.recovery_events.specs.Refusals.{refusal_number}
 use Rattle.recovery_events.specs.declared.event.Refusal.{Refusal}
 use Rattle.recovery_events.specs.declared.event.Refusal.TheVariants.{Ecn, NoMemory}

@@ -12,9 +12,9 @@ use Rattle.recovery_mtud.specs.declared.config.MtuDiscoveryConfig.{MtuDiscoveryC
 use Rattle.recovery_queue.specs.Items.{item_words}
 use Rattle.recovery_skips.specs.declared.filter.Skips.{Skips}
 use Rattle.recovery_skips.specs.declared.filter.Skips.TheVariants.{Drawn, Disabled, Starting}
-use Rattle.quic_recovery.specs.declared.driver.RecoveryConfig.{RecoveryConfig}
-use Rattle.quic_recovery.specs.Config.{config_with}
-use Rattle.quic_recovery.specs.History.{Beginning, begins, queue_meaning}
+use Rattle.recovery_history.specs.declared.config.RecoveryConfig.{RecoveryConfig}
+use Rattle.recovery_history.specs.Config.{config_with}
+use Rattle.recovery_history.specs.History.{Beginning, begins, queue_meaning}
 use Rattle.recovery_ffi.specs.Controllers.{chosen_made, chosen_words}
 use Rattle.recovery_ffi.specs.declared.controllers.Chosen.{Chosen}
 use Rattle.recovery_ffi.specs.declared.controllers.ChosenConfig.{ChosenConfig}

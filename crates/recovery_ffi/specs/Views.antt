@@ -14,7 +14,7 @@ use Rattle.recovery_ledger.specs.Queued.{IsSendable}
 use Rattle.recovery_ledger.specs.Spaces.{Space, space_of, acks_of, heard_of, next_number_of, queued_of}
 use Rattle.recovery_paths.specs.PathStates.{Path}
 use Rattle.recovery_queue.specs.Items.{item_words}
-use Rattle.quic_recovery.specs.Parts.{Parts}
+use Rattle.recovery_history.specs.Parts.{Parts}
 use Rattle.recovery_ffi.specs.Codes.{nanos_shown, space_coded, timer_coded}
 use Rattle.recovery_ffi.specs.Controllers.{metrics_of, window_of}
 use Rattle.recovery_ffi.specs.declared.controllers.Chosen.{Chosen}

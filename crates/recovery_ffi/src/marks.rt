@@ -1,7 +1,7 @@
 //! What the layer above keeps with a path (RFC 9000, 8.2 and 13.4; RFC 9002, 7.6): it is read and set, and no event
 //! changes it.
 ghost use Rattle.std.specs.Prelude.{◌≡◌, None};
-ghost use Rattle.quic_recovery.specs.Above.{marks_at};
+ghost use Rattle.recovery_history.specs.Above.{marks_at};
 ghost use Rattle.recovery_ffi.specs.Answers.{Reads};
 ghost use Rattle.recovery_ffi.specs.Codes.{path_coded};
 ghost use Rattle.recovery_ffi.specs.Kept.{parts_kept};

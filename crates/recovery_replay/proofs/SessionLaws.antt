@@ -10,12 +10,12 @@ use Rattle.recovery_answers.specs.Answers.{Reply, answer_line, answer_lines}
 use Rattle.recovery_congestion.specs.Controllers.{ControllerWords}
 use Rattle.recovery_lines.specs.Lines.{ItemEvent, IsAt}
 use Rattle.recovery_queue.specs.Items.{item_words}
-use Rattle.quic_recovery.specs.declared.driver.RecoveryConfig.{RecoveryConfig}
+use Rattle.recovery_history.specs.declared.config.RecoveryConfig.{RecoveryConfig}
 use Rattle.recovery_events.specs.Feeding.{TakesAll}
-use Rattle.quic_recovery.specs.History.{begins, queue_meaning, Throughout}
+use Rattle.recovery_history.specs.History.{begins, queue_meaning, Throughout}
 use Rattle.quic_recovery.specs.Over.{RunsFrom}
-use Rattle.quic_recovery.specs.Parts.{Parts}
-use Rattle.quic_recovery.specs.Told.{Told}
+use Rattle.recovery_history.specs.Parts.{Parts}
+use Rattle.recovery_history.specs.Told.{Told}
 use Rattle.recovery_replay.specs.declared.text.AnswerText.{AnswerText}
 use Rattle.recovery_replay.specs.Replay.{begun_over, settings, skips_with, words_with, RunsOver, Session}
 use Rattle.recovery_replay.specs.Text.{TakesLine}

@@ -15,7 +15,7 @@ use arrayvec::ArrayString;
 use itoa::Buffer;
 use quic_recovery::config::TransportConfig;
 use quic_recovery::congestion::{ControllerFactory, NewRenoConfig};
-use quic_recovery::driver::{Recovery, RecoveryConfig};
+use quic_recovery::{Recovery, RecoveryConfig};
 use quic_recovery::event::Event;
 use rand_core::SeedableRng;
 use rand_pcg::Pcg32;

@@ -11,8 +11,8 @@ use Rattle.recovery_queue.specs.Slots.{is_from, AreFrom}
 use Rattle.recovery_losses.specs.Losses.{IsOneOf, without_all}
 use Rattle.recovery_losses.proofs.LookLaws.{all_other, one_more, without_more}
 use Rattle.recovery_losses.proofs.LossLaws.{found_from, lowest_from}
-use Rattle.quic_recovery.specs.History.{queue_meaning}
-use Rattle.quic_recovery.specs.Parts.{Parts}
+use Rattle.recovery_history.specs.History.{queue_meaning}
+use Rattle.recovery_history.specs.Parts.{Parts}
 use Rattle.recovery_sender.specs.declared.sender.Sender.{Sender}
 use Rattle.recovery_sender.specs.Abandoning.{AreOrdered, Forsakes, IsLeast}
 use Rattle.recovery_sender.specs.Judging.{losing}

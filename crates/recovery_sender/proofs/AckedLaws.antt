@@ -16,10 +16,11 @@ use Rattle.recovery_losses.specs.Losses.{AreRising, IsOneOf, without_all}
 use Rattle.recovery_losses.proofs.LookLaws.{all_other, without_more}
 use Rattle.recovery_losses.proofs.LossLaws.{lowest_from, none_from}
 use Rattle.quic_recovery.specs.declared.driver.Recovery.{Recovery}
-use Rattle.quic_recovery.specs.History.{QueueMeaning, queue_meaning}
-use Rattle.quic_recovery.specs.Parts.{Parts}
-use Rattle.quic_recovery.specs.Plain.{Plain}
-use Rattle.quic_recovery.specs.State.{Changes, OnlyTells, parts_of}
+use Rattle.recovery_history.specs.History.{QueueMeaning, queue_meaning}
+use Rattle.recovery_history.specs.Parts.{Parts}
+use Rattle.recovery_history.specs.Plain.{Plain}
+use Rattle.recovery_history.specs.Changes.{Changes}
+use Rattle.quic_recovery.specs.State.{OnlyTells, parts_of}
 use Rattle.recovery_sender.specs.declared.sender.Sender.{Sender}
 use Rattle.recovery_sender.specs.Acking.{acking, sent_here}
 use Rattle.recovery_sender.specs.Senders.{parts_in}

@@ -15,9 +15,9 @@ use Rattle.recovery_ledger.specs.Tracked.{Sent, sent_by, forgotten_by}
 use Rattle.recovery_ledger.proofs.PacketLaws.{number_at}
 use Rattle.recovery_paths.specs.PathStates.{is_blocked}
 use Rattle.recovery_queue.specs.Queues.{QueueWords}
-use Rattle.quic_recovery.specs.History.{begins, queue_meaning}
-use Rattle.quic_recovery.specs.Parts.{Parts}
-use Rattle.quic_recovery.specs.Told.{logs_of}
+use Rattle.recovery_history.specs.History.{begins, queue_meaning}
+use Rattle.recovery_history.specs.Parts.{Parts}
+use Rattle.recovery_history.specs.Told.{logs_of}
 use Rattle.recovery_sender.specs.declared.sender.Sender.{Sender}
 use Rattle.recovery_losses.specs.declared.due.Due.{Due}
 use Rattle.recovery_losses.specs.declared.due.Due.TheVariants.{Losses, Probes}

@@ -11,12 +11,12 @@ use Rattle.recovery_ledger.specs.Acks.{AckState}
 use Rattle.recovery_ledger.specs.Discarded.{is_discarded}
 use Rattle.recovery_ledger.specs.Spaces.{space_of}
 use Rattle.recovery_paths.specs.PathStates.{is_blocked}
-use Rattle.quic_recovery.specs.History.{QueueMeaning, Reply, queue_meaning}
-use Rattle.quic_recovery.specs.Known.{Known}
-use Rattle.quic_recovery.specs.Parts.{Parts}
-use Rattle.quic_recovery.specs.Plain.{Plain}
-use Rattle.quic_recovery.specs.State.{acks_to, known_to}
-use Rattle.quic_recovery.specs.Table.{ToldBy}
+use Rattle.recovery_history.specs.History.{QueueMeaning, Reply, queue_meaning}
+use Rattle.recovery_history.specs.Known.{Known}
+use Rattle.recovery_history.specs.Parts.{Parts}
+use Rattle.recovery_history.specs.Plain.{Plain}
+use Rattle.recovery_history.specs.Changes.{acks_to, known_to}
+use Rattle.recovery_history.specs.Table.{ToldBy}
 use Rattle.recovery_sender.specs.declared.sender.Refused.{Refused}
 use Rattle.recovery_sender.specs.declared.sender.Refused.TheVariants.{Event}
 use Rattle.recovery_sender.specs.declared.sender.Sender.{Sender}

@@ -11,9 +11,9 @@ use Rattle.recovery_losses.specs.Losses.{IsEarliest, IsLostBelow, IsTold, bytes_
 use Rattle.recovery_losses.specs.Looking.{Looked}
 use Rattle.recovery_losses.specs.Persisting.{IsEndAt, Persists}
 use Rattle.recovery_losses.proofs.LookLaws.{probe_waits}
-use Rattle.quic_recovery.specs.Above.{with_loss_time_at}
-use Rattle.quic_recovery.specs.History.{queue_meaning}
-use Rattle.quic_recovery.specs.Parts.{Parts}
+use Rattle.recovery_history.specs.Above.{with_loss_time_at}
+use Rattle.recovery_history.specs.History.{queue_meaning}
+use Rattle.recovery_history.specs.Parts.{Parts}
 use Rattle.recovery_sender.specs.declared.sender.losses.Losses.{Losses}
 use Rattle.recovery_sender.specs.declared.sender.Sender.{Sender}
 use Rattle.recovery_sender.specs.Judging.{Detects, Finds, HasNoGap, LossesAre, congested, detecting, ended, losing, one_of}

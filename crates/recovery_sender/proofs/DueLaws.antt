@@ -8,7 +8,7 @@ use Rattle.recovery_ledger.specs.declared.discarded.DiscardedSpaces.{DiscardedSp
 use Rattle.recovery_ledger.specs.Discarded.{is_discarded}
 use Rattle.recovery_ledger.specs.Spaces.{Space, space_of}
 use Rattle.recovery_paths.specs.PathStates.{is_blocked}
-use Rattle.quic_recovery.specs.Parts.{Parts}
+use Rattle.recovery_history.specs.Parts.{Parts}
 use Rattle.recovery_losses.specs.declared.due.Due.{Due}
 use Rattle.recovery_losses.specs.declared.due.Due.TheVariants.{Losses, Probes, AntiDeadlock}
 use Rattle.recovery_losses.specs.Due.{sooner}

@@ -9,8 +9,8 @@ use Rattle.recovery_losses.specs.declared.tally.Tally.{Tally}
 use Rattle.recovery_losses.specs.Losses.{IsNext, counting, finding_probe, waiting}
 use Rattle.recovery_losses.specs.Looking.{Looked}
 use Rattle.recovery_losses.proofs.LookLaws.{looked_waiting, looked_probe, looked_lost}
-use Rattle.quic_recovery.specs.History.{queue_meaning}
-use Rattle.quic_recovery.specs.Parts.{Parts}
+use Rattle.recovery_history.specs.History.{queue_meaning}
+use Rattle.recovery_history.specs.Parts.{Parts}
 use Rattle.recovery_sender.specs.declared.sender.Sender.{Sender}
 use Rattle.recovery_sender.specs.Judging.{Finds, Judges, losing}
 use Rattle.recovery_sender.specs.Senders.{parts_in}

@@ -10,10 +10,10 @@ use Rattle.recovery_events.specs.declared.event.Event.TheVariants.{Lost, LossesD
 use Rattle.recovery_ledger.specs.Discarded.{is_discarded}
 use Rattle.recovery_ledger.specs.Packets.{Packets, packet_at, without}
 use Rattle.recovery_ledger.specs.Spaces.{space_of, packets_of}
-use Rattle.quic_recovery.specs.History.{QueueMeaning, queue_meaning}
-use Rattle.quic_recovery.specs.Parts.{Parts}
-use Rattle.quic_recovery.specs.Plain.{Plain, plain_of}
-use Rattle.quic_recovery.specs.State.{Changes}
+use Rattle.recovery_history.specs.History.{QueueMeaning, queue_meaning}
+use Rattle.recovery_history.specs.Parts.{Parts}
+use Rattle.recovery_history.specs.Plain.{Plain, plain_of}
+use Rattle.recovery_history.specs.Changes.{Changes}
 use Rattle.recovery_sender.specs.Senders.{parts_in}
 use Rattle.recovery_sender.specs.Spaces.{packets_in}
 use Rattle.recovery_sender.specs.declared.sender.Sender.{Sender}

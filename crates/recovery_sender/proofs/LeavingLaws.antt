@@ -26,12 +26,12 @@ use Rattle.recovery_paths.specs.declared.path_pair.PathName.TheVariants.{Current
 use Rattle.recovery_paths.specs.PathLog.{OfPaths, PathKnown, paths_known}
 use Rattle.recovery_paths.specs.PathStates.{PathState, is_blocked}
 use Rattle.recovery_queue.specs.Queues.{QueueWords}
-use Rattle.quic_recovery.specs.Entries.{here}
-use Rattle.quic_recovery.specs.History.{QueueMeaning}
-use Rattle.quic_recovery.specs.Logs.{StepBy}
-use Rattle.quic_recovery.specs.Parts.{Parts}
-use Rattle.quic_recovery.specs.Plain.{Plain, plain_of}
-use Rattle.quic_recovery.specs.State.{Changes}
+use Rattle.recovery_history.specs.Entries.{here}
+use Rattle.recovery_history.specs.History.{QueueMeaning}
+use Rattle.recovery_history.specs.Logs.{StepBy}
+use Rattle.recovery_history.specs.Parts.{Parts}
+use Rattle.recovery_history.specs.Plain.{Plain, plain_of}
+use Rattle.recovery_history.specs.Changes.{Changes}
 use Rattle.recovery_sender.specs.declared.sender.Variables.{Variables}
 use Rattle.recovery_sender.specs.declared.sender.packets.Transmission.{Transmission}
 use Rattle.recovery_sender.specs.declared.sender.packets.Transmission.TheVariants as transmissions

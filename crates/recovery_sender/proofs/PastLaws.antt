@@ -13,14 +13,14 @@ use Rattle.recovery_events.specs.declared.event.Event.TheVariants.{Send, PollMtu
 use Rattle.recovery_ledger.specs.Discarded.{is_discarded}
 use Rattle.recovery_ledger.specs.Packets.{Packet, packet_at}
 use Rattle.recovery_ledger.specs.Tracked.{Sent}
-use Rattle.quic_recovery.specs.declared.driver.RecoveryConfig.{RecoveryConfig}
-use Rattle.quic_recovery.specs.History.{AtEach, Beginning, History, Reply, begins, queue_meaning}
-use Rattle.quic_recovery.specs.Past.{Reached}
-use Rattle.quic_recovery.specs.Promises.Tracked.{is_tracked}
-use Rattle.quic_recovery.specs.Told.{Told}
-use Rattle.quic_recovery.proofs.FieldLaws.{IsSaid, said_found, said_then, said_told}
-use Rattle.quic_recovery.proofs.Runs.{kept_after}
-use Rattle.quic_recovery.proofs.TrackedLaws.{AllTracked, keeps_tracked, none_tracked, sent_in, tracked_found}
+use Rattle.recovery_history.specs.declared.config.RecoveryConfig.{RecoveryConfig}
+use Rattle.recovery_history.specs.History.{AtEach, Beginning, History, Reply, begins, queue_meaning}
+use Rattle.recovery_history.specs.Past.{Reached}
+use Rattle.recovery_history.specs.Promises.Tracked.{is_tracked}
+use Rattle.recovery_history.specs.Told.{Told}
+use Rattle.recovery_history.proofs.FieldLaws.{IsSaid, said_found, said_then, said_told}
+use Rattle.recovery_history.proofs.Runs.{kept_after}
+use Rattle.recovery_history.proofs.TrackedLaws.{AllTracked, keeps_tracked, none_tracked, sent_in, tracked_found}
 use Rattle.recovery_sender.specs.declared.sender.Sender.{Sender}
 use Rattle.recovery_sender.specs.Promises.Lost.{sent_at}
 use Rattle.recovery_sender.specs.Senders.{parts_in}

@@ -2,10 +2,10 @@
 use Rattle.std.proofs.Common.{◌≡◌, List, [], ◌∷◌, ◌++◌, Ok, sym, subst, ◌∙◌}
 use Rattle.recovery_events.specs.declared.event.Answer.{Answer}
 use Rattle.recovery_events.specs.declared.event.Event.{Event}
-use Rattle.quic_recovery.specs.History.{queue_meaning}
-use Rattle.quic_recovery.specs.Parts.{Parts}
-use Rattle.quic_recovery.specs.Past.{ExtendsOn}
-use Rattle.quic_recovery.specs.State.{Changes}
+use Rattle.recovery_history.specs.History.{queue_meaning}
+use Rattle.recovery_history.specs.Parts.{Parts}
+use Rattle.recovery_history.specs.Past.{ExtendsOn}
+use Rattle.recovery_history.specs.Changes.{Changes}
 use Rattle.recovery_sender.specs.declared.sender.Sender.{Sender}
 use Rattle.recovery_sender.specs.declared.sender.Variables.{Variables}
 use Rattle.recovery_sender.specs.Senders.{parts_in}

@@ -16,13 +16,14 @@ use Rattle.recovery_events.specs.declared.event.Answer.TheVariants.{Done}
 use Rattle.recovery_events.specs.declared.event.Event.{Event}
 use Rattle.recovery_events.specs.declared.event.Refusal.{Refusal}
 use Rattle.recovery_events.specs.declared.event.Refusal.TheVariants.{NoMemory}
-use Rattle.quic_recovery.specs.PartReplies.{IsDone}
-use Rattle.quic_recovery.specs.History.{QueueMeaning}
-use Rattle.quic_recovery.specs.Parts.{Parts}
-use Rattle.quic_recovery.specs.Plain.{Plain}
+use Rattle.recovery_history.specs.PartReplies.{IsDone}
+use Rattle.recovery_history.specs.History.{QueueMeaning}
+use Rattle.recovery_history.specs.Parts.{Parts}
+use Rattle.recovery_history.specs.Plain.{Plain}
 use Rattle.quic_recovery.specs.declared.driver.Recovery.{Recovery}
-use Rattle.quic_recovery.specs.Past.{ExtendsOn}
-use Rattle.quic_recovery.specs.State.{Changes, OnlyTells}
+use Rattle.recovery_history.specs.Past.{ExtendsOn}
+use Rattle.recovery_history.specs.Changes.{Changes}
+use Rattle.quic_recovery.specs.State.{OnlyTells}
 use Rattle.recovery_losses.specs.declared.due.Due.{Due}
 use Rattle.recovery_sender.specs.declared.sender.Variables.{Variables}
 use Rattle.recovery_sender.specs.Steps.{Leads, told, timed, timer_event}

@@ -13,7 +13,7 @@ use Rattle.recovery_events.specs.declared.event.Refusal.TheVariants.{NoMemory}
 use Rattle.recovery_ledger.specs.Packets.{Packet, packet_at}
 use Rattle.recovery_ledger.specs.Spaces.{Space, next_number_of}
 use Rattle.recovery_paths.specs.PathStates.{PathMarks}
-use Rattle.quic_recovery.specs.Parts.{Parts}
+use Rattle.recovery_history.specs.Parts.{Parts}
 use Rattle.recovery_losses.specs.declared.frames.Ack.{Ack}
 use Rattle.recovery_losses.specs.Frames.{largest_of}
 use Rattle.recovery_sender.specs.declared.sender.acks.Acknowledged.{Acknowledged}

@@ -15,11 +15,11 @@ use Rattle.recovery_ledger.specs.Paths.{counters_of}
 use Rattle.recovery_ledger.specs.Spaces.{space_of}
 use Rattle.recovery_paths.specs.PathLog.{paths_marks}
 use Rattle.recovery_paths.specs.PathStates.{PathMarks, is_blocked, path_delay}
-use Rattle.quic_recovery.specs.declared.driver.RecoveryConfig.{RecoveryConfig}
-use Rattle.quic_recovery.specs.Above.{AreFresh, HasNoLossTime}
-use Rattle.quic_recovery.specs.History.{Reply, begins, queue_meaning}
-use Rattle.quic_recovery.specs.Parts.{Parts}
-use Rattle.quic_recovery.specs.Past.{Reached}
+use Rattle.recovery_history.specs.declared.config.RecoveryConfig.{RecoveryConfig}
+use Rattle.recovery_history.specs.Above.{AreFresh, HasNoLossTime}
+use Rattle.recovery_history.specs.History.{Reply, begins, queue_meaning}
+use Rattle.recovery_history.specs.Parts.{Parts}
+use Rattle.recovery_history.specs.Past.{Reached}
 use Rattle.recovery_sender.specs.declared.sender.Refused.{Refused}
 use Rattle.recovery_sender.specs.declared.sender.Refused.TheVariants as refused
 use Rattle.recovery_sender.specs.declared.sender.Sender.{Sender}

@@ -12,7 +12,7 @@ use Rattle.recovery_losses.specs.declared.tally.Tally.{Tally}
 use Rattle.recovery_losses.specs.Losses.{AreLost, IsDueAt, IsEarliest, IsLost, IsLostBelow, IsTold, bytes_counted, counting, finding_probe, last_counted, waiting}
 use Rattle.recovery_losses.specs.Looking.{Looked}
 use Rattle.recovery_losses.specs.Persisting.{IsEndAt, Persists}
-use Rattle.quic_recovery.specs.Parts.{Parts}
+use Rattle.recovery_history.specs.Parts.{Parts}
 use Rattle.recovery_sender.specs.declared.sender.losses.Losses.{Losses}
 use Rattle.recovery_sender.specs.declared.sender.Sender.{Sender}
 use Rattle.recovery_sender.specs.Losses.{largest_in, look_of, NothingLost}

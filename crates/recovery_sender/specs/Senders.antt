@@ -1,6 +1,6 @@
 -- What a sender is to those who call it: the parts of its recovery, and the variables beside it (RFC 9002, A.3).
 use Rattle.std.specs.Prelude.{ℕ, ◌*◌, ◌^◌, false}
-use Rattle.quic_recovery.specs.Parts.{Parts}
+use Rattle.recovery_history.specs.Parts.{Parts}
 use Rattle.quic_recovery.specs.State.{parts_of}
 use Rattle.recovery_sender.specs.declared.sender.Sender.{Sender}
 use Rattle.recovery_sender.specs.declared.sender.Side.{Side}

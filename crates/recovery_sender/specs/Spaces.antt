@@ -5,7 +5,7 @@ use Rattle.recovery_base.specs.declared.below.SpaceId.{SpaceId}
 use Rattle.recovery_ledger.specs.Discarded.{is_discarded}
 use Rattle.recovery_ledger.specs.Packets.{Packets}
 use Rattle.recovery_ledger.specs.Spaces.{Space, space_of, packets_of}
-use Rattle.quic_recovery.specs.Parts.{Parts}
+use Rattle.recovery_history.specs.Parts.{Parts}
 
 -- the space, unless it was discarded
 abbrev pub space_in : {K P M : Type 0} → Parts K P M → SpaceId → Option (Space P M)

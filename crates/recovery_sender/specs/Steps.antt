@@ -9,11 +9,11 @@ use Rattle.recovery_events.specs.declared.event.Event.{Event}
 use Rattle.recovery_events.specs.declared.event.Event.TheVariants.{SetTimer, StopTimer}
 use Rattle.recovery_paths.specs.declared.path_pair.PathName.TheVariants.{Current}
 use Rattle.recovery_paths.specs.PathStates.{PathMarks}
-use Rattle.quic_recovery.specs.Above.{with_loss_time_at, with_marks_at}
-use Rattle.quic_recovery.specs.History.{QueueMeaning, Reply, queue_meaning}
-use Rattle.quic_recovery.specs.Parts.{Parts}
-use Rattle.quic_recovery.specs.Past.{ExtendsOn}
-use Rattle.quic_recovery.specs.State.{Changes}
+use Rattle.recovery_history.specs.Above.{with_loss_time_at, with_marks_at}
+use Rattle.recovery_history.specs.History.{QueueMeaning, Reply, queue_meaning}
+use Rattle.recovery_history.specs.Parts.{Parts}
+use Rattle.recovery_history.specs.Past.{ExtendsOn}
+use Rattle.recovery_history.specs.Changes.{Changes}
 use Rattle.recovery_sender.specs.declared.sender.Sender.{Sender}
 use Rattle.recovery_losses.specs.declared.due.Due.{Due}
 use Rattle.recovery_sender.specs.declared.sender.Variables.{Variables}

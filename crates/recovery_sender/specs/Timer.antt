@@ -14,7 +14,7 @@ use Rattle.recovery_ledger.specs.Spaces.{Space, packets_of}
 use Rattle.recovery_losses.specs.Due.{sooner}
 use Rattle.recovery_losses.specs.Timeouts.{probe_timeout_of}
 use Rattle.recovery_paths.specs.PathStates.{is_blocked}
-use Rattle.quic_recovery.specs.Parts.{Parts}
+use Rattle.recovery_history.specs.Parts.{Parts}
 use Rattle.recovery_sender.specs.declared.sender.Side.{Side}
 use Rattle.recovery_sender.specs.declared.sender.Side.TheVariants.{Client, Server}
 use Rattle.recovery_losses.specs.declared.due.Due.{Due}

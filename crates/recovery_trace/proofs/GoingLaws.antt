@@ -5,8 +5,8 @@ use Rattle.std.specs.Io.KnownBytes.{Consumes}
 use Rattle.std.proofs.KnownBytes.{Appends-nil, Consumes-nil, Consumes-trans}
 use Rattle.rand_core.specs.Stream.{Stream}
 use Rattle.quic_recovery.specs.declared.driver.Recovery.{Recovery}
-use Rattle.quic_recovery.specs.declared.driver.RecoveryConfig.{RecoveryConfig}
-use Rattle.quic_recovery.specs.Past.{Reached}
+use Rattle.recovery_history.specs.declared.config.RecoveryConfig.{RecoveryConfig}
+use Rattle.recovery_history.specs.Past.{Reached}
 use Rattle.quic_recovery.specs.State.{parts_of}
 use Rattle.recovery_replay.specs.declared.reading.Next.{Next}
 use Rattle.recovery_replay.specs.declared.reading.Next.TheVariants.{Line, Last}

@@ -8,8 +8,8 @@ use Rattle.std.specs.Io.KnownBytes.{Appends, Consumes, IsAtEnd, Keeps}
 use Rattle.std.proofs.KnownBytes.{Appends-kept, Appends-trans, Consumes-trans}
 use Rattle.rand_core.specs.Stream.{Stream}
 use Rattle.quic_recovery.specs.declared.driver.Recovery.{Recovery}
-use Rattle.quic_recovery.specs.declared.driver.RecoveryConfig.{RecoveryConfig}
-use Rattle.quic_recovery.specs.Past.{Reached, ExtendsFrom}
+use Rattle.recovery_history.specs.declared.config.RecoveryConfig.{RecoveryConfig}
+use Rattle.recovery_history.specs.Past.{Reached, ExtendsFrom}
 use Rattle.quic_recovery.specs.State.{parts_of}
 use Rattle.recovery_answers.specs.Answers.{Reply}
 use Rattle.recovery_lines.specs.Lines.{ItemEvent, Spells}

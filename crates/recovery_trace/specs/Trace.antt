@@ -8,9 +8,9 @@ use Rattle.recovery_congestion.specs.Controllers.{ControllerWords}
 use Rattle.recovery_congestion.specs.NewReno.{reno_made, reno_words}
 use Rattle.recovery_congestion.specs.RenoSettings.{default_reno}
 use Rattle.quic_recovery.specs.declared.driver.Recovery.{Recovery}
-use Rattle.quic_recovery.specs.declared.driver.RecoveryConfig.{RecoveryConfig}
-use Rattle.quic_recovery.specs.History.{AtEach, Beginning, History, begins, queue_meaning}
-use Rattle.quic_recovery.specs.Past.{Reached, Keeps}
+use Rattle.recovery_history.specs.declared.config.RecoveryConfig.{RecoveryConfig}
+use Rattle.recovery_history.specs.History.{AtEach, Beginning, History, begins, queue_meaning}
+use Rattle.recovery_history.specs.Past.{Reached, Keeps}
 use Rattle.quic_recovery.specs.State.{parts_of}
 use Rattle.recovery_cubic.specs.ConfigView.{default_window}
 use Rattle.recovery_cubic.specs.Cubic.{cubic_made, cubic_words}

@@ -3,8 +3,8 @@ use Rattle.std.specs.Prelude.{◌≡◌, ℕ, ◌⊎◌, Bool, true, false, List
 use Rattle.std.specs.Io.KnownBytes.{Appends, Keeps}
 use Rattle.recovery_congestion.specs.Controllers.{ControllerWords}
 use Rattle.quic_recovery.specs.declared.driver.Recovery.{Recovery}
-use Rattle.quic_recovery.specs.Parts.{Parts}
-use Rattle.quic_recovery.specs.Past.{Extends}
+use Rattle.recovery_history.specs.Parts.{Parts}
+use Rattle.quic_recovery.specs.Live.{Extends}
 use Rattle.quic_recovery.specs.State.{parts_of}
 use Rattle.recovery_answers.specs.Answers.{Reply, answer_line}
 use Rattle.recovery_lines.specs.Lines.{ItemEvent, Spells}

@@ -1,8 +1,8 @@
 //! The events of packets and spaces (RFC 9000, 12.3 and 13; RFC 9002, A).
 ghost use Rattle.std.specs.Prelude.{◌≡◌, ◌<◌, ◌^◌, Decides};
 ghost use Rattle.recovery_ledger.specs.Packets.{entry_number, IsTooLarge};
-ghost use Rattle.quic_recovery.specs.Numbers.{number_behind, skipping_behind};
-ghost use Rattle.quic_recovery.specs.Replies.{reply_to, refusal_of};
+ghost use Rattle.recovery_history.specs.Numbers.{number_behind, skipping_behind};
+ghost use Rattle.recovery_history.specs.Replies.{reply_to, refusal_of};
 
 use crate::driver::Recovery;
 use rand_core::Rng;
@@ -25,8 +25,9 @@ where
     R: Rng + Drop,
 {
     ghost use Rattle.recovery_events.specs.declared.event.Event.TheVariants.{Received, Send, Acked, Lost, DiscardSpace};
-    ghost use Rattle.quic_recovery.specs.Known.{number_in};
-    ghost use Rattle.quic_recovery.specs.State.{Transition, known_to, parts_of};
+    ghost use Rattle.recovery_history.specs.Known.{number_in};
+    ghost use Rattle.quic_recovery.specs.State.{Transition, parts_of};
+    ghost use Rattle.recovery_history.specs.Changes.{known_to};
 
     /// A packet comes in (RFC 9000, 12.3).
     #[inline(always)]

@@ -4,8 +4,8 @@ use Rattle.std.specs.Prelude.{◌≡◌, ℕ, ◌↔◌, true, List}
 use Rattle.recovery_base.specs.declared.below.SpaceId.{SpaceId}
 use Rattle.recovery_losses.specs.Losses.{IsOneOf}
 use Rattle.recovery_losses.specs.Frames.{IsWithin}
-use Rattle.quic_recovery.specs.History.{History}
-use Rattle.quic_recovery.specs.Promises.Tracked.{is_tracked}
+use Rattle.recovery_history.specs.History.{History}
+use Rattle.recovery_history.specs.Promises.Tracked.{is_tracked}
 
 module _ {Q S M P : Type 0} (space : SpaceId) where
   abbrev pub AcksTracked : List (ℕ × ℕ) → List ℕ → History Q S M P → Type 0

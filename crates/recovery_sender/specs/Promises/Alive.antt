@@ -7,7 +7,7 @@ use Rattle.recovery_base.specs.Timers.{moment}
 use Rattle.recovery_ledger.specs.Discarded.{is_discarded}
 use Rattle.recovery_ledger.specs.Spaces.{Space, packets_of}
 use Rattle.recovery_paths.specs.PathStates.{is_blocked}
-use Rattle.quic_recovery.specs.Parts.{Parts}
+use Rattle.recovery_history.specs.Parts.{Parts}
 use Rattle.recovery_sender.specs.declared.sender.Variables.{Variables}
 use Rattle.recovery_sender.specs.Spaces.{space_in}
 use Rattle.recovery_sender.specs.Timer.{behind, deadlock_space, has_eliciting, is_address_validated, pto_of, waits}

@@ -9,8 +9,8 @@ use Rattle.recovery_events.specs.declared.event.Answer.TheVariants.{Sent, Probe}
 use Rattle.recovery_events.specs.declared.event.Event.TheVariants.{Send, PollMtu}
 use Rattle.recovery_losses.specs.declared.looks.Look.{Look}
 use Rattle.recovery_losses.specs.Losses.{IsLost, IsTold}
-use Rattle.quic_recovery.specs.History.{History}
-use Rattle.quic_recovery.specs.Promises.Tracked.{is_tracked}
+use Rattle.recovery_history.specs.History.{History}
+use Rattle.recovery_history.specs.Promises.Tracked.{is_tracked}
 use Rattle.recovery_sender.specs.declared.sender.losses.Losses.{Losses}
 
 module _ {Q S M P : Type 0} where

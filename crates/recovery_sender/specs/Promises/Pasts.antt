@@ -1,9 +1,9 @@
 -- The past of a sender: the events, with their replies, by which its recovery came to be what it is.
 use Rattle.std.specs.Prelude.{ℕ}
 use Rattle.rand_core.specs.Stream.{Stream}
-use Rattle.quic_recovery.specs.declared.driver.RecoveryConfig.{RecoveryConfig}
-use Rattle.quic_recovery.specs.History.{History, begins, queue_meaning}
-use Rattle.quic_recovery.specs.Past.{Reached}
+use Rattle.recovery_history.specs.declared.config.RecoveryConfig.{RecoveryConfig}
+use Rattle.recovery_history.specs.History.{History, begins, queue_meaning}
+use Rattle.recovery_history.specs.Past.{Reached}
 use Rattle.recovery_sender.specs.declared.sender.Sender.{Sender}
 use Rattle.recovery_sender.specs.Senders.{parts_in}
 

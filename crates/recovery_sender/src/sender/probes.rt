@@ -1,7 +1,7 @@
 //! The timer for losses expires (RFC 9002, 6.2 and A.9).
 ghost use Rattle.std.specs.Prelude.{◌≡◌, ◌∷◌, [], false, IfSome};
 ghost use Rattle.recovery_ledger.specs.Discarded.{is_discarded};
-ghost use Rattle.quic_recovery.specs.History.{Reply};
+ghost use Rattle.recovery_history.specs.History.{Reply};
 ghost use Rattle.recovery_sender.specs.Calls.{done_of, due_now, probes_with, space_due, timed_out, ProbesOnce, ProbesTwice, QueuesProbe};
 ghost use Rattle.recovery_sender.specs.Senders.{parts_in};
 ghost use Rattle.recovery_sender.specs.Steps.{told, Goes, Does};

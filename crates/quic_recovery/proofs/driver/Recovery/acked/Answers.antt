@@ -5,7 +5,7 @@ use Rattle.recovery_ledger.proofs.SpaceAckLaws.{acked_greatest}
 use Rattle.recovery_ledger.proofs.AmongLaws.{acknowledging_found}
 use Rattle.recovery_ledger.proofs.CoherentLaws.{coherent_taken}
 use Rattle.recovery_paths.proofs.BalanceLaws.{counted, paths_balanced_acked}
-use Rattle.quic_recovery.proofs.AckedLostLaws.{acked_changes}
+use Rattle.recovery_history.proofs.AckedLostLaws.{acked_changes}
 use Rattle.quic_recovery.proofs.driver.Recovery.acked.Goals as goal
 
 pub on_packet_acked-probe-requires : goal.on_packet_acked-probe-requires

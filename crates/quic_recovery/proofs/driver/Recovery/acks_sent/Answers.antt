@@ -1,5 +1,5 @@
 use Rattle.std.proofs.Common.{refl}
-use Rattle.quic_recovery.proofs.ProbeStepLaws.{acks_balanced}
+use Rattle.recovery_history.proofs.ProbeStepLaws.{acks_balanced}
 use Rattle.std.proofs.Common.{ap, ◌∙◌}
 use Rattle.recovery_acks.specs.Acks.{Acks}
 use Rattle.quic_recovery.proofs.driver.Recovery.acks_sent.Goals as goal

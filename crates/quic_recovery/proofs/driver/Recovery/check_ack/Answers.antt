@@ -1,7 +1,8 @@
 use Rattle.std.proofs.Common.{refl, sym, arith}
 use Rattle.recovery_ledger.proofs.ReceivedLaws.{fails}
-use Rattle.quic_recovery.specs.State.{known_to, parts_of}
-use Rattle.quic_recovery.proofs.ProbeStepLaws.{skip_acked, acks_skip}
+use Rattle.recovery_history.specs.Changes.{known_to}
+use Rattle.quic_recovery.specs.State.{parts_of}
+use Rattle.recovery_history.proofs.ProbeStepLaws.{skip_acked, acks_skip}
 use Rattle.quic_recovery.proofs.driver.Recovery.check_ack.Goals as goal
 
 pub returns-in-Ok : goal.returns-in-Ok

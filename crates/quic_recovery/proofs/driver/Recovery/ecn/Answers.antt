@@ -1,6 +1,6 @@
 use Rattle.std.proofs.Common.{subst}
 use Rattle.recovery_ledger.specs.Spaces.{Space}
-use Rattle.quic_recovery.proofs.ProbeStepLaws.{Stays, stays_balanced, fed_back_stays}
+use Rattle.recovery_history.proofs.ProbeStepLaws.{Stays, stays_balanced, fed_back_stays}
 use Rattle.quic_recovery.proofs.driver.Recovery.ecn.Goals as goal
 
 pub invariant_of-self : goal.invariant_of-self

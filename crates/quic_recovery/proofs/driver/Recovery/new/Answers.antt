@@ -3,10 +3,10 @@ use Rattle.std.proofs.lemmas.Option.{none-some}
 use Rattle.recovery_base.specs.declared.below.SpaceId.{SpaceId}
 use Rattle.recovery_ledger.specs.Spaces.{space_of, SpaceLeft}
 use Rattle.recovery_ledger.proofs.SpaceLaws.{fresh_space}
-use Rattle.quic_recovery.specs.History.{begins, queue_meaning}
-use Rattle.quic_recovery.proofs.AboveLaws.{untouched_made}
-use Rattle.quic_recovery.proofs.LeftLaws.{balanced_first, in_flight_law, paths_first}
-use Rattle.quic_recovery.proofs.SearchLaws.{where_allowed}
+use Rattle.recovery_history.specs.History.{begins, queue_meaning}
+use Rattle.recovery_history.proofs.AboveLaws.{untouched_made}
+use Rattle.recovery_history.proofs.LeftLaws.{balanced_first, in_flight_law, paths_first}
+use Rattle.recovery_history.proofs.SearchLaws.{where_allowed}
 use Rattle.quic_recovery.proofs.driver.Recovery.new.Goals as goal
 
 pub invariant_of-result : goal.invariant_of-result

@@ -7,8 +7,8 @@ use Rattle.recovery_events.specs.declared.event.Event.{Event}
 use Rattle.recovery_events.specs.declared.event.Event.TheVariants.{NewPath}
 use Rattle.recovery_events.specs.declared.event.Refusal.TheVariants.{NoMemory}
 use Rattle.quic_recovery.specs.State.{parts_of}
-use Rattle.quic_recovery.proofs.AboveLaws.{marks_refused}
-use Rattle.quic_recovery.proofs.DriverLaws.{nothing_changes}
+use Rattle.recovery_history.proofs.AboveLaws.{marks_refused}
+use Rattle.recovery_history.proofs.DriverLaws.{nothing_changes}
 use Rattle.quic_recovery.proofs.driver.Recovery.new_path.Goals.{then-fresh, else-fresh+in-Ok}
 use Rattle.quic_recovery.proofs.driver.Recovery.new_path.Goals as goal
 

@@ -1,6 +1,6 @@
 use Rattle.std.proofs.Common.{ap}
 use Rattle.recovery_events.specs.declared.event.Answer.TheVariants.{Timeout}
-use Rattle.quic_recovery.proofs.TimeoutsLaws.{least_moment}
+use Rattle.recovery_history.proofs.TimeoutsLaws.{least_moment}
 use Rattle.quic_recovery.proofs.driver.Recovery.next_timeout.Goals as goal
 
 pub returns : goal.returns

@@ -1,7 +1,7 @@
 use Rattle.std.proofs.Common.{◌≡◌, Some, rules}
 use Rattle.recovery_mtud.specs.Discovery.{poll_of}
 use Rattle.recovery_mtud.specs.DiscoveryLog.{polls, discovery_after}
-use Rattle.quic_recovery.proofs.PathStepLaws.{probe_refused, probe_changes}
+use Rattle.recovery_history.proofs.PathStepLaws.{probe_refused, probe_changes}
 use Rattle.quic_recovery.proofs.driver.Recovery.poll_mtu.Goals.{in-Ok, in-Err}
 use Rattle.quic_recovery.proofs.driver.Recovery.poll_mtu.Goals as goal
 

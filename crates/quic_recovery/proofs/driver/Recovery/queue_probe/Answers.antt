@@ -1,6 +1,6 @@
 use Rattle.recovery_ledger.specs.Probes.{probe_found}
 use Rattle.recovery_ledger.specs.Spaces.{space_of, packets_of}
-use Rattle.quic_recovery.proofs.ProbeStepLaws.{probe_balanced}
+use Rattle.recovery_history.proofs.ProbeStepLaws.{probe_balanced}
 use Rattle.quic_recovery.proofs.driver.Recovery.queue_probe.Goals as goal
 
 pub invariant_of-self : goal.invariant_of-self

@@ -1,5 +1,5 @@
 use Rattle.std.proofs.Common.{refl}
-use Rattle.quic_recovery.specs.History.{queue_meaning}
+use Rattle.recovery_history.specs.History.{queue_meaning}
 use Rattle.quic_recovery.specs.State.{parts_of}
 use Rattle.quic_recovery.proofs.OverLaws.{runs_from}
 use Rattle.quic_recovery.proofs.driver.Recovery.run_over.Goals as goal

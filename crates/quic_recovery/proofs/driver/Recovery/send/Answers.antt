@@ -9,10 +9,10 @@ use Rattle.recovery_ledger.proofs.ReceivedLaws.{fails}
 use Rattle.recovery_paths.specs.PathStates.{after_telling}
 use Rattle.recovery_paths.specs.declared.path_pair.PathName.TheVariants.{Current}
 use Rattle.recovery_paths.proofs.BalanceLaws.{on_state_kept}
-use Rattle.quic_recovery.specs.Numbers.{number_behind, skipping_behind}
+use Rattle.recovery_history.specs.Numbers.{number_behind, skipping_behind}
 use Rattle.quic_recovery.specs.State.{parts_of}
-use Rattle.quic_recovery.proofs.NumberLaws.{number_above}
-use Rattle.quic_recovery.proofs.SendLaws.{sent_balanced, send_changes}
+use Rattle.recovery_history.proofs.NumberLaws.{number_above}
+use Rattle.recovery_history.proofs.SendLaws.{sent_balanced, send_changes}
 use Rattle.quic_recovery.proofs.driver.Recovery.send.Goals as goal
 
 ok_is_no_err : {P M : Type 0} (forgotten : Option (ℕ × Packet P M)) (error : LedgerError) → Ok forgotten ≡ Err error → ⊥

@@ -1,6 +1,6 @@
 use Rattle.std.proofs.Common.{refl, ap, ◌∙◌}
 use Rattle.recovery_ledger.specs.Spaces.{space_hands_out}
-use Rattle.quic_recovery.proofs.ProbeStepLaws.{stays_balanced, stays_as}
+use Rattle.recovery_history.proofs.ProbeStepLaws.{stays_balanced, stays_as}
 use Rattle.quic_recovery.proofs.driver.Recovery.take_pending.Goals as goal
 
 pub invariant_of-self : goal.invariant_of-self

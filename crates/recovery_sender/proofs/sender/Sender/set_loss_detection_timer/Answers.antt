@@ -1,7 +1,7 @@
 use Rattle.std.proofs.Common.{inl, inr, refl, ap, ◌∙◌}
 use Rattle.recovery_base.specs.Timers.{moment}
 use Rattle.recovery_base.specs.declared.timer.Timer.TheVariants.{LossDetection}
-use Rattle.quic_recovery.specs.History.{queue_meaning}
+use Rattle.recovery_history.specs.History.{queue_meaning}
 use Rattle.recovery_sender.specs.Senders.{parts_in}
 use Rattle.recovery_sender.specs.Timer.{TimerIsSet}
 use Rattle.recovery_sender.proofs.AliveLaws.{never_stalls}

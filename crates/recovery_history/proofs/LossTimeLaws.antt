@@ -1,0 +1,70 @@
+-- The layer above sets when a packet of a space is to be called lost: nothing that events touch changes.
+use Rattle.std.proofs.Common.{◌≡◌, ℕ, List, Option}
+use Rattle.recovery_base.specs.declared.below.SpaceId.{SpaceId}
+use Rattle.recovery_base.specs.declared.below.SpaceId.TheVariants.{Initial, Handshake, Data}
+use Rattle.recovery_ledger.specs.Queued.{no_ecn}
+use Rattle.recovery_ledger.specs.SpaceLog.{SpaceEntry}
+use Rattle.recovery_ledger.specs.Spaces.{Space, Spaces, space_of, with_space, SpaceLeft}
+use Rattle.recovery_queue.specs.Queues.{QueueWords}
+use Rattle.recovery_history.specs.Above.{untouched_of, with_loss_time}
+use Rattle.recovery_history.specs.History.{Beginning, History}
+use Rattle.recovery_history.specs.Parts.{Parts}
+use Rattle.recovery_history.specs.Past.{Reached}
+
+-- what holds of each space, whatever its loss time, holds of each where one is set
+module _ {P M : Type 0} (Holds : SpaceId → Space P M → Type 0) (time : Option ℕ)
+    (holds_with : (space : SpaceId) (there : Space P M) → Holds space there → Holds space (with_loss_time time there))
+    (spaces : Spaces P M) (all : (space : SpaceId) → Holds space (space_of space spaces)) where
+  each_with_loss_time : (set space : SpaceId)
+      → Holds space (space_of space (with_space spaces set (with_loss_time time (space_of set spaces))))
+  each_with_loss_time Initial Initial = holds_with Initial _ (all Initial)
+  each_with_loss_time Initial Handshake = all Handshake
+  each_with_loss_time Initial Data = all Data
+  each_with_loss_time Handshake Initial = all Initial
+  each_with_loss_time Handshake Handshake = holds_with Handshake _ (all Handshake)
+  each_with_loss_time Handshake Data = all Data
+  each_with_loss_time Data Initial = all Initial
+  each_with_loss_time Data Handshake = all Handshake
+  each_with_loss_time Data Data = holds_with Data _ (all Data)
+
+left_with_loss_time : {P M S : Type 0} (words : QueueWords P S) (start : ℕ) (log : List (SpaceEntry P M))
+    (time : Option ℕ) (there : Space P M) → SpaceLeft words start log there
+    → SpaceLeft words start log (with_loss_time time there)
+left_with_loss_time words start log time there left = record {
+  numbers = left.numbers;
+  acks = left.acks;
+  greatest = left.greatest;
+  sent = left.sent;
+  acknowledged = left.acknowledged;
+  last_sent = left.last_sent;
+  probes = left.probes;
+  given_out = left.given_out;
+  queued = left.queued;
+}
+
+-- so it is all the same for the past
+module _ {F K Q S M P : Type 0} (beginning : Beginning F K Q S M P) (past : History Q S M P) where
+  pub reached_with_loss_time : (set : SpaceId) (time : Option ℕ) (there : Space P M) (recovery : Parts K P M)
+      → there ≡ space_of set recovery.spaces → Reached beginning past recovery
+      → Reached beginning past (record recovery { spaces = with_space recovery.spaces set (with_loss_time time there) })
+  reached_with_loss_time set time there recovery is came =
+      let left = came.left in rw is (record {
+        told = came.told;
+        left = record {
+          settings = left.settings;
+          spaces = each_with_loss_time _ time (λ space. left_with_loss_time _ _ _ time) recovery.spaces left.spaces
+              set;
+          beside = each_with_loss_time (λ space kept. untouched_of kept ≡ (no_ecn, 0)) time
+              (λ space kept beside. beside) recovery.spaces left.beside set;
+          discarded = left.discarded;
+          skipping = left.skipping;
+          paths = left.paths;
+          peer_limit = left.peer_limit;
+          in_flight = left.in_flight;
+          frequency = left.frequency;
+          timers = left.timers;
+          remote_ids = left.remote_ids;
+          local_ids = left.local_ids;
+        };
+        small = came.small;
+      })

@@ -1,0 +1,143 @@
+-- A past goes on by one event: what `run` promises of a list of events, `apply` promises of the event behind a past.
+use Rattle.std.proofs.Common.{ℕ, ◌<◌, ◌^◌, ◌∷◌, None, if◌then◌else◌}
+use Rattle.std.specs.Option.{ForSome}
+use mathlib.Core.Logic.{∥∥₁_map}
+use Rattle.recovery_congestion.specs.Controllers.{ControllerWords}
+use Rattle.recovery_paths.specs.Balance.{AreBalanced}
+use Rattle.recovery_events.specs.declared.event.Event.{Event}
+use Rattle.recovery_history.specs.History.{AtEach, Beginning, History, QueueMeaning, Reply}
+use Rattle.recovery_history.specs.Parts.{Parts}
+use Rattle.recovery_history.specs.Past.{Reached, ReachedSomehow, ExtendsOn, ExtendsFrom, Keeps, KeepsPastsOn, ExtendedOn}
+use Rattle.recovery_history.specs.Changes.{Changes}
+use Rattle.recovery_history.specs.Told.{Told}
+use Rattle.recovery_history.proofs.AcknowledgedLaws.{keeps_to_acknowledge}
+use Rattle.recovery_history.proofs.BlockedLaws.{blocks_exactly}
+use Rattle.recovery_history.proofs.CountedLaws.{counts_in_flight}
+use Rattle.recovery_history.proofs.ContentsLaws.{loses_nothing}
+use Rattle.recovery_history.proofs.DutyLaws.{keeps_duty}
+use Rattle.recovery_history.proofs.EcnLaws.{checks_ecn}
+use Rattle.recovery_history.proofs.FewLaws.{few_told}
+use Rattle.recovery_history.proofs.ForgottenLaws.{forgets_oldest}
+use Rattle.recovery_history.proofs.FrequencyLaws.{takes_newest}
+use Rattle.recovery_history.proofs.FullLaws.{overflows_full}
+use Rattle.recovery_history.proofs.HolesLaws.{holes_told}
+use Rattle.recovery_history.proofs.LeftLaws.{changes_by_logs, left_after}
+use Rattle.recovery_history.proofs.MtuLaws.{mtu_told}
+use Rattle.recovery_history.proofs.NearLaws.{near_told}
+use Rattle.recovery_history.proofs.NewNumbersLaws.{numbers_told}
+use Rattle.recovery_history.proofs.OneFateLaws.{have_one_fate, leave_once}
+use Rattle.recovery_history.proofs.OwnIdsLaws.{issues_ids}
+use Rattle.recovery_history.proofs.PacingLaws.{delayed, rate, soon, named, covered, paid}
+use Rattle.recovery_history.proofs.PeerIdsLaws.{accepts_ids}
+use Rattle.recovery_history.proofs.RefusedLaws.{refuses_rightly}
+use Rattle.recovery_history.proofs.SendableLaws.{finds_to_send}
+use Rattle.recovery_history.proofs.SizesLaws.{sizes_told}
+use Rattle.recovery_history.proofs.SkippedLaws.{keeps_next, keeps_skipped, sends_unless}
+use Rattle.recovery_history.proofs.StartsLaws.{starts_timer}
+use Rattle.recovery_history.proofs.ThreefoldLaws.{sends_threefold}
+use Rattle.recovery_history.proofs.PlainLaws.{timers_told}
+use Rattle.recovery_history.proofs.ToldLaws.{told_by_logs}
+use Rattle.recovery_history.proofs.TrackedLaws.{keeps_rising}
+use Rattle.recovery_history.proofs.TriesLaws.{tries_told}
+use Rattle.recovery_history.proofs.TurnsLaws.{turns_told}
+
+module _ {F K Q S M P : Type 0} (beginning : Beginning F K Q S M P) where
+  -- the upper bound of a search, where paths are searched
+  abbrev pub UpperFits : Type 0
+  UpperFits = ForSome (if beginning.config.allow_mtud then beginning.config.transport.mtu_discovery_config else None)
+      (λ settings. settings.upper_bound < 2 ^ 16)
+
+  -- all that is promised of an event follows from what it and those before it were told
+  pub keeps : UpperFits → (before : History Q S M P) (event : Event Q S M P) (reply : Reply Q)
+      → AtEach (Told beginning) ((event, reply) ∷ before) → Keeps beginning before event reply
+  keeps small before event reply all =
+      let now = (event, reply) ∷ before in
+      let one = have_one_fate beginning now all in
+      record {
+        told = all.0;
+        new = numbers_told beginning before event reply all.0;
+        timers = timers_told beginning before event reply all.0;
+        peer_ids = (accepts_ids beginning now all).0;
+        own_ids = (issues_ids beginning now all).0;
+        refused = (refuses_rightly beginning now all).0;
+        counted = (counts_in_flight beginning now all).0;
+        threefold = (sends_threefold beginning now all).0;
+        blocked = (blocks_exactly beginning now all).0;
+        delayed = (delayed beginning now all).0;
+        rate = (rate beginning now all).0;
+        soon = (soon beginning now all).0;
+        named = (named beginning now all).0;
+        covered = (covered beginning now all).0;
+        paid = (paid beginning now all).0;
+        mtu = (mtu_told beginning small now all).0;
+        turns = (turns_told beginning small now all).0;
+        sizes = (sizes_told beginning small now all).0;
+        few = (few_told beginning small now all).0;
+        near = (near_told beginning small now all).0;
+        holes = (holes_told beginning now all).0;
+        fates = one;
+        rising = (keeps_rising beginning now all).0;
+        once = leave_once now one;
+        contents = loses_nothing beginning now all;
+        duty = (keeps_duty beginning now all).0;
+        to_acknowledge = keeps_to_acknowledge beginning now all;
+        next = (keeps_next beginning now all).0;
+        skipped = (keeps_skipped beginning now all).0;
+        sends = (sends_unless beginning now all).0;
+        forgotten = (forgets_oldest beginning now all).0;
+        starts = (starts_timer beginning now all).0;
+        sendable = finds_to_send beginning before event reply all;
+        ecn = checks_ecn beginning before event reply all.0;
+        frequency = (takes_newest beginning now all).0;
+        full = (overflows_full beginning now all).0;
+        tries = (tries_told beginning now all).0;
+      }
+
+  -- from every past by which it came here it goes on: each clause of whole runs, at the event that is put behind it
+  pub extends : (past : History Q S M P) (old : Parts K P M) (event : Event Q S M P) (reply : Reply Q)
+      (new : Parts K P M)
+      → Reached beginning past old → Changes beginning.queue old event reply new → AreBalanced new.spaces new.paths
+      → ExtendsFrom beginning past event reply new
+  extends past old event reply new came changes balanced =
+      let by = changes_by_logs beginning past old event reply new came.left changes in
+      let here = told_by_logs beginning past old came.left event reply by.told in
+      let now = (event, reply) ∷ past in
+      let all : AtEach (Told beginning) now = (here, came.told) in
+      record {
+        keeps = keeps came.small past event reply all;
+        came = record {
+          told = all;
+          left = left_after beginning past event reply old new came.left by balanced;
+          small = came.small;
+        };
+      }
+
+module _ {F K Q S M P : Type 0} {built : F → ℕ → ℕ → K} {words : ControllerWords K} {queue : QueueMeaning Q S M P}
+    {old : Parts K P M} {event : Event Q S M P} {reply : Reply Q} {new : Parts K P M}
+    (on : ExtendsOn built words queue old event reply new)
+  where
+    -- from a past by which it came here it went on
+    pub extended : ∥ ReachedSomehow built words queue old ∥₁ → ∥ ExtendedOn built words queue old event reply new ∥₁
+    extended by = ∥∥₁_map by (λ by. record { origin = by; goes = on by.config by.start by.random by.past by.came })
+
+    -- and came on
+    pub still_came : ∥ ReachedSomehow built words queue old ∥₁ → ∥ ReachedSomehow built words queue new ∥₁
+    still_came by = ∥∥₁_map by (λ by. record {
+      config = by.config;
+      start = by.start;
+      random = by.random;
+      past = (event, reply) ∷ by.past;
+      came = (on by.config by.start by.random by.past by.came).came;
+    })
+
+module _ {F K Q S M P : Type 0} {built : F → ℕ → ℕ → K} {words : ControllerWords K} {queue : QueueMeaning Q S M P}
+    {old new : Parts K P M} (stays : KeepsPastsOn built words queue old new) where
+  -- what is all the same for every past leaves that there is one
+  pub stays_come : ∥ ReachedSomehow built words queue old ∥₁ → ∥ ReachedSomehow built words queue new ∥₁
+  stays_come by = ∥∥₁_map by (λ by. record {
+    config = by.config;
+    start = by.start;
+    random = by.random;
+    past = by.past;
+    came = stays by.config by.start by.random by.past by.came;
+  })

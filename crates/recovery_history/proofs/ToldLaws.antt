@@ -1,0 +1,110 @@
+-- What the parts of a recovery tell is what the history tells: the clause `told` of `run`, event by event.
+use Rattle.std.proofs.Common.{arith, ℕ, ◌↔◌, Bool, IsSome}
+use Rattle.recovery_base.specs.declared.below.SpaceId.{SpaceId}
+use Rattle.recovery_base.specs.Numbers.{Recent, IsNew}
+use Rattle.recovery_base.proofs.WindowLaws.{HasGreatest, new_to_known, new_to_all}
+use Rattle.recovery_congestion.specs.Controllers.{ControllerWords}
+use Rattle.recovery_ledger.specs.Acks.{AckState, acks_by}
+use Rattle.recovery_ledger.specs.Probes.{ProbeFound}
+use Rattle.recovery_ledger.proofs.HeardLaws.{arms_alike}
+use Rattle.recovery_ledger.proofs.ReceivedLaws.{came_greatest}
+use Rattle.recovery_events.specs.declared.event.Event.{Event}
+use Rattle.recovery_events.specs.declared.event.Event.TheVariants.{Received, QueueProbe}
+use Rattle.recovery_events.specs.declared.event.Answer.{Answer}
+use Rattle.recovery_events.specs.declared.event.Answer.TheVariants.{New, Duplicate, Sendable}
+use Rattle.recovery_events.specs.declared.event.Refusal.TheVariants.{NumberTooLarge, SpaceDiscarded}
+use Rattle.recovery_history.specs.Entries.{found_in}
+use Rattle.recovery_history.specs.Told.{known_by, logs_of}
+use Rattle.recovery_history.specs.History.{Beginning, History, Reply, QueueMeaning}
+use Rattle.recovery_history.specs.Known.{SpaceKnown, Known}
+use Rattle.recovery_history.specs.Parts.{Parts}
+use Rattle.recovery_history.specs.Replies.{Answers}
+use Rattle.recovery_history.specs.Left.{PartsLeft}
+use Rattle.recovery_history.specs.Changes.{acks_to}
+use Rattle.recovery_history.specs.PartReplies.{InSpace, ReceivedAnswer, ReceivedReply, IsQueueProbeAnswer}
+use Rattle.recovery_history.specs.Table.{ToldBy}
+use Rattle.recovery_history.proofs.ReplyLaws.{refuses_alike, answers_alike}
+
+-- ---- what the window of a space tells is what all numbers tell
+
+record HeardAlike (here there : AckState) : Type 0 where
+  numbers : (n : ℕ) → here.came n ↔ Recent there.came n
+  greatest : HasGreatest there.came
+  required : here.required ↔ there.required
+  started : (m : ℕ) → here.started m ↔ there.started m
+  pending : (n : ℕ) → here.pending n ↔ there.pending n
+
+module _ {here there : AckState} (alike : HeardAlike here there) where
+  -- a number that is new by the window is new by all numbers
+  new_told : (number : ℕ) → IsNew here.came number → IsNew there.came number
+  new_told = new_to_all there.came here.came alike.greatest alike.numbers
+
+  module _ {Q P M : Type 0} (known : SpaceKnown P M) (number : ℕ) (ack_eliciting : Bool) where
+    -- what a received packet is answered
+    answer_told : (answer : Answer Q) → ReceivedAnswer here known.counts number ack_eliciting answer
+        → ReceivedAnswer there known.counts number ack_eliciting answer
+    answer_told (New arm) told =
+        let arms = arms_alike here.came there.came alike.greatest alike.numbers number alike.required alike.started
+        known.counts ack_eliciting in
+        (new_told number told.0, (λ armed. arms.0 (told.1.0 armed), λ should. told.1.1 (arms.1 should)))
+    answer_told Duplicate told = λ new. told (new_to_known there.came here.came alike.greatest alike.numbers number new)
+    answer_told answer told = absurd told
+
+    received_told : (reply : Reply Q) → ReceivedReply known here number ack_eliciting reply
+        → ReceivedReply known there number ack_eliciting reply
+    received_told =
+        refuses_alike SpaceDiscarded _ _ _ _ (λ h. h, λ h. h)
+        (refuses_alike NumberTooLarge _ _ _ _ (λ h. h, λ h. h) (answers_alike _ _ _ _ (new_told number) answer_told))
+
+  module _ {Q S M P : Type 0} (q : QueueMeaning Q S M P) (known : SpaceKnown P M) (streams : S) (immediate : Bool)
+      (found : ProbeFound) where
+    -- what can be sent, where a probe is asked for
+    probe_answer_told : (answer : Answer Q) → IsQueueProbeAnswer q known streams here immediate found answer
+        → IsQueueProbeAnswer q known streams there immediate found answer
+    probe_answer_told (Sendable frames) told = grind (arith, told, alike.required, alike.pending)
+    probe_answer_told answer told = absurd told
+
+    probe_told : (reply : Reply Q)
+        → InSpace known (Answers (IsSome found.moved) (IsQueueProbeAnswer q known streams here immediate found)) reply
+        → InSpace known (Answers (IsSome found.moved) (IsQueueProbeAnswer q known streams there immediate found)) reply
+    probe_told = refuses_alike SpaceDiscarded _ _ _ _ (λ h. h, λ h. h)
+        (answers_alike _ (IsSome found.moved) _ _ (λ h. h) probe_answer_told)
+
+-- the two events that are told by what came
+told_alike : {K Q S M P : Type 0} (q : QueueMeaning Q S M P) (words : ControllerWords K)
+    {here there : SpaceId → AckState}
+    → ((space : SpaceId) → HeardAlike (here space) (there space))
+    → (known : Known K P M) (event : Event Q S M P) (reply : Reply Q) → ToldBy q words here known event reply
+    → ToldBy q words there known event reply
+told_alike q words alike known (Received space now number ack_eliciting) reply told =
+    received_told (alike space) (known.spaces space) number ack_eliciting reply told
+told_alike q words alike known (QueueProbe space immediate streams) reply told =
+    probe_told (alike space) q (known.spaces space) streams immediate (found_in known q.words streams space) reply told
+told_alike q words alike known event reply told = told
+
+-- ---- all events
+
+module _ {F K Q S M P : Type 0} (beginning : Beginning F K Q S M P) (history : History Q S M P)
+    (state : Parts K P M) (left : PartsLeft beginning history state) where
+  -- what the logs say of the packets that came
+  abbrev heard_there : SpaceId → AckState
+  heard_there space = acks_by beginning.queue.words ((logs_of beginning history).spaces space)
+
+  -- what a space holds is what its log says
+  alike : (space : SpaceId) → HeardAlike (acks_to state space) (heard_there space)
+  alike space =
+      grind (
+        arith,
+        (left.spaces space).acks,
+        (left.spaces space).numbers,
+        came_greatest ((logs_of beginning history).spaces space),
+      )
+
+  -- told by the parts, an event is told by the history
+  pub told_by_logs : (event : Event Q S M P) (reply : Reply Q)
+      → ToldBy beginning.queue state.settings.words (acks_to state) (known_by beginning history) event reply
+      → ToldBy beginning.queue beginning.words heard_there (known_by beginning history) event reply
+  told_by_logs event reply told =
+      told_alike beginning.queue beginning.words {here = acks_to state} {there = heard_there} alike
+      (known_by beginning history)
+      event reply (rw left.settings at told)

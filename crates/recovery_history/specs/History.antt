@@ -1,0 +1,66 @@
+-- What happened in a run: the events with their replies, the newest first.
+use Rattle.std.specs.Prelude.{◌≡◌, ℕ, List, [], ◌∷◌, length, reverse, Result, IfOk}
+use Rattle.std.specs.Global.{Vec}
+use Rattle.std.specs.List.{zip}
+use Rattle.rand_core.specs.Stream.{Stream}
+use Rattle.recovery_congestion.specs.Controllers.{ControllerWords}
+use Rattle.recovery_queue.specs.Queues.{QueueWords}
+use Rattle.recovery_history.specs.declared.config.RecoveryConfig.{RecoveryConfig}
+use Rattle.recovery_events.specs.declared.event.Event.{Event}
+use Rattle.recovery_events.specs.declared.event.Answer.{Answer}
+use Rattle.recovery_events.specs.declared.event.Refusal.{Refusal}
+
+-- what queues of what is sent again hold, and what each call does to that. Q is the queue, S what it is asked with,
+-- M what a packet says of itself besides, and P what contracts see of a queue.
+pub record QueueMeaning (Q S M P : Type 0) : Type 0 where
+  pub contents : Q → P
+  pub words : QueueWords P S
+  -- what a packet says of itself where nobody says what
+  pub blank : M
+
+abbrev pub queue_meaning : {Q S M P : Type 0} → (Q → P) → QueueWords P S → M → QueueMeaning Q S M P
+queue_meaning contents words blank = record { contents = contents; words = words; blank = blank }
+
+-- how a run begins: with which settings, and when. F is the factory of controllers, and K what contracts see of one:
+-- what is built, and what each call does to it, are the implementation's own functions.
+pub record Beginning (F K Q S M P : Type 0) : Type 0 where
+  pub config : RecoveryConfig F
+  pub start : ℕ
+  pub built : F → ℕ → ℕ → K
+  pub words : ControllerWords K
+  -- what queues hold, and what each call does to that
+  pub queue : QueueMeaning Q S M P
+  -- the words that the generator of skipped numbers gives
+  pub random : Stream
+
+abbrev pub begins : {F K Q S M P : Type 0} → (F → ℕ → ℕ → K) → ControllerWords K → QueueMeaning Q S M P
+    → RecoveryConfig F → ℕ → Stream → Beginning F K Q S M P
+begins built words queue config start random =
+    record { config = config; start = start; built = built; words = words; queue = queue; random = random }
+
+-- what an event comes to
+abbrev pub Reply : Type 0 → Type 0
+Reply Q = Result (Answer Q) Refusal
+
+abbrev pub History : (Q S M P : Type 0) → Type 0
+History Q S M P = List (Event Q S M P × Reply Q)
+
+module _ {Q S M P : Type 0} where
+  -- the events with their replies, the newest first
+  abbrev pub history : List (Event Q S M P) → List (Reply Q) → History Q S M P
+  history events replies = reverse (zip events replies)
+
+  -- Holds is true of what came before each event, of the event and of its reply
+  abbrev pub AtEach : (History Q S M P → Event Q S M P → Reply Q → Type 0) → History Q S M P → Type 0
+  AtEach Holds [] = Unit {0}
+  AtEach Holds (happened ∷ before) = Holds before happened.0 happened.1 × AtEach Holds before
+
+  -- each event has one reply, and Holds is true at each
+  abbrev pub Throughout : (History Q S M P → Event Q S M P → Reply Q → Type 0) → List (Event Q S M P) → List (Reply Q)
+      → Type 0
+  Throughout Holds events replies = (length replies ≡ length events) × AtEach Holds (history events replies)
+
+  -- so it is in a run that was not refused memory, by what it gives
+  abbrev pub Always : {T E : Type 0} → Vec (Event Q S M P) → Result (T × Vec (Reply Q)) E
+      → (History Q S M P → Event Q S M P → Reply Q → Type 0) → Type 0
+  Always events result Holds = IfOk result (λ run. Throughout Holds events.items run.1.items)

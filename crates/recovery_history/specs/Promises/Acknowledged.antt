@@ -1,0 +1,48 @@
+-- What is to be acknowledged (RFC 9000, 13.2.3 and 13.2.4): new numbers, but those up to the largest number in the ACK
+-- of a packet that was acknowledged since they came, and those that came to lie below the 64 highest ranges.
+use Rattle.std.specs.Prelude.{◌≡◌, ℕ, ◌≤◌, ◌⊎◌, ◌↔◌, ◌==◌, ◌&&◌, true, false, [], ◌∷◌, IsSomeAnd, Option, None, Ok, if◌then◌else◌}
+use Rattle.recovery_acks.specs.Acks.{most_ranges}
+use Rattle.recovery_acks.specs.Runs.{LiesBelow}
+use Rattle.recovery_base.specs.declared.below.SpaceId.{SpaceId}
+use Rattle.recovery_base.specs.declared.below.SpaceId.TheVariants.{Data}
+use Rattle.recovery_base.specs.Numbers.{With}
+use Rattle.recovery_base.specs.Spaces.{same_space}
+use Rattle.recovery_ledger.specs.Acks.{ToAcknowledge}
+use Rattle.recovery_events.specs.declared.event.Event.TheVariants.{Received, Send, Acked, PollMtu}
+use Rattle.recovery_events.specs.declared.event.Answer.TheVariants.{New, Sent, Probe}
+use Rattle.recovery_history.specs.Told.{logs_of}
+use Rattle.recovery_history.specs.History.{Beginning, History}
+
+module _ {Q S M P : Type 0} (space : SpaceId) where
+  -- a number was new in the space
+  abbrev pub HasCome : ℕ → History Q S M P → Type 0
+  HasCome n [] = ⊥
+  HasCome n ((Received there now m eliciting, Ok (New started)) ∷ earlier) =
+      ((same_space there space && m == n) ≡ true) ⊎ HasCome n earlier
+  HasCome n (happened ∷ earlier) = HasCome n earlier
+
+  -- the largest number whose ACK the packet of a number carries; a probe of the MTU carries none
+  abbrev pub largest_in : ℕ → History Q S M P → Option ℕ
+  largest_in n [] = None
+  largest_in n ((Send there now size eliciting largest queue frames, Ok (Sent number forgotten)) ∷ earlier) =
+      if same_space there space && number == n then largest else largest_in n earlier
+  largest_in n ((PollMtu now, Ok (Probe number size)) ∷ earlier) =
+      if same_space Data space && number == n then None else largest_in n earlier
+  largest_in n (happened ∷ earlier) = largest_in n earlier
+
+  -- since a number came, a packet was acknowledged whose ACK goes up to it or higher, or it came to lie so far below
+  abbrev pub WasDropped : ℕ → History Q S M P → Type 0
+  WasDropped n [] = ⊥
+  WasDropped n ((Acked there now m app_limited, Ok answer) ∷ earlier) =
+      ((same_space there space ≡ true) × IsSomeAnd (largest_in m earlier) (λ l. n ≤ l)) ⊎ WasDropped n earlier
+  WasDropped n ((Received there now m eliciting, Ok (New started)) ∷ earlier) =
+      ((same_space there space ≡ true)
+      × LiesBelow most_ranges (With m (λ k. HasCome k earlier × ¬ WasDropped k earlier)) n)
+      ⊎ (((same_space there space && m == n) ≡ false) × WasDropped n earlier)
+  WasDropped n (happened ∷ earlier) = WasDropped n earlier
+
+-- so says the table, to which the state is tied
+abbrev pub KeepsToAcknowledge : {F K Q S M P : Type 0} → Beginning F K Q S M P → History Q S M P → Type 0
+KeepsToAcknowledge beginning history = (space : SpaceId) (n : ℕ)
+    → ToAcknowledge beginning.queue.words ((logs_of beginning history).spaces space) n
+    ↔ (HasCome space n history × ¬ WasDropped space n history)

@@ -1,0 +1,30 @@
+-- Amplification (RFC 9000, 8.1): a checked datagram is blocked exactly where the address of the path in use is not
+-- validated and these bytes more would pass three times those that came in on it; an unchecked one is never blocked.
+use Rattle.std.specs.Prelude.{◌≡◌, ◌+◌, ◌*◌, ◌^◌, Bool, true, false, not, ◌&&◌, nat_lt, nat_le, sum_by, Ok, Err}
+use Rattle.recovery_paths.specs.declared.path_pair.PathName.TheVariants.{Current}
+use Rattle.recovery_events.specs.declared.event.Event.{Event}
+use Rattle.recovery_events.specs.declared.event.Event.TheVariants.{Transmit}
+use Rattle.recovery_events.specs.declared.event.Answer.TheVariants.{Transmitted, Blocked, Delayed}
+use Rattle.recovery_events.specs.declared.event.Refusal.TheVariants.{Overflow}
+use Rattle.recovery_history.specs.History.{History, Reply}
+use Rattle.recovery_history.specs.Promises.Datagrams.{datagrams_on, bytes_in, bytes_out, is_validated}
+
+-- what a datagram is replied, where the total would pass its type or not, it is checked or not, and the limit forbids
+-- it or not; a checked one that the limit allows may still have to wait for the pacer (RFC 9002, 7.7)
+abbrev pub IsPassage : {Q : Type 0} → Bool → Bool → Bool → Reply Q → Type 0
+IsPassage true checked forbidden reply = reply ≡ Err Overflow
+IsPassage false false forbidden reply = reply ≡ Ok Transmitted
+IsPassage false true true reply = reply ≡ Ok Blocked
+IsPassage false true false (Ok Transmitted) = Unit {0}
+IsPassage false true false (Ok (Delayed until)) = Unit {0}
+IsPassage false true false other = ⊥
+
+module _ {Q S M P : Type 0} where
+  -- the first path is validated at the start, or not
+  abbrev pub BlocksExactly : Bool → History Q S M P → Event Q S M P → Reply Q → Type 0
+  BlocksExactly first history (Transmit now bytes checked) reply =
+      let here = datagrams_on Current history in
+      let total = sum_by bytes_out here + bytes in
+      let forbidden = not (is_validated first Current history) && nat_lt (3 * sum_by bytes_in here) total in
+      IsPassage (nat_le (2 ^ 64) total) checked forbidden reply
+  BlocksExactly first history event reply = Unit {0}

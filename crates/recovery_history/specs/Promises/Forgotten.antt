@@ -1,0 +1,46 @@
+-- Packets that are forgotten: silent ones, which elicit no ACK, may never be acknowledged (RFC 9002, 2 and A.1). Of
+-- those since the last packet that elicits one a space tracks 1001 at most (`most_silent`): where so many are tracked
+-- and one more goes out, the oldest of them is forgotten, and else none is.
+use Rattle.std.specs.Prelude.{◌≡◌, ℕ, Bool, false, not, ◌&&◌, ◌||◌, nat_le, List, [], ◌∷◌, ◌++◌, length, Option, None, Some, Ok, if◌then◌else◌}
+use Rattle.recovery_base.specs.declared.below.SpaceId.{SpaceId}
+use Rattle.recovery_base.specs.declared.below.SpaceId.TheVariants.{Data}
+use Rattle.recovery_base.specs.Spaces.{same_space}
+use Rattle.recovery_ledger.specs.Packets.{most_silent}
+use Rattle.recovery_events.specs.declared.event.Event.{Event}
+use Rattle.recovery_events.specs.declared.event.Event.TheVariants.{Send, PollMtu}
+use Rattle.recovery_events.specs.declared.event.Answer.TheVariants.{Sent, Probe}
+use Rattle.recovery_history.specs.History.{History, Reply}
+use Rattle.recovery_history.specs.Promises.Tracked.{leaves}
+
+abbrev pub oldest : List ℕ → Option ℕ
+oldest [] = None
+oldest (n ∷ later) = Some n
+
+module _ {Q S M P : Type 0} (space : SpaceId) where
+  -- a packet goes out that elicits an ACK
+  abbrev pub elicits : Event Q S M P × Reply Q → Bool
+  elicits (Send there now size eliciting largest queue frames, Ok (Sent number forgotten)) =
+      same_space there space && eliciting
+  elicits (PollMtu now, Ok (Probe number size)) = same_space Data space
+  elicits happened = false
+
+  -- behind these a silent packet goes out, unless its number is gone
+  abbrev pub with_silent : (ℕ → Bool) → Event Q S M P × Reply Q → List ℕ → List ℕ
+  with_silent gone (Send there now size eliciting largest queue frames, Ok (Sent number forgotten)) before =
+      if same_space there space && not (eliciting || gone number) then before ++ number ∷ [] else before
+  with_silent gone happened before = before
+
+  -- the silent packets since the last that elicits an ACK, whose numbers are not gone, nor left since: the oldest first
+  abbrev pub silent_since : (ℕ → Bool) → History Q S M P → List ℕ
+  silent_since gone [] = []
+  silent_since gone (happened ∷ earlier) =
+      if elicits happened then []
+      else with_silent gone happened (silent_since (λ n. leaves happened space n || gone n) earlier)
+
+module _ {Q S M P : Type 0} where
+  abbrev pub ForgetsOldest : History Q S M P → Event Q S M P → Reply Q → Type 0
+  ForgetsOldest history (Send space now size eliciting largest queue frames) (Ok (Sent number forgotten)) =
+      -- at the end of a history no number is gone yet
+      let silent = silent_since space (λ n. false) history in
+      forgotten ≡ (if not eliciting && nat_le most_silent (length silent) then oldest silent else None)
+  ForgetsOldest history event reply = Unit {0}

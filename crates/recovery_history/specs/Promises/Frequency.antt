@@ -1,0 +1,27 @@
+-- Requests for fewer ACKs (draft-ietf-quic-ack-frequency-04, section 4): a frame is taken exactly where its number is
+-- above those of all that came before it; one that asks for less than a millisecond is refused then.
+use Rattle.std.specs.Prelude.{◌≡◌, ℕ, ◌^◌, Bool, true, false, not, ◌&&◌, nat_lt, [], ◌∷◌, Ok, Err, if◌then◌else◌}
+use Rattle.recovery_base.specs.declared.below.SpaceId.TheVariants.{Data}
+use Rattle.recovery_acks.specs.AckFrequencies.{delay_of}
+use Rattle.recovery_events.specs.declared.event.Event.{Event}
+use Rattle.recovery_events.specs.declared.event.Event.TheVariants.{AckFrequencyIn}
+use Rattle.recovery_events.specs.declared.event.Answer.TheVariants.{Flag}
+use Rattle.recovery_events.specs.declared.event.Refusal.TheVariants.{SpaceDiscarded, DelayTooSmall}
+use Rattle.recovery_history.specs.History.{History, Reply}
+use Rattle.recovery_history.specs.Promises.NewNumbers.{is_discarded}
+
+module _ {Q S M P : Type 0} where
+  -- the number is above those of all frames that came
+  abbrev pub is_newest : ℕ → History Q S M P → Bool
+  is_newest n [] = true
+  is_newest n ((AckFrequencyIn frame, Ok answer) ∷ earlier) = nat_lt frame.sequence n && is_newest n earlier
+  is_newest n ((AckFrequencyIn frame, Err DelayTooSmall) ∷ earlier) = nat_lt frame.sequence n && is_newest n earlier
+  is_newest n (happened ∷ earlier) = is_newest n earlier
+
+  abbrev pub TakesNewest : History Q S M P → Event Q S M P → Reply Q → Type 0
+  TakesNewest history (AckFrequencyIn frame) reply =
+      reply ≡ (if is_discarded Data history then Err SpaceDiscarded
+      else if not (is_newest frame.sequence history) then Ok (Flag false)
+      else if nat_lt (delay_of frame) (10 ^ 6) then Err DelayTooSmall
+      else Ok (Flag true))
+  TakesNewest history event reply = Unit {0}

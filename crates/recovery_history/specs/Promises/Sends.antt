@@ -1,0 +1,44 @@
+-- Whether a packet goes out (RFC 9000, 12.3; RFC 9002, B.2): it is refused exactly where it carries an ACK of a number
+-- that is none, where no number is left for it, and where the bytes in flight on the path in use, or the packets there
+-- that elicit an ACK, would pass their counters.
+use Rattle.std.specs.Prelude.{ℕ, ◌+◌, ◌≤◌, ◌^◌, ◌⊎◌, Bool, false, Ok, Err, if◌then◌else◌}
+use Rattle.recovery_base.specs.declared.below.SpaceId.{SpaceId}
+use Rattle.recovery_base.specs.declared.below.SpaceId.TheVariants.{Data}
+use Rattle.recovery_ledger.specs.Packets.{IsTooLarge}
+use Rattle.recovery_events.specs.declared.event.Event.{Event}
+use Rattle.recovery_events.specs.declared.event.Event.TheVariants.{Send, PollMtu}
+use Rattle.recovery_events.specs.declared.event.Answer.TheVariants.{Sent}
+use Rattle.recovery_events.specs.declared.event.Refusal.TheVariants.{SpaceDiscarded, NumberTooLarge, NumbersExhausted, Overflow, NoMemory}
+use Rattle.recovery_history.specs.History.{History, Reply}
+use Rattle.recovery_history.specs.Promises.Counted.{sum_on}
+use Rattle.recovery_history.specs.Promises.Paths.{generations}
+use Rattle.recovery_history.specs.Promises.Skipped.{IsNext}
+
+module _ {Q S M P : Type 0} (history : History Q S M P) where
+  -- a sum over the packets in flight on the path in use
+  abbrev pub sum_now : (ℕ → Bool → ℕ) → ℕ
+  sum_now weigh = sum_on weigh (generations history).current (λ space n. false) history
+
+  -- with one packet more a counter would come to 2^64
+  abbrev pub Overfills : ℕ → Bool → Type 0
+  Overfills size eliciting = (2 ^ 64 ≤ sum_now (λ bytes elicits. bytes) + size)
+      ⊎ (2 ^ 64 ≤ sum_now (λ bytes elicits. if elicits then 1 else 0) + (if eliciting then 1 else 0))
+
+  -- the next number would be 2^62 or more
+  abbrev pub HasNoNumber : SpaceId → Type 0
+  HasNoNumber space = (n : ℕ) × IsNext space n history × (2 ^ 62 ≤ n)
+
+  -- where the space was discarded is said by `refused`
+  abbrev pub SendsUnless : Event Q S M P → Reply Q → Type 0
+  SendsUnless (Send space now size eliciting largest queue frames) (Ok (Sent number forgotten)) =
+      (¬ IsTooLarge largest) × ¬ Overfills size eliciting
+  SendsUnless (Send space now size eliciting largest queue frames) (Err NumberTooLarge) = IsTooLarge largest
+  SendsUnless (Send space now size eliciting largest queue frames) (Err NumbersExhausted) =
+      (¬ IsTooLarge largest) × HasNoNumber space
+  SendsUnless (Send space now size eliciting largest queue frames) (Err Overflow) =
+      (¬ IsTooLarge largest) × Overfills size eliciting
+  SendsUnless (Send space now size eliciting largest queue frames) (Err SpaceDiscarded) = Unit {0}
+  SendsUnless (Send space now size eliciting largest queue frames) (Err NoMemory) = Unit {0}
+  SendsUnless (Send space now size eliciting largest queue frames) reply = ⊥
+  SendsUnless (PollMtu now) (Err NumbersExhausted) = HasNoNumber Data
+  SendsUnless event reply = Unit {0}

@@ -1,0 +1,49 @@
+-- Skipped numbers (RFC 9000, 12.3 and 21.4): a packet goes out under the first number above all that were given out in
+-- its space, or, of 1-RTT packets, under the one behind it, which leaves one out; and the ACK of a range is refused
+-- exactly where it holds the last number that was left out, or is no range of numbers below 2^62.
+use Rattle.std.specs.Prelude.{◌≡◌, ℕ, ◌+◌, ◌<◌, ◌≤◌, ◌^◌, true, Ok, Err}
+use Rattle.recovery_base.specs.declared.below.SpaceId.{SpaceId}
+use Rattle.recovery_base.specs.declared.below.SpaceId.TheVariants.{Data}
+use Rattle.recovery_events.specs.declared.event.Event.{Event}
+use Rattle.recovery_events.specs.declared.event.Event.TheVariants.{CheckAck}
+use Rattle.recovery_events.specs.declared.event.Answer.TheVariants.{Done}
+use Rattle.recovery_events.specs.declared.event.Refusal.TheVariants.{SpaceDiscarded, NumberTooLarge, BadRange, SkippedAcked}
+use Rattle.recovery_history.specs.History.{History, Reply}
+use Rattle.recovery_history.specs.Promises.Fates.{times, is_given}
+use Rattle.recovery_history.specs.Promises.Tracked.{goes_out}
+
+module _ {Q S M P : Type 0} (space : SpaceId) where
+  -- neither the number nor one above it was given out
+  abbrev pub IsAboveAll : ℕ → History Q S M P → Type 0
+  IsAboveAll n history = (m : ℕ) → n ≤ m → times (is_given space m) history ≡ 0
+
+  -- it is the first such number, or, of 1-RTT packets, the one behind that
+  abbrev pub IsNext : ℕ → History Q S M P → Type 0
+  IsNext n history =
+      IsAboveAll n history × ((m : ℕ) → IsAboveAll m history → m < n → (space ≡ Data) × (m + 1 ≡ n))
+
+  -- it was not given out, and one above it was
+  abbrev pub WasSkipped : ℕ → History Q S M P → Type 0
+  WasSkipped n history = (times (is_given space n) history ≡ 0)
+      × ((m : ℕ) × (n < m) × (0 < times (is_given space m) history))
+
+  -- the last such number lies in a range; those before it are not remembered
+  abbrev pub HoldsSkip : ℕ → ℕ → History Q S M P → Type 0
+  HoldsSkip low high history = (n : ℕ) × WasSkipped n history × ((m : ℕ) → WasSkipped m history → m ≤ n)
+      × (low ≤ n) × (n ≤ high)
+
+module _ {Q S M P : Type 0} where
+  abbrev pub GivesNext : History Q S M P → Event Q S M P → Reply Q → Type 0
+  GivesNext history event reply =
+      (space : SpaceId) (number : ℕ) → goes_out (event, reply) space number ≡ true → IsNext space number history
+
+  -- where the space was discarded is said by `refused`
+  abbrev pub ChecksAcks : History Q S M P → Event Q S M P → Reply Q → Type 0
+  ChecksAcks history (CheckAck space low high) (Ok given) =
+      (given ≡ Done) × (high < 2 ^ 62) × (low ≤ high) × ¬ HoldsSkip space low high history
+  ChecksAcks history (CheckAck space low high) (Err SpaceDiscarded) = Unit {0}
+  ChecksAcks history (CheckAck space low high) (Err NumberTooLarge) = 2 ^ 62 ≤ high
+  ChecksAcks history (CheckAck space low high) (Err BadRange) = (high < 2 ^ 62) × (high < low)
+  ChecksAcks history (CheckAck space low high) (Err SkippedAcked) = (high < 2 ^ 62) × HoldsSkip space low high history
+  ChecksAcks history (CheckAck space low high) (Err other) = ⊥
+  ChecksAcks history event reply = Unit {0}

@@ -1,0 +1,35 @@
+-- Timers (RFC 9002, 6.2 and A.3): each is set to the moment that it was last set to, unless it was stopped since; the
+-- next timeout is the least of these.
+use Rattle.std.specs.Prelude.{◌≡◌, ℕ, min, List, [], ◌∷◌, map, Option, None, Some, option_map, unwrap_or, Ok, if◌then◌else◌}
+use Rattle.recovery_base.specs.declared.timer.Timer.{Timer}
+use Rattle.recovery_base.specs.declared.timer.TheConstants.Timer.{VALUES}
+use Rattle.recovery_base.specs.Timers.{same_timer}
+use Rattle.recovery_events.specs.declared.event.Event.{Event}
+use Rattle.recovery_events.specs.declared.event.Event.TheVariants.{SetTimer, StopTimer, NextTimeout}
+use Rattle.recovery_events.specs.declared.event.Answer.TheVariants.{Timeout, Done}
+use Rattle.recovery_history.specs.History.{History, Reply}
+
+abbrev pub every_timer : List Timer
+every_timer = VALUES
+
+-- the least of the moments that are there
+abbrev pub least : List (Option ℕ) → Option ℕ
+least [] = None
+least (None ∷ moments) = least moments
+least (Some moment ∷ moments) = Some (unwrap_or (option_map (min moment) (least moments)) moment)
+
+module _ {Q S M P : Type 0} where
+  -- the moment that a timer is set to
+  abbrev pub moment_of : History Q S M P → Timer → Option ℕ
+  moment_of [] timer = None
+  moment_of ((SetTimer other time, Ok answer) ∷ earlier) timer =
+      if same_timer timer other then Some time else moment_of earlier timer
+  moment_of ((StopTimer other, Ok answer) ∷ earlier) timer =
+      if same_timer timer other then None else moment_of earlier timer
+  moment_of (happened ∷ earlier) timer = moment_of earlier timer
+
+  abbrev pub TellsTimers : History Q S M P → Event Q S M P → Reply Q → Type 0
+  TellsTimers history NextTimeout reply = reply ≡ Ok (Timeout (least (map (moment_of history) every_timer)))
+  TellsTimers history (SetTimer timer time) reply = reply ≡ Ok Done
+  TellsTimers history (StopTimer timer) reply = reply ≡ Ok Done
+  TellsTimers history event reply = Unit {0}
