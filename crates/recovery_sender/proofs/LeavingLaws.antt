@@ -1,5 +1,5 @@
 -- The timer is due as it was where nothing changes that it is found by; so leave it events that come in and ACKs that go out.
-use Rattle.std.proofs.Common.{◌≡◌, ◌∷◌, [], ℕ, true, false, Bool, Option, None, Some, option_map, Ok, ◌⊎◌, refl, ap, sym, inl, inr, true≢false, ◌∙◌}
+use Rattle.std.proofs.Common.{◌≡◌, ℕ, true, false, Bool, Option, None, Some, option_map, Ok, ◌⊎◌, refl, ap, sym, inl, inr, true≢false, ◌∙◌}
 use Rattle.std.specs.Prelude.{if◌then◌else◌, min}
 use Rattle.std.specs.Option.{option_and_then, option_or}
 use Rattle.recovery_base.specs.declared.below.SpaceId.{SpaceId}
@@ -197,15 +197,20 @@ module _ {K Q S M P : Type 0} (queue : QueueMeaning Q S M P) (variables : Variab
   pub left_by : (event : Event Q S M P) (answer : Answer Q) → leaves_timer event ≡ true
       → Changes queue old event (Ok answer) new → TimerIsSet old variables → TimerIsSet new variables
   left_by (Received space now number eliciting) (answers.New arm) is changes =
-      by_spaces variables old new (quietly space (heard now number eliciting) tt changes.steps.spaces) changes.steps.paths (ap plain_same changes.plain)
+      by_spaces variables old new (quietly space (heard now number eliciting) tt changes.steps.spaces) changes.steps.paths
+      (ap plain_same changes.plain)
   left_by (Received space now number eliciting) answer is changes =
-      by_spaces variables old new (quietly space (heard_again number) tt changes.steps.spaces) changes.steps.paths (ap plain_same changes.plain)
+      by_spaces variables old new (quietly space (heard_again number) tt changes.steps.spaces) changes.steps.paths
+      (ap plain_same changes.plain)
   left_by (AcksSent space) answer is changes =
-      by_spaces variables old new (quietly space ack_goes tt changes.steps.spaces) changes.steps.paths (ap plain_same changes.plain)
+      by_spaces variables old new (quietly space ack_goes tt changes.steps.spaces) changes.steps.paths
+      (ap plain_same changes.plain)
   left_by (AckDelayTimeout space) answer is changes =
-      by_spaces variables old new (quietly space ack_is_late tt changes.steps.spaces) changes.steps.paths (ap plain_same changes.plain)
+      by_spaces variables old new (quietly space ack_is_late tt changes.steps.spaces) changes.steps.paths
+      (ap plain_same changes.plain)
   left_by (TakePending space) answer is changes =
-      by_spaces variables old new (quietly space takes_pending tt changes.steps.spaces) changes.steps.paths (ap plain_same changes.plain)
+      by_spaces variables old new (quietly space takes_pending tt changes.steps.spaces) changes.steps.paths
+      (ap plain_same changes.plain)
   left_by (PacerCheck now bytes) answer is changes =
       let asked = ap (λ (known : OfPaths (PathKnown K)). known.current.state) changes.steps.paths in
       same_set variables old new (λ there. ap read_of (changes.steps.spaces there))

@@ -10,6 +10,7 @@ pub mod FindLaws
 pub mod KeptLaws
 pub mod LeadLaws
 pub mod LeavingLaws
+pub mod LeftLaws
 pub mod PastLaws
 pub mod PromiseLaws
 pub mod StepLaws

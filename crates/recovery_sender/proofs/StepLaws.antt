@@ -3,7 +3,6 @@ use Rattle.std.proofs.Common.{◌≡◌, List, [], ◌∷◌, ◌++◌, Ok, sym,
 use Rattle.recovery_events.specs.declared.event.Answer.{Answer}
 use Rattle.recovery_events.specs.declared.event.Event.{Event}
 use Rattle.recovery_history.specs.History.{queue_meaning}
-use Rattle.recovery_history.specs.Parts.{Parts}
 use Rattle.recovery_history.specs.Past.{ExtendsOn}
 use Rattle.recovery_history.specs.Changes.{Changes}
 use Rattle.recovery_sender.specs.declared.sender.Sender.{Sender}

@@ -56,7 +56,7 @@ where
         ensures { Does [] self.old.variables self.old self.new }
     {
         let due = self.due();
-        if self.is_set_to(due) {
+        if self.is_set_to(&due) {
             self.is_timed = true;
             return;
         }
@@ -96,13 +96,13 @@ where
     }
 
     /// Whether the timer is set to the moment of what is due, or to none where nothing is.
-    fn is_set_to(&self, due: Option<(Instant, Due)>) -> bool
+    fn is_set_to(&self, due: &Option<(Instant, Due)>) -> bool
         ensures { Decides result (moment LossDetection (parts_in self.now).timers
-            ≡ option_map (λ due. due.0) due) }
+            ≡ option_map (λ due. due.0) due.now) }
     {
         match (self.loss_detection_timer(), due) {
             (None, None) => true,
-            (Some(set), Some((time, _))) => set == time,
+            (Some(set), Some((time, _))) => set == *time,
             _ => false,
         }
     }
