@@ -41,6 +41,7 @@ TRANSFERS = [  # by which quinn, its controller, and the window at the start
     (AS_IT_IS, "reno", "as it is"),
     (PROVED, "reno", "over the library"),
     (AS_IT_IS, "proved", "with the proved controller"),
+    (AS_IT_IS, "cubic", "with the proved CUBIC"),
     *((AS_IT_IS, "both", str(window), f"with both from {window} bytes on") for window in (2400, 12000, 100000)),
 ]
 LONGEST = 28  # characters that a line of an edit may share with one of theirs

@@ -250,6 +250,23 @@ struct recovery_id {
     uint8_t len;
 };
 
+// The congestion window of the path in use, in bytes.
+struct recovery_windowview {
+    // How many bytes may be in flight (RFC 9002, 7); 0 where there is no recovery.
+    uint64_t window;
+    // How many are (RFC 9002, B.2).
+    uint64_t in_flight;
+};
+
+// The round-trip time of the path in use, in nanoseconds, which stop at `u64::MAX`.
+struct recovery_rttview {
+    // The best estimate: the smoothed one, or the initial one before the first sample (RFC 9002, 5.3); 0 where there
+    // is no recovery.
+    uint64_t rtt;
+    // The probe timeout without the peer's delay of ACKs (RFC 9002, 6.2.1).
+    uint64_t pto_base;
+};
+
 // What a caller holds a recovery by. It begins as all zeros, which holds none; from then on it is the library's own.
 struct recovery_handle {
     void *ptr;
@@ -545,6 +562,18 @@ struct recovery_reply recovery_ffi_peer_limit(struct recovery_handle *handle, ui
 // All packets that were found lost together were told: the event `LossesDone`.
 struct recovery_reply recovery_ffi_losses_done(struct recovery_handle *handle, uint64_t now);
 
+// Window and bytes in flight of the path in use.
+struct recovery_windowview recovery_ffi_window(struct recovery_handle *handle);
+
+// The round-trip time of the path in use.
+struct recovery_rttview recovery_ffi_rtt(struct recovery_handle *handle);
+
+// The number of the peer's id in use (RFC 9000, 5.1.1); 0 where there is no recovery.
+uint64_t recovery_ffi_active_id(struct recovery_handle *handle);
+
+// Whether a packet that counts in flight is tracked in a space (RFC 9002, 2), by whichever path it went.
+bool recovery_ffi_has_in_flight(struct recovery_handle *handle, uint8_t space);
+
 // A NEW_CONNECTION_ID frame came in (RFC 9000, 19.15): the event `NewId`; an id has at most 20 bytes.
 struct recovery_reply recovery_ffi_new_id(struct recovery_handle *handle, uint64_t sequence, uint64_t retire_prior_to, const uint8_t *id, size_t id_len, const uint8_t *token);
 
@@ -798,7 +827,7 @@ struct recovery_reply recovery_ffi_stop_timer(struct recovery_handle *handle, ui
 struct recovery_reply recovery_ffi_next_timeout(struct recovery_handle *handle);
 
 // Does nothing; a library of another layout does not have it, and a program with this header does not link with that one.
-void recovery_ffi_layout(void) __asm__("recovery_ffi_layout_a79461f1");
+void recovery_ffi_layout(void) __asm__("recovery_ffi_layout_0c4c2537");
 __attribute__((used)) static void (*const recovery_ffi_has_this_layout)(void) = recovery_ffi_layout;
 
 #ifdef __cplusplus

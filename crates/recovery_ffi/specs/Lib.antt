@@ -11,3 +11,4 @@ pub mod Controllers
 pub mod Marks
 pub mod Discoveries
 pub mod Buckets
+pub mod Glances

@@ -10,7 +10,8 @@ use Rattle.recovery_ledger.specs.Spaces.{space_of}
 use Rattle.recovery_sender.specs.Abandoning.{Abandons}
 use Rattle.recovery_sender.specs.Acking.{OnAck}
 use Rattle.recovery_sender.specs.Calls.{begun_anew, bytes_in_flight, challenged, discard_reply, is_checked, transmit_reply, transmit_steps, window_of}
-use Rattle.recovery_sender.specs.Senders.{parts_in, packets_in}
+use Rattle.recovery_sender.specs.Senders.{parts_in}
+use Rattle.recovery_sender.specs.Spaces.{packets_in}
 use Rattle.recovery_sender.specs.Steps as Steps
 use Rattle.recovery_sender.specs.Steps.{Does, marked}
 use Rattle.recovery_sender.specs.Timeouts.{TimesOut}

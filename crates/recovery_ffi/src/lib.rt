@@ -7,6 +7,7 @@ mod acks;
 mod codes;
 mod controllers;
 mod discovery;
+mod glances;
 mod handle;
 mod ids;
 mod kept;

@@ -1,7 +1,8 @@
 //! A sender, and what it told last.
 ghost use Rattle.std.specs.Prelude.{◌≡◌, ◌<◌, ◌++◌, ◌∷◌, [], length, map, true, false};
 ghost use Rattle.recovery_sender.specs.declared.sender.probes.Timeout.TheVariants.{Probe};
-ghost use Rattle.recovery_sender.specs.Senders.{parts_in, packets_in};
+ghost use Rattle.recovery_sender.specs.Senders.{parts_in};
+ghost use Rattle.recovery_sender.specs.Spaces.{packets_in};
 ghost use Rattle.recovery_ffi.specs.Kept.{items_of, numbers_of, packets_listed, IsNothing, LosesAlone};
 ghost use Rattle.recovery_ffi.specs.Replies.{plain};
 ghost use Rattle.recovery_ffi.specs.Sending.{acknowledged_spelled, confirmed, delayed_by, ecn_number, is_quiet, keyed, lost_alone, no_told, range_given, refused_spelled, timeout_spelled, tells_more, told_shown, transmission_spelled, Acks, Challenges, Discards, Expires, Forsakes, IsSaid, Says, TakesFrame, Transmits};

@@ -264,7 +264,7 @@ impl Stack {
     }
 
     /// The space of a number, where there is one that is not discarded.
-    fn named(&self, space: u8) -> Option<&ItemSpace>
+    pub fn named(&self, space: u8) -> Option<&ItemSpace>
         ensures { option_copied result
             ≡ space_named space (parts_kept self.now.kept) }
     {

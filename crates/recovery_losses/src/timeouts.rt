@@ -24,6 +24,9 @@ pub fn probe_timeout(base: Duration, max_ack_delay: Duration, count: u32) -> Dur
     ensures { result ≡ probe_timeout_of base max_ack_delay count }
 {
     let once = base.as_nanos() + max_ack_delay.as_nanos();
+    if count == 0 {
+        return up_to_longest(once);
+    }
     up_to_longest(once.saturating_mul(2u128.saturating_pow(count)))
 }
 

@@ -23,7 +23,8 @@ use Rattle.recovery_history.specs.Changes.{Changes}
 use Rattle.quic_recovery.specs.State.{OnlyTells, parts_of}
 use Rattle.recovery_sender.specs.declared.sender.Sender.{Sender}
 use Rattle.recovery_sender.specs.Acking.{acking, sent_here}
-use Rattle.recovery_sender.specs.Senders.{packets_in, parts_in}
+use Rattle.recovery_sender.specs.Senders.{parts_in}
+use Rattle.recovery_sender.specs.Spaces.{packets_in}
 use Rattle.recovery_sender.specs.Steps.{Goes, occurs}
 use Rattle.recovery_sender.proofs.LeadLaws.{leads_on}
 

@@ -25,7 +25,8 @@ use Rattle.recovery_losses.specs.Due.{sooner}
 use Rattle.recovery_sender.specs.declared.sender.Variables.{Variables}
 use Rattle.recovery_sender.specs.Promises.Alive.{IsOwed, IsSetFor, NeverStalls}
 use Rattle.recovery_sender.specs.Promises.Pasts.{ByPasts}
-use Rattle.recovery_sender.specs.Senders.{parts_in, space_in}
+use Rattle.recovery_sender.specs.Senders.{parts_in}
+use Rattle.recovery_sender.specs.Spaces.{space_in}
 use Rattle.recovery_sender.specs.Timer.{TimerIsSet, behind, deadlock_due, deadlock_space, due_of, has_eliciting, is_address_validated, loss_due, probe_due, probes_due, pto_of, soonest}
 
 -- ---- where something that elicits an ACK is tracked, one was sent

@@ -4,16 +4,18 @@ use Rattle.std.specs.Prelude.{if◌then◌else◌, nat_lt}
 use Rattle.recovery_base.specs.declared.below.SpaceId.{SpaceId}
 use Rattle.recovery_congestion.specs.Controllers.{ControllerWords}
 use Rattle.recovery_events.specs.declared.event.Answer.{Answer}
+use Rattle.recovery_events.specs.declared.event.Answer.TheVariants as answers
 use Rattle.recovery_events.specs.declared.event.Event.TheVariants.{QueueProbe}
 use Rattle.recovery_events.specs.declared.event.Refusal.{Refusal}
 use Rattle.recovery_events.specs.declared.event.Refusal.TheVariants.{NoMemory, SpaceDiscarded}
 use Rattle.recovery_ledger.specs.Acks.{AckState}
 use Rattle.recovery_ledger.specs.Discarded.{is_discarded}
 use Rattle.recovery_ledger.specs.Spaces.{space_of}
-use Rattle.recovery_paths.specs.PathStates.{is_blocked}
+use Rattle.recovery_paths.specs.PathStates.{PathState, is_blocked, path_delay}
 use Rattle.recovery_history.specs.History.{QueueMeaning, Reply, queue_meaning}
 use Rattle.recovery_history.specs.Known.{Known}
 use Rattle.recovery_history.specs.Parts.{Parts}
+use Rattle.recovery_history.specs.PartReplies.{delayed_or, transmit_answer}
 use Rattle.recovery_history.specs.Plain.{Plain}
 use Rattle.recovery_history.specs.Changes.{acks_to, known_to}
 use Rattle.recovery_history.specs.Table.{ToldBy}
@@ -63,6 +65,18 @@ module _ {K P M : Type 0} (words : ControllerWords K) (recovery : Parts K P M) (
       let is_asked : checked ≡ true = sym known.1 ∙ (grind (arith, counts, none)) in
       within (is_blocked recovery.paths.current.state bytes) (is_full words recovery bytes) _ _ _ refl
       (rw is_asked at (sym is_sent ∙ sends))
+
+-- what the limit lets pass is transmitted or delayed
+pub always_told : {K Q : Type 0} (words : ControllerWords K) (now bytes : ℕ) (checked : Bool) (path : PathState K)
+    → is_blocked path bytes ≡ false → (given : Answer Q) → given ≡ transmit_answer words now bytes checked path
+    → (given ≡ answers.Transmitted → ⊥) → ((until : ℕ) → given ≡ answers.Delayed until → ⊥) → ⊥
+always_told words now bytes false path limit given is sent delayed = sent is
+always_told {Q = Q} words now bytes true path limit given is sent delayed =
+    go (path_delay words now bytes path) (rw limit at is)
+  where
+    go : (delay : Option ℕ) → given ≡ delayed_or words answers.Transmitted delay → ⊥
+    go None is = sent is
+    go (Some until) is = delayed until is
 
 -- ---- probes
 

@@ -1,10 +1,12 @@
--- No range holds a number that was skipped.
-use Rattle.std.proofs.Common.{ℕ, ◌+◌, ◌<◌, List, get_or, Ok, subst, inl, inr, arith}
-use Rattle.std.proofs.lemmas.Bool.Decides.{leb_tells}
+-- A frame is checked: no range holds a number that was skipped.
+use Rattle.std.proofs.Common.{ℕ, ◌≡◌, ◌+◌, ◌<◌, false, Bool, List, Option, None, Some, get_or, Ok, subst, inl, inr, arith}
+use Rattle.std.proofs.lemmas.Bool.Decides.{leb_tells, nat_tests}
+use Rattle.std.specs.Prelude.{IfSome, if◌then◌else◌}
 use Rattle.recovery_base.specs.declared.below.SpaceId.{SpaceId}
 use Rattle.recovery_events.specs.declared.event.Answer.{Answer}
 use Rattle.recovery_events.specs.declared.event.Answer.TheVariants.{Done}
 use Rattle.recovery_events.specs.declared.event.Event.TheVariants.{CheckAck}
+use Rattle.recovery_losses.specs.Frames.{is_unsent}
 use Rattle.quic_recovery.specs.declared.driver.Recovery.{Recovery}
 use Rattle.quic_recovery.specs.State.{OnlyTells}
 
@@ -26,3 +28,13 @@ module _ {F Q R C K S M P : Type 0} {f : _} {c : _} {q : _} {m : _} {r : _} (spa
     | inl same ↦ subst IsAllowed (omega (arith, same.1, below)) (allowed _ _ answer here)
     | inr under ↦ before i under.1
   ]
+
+-- what is there is there unless it is gone
+pub kept_here : {T : Type 0} (gone : Bool) (there found : T) → Some found ≡ (if gone then None else Some there)
+    → (gone ≡ false) × (found ≡ there)
+kept_here gone there found is = grind (arith, is)
+
+-- no number is above those that were sent
+pub all_sent : (largest : Option ℕ) (next : ℕ) → is_unsent largest next ≡ false → IfSome largest (λ n. n < next)
+all_sent None next is = tt
+all_sent (Some largest) next is = grind (arith, nat_tests, is)

@@ -20,7 +20,8 @@ use Rattle.recovery_sender.specs.Judging.{Detects, Finds, HasNoGap, LossesAre, c
 use Rattle.recovery_sender.specs.Losses.{largest_in, look_of, NothingLost}
 use Rattle.recovery_sender.specs.Promises.Lost.{LosesTracked}
 use Rattle.recovery_sender.specs.Promises.Pasts.{ByPasts}
-use Rattle.recovery_sender.specs.Senders.{parts_in, packets_in}
+use Rattle.recovery_sender.specs.Senders.{parts_in}
+use Rattle.recovery_sender.specs.Spaces.{packets_in}
 use Rattle.recovery_sender.specs.Steps.{Step, Goes, Leads, loss_time}
 use Rattle.recovery_sender.proofs.LeadLaws.{leads_on}
 use Rattle.recovery_sender.proofs.PromiseLaws.{loses_tracked}

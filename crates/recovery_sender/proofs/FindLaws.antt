@@ -13,7 +13,8 @@ use Rattle.recovery_history.specs.History.{queue_meaning}
 use Rattle.recovery_history.specs.Parts.{Parts}
 use Rattle.recovery_sender.specs.declared.sender.Sender.{Sender}
 use Rattle.recovery_sender.specs.Judging.{Finds, Judges, losing}
-use Rattle.recovery_sender.specs.Senders.{parts_in, packets_in}
+use Rattle.recovery_sender.specs.Senders.{parts_in}
+use Rattle.recovery_sender.specs.Spaces.{packets_in}
 use Rattle.recovery_sender.specs.Steps.{Leads}
 use Rattle.recovery_sender.proofs.LeadLaws.{leads_on, packets_lost}
 

@@ -14,7 +14,8 @@ use Rattle.recovery_history.specs.History.{QueueMeaning, queue_meaning}
 use Rattle.recovery_history.specs.Parts.{Parts}
 use Rattle.recovery_history.specs.Plain.{Plain, plain_of}
 use Rattle.recovery_history.specs.Changes.{Changes}
-use Rattle.recovery_sender.specs.Senders.{packets_in, parts_in}
+use Rattle.recovery_sender.specs.Senders.{parts_in}
+use Rattle.recovery_sender.specs.Spaces.{packets_in}
 use Rattle.recovery_sender.specs.declared.sender.Sender.{Sender}
 use Rattle.recovery_sender.specs.Judging.{ended, congested, is_reported}
 use Rattle.recovery_sender.specs.Steps.{Step, Leads, Goes, told, occurs, loss_time, marked}

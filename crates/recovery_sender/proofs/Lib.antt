@@ -9,6 +9,8 @@ pub mod DueLaws
 pub mod FindLaws
 pub mod KeptLaws
 pub mod LeadLaws
+pub mod LeavingLaws
+pub mod LeftLaws
 pub mod PastLaws
 pub mod PromiseLaws
 pub mod StepLaws

@@ -20,7 +20,8 @@ use Rattle.recovery_sender.specs.Judging.{LossesAre}
 use Rattle.recovery_sender.specs.Promises.Acked.{AcksTracked, LosesAll}
 use Rattle.recovery_sender.specs.Promises.Lost.{IsLostBy, LosesTracked}
 use Rattle.recovery_sender.specs.Promises.Pasts.{ByPasts}
-use Rattle.recovery_sender.specs.Senders.{parts_in, packets_in}
+use Rattle.recovery_sender.specs.Senders.{parts_in}
+use Rattle.recovery_sender.specs.Spaces.{packets_in}
 use Rattle.recovery_sender.proofs.PastLaws.{sent_by_past, tracked_by}
 
 -- ---- whether a number is one of some

@@ -3,14 +3,12 @@ use Rattle.std.proofs.Common.{◌≡◌, List, [], ◌∷◌, ◌++◌, Ok, sym,
 use Rattle.recovery_events.specs.declared.event.Answer.{Answer}
 use Rattle.recovery_events.specs.declared.event.Event.{Event}
 use Rattle.recovery_history.specs.History.{queue_meaning}
-use Rattle.recovery_history.specs.Parts.{Parts}
 use Rattle.recovery_history.specs.Past.{ExtendsOn}
 use Rattle.recovery_history.specs.Changes.{Changes}
 use Rattle.recovery_sender.specs.declared.sender.Sender.{Sender}
 use Rattle.recovery_sender.specs.declared.sender.Variables.{Variables}
 use Rattle.recovery_sender.specs.Senders.{parts_in}
-use Rattle.recovery_sender.specs.Steps.{Step, Leads, Goes, Does, told, timed}
-use Rattle.recovery_sender.specs.Timer.{due_of}
+use Rattle.recovery_sender.specs.Steps.{Step, Leads, Goes, Does, told}
 use Rattle.recovery_sender.proofs.LeadLaws.{leads_on}
 
 module _ {F Q R C K S M P : Type 0} {f : _} {c : _} {q : _} {m : _} {r : _} where
@@ -29,7 +27,10 @@ module _ {F Q R C K S M P : Type 0} {f : _} {c : _} {q : _} {m : _} {r : _} wher
       let does : Does [] (made old.variables) between new =
       subst (λ (kept : Variables). Does [] (made kept) between new) goes.variables does in
       record {
-        leads = leads_on _ _ _ steps _ _ _ _ goes.leads does.leads;
+        between = does.between;
+        leads = subst (λ at. Leads f.built c.words (queue_meaning q.contents q.words q.blank) steps (parts_in old) at)
+            (sym does.leads) goes.leads;
+        sets = does.sets;
         variables = does.variables;
         timer = does.timer;
         alive = does.alive;
@@ -45,8 +46,9 @@ module _ {F Q R C K S M P : Type 0} {f : _} {c : _} {q : _} {m : _} {r : _} wher
   does_as kept wanted old from new same is does =
       let does : Does [] wanted from new = subst (λ (kept : Variables). Does [] kept from new) is does in
       record {
-        leads = subst (λ (parts : Parts K P M). Leads f.built c.words (queue_meaning q.contents q.words q.blank)
-            (timed (due_of (parts_in new) wanted) ∷ []) parts (parts_in new)) (sym same) does.leads;
+        between = does.between;
+        leads = does.leads ∙ sym same;
+        sets = does.sets;
         variables = does.variables;
         timer = does.timer;
         alive = does.alive;
@@ -59,7 +61,9 @@ module _ {F Q R C K S M P : Type 0} {f : _} {c : _} {q : _} {m : _} {r : _} wher
       → ExtendsOn f.built c.words (queue_meaning q.contents q.words q.blank) (parts_in old) event (Ok answer)
       (parts_in between) → Does [] kept between new → Does (told event (Ok answer) ∷ []) kept old new
   does_event event answer kept old between new changes extends does = record {
+    between = does.between;
     leads = (parts_in between, changes, extends, does.leads);
+    sets = does.sets;
     variables = does.variables;
     timer = does.timer;
     alive = does.alive;

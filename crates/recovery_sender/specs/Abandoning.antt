@@ -13,7 +13,8 @@ use Rattle.recovery_sender.specs.Calls.{begun_anew}
 use Rattle.recovery_sender.specs.Judging.{losing}
 use Rattle.recovery_sender.specs.Promises.Acked.{LosesAll}
 use Rattle.recovery_sender.specs.Promises.Pasts.{ByPasts}
-use Rattle.recovery_sender.specs.Senders.{parts_in, packets_in}
+use Rattle.recovery_sender.specs.Senders.{parts_in}
+use Rattle.recovery_sender.specs.Spaces.{packets_in}
 use Rattle.recovery_sender.specs.Steps.{Goes, Does, loss_time}
 
 -- none is followed by a lesser one, from the first on and up to the end

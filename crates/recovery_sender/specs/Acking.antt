@@ -29,7 +29,8 @@ use Rattle.recovery_sender.specs.Judging.{Detects, congested}
 use Rattle.recovery_sender.specs.Losses.{largest_in, NothingLost}
 use Rattle.recovery_sender.specs.Promises.Acked.{AcksTracked}
 use Rattle.recovery_sender.specs.Promises.Pasts.{ByPasts}
-use Rattle.recovery_sender.specs.Senders.{parts_in, packets_in, space_in}
+use Rattle.recovery_sender.specs.Senders.{parts_in}
+use Rattle.recovery_sender.specs.Spaces.{packets_in, space_in}
 use Rattle.recovery_sender.specs.Steps.{Step, Does, Goes, marked, occurs, told}
 use Rattle.recovery_sender.specs.Timer.{ack_delay_in, is_address_validated}
 

@@ -18,7 +18,8 @@ use Rattle.recovery_sender.specs.declared.sender.Sender.{Sender}
 use Rattle.recovery_sender.specs.Losses.{largest_in, look_of, NothingLost}
 use Rattle.recovery_sender.specs.Promises.Lost.{LosesTracked}
 use Rattle.recovery_sender.specs.Promises.Pasts.{ByPasts}
-use Rattle.recovery_sender.specs.Senders.{parts_in, packets_in}
+use Rattle.recovery_sender.specs.Senders.{parts_in}
+use Rattle.recovery_sender.specs.Spaces.{packets_in}
 use Rattle.recovery_sender.specs.Steps.{Step, loss_time, occurs, told, Goes}
 
 -- each of these is told lost

@@ -3,9 +3,11 @@ pub mod Acking
 pub mod Acks
 pub mod Calls
 pub mod Judging
+pub mod Leaving
 pub mod Losses
 pub mod Promises
 pub mod Senders
+pub mod Spaces
 pub mod Steps
 pub mod Timeouts
 pub mod Timer

@@ -12,7 +12,7 @@ use Rattle.recovery_losses.specs.Losses.{first_of}
 use Rattle.recovery_history.specs.Parts.{Parts}
 use Rattle.recovery_sender.specs.declared.sender.losses.Losses.{Losses}
 use Rattle.recovery_sender.specs.declared.sender.Variables.{Variables}
-use Rattle.recovery_sender.specs.Senders.{space_in}
+use Rattle.recovery_sender.specs.Spaces.{space_in}
 
 -- nothing was lost
 pub record NothingLost (losses : Losses) : Type 0 where

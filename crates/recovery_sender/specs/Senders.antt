@@ -1,10 +1,5 @@
 -- What a sender is to those who call it: the parts of its recovery, and the variables beside it (RFC 9002, A.3).
-use Rattle.std.specs.Prelude.{ℕ, ◌*◌, ◌^◌, false, [], Option, None, Some, if◌then◌else◌}
-use Rattle.std.specs.Option.{option_map_or}
-use Rattle.recovery_base.specs.declared.below.SpaceId.{SpaceId}
-use Rattle.recovery_ledger.specs.Discarded.{is_discarded}
-use Rattle.recovery_ledger.specs.Packets.{Packets}
-use Rattle.recovery_ledger.specs.Spaces.{Space, space_of, packets_of}
+use Rattle.std.specs.Prelude.{ℕ, ◌*◌, ◌^◌, false}
 use Rattle.recovery_history.specs.Parts.{Parts}
 use Rattle.quic_recovery.specs.State.{parts_of}
 use Rattle.recovery_sender.specs.declared.sender.Sender.{Sender}
@@ -14,15 +9,6 @@ use Rattle.recovery_sender.specs.declared.sender.Variables.{Variables}
 abbrev pub parts_in : {F Q R C K S M P : Type 0} {f : _} {c : _} {q : _} {m : _} {r : _}
     → Sender F Q R C K S M P f c q m r → Parts K P M
 parts_in sender = parts_of sender.recovery.recovery
-
--- the space, unless it was discarded
-abbrev pub space_in : {K P M : Type 0} → Parts K P M → SpaceId → Option (Space P M)
-space_in recovery space =
-    if is_discarded space recovery.discarded then None else Some (space_of space recovery.spaces)
-
--- the packets that it tracks
-abbrev pub packets_in : {K P M : Type 0} → Parts K P M → SpaceId → Packets P M
-packets_in recovery space = option_map_or packets_of (space_in recovery space) []
 
 -- nothing was said of the connection, and no probe timeout expired; the peer's max_ack_delay is 25 ms until it is told
 -- (RFC 9000, 18.2)

@@ -1,5 +1,5 @@
 -- What a call is to the recovery of a sender: events with their replies, and what the layer sets beside them, in order.
-use Rattle.std.specs.Prelude.{◌≡◌, ℕ, List, [], ◌∷◌, ◌++◌, Option, None, Some, Ok}
+use Rattle.std.specs.Prelude.{◌≡◌, ℕ, List, [], ◌∷◌, ◌⊎◌, Option, None, Some, Ok}
 use Rattle.recovery_base.specs.declared.below.SpaceId.{SpaceId}
 use Rattle.recovery_base.specs.declared.timer.Timer.TheVariants.{LossDetection}
 use Rattle.recovery_congestion.specs.Controllers.{ControllerWords}
@@ -53,17 +53,23 @@ module _ {F K Q S M P : Type 0} (built : F → ℕ → ℕ → K) (words : Contr
   Leads (loss_time space time ∷ steps) old new = Leads steps (with_loss_time_at space time old) new
   Leads (marked marks ∷ steps) old new = Leads steps (with_marks_at Current marks old) new
 
+  -- the timer is set as it is due, where it is not so already
+  abbrev pub Sets : Variables → Parts K P M → Parts K P M → Type 0
+  Sets kept old new = TimerIsSet old kept × (new ≡ old)
+      ⊎ (TimerIsSet old kept → ⊥) × Leads (timed (due_of new kept) ∷ []) old new
+
 module _ {F Q R C K S M P : Type 0} {f : _} {c : _} {q : _} {m : _} {r : _} where
   -- the same of a sender, whose variables stay
   pub record Goes (steps : List (Step Q S M P)) (old new : Sender F Q R C K S M P f c q m r) : Type 0 where
     pub leads : Leads f.built c.words (queue_meaning q.contents q.words q.blank) steps (parts_in old) (parts_in new)
     pub variables : new.variables ≡ old.variables
 
-  -- a call is these steps, and leaves these variables; then the timer is set as they are
+  -- a call is these steps, and leaves these variables; then the timer is set as they are, where it is not so already
   pub record Does (steps : List (Step Q S M P)) (kept : Variables) (old new : Sender F Q R C K S M P f c q m r)
       : Type 0 where
-    pub leads : Leads f.built c.words (queue_meaning q.contents q.words q.blank)
-        (steps ++ timed (due_of (parts_in new) kept) ∷ []) (parts_in old) (parts_in new)
+    pub between : Parts K P M
+    pub leads : Leads f.built c.words (queue_meaning q.contents q.words q.blank) steps (parts_in old) between
+    pub sets : Sets f.built c.words (queue_meaning q.contents q.words q.blank) kept between (parts_in new)
     pub variables : new.variables ≡ kept
     pub timer : TimerIsSet (parts_in new) new.variables
     -- so that it never stalls

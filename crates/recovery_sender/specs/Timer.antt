@@ -20,7 +20,7 @@ use Rattle.recovery_sender.specs.declared.sender.Side.TheVariants.{Client, Serve
 use Rattle.recovery_losses.specs.declared.due.Due.{Due}
 use Rattle.recovery_losses.specs.declared.due.Due.TheVariants.{Losses, Probes, AntiDeadlock}
 use Rattle.recovery_sender.specs.declared.sender.Variables.{Variables}
-use Rattle.recovery_sender.specs.Senders.{space_in}
+use Rattle.recovery_sender.specs.Spaces.{space_in}
 
 -- ---- the least of moments
 

@@ -1,7 +1,7 @@
 //! The sender: one recovery, and the little that decides beside it (RFC 9002, A.3).
-ghost use Rattle.std.specs.Prelude.{◌≡◌, true, []};
-ghost use Rattle.recovery_sender.specs.Senders.{fresh};
-ghost use Rattle.recovery_sender.specs.Steps.{Does};
+ghost use Rattle.std.specs.Prelude.{◌≡◌, true};
+ghost use Rattle.quic_recovery.specs.State.{parts_of};
+ghost use Rattle.recovery_sender.specs.Timer.{TimerIsSet};
 
 use quic_recovery::congestion::ControllerFactory;
 use quic_recovery::queue::RetransmitQueue;
@@ -13,6 +13,7 @@ use std::alloc::Global;
 mod acks;
 mod ends;
 mod events;
+mod handshake;
 mod losses;
 mod packets;
 mod probes;
@@ -23,9 +24,6 @@ pub use events::passes;
 pub use losses::Losses;
 pub use packets::Transmission;
 pub use probes::Timeout;
-
-/// How late the ACKs of a peer may be that said nothing of it (RFC 9000, 18.2: max_ack_delay), in milliseconds.
-const DEFAULT_MAX_ACK_DELAY: u64 = 25;
 
 /// Which end of the connection this is.
 #[derive(Clone, Copy, PartialEq, Eq)]
@@ -70,29 +68,15 @@ pub struct Variables {
     pub base: Instant,
 }
 
-impl Variables {
-    /// Those of a sender to which nothing has happened yet.
-    fn new(side: Side, now: Instant) -> Self
-        ensures { result ≡ fresh side now }
-    {
-        Variables {
-            side,
-            max_ack_delay: Duration::from_millis(DEFAULT_MAX_ACK_DELAY),
-            pto_count: 0,
-            is_handshake_confirmed: false,
-            is_address_known: false,
-            has_handshake_keys: false,
-            base: now,
-        }
-    }
-}
-
 /// The sending half of a connection: what is in flight is what its recovery tracks, and no second list is kept.
 #[derive(Drop)]
 pub struct Sender<F: ControllerFactory, Q: RetransmitQueue, R: Rng> {
     alloc: Global,
     recovery: LiveRecovery<F, Q, R>,
     variables: Variables,
+    /// Whether the timer for losses is known to be set as it is due; then it is left alone where nothing moves it.
+    is_timed: bool,
+    ghost timed: { is_timed ≡ true → TimerIsSet (parts_of recovery.recovery) variables },
 }
 
 impl<F, Q, R> Sender<F, Q, R>
@@ -116,36 +100,5 @@ where
         ensures { result.now ≡ self.now.variables }
     {
         &self.variables
-    }
-
-    /// There are keys of Handshake packets (RFC 9002, A.8).
-    pub fn on_handshake_keys(&mut self)
-        ensures { Does [] (record self.old.variables { has_handshake_keys = true })
-            self.old self.new }
-    {
-        self.variables.has_handshake_keys = true;
-        self.set_loss_detection_timer();
-    }
-
-    /// The handshake is confirmed (RFC 9001, 4.1.2): packets of 1-RTT keys are probed for from now on, and a client
-    /// knows its address validated (RFC 9002, 6.2.1 and 6.2.2.1).
-    pub fn on_handshake_confirmed(&mut self)
-        ensures { Does [] (record self.old.variables {
-          is_handshake_confirmed = true;
-          is_address_known = true;
-        }) self.old self.new }
-    {
-        self.variables.is_handshake_confirmed = true;
-        self.variables.is_address_known = true;
-        self.set_loss_detection_timer();
-    }
-
-    /// The peer delays its ACKs of 1-RTT packets at most so long (RFC 9000, 18.2: max_ack_delay).
-    pub fn set_peer_max_ack_delay(&mut self, span: Duration)
-        ensures { Does [] (record self.old.variables { max_ack_delay = span })
-            self.old self.new }
-    {
-        self.variables.max_ack_delay = span;
-        self.set_loss_detection_timer();
     }
 }

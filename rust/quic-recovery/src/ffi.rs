@@ -217,6 +217,27 @@ pub struct Id {
     pub len: u8,
 }
 
+/// The congestion window of the path in use, in bytes.
+#[repr(C)]
+#[derive(Clone, Copy, Debug, PartialEq, Eq)]
+pub struct WindowView {
+    /// How many bytes may be in flight (RFC 9002, 7); 0 where there is no recovery.
+    pub window: u64,
+    /// How many are (RFC 9002, B.2).
+    pub in_flight: u64,
+}
+
+/// The round-trip time of the path in use, in nanoseconds, which stop at `u64::MAX`.
+#[repr(C)]
+#[derive(Clone, Copy, Debug, PartialEq, Eq)]
+pub struct RttView {
+    /// The best estimate: the smoothed one, or the initial one before the first sample (RFC 9002, 5.3); 0 where there
+    /// is no recovery.
+    pub rtt: u64,
+    /// The probe timeout without the peer's delay of ACKs (RFC 9002, 6.2.1).
+    pub pto_base: u64,
+}
+
 /// What a caller holds a recovery by. It begins as all zeros, which holds none; from then on it is the library's own.
 #[repr(C)]
 pub struct Handle {
@@ -517,7 +538,7 @@ pub struct IdsView {
 
 unsafe extern "C" {
     /// Does nothing; a library of another layout does not have it.
-    #[link_name = "recovery_ffi_layout_a79461f1"]
+    #[link_name = "recovery_ffi_layout_0c4c2537"]
     pub fn recovery_ffi_layout();
 
     /// Makes a recovery, whose peer is at this address and has this id of at most 20 bytes. The answer is `NEW_MADE`, or
@@ -557,6 +578,18 @@ unsafe extern "C" {
 
     /// All packets that were found lost together were told: the event `LossesDone`.
     pub fn recovery_ffi_losses_done(handle: *mut Handle, now: u64) -> Reply;
+
+    /// Window and bytes in flight of the path in use.
+    pub fn recovery_ffi_window(handle: *mut Handle) -> WindowView;
+
+    /// The round-trip time of the path in use.
+    pub fn recovery_ffi_rtt(handle: *mut Handle) -> RttView;
+
+    /// The number of the peer's id in use (RFC 9000, 5.1.1); 0 where there is no recovery.
+    pub fn recovery_ffi_active_id(handle: *mut Handle) -> u64;
+
+    /// Whether a packet that counts in flight is tracked in a space (RFC 9002, 2), by whichever path it went.
+    pub fn recovery_ffi_has_in_flight(handle: *mut Handle, space: u8) -> bool;
 
     /// A NEW_CONNECTION_ID frame came in (RFC 9000, 19.15): the event `NewId`; an id has at most 20 bytes.
     pub fn recovery_ffi_new_id(

@@ -443,6 +443,44 @@ impl Recovery {
         })
     }
 
+    /// How many bytes may be in flight on the path in use (RFC 9002, 7), and how many are. This and the four readings below
+    /// take a few instructions, where [`Recovery::path`] and [`Recovery::ids`] read all.
+    #[inline]
+    pub fn window_and_flight(&self) -> (u64, u64) {
+        // SAFETY: the handle holds a recovery, and no other call runs.
+        let view = unsafe { ffi::recovery_ffi_window(self.handle.get()) };
+        (view.window, view.in_flight)
+    }
+
+    /// The best estimate of the round-trip time of the path in use: the smoothed one, or the initial one before the first
+    /// sample (RFC 9002, 5.3).
+    #[inline]
+    pub fn rtt(&self) -> Duration {
+        // SAFETY: the handle holds a recovery, and no other call runs.
+        Duration::from_nanos(unsafe { ffi::recovery_ffi_rtt(self.handle.get()) }.rtt)
+    }
+
+    /// The probe timeout of the path in use without the peer's delay of ACKs (RFC 9002, 6.2.1).
+    #[inline]
+    pub fn pto_base(&self) -> Duration {
+        // SAFETY: the handle holds a recovery, and no other call runs.
+        Duration::from_nanos(unsafe { ffi::recovery_ffi_rtt(self.handle.get()) }.pto_base)
+    }
+
+    /// The number of the peer's id in use (RFC 9000, 5.1.1).
+    #[inline]
+    pub fn active_id(&self) -> u64 {
+        // SAFETY: the handle holds a recovery, and no other call runs.
+        unsafe { ffi::recovery_ffi_active_id(self.handle.get()) }
+    }
+
+    /// Whether a packet that counts in flight is tracked in a space (RFC 9002, 2), by whichever path it went.
+    #[inline]
+    pub fn has_in_flight(&self, space: SpaceId) -> bool {
+        // SAFETY: the handle holds a recovery, and no other call runs.
+        unsafe { ffi::recovery_ffi_has_in_flight(self.handle.get(), space as u8) }
+    }
+
     /// What a space has to send; `None` once it is discarded.
     pub fn space(&self, space: SpaceId) -> Option<SpaceStats> {
         // SAFETY: the handle holds a recovery, and no other call runs.

@@ -67,6 +67,35 @@ fn paths() {
     assert_eq!(recovery.path(PathName::Previous), Some(path));
 }
 
+/// What takes a few instructions says what the whole does.
+#[test]
+fn cheap_ones() {
+    let mut recovery = fresh();
+    assert_eq!(recovery.window_and_flight(), (12_000, 0));
+    assert_eq!(recovery.rtt(), Duration::from_millis(333));
+    assert_eq!(
+        recovery.pto_base(),
+        Duration::from_millis(333 + 4 * 333 / 2)
+    );
+    assert!(!recovery.has_in_flight(SpaceId::Data));
+    let (space, now, size) = (SpaceId::Data, at(1), 1200);
+    let (ack_eliciting, largest_acked, queue) = (true, None, &[]);
+    apply(
+        &mut recovery,
+        Event::Send {
+            space,
+            now,
+            size,
+            ack_eliciting,
+            largest_acked,
+            queue,
+        },
+    );
+    assert_eq!(recovery.window_and_flight(), (12_000, 1200));
+    assert!(recovery.has_in_flight(SpaceId::Data) && !recovery.has_in_flight(SpaceId::Initial));
+    assert_eq!(recovery.active_id(), recovery.ids().active);
+}
+
 #[test]
 fn spaces() {
     let mut recovery = fresh();

@@ -1,9 +1,15 @@
-//! The proved NewReno behind quinn's public trait of controllers (RFC 9002, 7): quinn itself stays as it is.
+//! The proved NewReno (RFC 9002, 7) and CUBIC (RFC 9438) behind quinn's public trait of controllers: quinn itself stays
+//! as it is.
 //!
 //! ```
 //! let mut config = quinn_proto::TransportConfig::default();
 //! config.congestion_controller_factory(quinn_congestion::NewRenoConfig::default());
+//! config.congestion_controller_factory(quinn_congestion::CubicConfig::default());
 //! ```
+mod cubic;
+
+pub use cubic::{Cubic, CubicConfig};
+
 use quic_recovery::{
     Answer, Congestion, Event, Instant as Moment, PathName, Recovery, RecoveryConfig, SpaceId,
     TransportConfig,
@@ -49,24 +55,57 @@ pub struct NewReno {
     counted: u64,
 }
 
+/// A recovery for its controller alone, in datagrams of this size.
+fn recovery_for(congestion: Congestion, max_datagram_size: u16) -> Recovery {
+    let settings = RecoveryConfig {
+        transport: TransportConfig {
+            initial_mtu: max_datagram_size,
+            min_mtu: max_datagram_size,
+            mtu_discovery_config: None,
+            congestion,
+            ..TransportConfig::default()
+        },
+        ..RecoveryConfig::default()
+    };
+    Recovery::new(&settings, Moment::from_nanos(0)).expect("sizes above zero, and memory")
+}
+
+/// A moment as the library has it, whose nanosecond 0 is the epoch.
+fn since(epoch: Instant, moment: Instant) -> Moment {
+    let nanos = moment.saturating_duration_since(epoch).as_nanos();
+    Moment::from_nanos(u64::try_from(nanos).unwrap_or(u64::MAX))
+}
+
+/// A packet is acknowledged: it is handed in as sent, and as acknowledged.
+fn acknowledge(recovery: &mut Recovery, now: Moment, sent: Moment, bytes: u64, app_limited: bool) {
+    let space = SpaceId::Data;
+    let packet = Event::Send {
+        space,
+        now: sent,
+        size: u16::try_from(bytes).unwrap_or(u16::MAX),
+        ack_eliciting: true,
+        largest_acked: None,
+        queue: &[],
+    };
+    if let Ok(Answer::Sent { number, .. }) = recovery.apply(packet) {
+        let _ = recovery.apply(Event::Acked {
+            space,
+            now,
+            number,
+            app_limited,
+        });
+    }
+}
+
 impl NewReno {
     fn new(config: NewRenoConfig, epoch: Instant, window: u64) -> Self {
-        let settings = RecoveryConfig {
-            transport: TransportConfig {
-                initial_mtu: config.max_datagram_size,
-                min_mtu: config.max_datagram_size,
-                mtu_discovery_config: None,
-                congestion: Congestion::NewReno(quic_recovery::NewRenoConfig {
-                    initial_window: window,
-                    ..quic_recovery::NewRenoConfig::default()
-                }),
-                ..TransportConfig::default()
-            },
-            ..RecoveryConfig::default()
-        };
+        let congestion = Congestion::NewReno(quic_recovery::NewRenoConfig {
+            initial_window: window,
+            ..quic_recovery::NewRenoConfig::default()
+        });
         let since = Moment::from_nanos(0);
         NewReno {
-            recovery: Recovery::new(&settings, since).expect("sizes above zero, and memory"),
+            recovery: recovery_for(congestion, config.max_datagram_size),
             config,
             epoch,
             window,
@@ -77,29 +116,11 @@ impl NewReno {
     }
 
     fn at(&self, moment: Instant) -> Moment {
-        let since = moment.saturating_duration_since(self.epoch).as_nanos();
-        Moment::from_nanos(u64::try_from(since).unwrap_or(u64::MAX))
+        since(self.epoch, moment)
     }
 
     fn acked(&mut self, now: Moment, sent: Moment, bytes: u64, app_limited: bool) {
-        let space = SpaceId::Data;
-        let packet = Event::Send {
-            space,
-            now: sent,
-            size: u16::try_from(bytes).unwrap_or(u16::MAX),
-            ack_eliciting: true,
-            largest_acked: None,
-            queue: &[],
-        };
-        let Ok(Answer::Sent { number, .. }) = self.recovery.apply(packet) else {
-            return;
-        };
-        let _ = self.recovery.apply(Event::Acked {
-            space,
-            now,
-            number,
-            app_limited,
-        });
+        acknowledge(&mut self.recovery, now, sent, bytes, app_limited);
         let before = self.window;
         self.read();
         let is_counted = !app_limited && sent > self.since;

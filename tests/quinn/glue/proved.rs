@@ -9,15 +9,14 @@ use qr::{Answer, Event, PathName, Refusal, Refused};
 use quic_recovery as qr;
 use std::{
     cell::OnceCell,
-    collections::VecDeque,
     mem,
     net::SocketAddr,
-    ops::{Range, RangeInclusive},
+    ops::{Deref, Range, RangeInclusive},
     sync::Arc,
     time::{Duration, Instant},
 };
 
-use super::spaces::{SendableFrames, SentPacket};
+use super::spaces::SendableFrames;
 use crate::{
     coding::BufMutExt,
     congestion::{NewReno, NewRenoConfig},
@@ -67,41 +66,9 @@ pub(super) struct Proved {
     cid_len: usize,
     /// Set by tests, which push the retirement of ids
     retire_at_least: u64,
-    /// The current path and the spaces, as they were read last
+    /// The current path, but for what each packet changes, and the spaces, as they were read last
     seen: OnceCell<qr::PathStats>,
     seen_in: [OnceCell<Option<qr::SpaceStats>>; 3],
-}
-
-/// What packets hold that are tracked, by their numbers, which rise as they are put in
-#[derive(Default)]
-pub(crate) struct Packets {
-    first: u64,
-    packets: VecDeque<Option<SentPacket>>,
-}
-
-impl Packets {
-    pub fn insert(&mut self, number: u64, packet: SentPacket) {
-        if self.packets.is_empty() {
-            self.first = number;
-        }
-        let above = usize::try_from(number - self.first).expect("fewer packets than memory has bytes");
-        self.packets.resize_with(above, || None);
-        self.packets.push_back(Some(packet));
-    }
-
-    pub fn remove(&mut self, number: u64) -> Option<SentPacket> {
-        let at = usize::try_from(number.checked_sub(self.first)?).ok()?;
-        let packet = self.packets.get_mut(at)?.take();
-        while let Some(None) = self.packets.front() {
-            self.packets.pop_front();
-            self.first += 1;
-        }
-        packet
-    }
-
-    pub fn into_values(self) -> impl Iterator<Item = SentPacket> {
-        self.packets.into_iter().flatten()
-    }
 }
 
 fn space_of(space: SpaceId) -> qr::SpaceId {
@@ -189,6 +156,15 @@ pub(super) fn settings(
     }
 }
 
+/// What is read of the library as it stands
+impl Deref for Proved {
+    type Target = qr::Recovery;
+
+    fn deref(&self) -> &qr::Recovery {
+        self.sender.recovery()
+    }
+}
+
 impl Proved {
     pub fn new(side: Side, config: qr::RecoveryConfig, now: Instant) -> Self {
         let side = [qr::Side::Client, qr::Side::Server][usize::from(side.is_server())];
@@ -215,11 +191,7 @@ impl Proved {
         self.epoch + Duration::from_nanos(at.as_nanos())
     }
 
-    fn recovery(&self) -> &qr::Recovery {
-        self.sender.recovery()
-    }
-
-    /// For a call that may change the current path
+    /// For a call after which the current path is another, validated, or of another MTU
     fn changing(&mut self) -> &mut Sender {
         self.seen.take();
         &mut self.sender
@@ -242,7 +214,7 @@ impl Proved {
     // Paths
 
     pub fn path(&self) -> &qr::PathStats {
-        let read = || self.recovery().path(PathName::Current);
+        let read = || self.sender.recovery().path(PathName::Current);
         self.seen.get_or_init(|| read().expect("there is always a current path"))
     }
 
@@ -258,7 +230,7 @@ impl Proved {
     /// The window, for those who look at it
     pub fn congestion_state(&self) -> NewReno {
         let mut shown = NewRenoConfig::default();
-        shown.initial_window(self.path().window);
+        shown.initial_window(self.window_and_flight().0);
         NewReno::new(Arc::new(shown), self.epoch)
     }
 
@@ -314,7 +286,7 @@ impl Proved {
     }
 
     pub fn space(&self, id: SpaceId) -> Option<&qr::SpaceStats> {
-        let seen = self.seen_in[id as usize].get_or_init(|| self.recovery().space(space_of(id)));
+        let seen = self.seen_in[id as usize].get_or_init(|| self.sender.recovery().space(space_of(id)));
         seen.as_ref()
     }
 
@@ -330,8 +302,8 @@ impl Proved {
 
     pub fn acks(&self, id: SpaceId, now: Instant) -> Acks {
         let space = space_of(id);
-        let delay = self.recovery().ack_delay(space, self.at(now));
-        Acks { ranges: self.recovery().ranges(space).collect(), delay: delay.unwrap_or_default() }
+        let delay = self.ack_delay(space, self.at(now));
+        Acks { ranges: self.ranges(space).collect(), delay: delay.unwrap_or_default() }
     }
 
     pub fn acks_sent(&mut self, id: SpaceId) {
@@ -345,8 +317,8 @@ impl Proved {
         self.space(id).expect("the space was not discarded").next_packet_number
     }
 
-    /// The packet with the next number goes out; where it holds something, its number is the item that waits once it is
-    /// lost.
+    /// The packet with the next number goes out; where it holds something, its key is the item that comes back once it
+    /// is acknowledged, or waits once it is lost.
     pub fn sent(
         &mut self,
         (id, number): (SpaceId, u64),
@@ -354,12 +326,11 @@ impl Proved {
         size: u16,
         ack_eliciting: bool,
         largest_acked: Option<u64>,
-        holds: bool,
+        key: Option<u64>,
     ) {
-        self.changing_in(id);
-        let queue = &[number][..usize::from(holds)];
         let (space, now) = (space_of(id), self.at(now));
-        let sent = self.changing().send(space, now, size, ack_eliciting, largest_acked, queue);
+        let sender = self.changing_in(id);
+        let sent = sender.send(space, now, size, ack_eliciting, largest_acked, key.as_slice());
         assert_eq!(sent.map(|it| it.number), Ok(number), "another number was in the header");
     }
 
@@ -375,7 +346,6 @@ impl Proved {
         let (space, now, mut told) = (space_of(space), self.at(now), mem::take(&mut self.told));
         self.heard.clear();
         self.heard.extend(ranges.map(|it| (*it.start(), *it.end())));
-        self.seen.take();
         self.sender.on_ack_into(space, now, ack, &self.heard, &mut told)?;
         Ok(told)
     }
@@ -383,11 +353,11 @@ impl Proved {
     /// The timer for losses may be due
     pub fn on_timeout(&mut self, now: Instant) -> qr::Timeout {
         let now = self.at(now);
-        let told = self.changing().on_timeout(now, false);
+        let told = self.sender.on_timeout(now, false);
         told.unwrap_or(qr::Timeout::Nothing)
     }
 
-    /// The numbers of packets whose frames wait to be sent again
+    /// The keys of packets whose frames wait to be sent again
     pub fn take_pending(&mut self, space: SpaceId) -> Vec<u64> {
         let space = space_of(space);
         match self.sender.on_event(Event::TakePending { space }) {
@@ -399,14 +369,13 @@ impl Proved {
     /// All that is tracked in the space goes
     pub fn discard(&mut self, space: SpaceId, now: Instant) {
         let now = self.at(now);
-        self.changing_in(space);
-        let _ = self.changing().discard(space_of(space), now);
+        let _ = self.changing_in(space).discard(space_of(space), now);
     }
 
     /// What is tracked in the space was sent in vain
     pub fn abandon(&mut self, space: SpaceId, now: Instant) {
         let now = self.at(now);
-        let _ = self.changing().abandon(space_of(space), now);
+        let _ = self.sender.abandon(space_of(space), now);
         self.take_pending(space);
     }
 
@@ -433,7 +402,7 @@ impl Proved {
         let Answer::Retire(Some(range)) = told else {
             return Ok(None);
         };
-        let token = ResetToken::from(*self.recovery().reset_token().bytes());
+        let token = ResetToken::from(*self.reset_token().bytes());
         Ok(Some((range, token)))
     }
 
@@ -457,7 +426,7 @@ impl Proved {
     }
 
     pub fn active_seq(&self) -> u64 {
-        self.recovery().ids().active
+        self.sender.recovery().active_id()
     }
 
     pub fn active_id(&self) -> ConnectionId {
@@ -489,24 +458,24 @@ impl Proved {
     }
 
     pub fn retire_prior_to(&self) -> u64 {
-        let told = self.recovery().ids().retire_prior_to;
+        let told = self.ids().retire_prior_to;
         told.max(self.retire_at_least)
     }
 
     pub fn next_expiry(&self) -> Option<Instant> {
-        let at = self.recovery().next_id_timeout()?;
+        let at = self.next_id_timeout()?;
         Some(self.moment(at))
     }
 
     /// How many ids go newly where those below `number` are to be retired
     #[cfg(test)]
     pub fn retire_below(&mut self, number: u64) -> u64 {
-        number - mem::replace(&mut self.retire_at_least, number).max(self.recovery().ids().retire_prior_to)
+        number - mem::replace(&mut self.retire_at_least, number).max(self.ids().retire_prior_to)
     }
 
     /// The least and the last number of this end's ids that are not to be retired
     #[cfg(test)]
     pub fn own_ids(&self) -> (u64, u64) {
-        (self.retire_prior_to(), self.recovery().ids().issued - 1)
+        (self.retire_prior_to(), self.ids().issued - 1)
     }
 }

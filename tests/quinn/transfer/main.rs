@@ -1,10 +1,11 @@
 //! A client sends so many megabytes to a server over UDP on the loopback interface, by quinn: what came, how fast, and
 //! at what cost of processors.
 //!
-//!     transfer MEGABYTES CONTROLLER [WINDOW]      CONTROLLER: reno, proved, or both, whose windows are compared
+//!     transfer MEGABYTES CONTROLLER [WINDOW]      CONTROLLER: reno, proved, cubic, or both, whose windows are
+//!                                                 compared
 mod both;
 use quinn::{congestion, ClientConfig, Connection, Endpoint, ServerConfig, TransportConfig};
-use quinn_congestion::NewRenoConfig;
+use quinn_congestion::{CubicConfig, NewRenoConfig};
 use std::sync::{atomic::Ordering::Relaxed, mpsc, Arc};
 use std::{net::SocketAddr, thread, time::Instant};
 
@@ -30,6 +31,9 @@ fn transport(controller: &str, window: u64) -> Arc<TransportConfig> {
     match controller {
         "reno" => config.congestion_controller_factory(own),
         "proved" => config.congestion_controller_factory(proved),
+        "cubic" => {
+            config.congestion_controller_factory(CubicConfig { initial_window: window, ..Default::default() })
+        }
         "both" => config.congestion_controller_factory(both::BothConfig { proved, own }),
         _ => panic!("no controller {controller}"),
     };

@@ -8,7 +8,8 @@ ghost use Rattle.recovery_sender.specs.Acks.{AckChecked, AreAllowed, AreNewly, I
 ghost use Rattle.recovery_sender.specs.Losses.{largest_in};
 ghost use Rattle.recovery_sender.specs.Promises.Acked.{AcksTracked};
 ghost use Rattle.recovery_sender.specs.Promises.Pasts.{ByPasts};
-ghost use Rattle.recovery_sender.specs.Senders.{parts_in, packets_in, space_in};
+ghost use Rattle.recovery_sender.specs.Senders.{parts_in};
+ghost use Rattle.recovery_sender.specs.Spaces.{packets_in, space_in};
 ghost use Rattle.recovery_sender.specs.Acking.{IsNewly, OnAck, TakesNewly, acking, first_marked, heard_in, is_limited, is_marked, is_raised, largest_sent, marks_now, rtt_of, sent_on, unmarked, with_marks_now, Acknowledges, EcnCompared, EcnComes, Samples};
 ghost use Rattle.recovery_sender.specs.Steps.{marked, occurs, Does, Goes};
 ghost use Rattle.recovery_ledger.specs.Discarded.{is_discarded};
@@ -400,6 +401,7 @@ where
             path_responses: PathResponses::new(),
             first_packet_after_rtt_sample: first,
         };
+        self.is_timed = false;
         let Some(mut marks) = self.recovery.set_marks(PathName::Current, blank) else {
             unreachable!();
         };
@@ -443,6 +445,7 @@ where
     ) -> EcnEnd
         ensures { EcnCompared space now newly_acked self.old self.new counts result }
     {
+        self.is_timed = false;
         let Ok(answer) = self.recovery.apply(Event::Ecn {
             space,
             newly_acked,
@@ -553,6 +556,7 @@ where
     fn hear(&mut self, space: SpaceId, now: Instant)
         ensures { Does [] (heard_in space now self.old.variables) self.old self.new }
     {
+        self.is_timed = false;
         self.variables = self.variables.heard(space, now);
         self.set_loss_detection_timer();
     }

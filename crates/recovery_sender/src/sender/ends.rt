@@ -3,7 +3,8 @@ ghost use Rattle.std.specs.Prelude.{◌≡◌, ◌∷◌, [], true, false, Ok, O
 ghost use Rattle.recovery_ledger.specs.Discarded.{is_discarded};
 ghost use Rattle.recovery_sender.specs.Calls.{begun_anew, discard_reply};
 ghost use Rattle.recovery_sender.specs.Abandoning.{Abandons, Forsakes, IsLeast};
-ghost use Rattle.recovery_sender.specs.Senders.{parts_in, packets_in};
+ghost use Rattle.recovery_sender.specs.Senders.{parts_in};
+ghost use Rattle.recovery_sender.specs.Spaces.{packets_in};
 ghost use Rattle.recovery_sender.specs.Steps.{told, Goes, Does};
 
 use super::{Refused, Sender};
@@ -58,6 +59,7 @@ where
     pub(super) fn begin_anew(&mut self, now: Instant)
         ensures { Does [] (begun_anew now self.old.variables) self.old self.new }
     {
+        self.is_timed = false;
         self.variables.pto_count = 0;
         self.variables.base = now;
         self.set_loss_detection_timer();
@@ -79,6 +81,7 @@ where
             self.set_loss_detection_timer();
             return Err(Refused::Event(Refusal::NoMemory));
         }
+        self.is_timed = false;
         self.recovery.set_loss_time(space, None);
         self.begin_anew(now);
         Ok(numbers)

@@ -1,9 +1,11 @@
 //! How a sender begins, and the events that pass through it.
-ghost use Rattle.std.specs.Prelude.{◌≡◌, ◌<◌, ◌≤◌, ◌+◌, ◌^◌, ◌∷◌, [], Ok, IfOk, OnOk, OnErr, Decides};
+ghost use Rattle.std.specs.Prelude.{◌≡◌, true, ◌<◌, ◌≤◌, ◌+◌, ◌^◌, ◌∷◌, [], Ok, IfOk, OnOk, OnErr, Decides};
 ghost use Rattle.recovery_skips.specs.Skips.{IsSkips};
 ghost use Rattle.recovery_sender.specs.Calls.{challenged, config_of, datagram_reply, to_send, Begins, Passes, Takes};
+ghost use Rattle.recovery_sender.specs.Leaving.{leaves_timer};
 ghost use Rattle.recovery_sender.specs.Senders.{parts_in};
 ghost use Rattle.recovery_sender.specs.Steps.{marked, told, Goes, Does};
+ghost use Rattle.recovery_sender.specs.Timer.{TimerIsSet};
 
 use super::packets::counted_at;
 use super::{Refused, Sender, Side, Variables};
@@ -65,6 +67,30 @@ pub fn passes<Q: RetransmitQueue>(event: &Event<Q>) -> bool
     }
 }
 
+/// Whether an event changes nothing of what the timer for losses is found by. Of others it is found anew.
+#[inline(always)]
+fn leaves_timer<Q: RetransmitQueue>(event: &Event<Q>) -> bool
+    ensures { result ≡ leaves_timer event.now }
+{
+    match event {
+        Event::Received { .. }
+        | Event::AcksSent { .. }
+        | Event::AckDelayTimeout { .. }
+        | Event::TakePending { .. }
+        | Event::PacerCheck { .. }
+        | Event::NewId(_)
+        | Event::NextId
+        | Event::InitialId(_)
+        | Event::IssueIds { .. }
+        | Event::IdTimeout
+        | Event::PeerRetired { .. }
+        | Event::NextTimeout
+        | Event::InFlight { .. }
+        | Event::CheckAck { .. } => true,
+        _ => false,
+    }
+}
+
 impl<F, Q, R> Sender<F, Q, R>
 where
     F: ControllerFactory + Drop,
@@ -93,6 +119,7 @@ where
             alloc,
             recovery,
             variables: Variables::new(side, now),
+            is_timed: false,
         };
         sender.set_loss_detection_timer();
         Ok(sender)
@@ -105,10 +132,12 @@ where
         requires passes { Passes event }
         ensures { Takes event self.old self.new result }
     {
+        let was_timed = self.is_left_by(&event);
         let time = to_send(&event);
+        self.is_timed = false;
         match self.recovery.apply(event) {
             Ok(answer) => {
-                self.goes_on(time, &answer);
+                self.goes_on(time, &answer, was_timed);
                 Ok(answer)
             }
             Err(refusal) => Err(Refused::Event(refusal)),
@@ -136,8 +165,9 @@ where
         if self.path().total_recvd.checked_add(bytes).is_none() {
             return Err(Refused::Event(Refusal::Overflow));
         }
+        let was_timed = self.is_timed_unlimited();
         self.receive(bytes);
-        self.set_loss_detection_timer();
+        self.time_on(was_timed);
         Ok(())
     }
 
@@ -157,8 +187,18 @@ where
         ensures { Does (marked (challenged (parts_in self.old) challenge pending) ∷ [])
             self.old.variables self.old self.new }
     {
+        let was_timed = self.is_known_timed();
         self.mark_challenge(challenge, pending);
-        self.set_loss_detection_timer();
+        self.time_on(was_timed);
+    }
+
+    /// Whether the timer is known to be set, and an event leaves it so.
+    #[inline(always)]
+    fn is_left_by(&self, event: &Event<Q>) -> bool
+        ensures timed { result ≡ true → TimerIsSet (parts_in self.now) self.now.variables }
+        ensures leaves { result ≡ true → leaves_timer event.now ≡ true }
+    {
+        self.is_timed && leaves_timer(event)
     }
 
     /// The path in use is marked so.
@@ -173,6 +213,7 @@ where
             path_responses: PathResponses::new(),
             first_packet_after_rtt_sample: None,
         };
+        self.is_timed = false;
         let Some(mut marks) = self.recovery.set_marks(PathName::Current, blank) else {
             unreachable!();
         };

@@ -4,7 +4,8 @@ ghost use Rattle.std.specs.Option.{ForSome};
 ghost use Rattle.recovery_events.specs.declared.event.Event.TheVariants.{Lost};
 ghost use Rattle.recovery_ledger.specs.Packets.{packet_at};
 ghost use Rattle.recovery_losses.specs.Losses.{waiting, IsNext, NoneFrom};
-ghost use Rattle.recovery_sender.specs.Senders.{parts_in, packets_in};
+ghost use Rattle.recovery_sender.specs.Senders.{parts_in};
+ghost use Rattle.recovery_sender.specs.Spaces.{packets_in};
 ghost use Rattle.recovery_sender.specs.Steps.{occurs, Goes};
 ghost use Rattle.recovery_sender.specs.Losses.{look_of, largest_in, NothingLost};
 ghost use Rattle.recovery_sender.specs.Judging.{Judges, Finds, Detects, HasNoGap, congested, ended, is_reported, losing, one_of};
@@ -127,6 +128,7 @@ where
         ensures lost { result ≡ true → Goes (occurs (Lost space number) ∷ []) self.old self.new }
         ensures refused { result ≡ false → Goes [] self.old self.new }
     {
+        self.is_timed = false;
         let Ok(_answer) = self.recovery.apply(Event::Lost { space, number }) else {
             return false;
         };
@@ -256,6 +258,7 @@ where
         ensures { Detects space now due_to_ack self.old result self.new }
     {
         let Some(largest) = self.gap(space) else {
+            self.is_timed = false;
             self.recovery.set_loss_time(space, None);
             return Losses::none(self.alloc);
         };
@@ -267,6 +270,7 @@ where
         let congestion = tally.congestion();
         self.congested(now, tally.last_sent, is_persistent, tally.bytes);
         let probe = self.lose_probe(&look, &mut tally);
+        self.is_timed = false;
         self.recovery.set_loss_time(space, tally.loss_time);
         Losses {
             numbers,

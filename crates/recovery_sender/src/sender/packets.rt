@@ -6,6 +6,7 @@ ghost use Rattle.recovery_paths.specs.PathStates.{is_blocked};
 ghost use Rattle.recovery_sender.specs.Senders.{parts_in};
 ghost use Rattle.recovery_sender.specs.Calls.{based, bytes_in_flight, is_checked, is_full, sent_at, transmission, transmit_reply, transmit_steps, window_of, Takes};
 ghost use Rattle.recovery_sender.specs.Steps.{told, Goes, Does};
+ghost use Rattle.recovery_sender.specs.Timer.{TimerIsSet};
 
 use super::{Refused, Sender, Variables};
 use quic_recovery::below::SpaceId;
@@ -99,8 +100,9 @@ where
         if !self.path().has_room(bytes) {
             return Err(Refused::Event(Refusal::Overflow));
         }
+        let was_timed = self.is_timed_unlimited();
         let sent = self.transmit_where_it_may(now, bytes, is_checked);
-        self.set_loss_detection_timer();
+        self.time_on(was_timed);
         Ok(sent)
     }
 
@@ -119,6 +121,7 @@ where
         ensures { Takes (Event.Send space now size ack_eliciting largest_acked queue stream_frames)
             self.old self.new result }
     {
+        self.is_timed = false;
         let sent = self.recovery.apply(Event::Send {
             space,
             now,
@@ -130,19 +133,24 @@ where
         });
         match sent {
             Ok(answer) => {
-                self.goes_on(counted_at(now, size), &answer);
+                self.goes_on(counted_at(now, size), &answer, false);
                 Ok(answer)
             }
             Err(refusal) => Err(Refused::Event(refusal)),
         }
     }
 
-    /// What was answered went out at this moment, where it counts in flight (RFC 9002, A.5); the timer is set.
-    pub(super) fn goes_on(&mut self, time: Option<Instant>, answer: &Answer<Q>)
+    /// What was answered went out at this moment, where it counts in flight (RFC 9002, A.5); the timer is set, where it
+    /// is not known to be.
+    #[inline(always)]
+    pub(super) fn goes_on(&mut self, time: Option<Instant>, answer: &Answer<Q>, was_timed: bool)
+        requires { was_timed ≡ true → TimerIsSet (parts_in self.old)
+            (based (sent_at time answer.now) self.old.variables) }
         ensures { Does [] (based (sent_at time answer.now) self.old.variables) self.old self.new }
     {
+        self.is_timed = false;
         self.variables = self.variables.based(sent_at(time, answer));
-        self.set_loss_detection_timer();
+        self.time_on(was_timed);
     }
 
     /// Whether window and pacer are asked for a datagram with packets of a space that is not discarded.

@@ -89,6 +89,7 @@ where
         ensures { LosesByTime space now self.old result self.new }
     {
         let losses = self.detect_and_remove_lost_packets(space, now, false);
+        self.is_timed = false;
         self.variables.base = now;
         self.set_loss_detection_timer();
         losses
@@ -160,6 +161,7 @@ where
             immediate_ack,
             streams,
         };
+        self.is_timed = false;
         done(self.recovery.apply(event))
     }
 
@@ -180,6 +182,7 @@ where
     fn time_out(&mut self, now: Instant)
         ensures { Does [] (timed_out now self.old.variables) self.old self.new }
     {
+        self.is_timed = false;
         self.variables.pto_count = self.variables.pto_count.saturating_add(1);
         self.variables.base = now;
         self.set_loss_detection_timer();

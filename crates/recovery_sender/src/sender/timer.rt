@@ -1,12 +1,13 @@
 //! The timer for losses and probes (RFC 9002, 6.2 and A.8).
-ghost use Rattle.std.specs.Prelude.{◌≡◌, ◌∷◌, [], Ok, Err, option_copied};
+ghost use Rattle.std.specs.Prelude.{◌≡◌, ◌∷◌, [], true, Decides, Ok, Err, option_copied, option_map};
 ghost use Rattle.recovery_base.specs.declared.timer.Timer.TheVariants.{LossDetection};
 ghost use Rattle.recovery_base.specs.Timers.{moment};
 ghost use Rattle.recovery_events.specs.declared.event.Refusal.{Refusal};
 ghost use Rattle.recovery_ledger.specs.Spaces.{packets_of};
 ghost use Rattle.quic_recovery.specs.State.{OnlyTells};
-ghost use Rattle.recovery_sender.specs.Senders.{parts_in, space_in};
-ghost use Rattle.recovery_sender.specs.Timer.{ack_delay_in, due_of, has_eliciting, loss_due, probe_due, probe_in, deadlock_due, deadlock_space, pto_of, is_address_validated};
+ghost use Rattle.recovery_sender.specs.Senders.{parts_in};
+ghost use Rattle.recovery_sender.specs.Spaces.{space_in};
+ghost use Rattle.recovery_sender.specs.Timer.{TimerIsSet, ack_delay_in, due_of, has_eliciting, loss_due, probe_due, probe_in, deadlock_due, deadlock_space, pto_of, is_address_validated};
 ghost use Rattle.recovery_sender.specs.Steps.{told, timer_event, Goes, Does};
 
 use super::{Sender, Side};
@@ -34,17 +35,6 @@ where
     here.sent_packets.has_ack_eliciting()
 }
 
-/// The timer for losses is set, or stopped.
-fn timer_event<Q: RetransmitQueue>(due: Option<(Instant, Due)>) -> Event<Q>
-    ensures { result ≡ timer_event due }
-{
-    let timer = Timer::LossDetection;
-    match due {
-        Some((time, _)) => Event::SetTimer { timer, time },
-        None => Event::StopTimer { timer },
-    }
-}
-
 impl<F, Q, R> Sender<F, Q, R>
 where
     F: ControllerFactory + Drop,
@@ -61,12 +51,71 @@ where
         self.recovery.recovery().timers().get(Timer::LossDetection)
     }
 
-    /// Sets the timer, or stops it (RFC 9002, A.8: SetLossDetectionTimer).
+    /// Sets the timer, or stops it (RFC 9002, A.8: SetLossDetectionTimer); where it is so already, no event is told.
     pub(super) fn set_loss_detection_timer(&mut self)
         ensures { Does [] self.old.variables self.old self.new }
     {
-        let event = timer_event(self.due());
-        self.tell(event);
+        let due = self.due();
+        if self.is_set_to(&due) {
+            self.is_timed = true;
+            return;
+        }
+        self.tell_timer(due);
+        self.is_timed = true;
+    }
+
+    /// Whether the timer is known to be set as it is due.
+    #[inline(always)]
+    pub(super) fn is_known_timed(&self) -> bool
+        ensures { result ≡ true → TimerIsSet (parts_in self.now) self.now.variables }
+    {
+        self.is_timed
+    }
+
+    /// The same on a path that no limit against amplification binds (RFC 9000, 8.1).
+    #[inline(always)]
+    pub(super) fn is_timed_unlimited(&self) -> bool
+        ensures timed { result ≡ true → TimerIsSet (parts_in self.now) self.now.variables }
+        ensures unlimited { result ≡ true
+            → (parts_in self.now).paths.current.state.validated ≡ true }
+    {
+        self.is_timed && self.path().validated
+    }
+
+    /// Sets it behind what moved nothing of it, where it was not known to be set.
+    #[inline(always)]
+    pub(super) fn time_on(&mut self, was_timed: bool)
+        requires { was_timed ≡ true → TimerIsSet (parts_in self.old) self.old.variables }
+        ensures { Does [] self.old.variables self.old self.new }
+    {
+        if was_timed {
+            self.is_timed = true;
+            return;
+        }
+        self.set_loss_detection_timer();
+    }
+
+    /// Whether the timer is set to the moment of what is due, or to none where nothing is.
+    fn is_set_to(&self, due: &Option<(Instant, Due)>) -> bool
+        ensures { Decides result (moment LossDetection (parts_in self.now).timers
+            ≡ option_map (λ due. due.0) due.now) }
+    {
+        match (self.loss_detection_timer(), due) {
+            (None, None) => true,
+            (Some(set), Some((time, _))) => set == *time,
+            _ => false,
+        }
+    }
+
+    /// The timer is set to the moment of what is due, or stopped where nothing is.
+    fn tell_timer(&mut self, due: Option<(Instant, Due)>) -> Answer<Q>
+        ensures { Goes (told (timer_event due) (Ok result) ∷ []) self.old self.new }
+    {
+        let timer = Timer::LossDetection;
+        match due {
+            Some((time, _)) => self.tell(Event::SetTimer { timer, time }),
+            None => self.tell(Event::StopTimer { timer }),
+        }
     }
 
     /// When the timer is due, and what for.
@@ -204,6 +253,7 @@ where
             → ¬ OnlyTells event self.old.recovery.recovery (Err refusal) }
         ensures { Goes (told event (Ok result) ∷ []) self.old self.new }
     {
+        self.is_timed = false;
         match self.recovery.apply(event) {
             Ok(answer) => answer,
             Err(_) => unreachable!(),

@@ -22,12 +22,8 @@ returns-then-not-is_marked g c = (
 pub returns : goal.returns
 returns g c = (
   c.in-Ok.answer,
-  record {
-    alloc = c.args.self.now.alloc;
-    recovery = c.apply.new.self;
-    variables = c.args.self.now.variables;
-  },
+  _,
   sym c.is_marked.ensures ∙ c.if-not-is_marked.false,
   record { leads = (_, c.in-Ok.ensures.changes, c.in-Ok.ensures.extends, refl); variables = refl },
-  rw (← c.largest_acked_sent-sent.ensures) c.congested.ensures,
+  rw c.largest_acked_sent-sent.ensures at c.congested.ensures,
 )

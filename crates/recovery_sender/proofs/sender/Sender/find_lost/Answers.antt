@@ -1,6 +1,7 @@
 use Rattle.std.proofs.Common.{refl, arith}
 use Rattle.recovery_losses.proofs.LookLaws.{looked_first, looked_end}
-use Rattle.recovery_sender.specs.Senders.{parts_in, packets_in}
+use Rattle.recovery_sender.specs.Senders.{parts_in}
+use Rattle.recovery_sender.specs.Spaces.{packets_in}
 use Rattle.recovery_sender.proofs.FindLaws.{finds_on}
 use Rattle.recovery_sender.proofs.sender.Sender.find_lost.Goals as goal
 

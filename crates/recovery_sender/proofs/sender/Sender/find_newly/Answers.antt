@@ -1,6 +1,7 @@
 use Rattle.std.proofs.Common.{◌-◌, None, sym, subst, ◌∙◌, arith}
 use Rattle.recovery_sender.specs.Acks.{AreNewly}
-use Rattle.recovery_sender.specs.Senders.{parts_in, packets_in}
+use Rattle.recovery_sender.specs.Senders.{parts_in}
+use Rattle.recovery_sender.specs.Spaces.{packets_in}
 use Rattle.recovery_sender.proofs.AckLaws.{newly_on}
 use Rattle.recovery_losses.proofs.FrameLaws.{are_fine, ranges_are, small_all}
 use Rattle.recovery_sender.proofs.PromiseLaws.{acks_tracked}

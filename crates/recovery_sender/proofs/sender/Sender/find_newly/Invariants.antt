@@ -1,6 +1,7 @@
 use Rattle.std.proofs.Common.{◌≤◌, length}
 use Rattle.recovery_sender.specs.Acks.{AreNewly}
-use Rattle.recovery_sender.specs.Senders.{parts_in, packets_in}
+use Rattle.recovery_sender.specs.Senders.{parts_in}
+use Rattle.recovery_sender.specs.Spaces.{packets_in}
 use Rattle.recovery_sender.proofs.sender.Sender.find_newly.Given as goal
 
 abbrev pub invariant-loop-at : goal.invariant-loop-at

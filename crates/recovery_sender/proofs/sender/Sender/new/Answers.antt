@@ -1,4 +1,4 @@
-use Rattle.std.proofs.Common.{refl}
+use Rattle.std.proofs.Common.{false, refl}
 use Rattle.recovery_sender.proofs.StepLaws.{does_as}
 use Rattle.recovery_sender.proofs.sender.Sender.new.Goals as goal
 
@@ -8,6 +8,8 @@ returns-clause-begins g c = record {
     alloc = c.args.alloc;
     recovery = c.in_ok-recovery.recovery;
     variables = c.new-2.result;
+    is_timed = false;
+    timed = λ is. absurd cc;
   };
   came = rw c.config_of.ensures at c.in_ok-recovery.ensures.came;
   marks = c.in_ok-recovery.ensures.marks;

@@ -1,5 +1,10 @@
+use Rattle.recovery_sender.proofs.LeftLaws.{receives_left}
 use Rattle.recovery_sender.proofs.StepLaws.{does_behind}
 use Rattle.recovery_sender.proofs.sender.Sender.on_datagram.Goals as goal
 
 pub returns-clause-steps : goal.returns-clause-steps
-returns-clause-steps g c = does_behind _ _ _ _ c.receive.ensures c.set_loss_detection_timer.ensures
+returns-clause-steps g c = does_behind _ _ _ _ c.receive.ensures c.time_on.ensures
+
+pub time_on-requires : goal.time_on-requires
+time_on-requires g c = λ was. let known = c.is_timed_unlimited-was_timed.ensures in
+    receives_left _ _ c.args.bytes c.receive.ensures (known.unlimited was) (known.timed was)

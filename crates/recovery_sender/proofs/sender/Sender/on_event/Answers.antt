@@ -1,3 +1,6 @@
+use Rattle.recovery_history.specs.History.{queue_meaning}
+use Rattle.recovery_sender.specs.Senders.{parts_in}
+use Rattle.recovery_sender.proofs.LeftLaws.{event_left}
 use Rattle.recovery_sender.proofs.StepLaws.{does_event}
 use Rattle.recovery_sender.proofs.sender.Sender.on_event.Goals as goal
 
@@ -5,3 +8,10 @@ pub returns-in-Ok : goal.returns-in-Ok
 returns-in-Ok g c =
     does_event _ _ _ _ _ _ c.in-Ok.ensures.changes c.in-Ok.ensures.extends
     (rw c.to_send-time.ensures at c.goes_on.ensures)
+
+pub goes_on-requires : goal.goes_on-requires
+goes_on-requires g c = λ was. let known = c.is_left_by-was_timed.ensures in
+    rw c.to_send-time.ensures (event_left
+    (queue_meaning g.Q.RetransmitQueue.contents g.Q.RetransmitQueue.words g.Q.RetransmitQueue.blank)
+    c.args.self.now.variables (parts_in c.args.self.now) _ c.args.event c.in-Ok.answer (known.leaves was)
+    c.in-Ok.ensures.changes (known.timed was))

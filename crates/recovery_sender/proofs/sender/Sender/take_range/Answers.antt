@@ -1,5 +1,6 @@
 use Rattle.std.proofs.Common.{arith}
-use Rattle.recovery_sender.specs.Senders.{parts_in, packets_in}
+use Rattle.recovery_sender.specs.Senders.{parts_in}
+use Rattle.recovery_sender.specs.Spaces.{packets_in}
 use Rattle.recovery_sender.proofs.AckLaws.{takes_all, takes_none, takes_one}
 use Rattle.recovery_sender.proofs.sender.Sender.take_range.Goals as goal
 

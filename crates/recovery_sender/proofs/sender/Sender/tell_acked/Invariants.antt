@@ -1,7 +1,8 @@
 use Rattle.std.proofs.Common.{◌≡◌, take}
 use Rattle.recovery_losses.specs.Losses.{without_all}
 use Rattle.recovery_sender.specs.Acking.{acking}
-use Rattle.recovery_sender.specs.Senders.{parts_in, packets_in}
+use Rattle.recovery_sender.specs.Senders.{parts_in}
+use Rattle.recovery_sender.specs.Spaces.{packets_in}
 use Rattle.recovery_sender.specs.Steps.{Goes}
 use Rattle.recovery_sender.proofs.sender.Sender.tell_acked.Given as goal
 

@@ -1,4 +1,4 @@
-use Rattle.std.proofs.Common.{[], Some, ap, refl, sym, ◌∙◌}
+use Rattle.std.proofs.Common.{[], ap, refl, ◌∙◌}
 use Rattle.std.specs.Option.{option_map_or}
 use Rattle.recovery_ledger.specs.Spaces.{packets_of}
 use Rattle.recovery_losses.proofs.LossLaws.{found_from}

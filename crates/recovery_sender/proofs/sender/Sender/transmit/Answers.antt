@@ -1,6 +1,7 @@
 use Rattle.std.proofs.Common.{sym, ◌∙◌}
 use Rattle.recovery_sender.specs.Senders.{parts_in}
 use Rattle.recovery_sender.proofs.CallLaws.{known_from, transmit_answered, window_kept}
+use Rattle.recovery_sender.proofs.LeftLaws.{transmits_left}
 use Rattle.recovery_sender.proofs.StepLaws.{does_behind}
 use Rattle.recovery_sender.proofs.sender.Sender.transmit.Goals as goal
 
@@ -18,4 +19,8 @@ returns-clause-window g c =
 pub returns-clause-steps : goal.returns-clause-steps
 returns-clause-steps g c =
     rw (known_from _ _ _ (sym c.is_checked.ensures ∙ c.in-Some.is)).1
-    (does_behind _ _ _ _ c.transmit_where_it_may-sent.ensures.steps c.set_loss_detection_timer.ensures)
+    (does_behind _ _ _ _ c.transmit_where_it_may-sent.ensures.steps c.time_on.ensures)
+
+pub time_on-requires : goal.time_on-requires
+time_on-requires g c = λ was. let known = c.is_timed_unlimited-was_timed.ensures in
+    transmits_left _ _ _ _ _ _ c.transmit_where_it_may-sent.ensures.steps (known.unlimited was) (known.timed was)

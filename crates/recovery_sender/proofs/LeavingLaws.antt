@@ -1,0 +1,289 @@
+-- The timer is due as it was where nothing changes that it is found by; so leave it events that come in and ACKs that go out.
+use Rattle.std.proofs.Common.{◌≡◌, ℕ, true, false, Bool, Option, None, Some, option_map, Ok, ◌⊎◌, refl, ap, sym, inl, inr, true≢false, ◌∙◌}
+use Rattle.std.specs.Prelude.{if◌then◌else◌, min}
+use Rattle.std.specs.Option.{option_and_then, option_or}
+use Rattle.recovery_base.specs.declared.below.SpaceId.{SpaceId}
+use Rattle.recovery_base.specs.declared.below.SpaceId.TheVariants.{Initial, Handshake, Data}
+use Rattle.recovery_base.specs.declared.timer.Timer.TheVariants.{LossDetection}
+use Rattle.recovery_base.specs.declared.timer.TimerTable.{TimerTable}
+use Rattle.recovery_base.specs.Spaces.{same_space}
+use Rattle.recovery_base.specs.Timers.{moment}
+use Rattle.recovery_congestion.specs.Controllers.{ControllerWords}
+use Rattle.recovery_congestion.specs.Rtt.{Rtt, pto_base_of}
+use Rattle.recovery_events.specs.declared.event.Answer.{Answer}
+use Rattle.recovery_events.specs.declared.event.Answer.TheVariants as answers
+use Rattle.recovery_events.specs.declared.event.Event.{Event}
+use Rattle.recovery_events.specs.declared.event.Event.TheVariants.{Received, AcksSent, AckDelayTimeout, TakePending, PacerCheck, NewId, NextId, InitialId, IssueIds, IdTimeout, PeerRetired, NextTimeout, InFlight, CheckAck, DatagramIn, Transmit}
+use Rattle.recovery_ledger.specs.declared.discarded.DiscardedSpaces.{DiscardedSpaces}
+use Rattle.recovery_ledger.specs.Discarded.{is_discarded}
+use Rattle.recovery_ledger.specs.Packets.{Packets}
+use Rattle.recovery_ledger.specs.SpaceLog.{SpaceEntry, heard, heard_again, takes_pending, ack_goes, ack_is_late}
+use Rattle.recovery_ledger.specs.Spaces.{Space, SpaceStep, space_of, packets_of}
+use Rattle.recovery_losses.specs.declared.due.Due.{Due}
+use Rattle.recovery_losses.specs.declared.due.Due.TheVariants.{Losses, Probes}
+use Rattle.recovery_losses.specs.Timeouts.{probe_timeout_of}
+use Rattle.recovery_paths.specs.declared.path_pair.PathName.TheVariants.{Current}
+use Rattle.recovery_paths.specs.PathLog.{OfPaths, PathKnown, paths_known}
+use Rattle.recovery_paths.specs.PathStates.{PathState, is_blocked}
+use Rattle.recovery_queue.specs.Queues.{QueueWords}
+use Rattle.recovery_history.specs.Entries.{here}
+use Rattle.recovery_history.specs.History.{QueueMeaning}
+use Rattle.recovery_history.specs.Logs.{StepBy}
+use Rattle.recovery_history.specs.Parts.{Parts}
+use Rattle.recovery_history.specs.Plain.{Plain, plain_of}
+use Rattle.recovery_history.specs.Changes.{Changes}
+use Rattle.recovery_sender.specs.declared.sender.Variables.{Variables}
+use Rattle.recovery_sender.specs.declared.sender.packets.Transmission.{Transmission}
+use Rattle.recovery_sender.specs.declared.sender.packets.Transmission.TheVariants as transmissions
+use Rattle.recovery_sender.specs.Calls.{transmit_steps}
+use Rattle.recovery_sender.specs.Leaving.{leaves_timer}
+use Rattle.recovery_sender.specs.Steps.{Leads}
+use Rattle.recovery_sender.specs.Timer.{ack_delay_in, behind, deadlock_due, due_of, has_eliciting, loss_due, probe_due, probe_in, pto_of, soonest, waits, TimerIsSet}
+
+-- ---- what is read of a space
+
+abbrev Read : (P M : Type 0) → Type 0
+Read P M = Packets P M × Option ℕ × Option ℕ
+
+abbrev read_of : {P M : Type 0} → Space P M → Read P M
+read_of here = (packets_of here, here.loss_time, here.time_of_last_ack_eliciting_packet)
+
+-- what happens in a space, and changes nothing of it
+abbrev IsQuiet : {P M : Type 0} → SpaceEntry P M → Type 0
+IsQuiet (heard now number eliciting) = Unit {0}
+IsQuiet (heard_again number) = Unit {0}
+IsQuiet takes_pending = Unit {0}
+IsQuiet ack_goes = Unit {0}
+IsQuiet ack_is_late = Unit {0}
+IsQuiet entry = ⊥
+
+module _ {P M S : Type 0} (words : QueueWords P S) (old new : Space P M) where
+  quiet_step : (entry : SpaceEntry P M) → IsQuiet entry → SpaceStep words entry old new → read_of new ≡ read_of old
+  quiet_step (heard now number eliciting) quiet step = ap read_of step.others
+  quiet_step (heard_again number) quiet step = ap read_of step.1
+  quiet_step takes_pending quiet step = ap read_of step
+  quiet_step ack_goes quiet step = ap read_of step
+  quiet_step ack_is_late quiet step = ap read_of step
+  quiet_step entry quiet step = absurd quiet
+
+  quiet_where : (entry : SpaceEntry P M) → IsQuiet entry → (there : Bool)
+      → StepBy (SpaceStep words) (if there then Some entry else None) old new → read_of new ≡ read_of old
+  quiet_where entry quiet true step = quiet_step entry quiet step
+  quiet_where entry quiet false step = ap read_of step
+
+-- ---- what is due
+
+module _ {P M : Type 0} (one other : Space P M) (same : read_of one ≡ read_of other) (space : SpaceId) where
+  abbrev loss_by : Option ℕ → Option (ℕ × Due)
+  loss_by time = option_map (λ time. let due : ℕ × Due = (time, Losses space) in due) time
+
+  abbrev loss_where : Bool → Space P M → Option (ℕ × Due)
+  loss_where gone here = loss_by (option_and_then (λ (here : Space P M). here.loss_time)
+      (if gone then None else Some here))
+
+  loss_same : (gone : Bool) → loss_where gone one ≡ loss_where gone other
+  loss_same true = refl
+  loss_same false = ap (λ (read : Read P M). loss_by read.1) same
+
+  abbrev probe_by : ℕ → Read P M → Option (ℕ × Due)
+  probe_by pto read =
+      if has_eliciting read.0 then option_map (λ sent. (behind sent pto, Probes space)) read.2 else None
+
+  probe_same : (first second : ℕ) → first ≡ second → probe_by first (read_of one) ≡ probe_by second (read_of other)
+  probe_same first second is =
+      ap (λ pto. probe_by pto (read_of one)) is ∙ ap (λ (read : Read P M). probe_by second read) same
+
+abbrev AllSame : (SpaceId → Option (ℕ × Due)) → (SpaceId → Option (ℕ × Due)) → Type 0
+AllSame one other = (space : SpaceId) → one space ≡ other space
+
+soonest_same : (one other : SpaceId → Option (ℕ × Due)) → AllSame one other → soonest one ≡ soonest other
+soonest_same one other same = rw (same Initial, same Handshake, same Data) refl
+
+abbrev either_due : Option (ℕ × Due) → Bool → Option (ℕ × Due) → Option (ℕ × Due) → Option (ℕ × Due)
+either_due losses blocked probes deadlock = option_or losses (if blocked then None else option_or probes deadlock)
+
+module _ {K P M : Type 0} (variables : Variables) (old new : Parts K P M)
+    (spaces : (space : SpaceId) → read_of (space_of space new.spaces) ≡ read_of (space_of space old.spaces))
+    (discarded : new.discarded ≡ old.discarded)
+    (rtt : new.paths.current.state.rtt ≡ old.paths.current.state.rtt)
+    (blocked : is_blocked new.paths.current.state 1 ≡ is_blocked old.paths.current.state 1) where
+  pto_same : (space : SpaceId) → pto_of new variables space ≡ pto_of old variables space
+  pto_same space = ap (λ rtt. probe_timeout_of (pto_base_of rtt) (ack_delay_in variables space)
+      (min variables.pto_count 16)) rtt
+
+  losses_same : AllSame (loss_due new) (loss_due old)
+  losses_same space = rw discarded (loss_same (space_of space new.spaces) (space_of space old.spaces) (spaces space)
+      space (is_discarded space old.discarded))
+
+  probes_same : AllSame (probe_due new variables) (probe_due old variables)
+  probes_same space = rw discarded (go (waits old variables space) (is_discarded space old.discarded))
+    where
+      go : (waiting gone : Bool)
+          → (if waiting then None else option_and_then (probe_in new variables space)
+          (if gone then None else Some (space_of space new.spaces)))
+          ≡ (if waiting then None else option_and_then (probe_in old variables space)
+          (if gone then None else Some (space_of space old.spaces)))
+      go true gone = refl
+      go false true = refl
+      go false false =
+          probe_same (space_of space new.spaces) (space_of space old.spaces) (spaces space) space _ _ (pto_same space)
+
+  abbrev with_seen : DiscardedSpaces × Rtt → Parts K P M
+  with_seen seen = record old {
+    discarded = seen.0;
+    paths = record old.paths {
+      current = record old.paths.current { state = record old.paths.current.state { rtt = seen.1 } };
+    };
+  }
+
+  deadlock_same : deadlock_due new variables ≡ deadlock_due old variables
+  deadlock_same =
+      let same : (new.discarded, new.paths.current.state.rtt) ≡ (old.discarded, old.paths.current.state.rtt) = cc in
+      ap (λ (seen : DiscardedSpaces × Rtt). deadlock_due (with_seen seen) variables) same
+
+  pub due_kept : due_of new variables ≡ due_of old variables
+  due_kept =
+      let losses = soonest_same _ _ losses_same in
+      let probes = soonest_same _ _ probes_same in
+      ap (λ due. either_due due (is_blocked new.paths.current.state 1) (soonest (probe_due new variables))
+      (deadlock_due new variables)) losses
+      ∙ ap (λ is. either_due (soonest (loss_due old)) is (soonest (probe_due new variables))
+      (deadlock_due new variables)) blocked
+      ∙ ap (λ due. either_due (soonest (loss_due old)) (is_blocked old.paths.current.state 1) due
+      (deadlock_due new variables)) probes
+      ∙ ap (λ due. either_due (soonest (loss_due old)) (is_blocked old.paths.current.state 1)
+      (soonest (probe_due old variables)) due) deadlock_same
+
+  -- the timer that was set is set
+  pub set_still : new.timers ≡ old.timers → TimerIsSet old variables → TimerIsSet new variables
+  set_still timers set = ap (moment LossDetection) timers ∙ set
+      ∙ ap (λ (due : Option (ℕ × Due)). option_map (λ due. due.0) due) (sym due_kept)
+
+-- ---- by events
+
+abbrev plain_same : Plain → DiscardedSpaces × TimerTable
+plain_same plain = (plain.discarded, plain.timers)
+
+module _ {K P M : Type 0} (variables : Variables) (old new : Parts K P M) where
+  same_set : ((space : SpaceId) → read_of (space_of space new.spaces) ≡ read_of (space_of space old.spaces))
+      → new.paths.current.state.rtt ≡ old.paths.current.state.rtt
+      → is_blocked new.paths.current.state 1 ≡ is_blocked old.paths.current.state 1
+      → plain_same (plain_of new) ≡ plain_same (plain_of old) → TimerIsSet old variables → TimerIsSet new variables
+  same_set spaces rtt blocked plain = set_still variables old new spaces
+      (ap (λ (it : DiscardedSpaces × TimerTable). it.0) plain) rtt blocked
+      (ap (λ (it : DiscardedSpaces × TimerTable). it.1) plain)
+
+  by_spaces : ((space : SpaceId) → read_of (space_of space new.spaces) ≡ read_of (space_of space old.spaces))
+      → paths_known new.paths ≡ paths_known old.paths → plain_same (plain_of new) ≡ plain_same (plain_of old)
+      → TimerIsSet old variables → TimerIsSet new variables
+  by_spaces spaces paths plain =
+      let state : new.paths.current.state ≡ old.paths.current.state =
+      ap (λ (known : OfPaths (PathKnown K)). known.current.state) paths in
+      same_set spaces (ap (λ (state : PathState K). state.rtt) state)
+      (ap (λ (state : PathState K). is_blocked state 1) state) plain
+
+  -- the path is not limited, and stays so
+  unblocked : old.paths.current.state.validated ≡ true → new.paths.current.state.validated ≡ true
+      → is_blocked new.paths.current.state 1 ≡ is_blocked old.paths.current.state 1
+  unblocked before after = rw (before, after) refl
+
+module _ {K Q S M P : Type 0} (queue : QueueMeaning Q S M P) (variables : Variables) (old new : Parts K P M) where
+  quietly : (space : SpaceId) (entry : SpaceEntry P M) → IsQuiet entry → ((there : SpaceId)
+      → StepBy (SpaceStep queue.words) (here space there entry) (space_of there old.spaces) (space_of there new.spaces))
+      → (there : SpaceId) → read_of (space_of there new.spaces) ≡ read_of (space_of there old.spaces)
+  quietly space entry quiet steps there = quiet_where queue.words (space_of there old.spaces)
+      (space_of there new.spaces) entry quiet (same_space space there) (steps there)
+
+  pub left_by : (event : Event Q S M P) (answer : Answer Q) → leaves_timer event ≡ true
+      → Changes queue old event (Ok answer) new → TimerIsSet old variables → TimerIsSet new variables
+  left_by (Received space now number eliciting) (answers.New arm) is changes =
+      by_spaces variables old new (quietly space (heard now number eliciting) tt changes.steps.spaces) changes.steps.paths
+      (ap plain_same changes.plain)
+  left_by (Received space now number eliciting) answer is changes =
+      by_spaces variables old new (quietly space (heard_again number) tt changes.steps.spaces) changes.steps.paths
+      (ap plain_same changes.plain)
+  left_by (AcksSent space) answer is changes =
+      by_spaces variables old new (quietly space ack_goes tt changes.steps.spaces) changes.steps.paths
+      (ap plain_same changes.plain)
+  left_by (AckDelayTimeout space) answer is changes =
+      by_spaces variables old new (quietly space ack_is_late tt changes.steps.spaces) changes.steps.paths
+      (ap plain_same changes.plain)
+  left_by (TakePending space) answer is changes =
+      by_spaces variables old new (quietly space takes_pending tt changes.steps.spaces) changes.steps.paths
+      (ap plain_same changes.plain)
+  left_by (PacerCheck now bytes) answer is changes =
+      let asked = ap (λ (known : OfPaths (PathKnown K)). known.current.state) changes.steps.paths in
+      same_set variables old new (λ there. ap read_of (changes.steps.spaces there))
+      (ap (λ (state : PathState K). state.rtt) asked) (ap (λ (state : PathState K). is_blocked state 1) asked)
+      (ap plain_same changes.plain)
+  left_by (NewId frame) answer is changes = by_spaces variables old new
+      (λ there. ap read_of (changes.steps.spaces there)) changes.steps.paths (ap plain_same changes.plain.1)
+  left_by NextId answer is changes = by_spaces variables old new
+      (λ there. ap read_of (changes.steps.spaces there)) changes.steps.paths (ap plain_same changes.plain.1)
+  left_by (InitialId id) answer is changes = by_spaces variables old new
+      (λ there. ap read_of (changes.steps.spaces there)) changes.steps.paths (ap plain_same changes.plain.1)
+  left_by (IssueIds now ids) answer is changes = by_spaces variables old new
+      (λ there. ap read_of (changes.steps.spaces there)) changes.steps.paths (ap plain_same changes.plain)
+  left_by IdTimeout answer is changes = by_spaces variables old new
+      (λ there. ap read_of (changes.steps.spaces there)) changes.steps.paths (ap plain_same changes.plain)
+  left_by (PeerRetired sequence limit) answer is changes = by_spaces variables old new
+      (λ there. ap read_of (changes.steps.spaces there)) changes.steps.paths (ap plain_same changes.plain)
+  left_by NextTimeout answer is changes = by_spaces variables old new
+      (λ there. ap read_of (changes.steps.spaces there)) changes.steps.paths (ap plain_same changes.plain)
+  left_by (InFlight path) answer is changes = by_spaces variables old new
+      (λ there. ap read_of (changes.steps.spaces there)) changes.steps.paths (ap plain_same changes.plain)
+  left_by (CheckAck space low high) answer is changes = by_spaces variables old new
+      (λ there. ap read_of (changes.steps.spaces there)) changes.steps.paths (ap plain_same changes.plain)
+  left_by event answer is changes = absurd (true≢false (sym is))
+
+  -- nothing goes out or comes in on a path that no limit binds that moves it
+  module _ (unlimited : old.paths.current.state.validated ≡ true) where
+    by_path : ((space : SpaceId) → space_of space new.spaces ≡ space_of space old.spaces)
+        → new.paths.current.state.rtt ≡ old.paths.current.state.rtt
+        → new.paths.current.state.validated ≡ old.paths.current.state.validated → plain_of new ≡ plain_of old
+        → TimerIsSet old variables → TimerIsSet new variables
+    by_path spaces rtt validated plain =
+        same_set variables old new (λ there. ap read_of (spaces there)) rtt
+        (unblocked variables old new unlimited (validated ∙ unlimited)) (ap plain_same plain)
+
+    abbrev current_of : OfPaths (PathKnown K) → PathState K
+    current_of known = known.current.state
+
+    pub received_in : (bytes : ℕ) (answer : Answer Q) → Changes queue old (DatagramIn Current bytes) (Ok answer) new
+        → TimerIsSet old variables → TimerIsSet new variables
+    received_in bytes answer changes =
+        let state = ap current_of changes.steps.paths in
+        by_path changes.steps.spaces (ap (λ (state : PathState K). state.rtt) state)
+        (ap (λ (state : PathState K). state.validated) state) changes.plain
+
+    transmitted_in : (now bytes : ℕ) (checked : Bool) (answer : Answer Q)
+        → (answer ≡ answers.Transmitted) ⊎ ((until : ℕ) × (answer ≡ answers.Delayed until))
+        → Changes queue old (Transmit now bytes checked) (Ok answer) new
+        → TimerIsSet old variables → TimerIsSet new variables
+    transmitted_in now bytes true answers.Transmitted either changes =
+        let state = ap current_of changes.steps.paths in
+        by_path changes.steps.spaces (ap (λ (state : PathState K). state.rtt) state)
+        (ap (λ (state : PathState K). state.validated) state) changes.plain
+    transmitted_in now bytes true (answers.Delayed until) either changes =
+        let state = ap current_of changes.steps.paths in
+        by_path changes.steps.spaces (ap (λ (state : PathState K). state.rtt) state)
+        (ap (λ (state : PathState K). state.validated) state) changes.plain
+    transmitted_in now bytes false answer either changes =
+        let state = ap current_of changes.steps.paths in
+        by_path changes.steps.spaces (ap (λ (state : PathState K). state.rtt) state)
+        (ap (λ (state : PathState K). state.validated) state) changes.plain
+    transmitted_in now bytes true answer (inl is) changes = absurd cc
+    transmitted_in now bytes true answer (inr delayed) changes =
+        let is = delayed.1 in absurd cc
+
+module _ {F K Q S M P : Type 0} (built : F → ℕ → ℕ → K) (words : ControllerWords K) (queue : QueueMeaning Q S M P)
+    (variables : Variables) (old new : Parts K P M) (unlimited : old.paths.current.state.validated ≡ true) where
+  pub transmitted_left : (now bytes : ℕ) (checked : Bool) (sent : Transmission)
+      → Leads built words queue (transmit_steps now bytes checked sent) old new
+      → TimerIsSet old variables → TimerIsSet new variables
+  transmitted_left now bytes checked transmissions.Transmitted (between, changes, extends, is) set = rw is
+      (transmitted_in queue variables old between unlimited now bytes checked _ (inl refl) changes set)
+  transmitted_left now bytes checked (transmissions.Delayed until) (between, changes, extends, is) set = rw is
+      (transmitted_in queue variables old between unlimited now bytes checked _ (inr (until, refl)) changes set)
+  transmitted_left now bytes checked transmissions.Blocked is set = rw is set
+  transmitted_left now bytes checked transmissions.Full is set = rw is set

@@ -1,0 +1,16 @@
+use Rattle.std.proofs.Common.{inl, refl}
+use Rattle.recovery_sender.specs.Senders.{parts_in}
+use Rattle.recovery_sender.proofs.AliveLaws.{never_stalls}
+use Rattle.recovery_sender.proofs.sender.Sender.time_on.Goals as goal
+
+pub returns-then-was_timed : goal.returns-then-was_timed
+returns-then-was_timed g c =
+    let timer = c.requires c.if-was_timed.true in
+    record {
+      between = parts_in c.args.self.now;
+      leads = refl;
+      sets = inl (timer, refl);
+      variables = refl;
+      timer = timer;
+      alive = never_stalls c.args.self.now _ timer;
+    }
