@@ -1,0 +1,88 @@
+//! The queue before the link, which drops what finds no room.
+ghost use Rattle.std.specs.Prelude.{◌≤◌};
+
+use crate::settings::Shape;
+use quic_recovery::below::NoMemory;
+use std::alloc::Global;
+use std::collections::VecDeque;
+
+/// In nanoseconds.
+const SECOND: u64 = 1_000_000_000;
+
+/// A packet in the queue.
+#[derive(Clone, Copy)]
+struct Waiting {
+    /// When its last bit has gone out, in nanoseconds.
+    leaves: u64,
+    size: u64,
+}
+
+/// The queue before the link. Moments are nanoseconds.
+#[derive(Drop)]
+pub struct Queue {
+    rate: u64,
+    room: u64,
+    waiting: VecDeque<Waiting>,
+    /// How many bytes wait, with those of the packet that goes out.
+    bytes: u64,
+    /// When all that came has gone out.
+    free: u64,
+    /// The most bytes that waited.
+    most: u64,
+    ghost fits: { bytes ≤ room },
+}
+
+impl Queue {
+    /// An empty queue.
+    pub fn new(alloc: Global, shape: Shape) -> Self {
+        Queue {
+            rate: shape.rate.max(1),
+            room: shape.queue,
+            waiting: VecDeque::new(alloc),
+            bytes: 0,
+            free: 0,
+            most: 0,
+        }
+    }
+
+    /// The most bytes that waited.
+    pub fn most(&self) -> u64 {
+        self.most
+    }
+
+    /// How long a packet of so many bytes takes to go out, rounded up to whole nanoseconds.
+    fn service(&self, size: u16) -> u64 {
+        (u64::from(size) * 8 * SECOND).div_ceil(self.rate)
+    }
+
+    /// A packet comes to the queue: when its last bit has gone out, or nothing where it is dropped.
+    pub fn enter(&mut self, now: u64, size: u16) -> Result<Option<u64>, NoMemory> {
+        self.pass(now);
+        let bytes = self.bytes.saturating_add(u64::from(size));
+        if bytes > self.room {
+            return Ok(None);
+        }
+        let leaves = self.free.max(now).saturating_add(self.service(size));
+        self.waiting.push_back(Waiting {
+            leaves,
+            size: u64::from(size),
+        })?;
+        self.bytes = bytes;
+        self.most = self.most.max(bytes);
+        self.free = leaves;
+        Ok(Some(leaves))
+    }
+
+    /// Time goes on to this moment: packets leave the queue.
+    fn pass(&mut self, now: u64) {
+        for _ in 0..self.waiting.len() {
+            match self.waiting.front() {
+                Some(first) if first.leaves <= now => {
+                    self.bytes = self.bytes.saturating_sub(first.size);
+                }
+                _ => return,
+            }
+            let _gone = self.waiting.pop_front();
+        }
+    }
+}
