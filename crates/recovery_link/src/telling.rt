@@ -1,5 +1,5 @@
-//! What is told of a run: the calls of the sender, as lines of `recovery-sender`, or what happened, as qlog in JSON text
-//! sequences (RFC 7464; draft-ietf-quic-qlog-main-schema, draft-ietf-quic-qlog-quic-events).
+//! What is told of a run: the calls of the sender, as lines of `recovery-sender`, or what happened, as qlog in JSON
+//! text sequences (RFC 7464; draft-ietf-quic-qlog-main-schema, draft-ietf-quic-qlog-quic-events).
 use crate::ending::Ending;
 use crate::peer::Frame;
 use crate::settings::{Form, SIZE};
