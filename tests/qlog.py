@@ -1,17 +1,19 @@
 #!/usr/bin/env python3
 """qlog, out and in: what recovery-link writes is JSON text sequences (RFC 7464) whose events have the form of draft-ietf-quic-qlog-quic-events,
-which stands below; tools/qlog2script reads it back to the script that the same run writes, reads recordings by the draft's names and by those
-of version 0.3, as files of tests/qlog have them, and tells of what it cannot read.
+which stands below, and so is what tools/trace2qlog makes of a trace; tools/qlog2script reads it back to the script that the same run writes, reads
+recordings by the draft's names and by those of version 0.3, as files of tests/qlog have them, and tells of what it cannot read.
 
-An argument is another program to try in place of the proved one."""
+Arguments are other programs to try in place of the proved ones: the link and the trace."""
 import json
+import pathlib
 import re
 import sys
+import tempfile
 
 import tree
 from tree import ROOT
 
-PROGRAM = ROOT / "crates" / "recovery_link" / "out" / "recovery_link"
+PROGRAMS = [ROOT / "crates" / it / "out" / it for it in ("recovery_link", "recovery_trace")]
 READER = ROOT / "tools" / "qlog2script"
 FILES = ROOT / "tests" / "qlog"
 RUNS = [  # several losses at once, a link that is late, a queue that overflows unpaced, probes, and one that never ends
@@ -24,16 +26,16 @@ RUNS = [  # several losses at once, a link that is late, a queue that overflows 
 
 # the schema of the events that are written: of each its data, with '?' behind what may be missing; a list is of any length
 COUNT, MILLIS, FLAG = "count", "millis", "flag"
-HEADER = {"packet_type": {"1RTT"}, "packet_number?": COUNT}
+HEADER = {"packet_type": {"initial", "handshake", "1RTT"}, "packet_number?": COUNT}
 ACK = {"frame_type": {"ack"}, "ack_delay?": MILLIS, "acked_ranges?": [[COUNT]]}
 STREAM = {"frame_type": {"stream"}, "stream_id": COUNT, "offset": COUNT, "length": COUNT}
-PING = {"frame_type": {"ping"}}
+SHORT = {"frame_type": {"ping", "padding"}}
 STATES = {"slow_start", "congestion_avoidance", "recovery"}
 SCHEMA = {
     "transport:parameters_set": {"owner": {"local", "remote"}, "max_ack_delay": MILLIS},
     "connectivity:connection_state_updated": {"new": {"handshake_confirmed"}},
-    "transport:packet_sent": {"header": HEADER, "raw": {"length": COUNT}, "frames": [(STREAM, PING)], "is_paced?": FLAG},
-    "transport:packet_received": {"header": HEADER, "frames": [ACK], "app_limited?": FLAG},
+    "transport:packet_sent": {"header": HEADER, "raw": {"length": COUNT}, "frames": [(STREAM, SHORT, ACK)], "is_paced?": FLAG},
+    "transport:packet_received": {"header": HEADER, "frames": [(ACK, SHORT)], "app_limited?": FLAG},
     "recovery:metrics_updated": {
         "min_rtt?": MILLIS, "smoothed_rtt?": MILLIS, "latest_rtt?": MILLIS, "rtt_variance?": MILLIS, "pto_count?": COUNT,
         "congestion_window?": COUNT, "bytes_in_flight?": COUNT, "ssthresh?": COUNT, "packets_in_flight?": COUNT,
@@ -42,11 +44,11 @@ SCHEMA = {
     "recovery:timer_updated": {
         "timer_type?": {"ack", "pto", "loss_timeout", "pacing"}, "event_type": {"set", "expired", "cancelled"}, "delta?": MILLIS,
     },
-    "recovery:packet_lost": {"header": HEADER, "trigger": {"reordering_threshold", "time_threshold", "pto_expired"}},
+    "recovery:packet_lost": {"header": HEADER, "trigger?": {"reordering_threshold", "time_threshold", "pto_expired"}},
     "recovery:marked_for_retransmit": {"frames": [STREAM]},
 }
-TRACE = {"vantage_point": {"type": {"client"}}, "common_fields": {"time_format": {"relative"}, "reference_time": COUNT}}
-FIRST = {"qlog_version": {"0.3"}, "qlog_format": {"JSON-SEQ"}, "title": {"recovery-link"}, "trace": TRACE}
+TRACE = {"vantage_point": {"type": {"client", "unknown"}}, "common_fields": {"time_format": {"relative"}, "reference_time": COUNT}}
+FIRST = {"qlog_version": {"0.3"}, "qlog_format": {"JSON-SEQ"}, "title": {"recovery-link", "recovery-trace"}, "trace": TRACE}
 
 BAD = [  # a recording, the lines of its script, and what is told
     ("", "", "the recording is no JSON, or is cut off"),
@@ -84,7 +86,7 @@ def fits(value, form):
 
 
 def ran(*words):
-    status, output, _ = tree.ran([PROGRAM, *words], "", text=True)
+    status, output, _ = tree.ran([PROGRAMS[0], *words], "", text=True)
     return status, output
 
 
@@ -92,9 +94,8 @@ def read(text):
     return tree.ran([READER], text, text=True)
 
 
-def written(words):
-    """The records of a run are JSON of the form above, and their times never go back."""
-    status, text = ran("--qlog", *words)
+def fit(words, status, text):
+    """The records are JSON of the form above, and their times never go back."""
     parts = text.split("\x1e")
     records = [json.loads(it) for it in parts[1:]]
     expect(f"{words}: status", (status, parts[0]), (0, ""))
@@ -104,8 +105,31 @@ def written(words):
     expect(f"{words}: events that have not their form", unfit[:3], [])
     times = [it["time"] for it in records[1:]]
     expect(f"{words}: times rise", times == sorted(times) and len(times) > 20, True)
+    return records
+
+
+def written(words):
+    status, text = ran("--qlog", *words)
+    fit(words, status, text)
     back = read(text)
     expect(f"{words}: read back", back, (0, ran("--script", *words)[1], ""))
+
+
+def traced():
+    """A trace of a recording, as qlog: its losses, its samples and its windows are those of the trace."""
+    script = ROOT / "tests" / "pictures" / "connection.txt"
+    with tempfile.TemporaryDirectory() as folder:
+        states = pathlib.Path(folder) / "states.txt"
+        states.write_text(tree.ran([PROGRAMS[1], "--state"], script.read_text(), text=True)[1])
+        status, text, _ = tree.ran([ROOT / "tools" / "trace2qlog", script, states], "", text=True)
+        records = fit("a trace", status, text)
+        lines, told = script.read_text().splitlines(), [it.get("name") for it in records]
+        expect("a trace: losses", told.count("recovery:packet_lost"), sum(it.startswith("lost ") for it in lines))
+        expect("a trace: packets", told.count("transport:packet_sent"), sum(it.startswith("send ") for it in lines))
+        windows = [json.loads(it)["congestion_window"] for it in states.read_text().splitlines() if it.startswith("{")]
+        found = [it["data"]["congestion_window"] for it in records if "congestion_window" in it.get("data", {})]
+        expect("a trace: windows", found, [it for at, it in enumerate(windows) if at == 0 or windows[at - 1] != it])
+        expect("a script without its answers", tree.ran([ROOT / "tools" / "trace2qlog", script, script], "", text=True)[0], 2)
 
 
 def recordings():
@@ -126,11 +150,10 @@ def unreadable():
 
 
 def main():
-    global PROGRAM
-    if len(sys.argv) > 1:
-        PROGRAM = sys.argv[1]
+    PROGRAMS[:len(sys.argv) - 1] = sys.argv[1:]
     for words in RUNS:
         written(words)
+    traced()
     recordings()
     unreadable()
     tests.end()

@@ -1,5 +1,5 @@
 //! The queue before the link, which drops what finds no room.
-ghost use Rattle.std.specs.Prelude.{◌≤◌};
+ghost use Rattle.std.specs.Prelude.{◌≤◌, ◌<◌, ◌≡◌, IfOk, IfSome};
 
 use crate::settings::Shape;
 use quic_recovery::below::NoMemory;
@@ -29,12 +29,16 @@ pub struct Queue {
     free: u64,
     /// The most bytes that waited.
     most: u64,
+    ghost flows: { 0 < rate },
     ghost fits: { bytes ≤ room },
+    ghost fitted: { most ≤ room },
 }
 
 impl Queue {
     /// An empty queue.
-    pub fn new(alloc: Global, shape: Shape) -> Self {
+    pub fn new(alloc: Global, shape: Shape) -> Self
+        ensures { result.room ≡ shape.queue }
+    {
         Queue {
             rate: shape.rate.max(1),
             room: shape.queue,
@@ -46,7 +50,9 @@ impl Queue {
     }
 
     /// The most bytes that waited.
-    pub fn most(&self) -> u64 {
+    pub fn most(&self) -> u64
+        ensures { result ≤ self.now.room }
+    {
         self.most
     }
 
@@ -56,8 +62,14 @@ impl Queue {
     }
 
     /// A packet comes to the queue: when its last bit has gone out, or nothing where it is dropped.
-    pub fn enter(&mut self, now: u64, size: u16) -> Result<Option<u64>, NoMemory> {
-        self.pass(now);
+    pub fn enter(&mut self, now: u64, size: u16) -> Result<Option<u64>, NoMemory>
+        ensures room { self.new.room ≡ self.old.room }
+
+        // It goes out behind all that came before, and not before it came.
+        ensures later { IfOk result (λ leaves. IfSome leaves
+            (λ at. (now ≤ at) × (self.old.free ≤ at))) }
+    {
+        self.bytes = self.bytes.saturating_sub(leave(&mut self.waiting, now));
         let bytes = self.bytes.saturating_add(u64::from(size));
         if bytes > self.room {
             return Ok(None);
@@ -72,17 +84,17 @@ impl Queue {
         self.free = leaves;
         Ok(Some(leaves))
     }
+}
 
-    /// Time goes on to this moment: packets leave the queue.
-    fn pass(&mut self, now: u64) {
-        for _ in 0..self.waiting.len() {
-            match self.waiting.front() {
-                Some(first) if first.leaves <= now => {
-                    self.bytes = self.bytes.saturating_sub(first.size);
-                }
-                _ => return,
-            }
-            let _gone = self.waiting.pop_front();
+/// Time goes on to this moment: how many bytes leave the queue.
+fn leave(waiting: &mut VecDeque<Waiting>, now: u64) -> u64 {
+    let mut bytes: u64 = 0;
+    for _ in 0..waiting.len() {
+        match waiting.front() {
+            Some(first) if first.leaves <= now => bytes = bytes.saturating_add(first.size),
+            _ => break,
         }
+        let _gone = waiting.pop_front();
     }
+    bytes
 }
