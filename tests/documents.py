@@ -26,8 +26,8 @@ QUALIFIED = re.compile(r"([A-Z]\w+)(?:<[^>]*>)?::(?:\{([^}]*)\}|(\w+))")
 OTHERS = {
     "CONTRIBUTING.md": "plant",
     "DECISIONS.md": "circular_buffer",
-    "DIFFERENCES.md": "first_packet crypto crypto_stream tinyvec Trait f32 Retransmits ArrayRangeSet::default",
-    "EMBEDDING.md": "rand_chacha Retransmits max_data handshake_done reset_stream max_stream_data crypto Meta::default",
+    "DIFFERENCES.md": "first_packet crypto_stream tinyvec Trait f32 Retransmits ArrayRangeSet::default",
+    "EMBEDDING.md": "rand_chacha Retransmits max_data handshake_done reset_stream max_stream_data Meta::default",
     "PROGRAMS.md": "rttvar",
     "PROVING.md": "same-self- plant",
     "RUST.md": "malloc",

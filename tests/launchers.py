@@ -20,7 +20,7 @@ from tree import ROOT
 tests = tree.Tests("launchers")
 LAUNCHERS = {
     "recovery-replay": "recovery_program", "recovery-trace": "recovery_trace", "recovery-sender": "recovery_sender_program",
-    "recovery-pictures": "recovery_pictures",
+    "recovery-pictures": "recovery_pictures", "recovery-link": "recovery_link",
 }
 TOOLS = "awk bash cat dirname env find grep head mkdir mktemp readlink rm sh sleep touch".split()
 MISSING = f"the Rattle toolchain is missing: its command rt ({tree.logic()}) is not on the PATH\n"
@@ -219,7 +219,7 @@ def touch(path, seconds):
 
 def launched(place, name, crate):
     """A program that is missing, there, and older than what it is made of or than what it is not made of."""
-    words = ["tunnel"] if name == "recovery-pictures" else ["7", "24000"]
+    words = {"recovery-pictures": ["tunnel"], "recovery-link": ["loss=1%", "--qlog"]}.get(name, ["7", "24000"])
     ran = lambda **more: place.ran(f"./{name}", *words, **more)
     unproved = lambda why: (2, f"the sources ran: {' '.join(words)}\n", f"{notice(name, crate, why)}line 2: told\n")
     tests.expect(f"{name}: no program", ran(), unproved("not proved yet"))

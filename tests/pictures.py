@@ -1,6 +1,6 @@
 #!/usr/bin/env python3
 """Compares the pictures of the documents with what the program that was proved prints, reads each as XML, and sees that a picture shows the script
-and the link that were asked for, and what arguments and inputs that it cannot read are told.
+that was asked for, and what arguments and inputs that it cannot read are told.
 
 An argument is another program to try in place of the proved one."""
 import pathlib
@@ -18,13 +18,8 @@ PICTURES = [  # the picture, the arguments, and the input
     ("connection.svg", ["connection"], SCRIPT),
     ("connection-fixed.svg", ["connection", "-", "60000"], SCRIPT),
     ("tunnel.svg", ["tunnel"], MEASURED),
-    ("pace-unchecked.svg", ["burst"], "42000 unchecked 110\n"),
-    ("pace-fixed.svg", ["burst"], "42000 paced 110\n"),
-    ("pace-newreno.svg", ["burst"], "newreno paced 400\n"),
-    ("windows.svg", ["windows"], "20000 rate=2000 queue=40 loss=500\n"),
 ]
-USAGE = "usage: recovery-pictures connection [from=MOMENT] [to=MOMENT] [SEED [WINDOW]] | tunnel | burst | windows\n"
-LINE = "the input is no line as '42000 paced 400 rate=5000 loss=100': docs/PROGRAMS.md has its words and limits\n"
+USAGE = "usage: recovery-pictures connection [from=MOMENT] [to=MOMENT] [SEED [WINDOW]] | tunnel\n"
 REFUSED = [  # the arguments, the input, and what is told
     ([], "", USAGE),
     (["nothing"], "", USAGE),
@@ -35,18 +30,10 @@ REFUSED = [  # the arguments, the input, and what is told
     (["connection", "from=x"], SCRIPT, USAGE),
     (["connection", "from=5", "to=5"], SCRIPT, USAGE),
     (["tunnel", "60000"], MEASURED, USAGE),
+    (["burst"], "newreno paced 400\n", USAGE),
     (["connection"], "validated current\nnothing\n", "line 2: cannot be read\n"),
     (["tunnel"], "1400 yes\n1400\n", "line 2: not 'SIZE yes' or 'SIZE no'\n"),
-    (["burst"], "", LINE),
-    (["windows"], "", LINE),
-    (["windows"], "0\n", LINE),
-    (["windows"], "60001\n", LINE),
-    (["windows"], "newreno paced 400\n", LINE),
-    (["windows", "-"], "400\n", USAGE),
 ]
-REFUSED += [(["burst"], f"newreno paced 400 {word}\n", LINE) for word in
-            ("rate=0", "rate=1000001", "delay=0", "delay=1001", "queue=0", "queue=1001", "loss=1000001", "loss", "speed=1")]
-REFUSED += [(["burst"], f"{words}\n", LINE) for words in ("newreno paced", "newreno paced 0", "newreno paced 5001", "0 paced 1", "1000001 paced 1", "newreno 1 1")]
 
 # the word of a line that is the moment of its event, and the start of the clock in the second script
 MOMENTS = {"received": 2, "send": 2, "acked": 2, "transmit": 1, "pacer-check": 1, "congestion": 1, "end-acks": 1, "poll-mtu": 1, "losses-done": 1}
@@ -133,43 +120,16 @@ def seeds():
         tests.expect(f"in flight, with seed {seed}", flight(["connection", *seed], script), left * HEIGHT // (window * 11 // 10))
 
 
-def told(picture, name):
-    return [int(it) for it in re.findall(rf">{name}: (\d+)", picture)]
-
-
-def links():
-    """35 packets of 1,200 bytes come to the queue at once, or 10; one takes 0.96 ms at 10 Mbit/s, and the sender begins at 10 ms."""
-    for room, dropped in (20, 15), (30, 5), (35, 0), (1000, 0):
-        picture = drawn(["burst"], f"42000 unchecked 30 queue={room}\n")
-        tests.expect(f"a queue of {room}", (told(picture, "queue"), told(picture, "dropped")), ([min(room, 35)], [dropped]))
-    for rate, gone in (10_000, 10), (1_000, 3), (640, 2):
-        picture = drawn(["burst"], f"12000 unchecked 40 rate={rate} loss=1\n")
-        tests.expect(f"lost at {rate} kbit/s", told(picture, "lost on the way"), [gone])
-    for end, sent in (110, 10), (111, 11), (112, 12):
-        picture = drawn(["burst"], f"12000 unchecked {end} delay=100\n")
-        line = re.search(r'stroke="#004080" stroke-width="3" d="([^"]*)"', picture)[1]
-        tests.expect(f"sent by {end} ms, with ACKs 100 ms later", line.count("V"), sent)
-    usual = drawn(["burst"], "newreno paced 400\n")
-    same = drawn(["burst"], "newreno paced 400 loss=0 queue=20 delay=25 rate=10000\n")
-    tests.expect("the usual link, named", same == usual, True)
-    picture = drawn(["burst"], "newreno paced 2000 loss=50\n")
-    lost = told(picture, "lost on the way")
-    tests.expect("one of fifty packets is lost, or so", bool(lost) and 5 <= lost[0] <= 50, True)
-    tests.expect("a dot for each", len(re.findall("<circle", picture)) - 1, lost[0] if lost else None)
-
-
 def refusals():
     for arguments, given, text in REFUSED:
         tests.expect(f"{arguments} with {given[:20]!r}", ran(arguments, given), (2, "", text))
-    long = "more than 20,000 ACKs and waits: draw fewer milliseconds, or a slower link\n"
-    tests.expect("a run that is too long", ran(["burst"], "newreno paced 5000 rate=100000 delay=1\n"), (1, "", long))
 
 
 def main():
     global PROGRAM
     if len(sys.argv) > 1:
         PROGRAM = pathlib.Path(sys.argv[1]).resolve()
-    for part in documents, scripts, seeds, links, refusals:
+    for part in documents, scripts, seeds, refusals:
         part()
     tests.end()
 

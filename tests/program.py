@@ -20,7 +20,7 @@ LINE, ANSWER = b"next-timeout\n", b"timeout none\n"
 UNPROVED = re.compile(rb"recovery-replay: not proved yet: .*\n")
 LAUNCHERS = {
     "recovery-replay": "recovery_program", "recovery-trace": "recovery_trace", "recovery-sender": "recovery_sender_program",
-    "recovery-pictures": "recovery_pictures",
+    "recovery-pictures": "recovery_pictures", "recovery-link": "recovery_link",
 }
 
 tests = tree.Tests("program")

@@ -23,6 +23,7 @@ ARGUMENTS = [
     (["server"], 0, f"{ANSWER}\n", ""),
     (["client", "7", "24000"], 0, f"{ANSWER}\n", ""),
     (["server", "-", "18446744073709551615"], 0, f"{ANSWER}\n", ""),
+    (["client", "-", "cubic"], 0, f"{ANSWER}\n", ""),
     (["--version"], 0, "recovery-sender 0.11.19\n", ""),
     ([], 2, "", USAGE),
     (["7"], 2, "", USAGE),
@@ -31,6 +32,7 @@ ARGUMENTS = [
     (["server", "01"], 2, "", USAGE),
     (["server", "1", "0"], 2, "", USAGE),
     (["server", "1", "-"], 2, "", USAGE),
+    (["server", "cubic"], 2, "", USAGE),
     (["server", "1", "2", "3"], 2, "", USAGE),
 ]
 

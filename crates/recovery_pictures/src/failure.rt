@@ -1,6 +1,5 @@
 //! Why no picture is written.
 
-use quic_recovery::Refusal;
 use quic_recovery::below::NoMemory;
 use recovery_replay::arguments::ArgumentsError;
 use std::alloc::AllocError;
@@ -10,18 +9,12 @@ use thiserror::Error;
 /// Why no picture is written.
 #[derive(Clone, Copy, Debug, Error)]
 pub enum Failure {
-    #[error("usage: recovery-pictures connection [from=MOMENT] [to=MOMENT] [SEED [WINDOW]] | tunnel | burst | windows")]
+    #[error("usage: recovery-pictures connection [from=MOMENT] [to=MOMENT] [SEED [WINDOW]] | tunnel")]
     Usage,
     #[error("line {0}: cannot be read")]
     BadLine(u64),
     #[error("line {0}: not 'SIZE yes' or 'SIZE no'")]
     BadMeasurement(u64),
-    #[error("the input is no line as '42000 paced 400 rate=5000 loss=100': docs/PROGRAMS.md has its words and limits")]
-    Settings,
-    #[error("more than 20,000 ACKs and waits: draw fewer milliseconds, or a slower link")]
-    TooLong,
-    #[error("refused: {0}")]
-    Refused(#[from] Refusal),
     #[error("the input cannot be read")]
     Input,
     #[error("out of memory")]
@@ -34,8 +27,7 @@ impl Failure {
     /// The exit status: 2 where the arguments or the text cannot be read, else 1.
     pub fn status(&self) -> u8 {
         match self {
-            Failure::Usage | Failure::BadLine(_) | Failure::BadMeasurement(_) | Failure::Settings =>
-                2,
+            Failure::Usage | Failure::BadLine(_) | Failure::BadMeasurement(_) => 2,
             _ => 1,
         }
     }

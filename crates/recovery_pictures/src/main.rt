@@ -1,8 +1,7 @@
-//! The program `recovery-pictures`: draws what a connection, a path or a burst did, from a text, as SVG.
+//! The program `recovery-pictures`: draws what a connection or a path did, from a text, as SVG.
 //! docs/PROGRAMS.md shows them.
 #![tactic(auto)]
 
-mod burst;
 mod connection;
 mod failure;
 mod panels;
@@ -39,8 +38,6 @@ fn run(rt: &HostRuntime) -> Result<(), Failure> {
             connection::picture_of(rt.alloc(), choice, &mut rt.reader())?
         }
         Request::Tunnel => tunnel::picture_of(rt.alloc(), text(rt)?.as_str())?,
-        Request::Burst => burst::picture_of(rt.alloc(), text(rt)?.as_str())?,
-        Request::Windows => burst::windows_of(rt.alloc(), text(rt)?.as_str())?,
         Request::Help => return write(rt, HELP),
         Request::Version => return write(rt, VERSION),
         Request::Unknown => return Err(Failure::Usage),

@@ -8,19 +8,14 @@ pub const VERSION: &str = "recovery-pictures 0.11.19\n";
 
 /// What `--help` writes.
 pub const HELP: &str = "\
-usage: recovery-pictures connection [from=MOMENT] [to=MOMENT] [SEED [WINDOW]] | tunnel | burst | windows
-Draws what a connection, a path or a burst did: reads a text from standard input, and writes an SVG picture.
+usage: recovery-pictures connection [from=MOMENT] [to=MOMENT] [SEED [WINDOW]] | tunnel
+Draws what a connection or a path did: reads a text from standard input, and writes an SVG picture.
 
   connection  a script of recovery-replay: window, flight and round-trip time
     from, to  draws what lies between two moments of the script, in nanoseconds; none: all of it
     SEED      skips packet numbers as this seed draws them (0 to 18446744073709551615); -, or none: skips none
     WINDOW    cubic, or a congestion window that never changes, in bytes, above 0; none: NewReno
   tunnel      a line for each measurement of a link, 'SIZE yes' or 'SIZE no': the search for the MTU
-  burst       a line 'newreno paced 400': newreno, cubic, or a window in bytes; paced, or unchecked; milliseconds.
-              Behind it, where the link is another: rate=10000 (kbit/s), delay=25 (ms there and back),
-              queue=20 (packets), loss=0 (one packet in so many, 0 for none)
-  windows     a line '20000 rate=5000 loss=1000': milliseconds, and the link but for its delay: the windows of
-              NewReno and CUBIC over 20 ms and over 200 ms
   --help      writes this
   --version   writes which recovery this is
 
@@ -47,10 +42,6 @@ pub enum Request {
     Connection(Choice),
     /// The search for a path's MTU, and a burst that is paced.
     Tunnel,
-    /// A burst over a slow link, paced or not.
-    Burst,
-    /// The windows of two controllers over the same link.
-    Windows,
     /// How the program is called.
     Help,
     /// Which recovery it is.
@@ -78,8 +69,6 @@ pub fn request_of(words: &[String]) -> Request {
     }
     match words {
         [name] if name.as_str() == "tunnel" => Request::Tunnel,
-        [name] if name.as_str() == "burst" => Request::Burst,
-        [name] if name.as_str() == "windows" => Request::Windows,
         [name, rest @ ..] if name.as_str() == "connection" => connection_of(rest),
         _ => Request::Unknown,
     }

@@ -3,6 +3,17 @@ use recovery_lines::number_in;
 use recovery_replay::fixed_window::FixedWindowConfig;
 use recovery_sender::Side;
 
+/// Which congestion window each controller has.
+#[derive(Clone, Copy)]
+pub enum Window {
+    /// NewReno's (RFC 9002, 7).
+    NewReno,
+    /// CUBIC's (RFC 9438).
+    Cubic,
+    /// One that nothing changes.
+    Fixed(FixedWindowConfig),
+}
+
 /// What the arguments choose.
 #[derive(Clone, Copy)]
 pub struct Choice {
@@ -10,8 +21,8 @@ pub struct Choice {
     pub side: Side,
     /// What skipped numbers are drawn by; without it none is skipped.
     pub seed: Option<u64>,
-    /// The window of each controller, in bytes; without it they are NewReno's.
-    pub fixed: Option<FixedWindowConfig>,
+    /// Which window each controller has.
+    pub window: Window,
 }
 
 fn side_in(word: &[u8]) -> Option<Side> {
@@ -30,11 +41,14 @@ fn seed_in(word: &[u8]) -> Option<Option<u64>> {
     }
 }
 
-/// A window above zero.
-fn window_in(word: &[u8]) -> Option<FixedWindowConfig> {
+/// CUBIC's window, or one above zero.
+fn window_in(word: &[u8]) -> Option<Window> {
+    if let b"cubic" = word {
+        return Some(Window::Cubic);
+    }
     match number_in(word)? {
         0 => None,
-        window => Some(FixedWindowConfig::new(window)),
+        window => Some(Window::Fixed(FixedWindowConfig::new(window))),
     }
 }
 
@@ -46,17 +60,17 @@ pub fn choice_of(words: &[String]) -> Option<Choice> {
         [] => Some(Choice {
             side,
             seed: None,
-            fixed: None,
+            window: Window::NewReno,
         }),
         [seed] => Some(Choice {
             side,
             seed: seed_in(seed.as_bytes())?,
-            fixed: None,
+            window: Window::NewReno,
         }),
         [seed, window] => Some(Choice {
             side,
             seed: seed_in(seed.as_bytes())?,
-            fixed: Some(window_in(window.as_bytes())?),
+            window: window_in(window.as_bytes())?,
         }),
         _ => None,
     }

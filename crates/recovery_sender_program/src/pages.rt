@@ -9,7 +9,7 @@ Answers the calls of a sender one at a time: reads a line, writes its answer wit
 
   client|server  which end of the connection sends
   SEED           skips packet numbers as this seed draws them (0 to 18446744073709551615); -, or none: skips none
-  WINDOW         a congestion window that never changes, in bytes, above 0; none: NewReno
+  WINDOW         cubic, or a congestion window that never changes, in bytes, above 0; none: NewReno
   --help         writes this
   --version      writes which recovery this is
 

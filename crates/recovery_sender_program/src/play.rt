@@ -2,7 +2,7 @@
 ghost use Rattle.recovery_sender_program.specs.Giving.{Gives};
 
 use crate::answers::write_said;
-use crate::choice::Choice;
+use crate::choice::{Choice, Window};
 use crate::lines::call_in;
 use crate::outcome::Outcome;
 use quic_recovery::below::NoMemory;
@@ -11,6 +11,7 @@ use quic_recovery::time::Instant;
 use rand_core::SeedableRng;
 use rand_pcg::Pcg32;
 use recovery_calls::{Call, Said, run_over};
+use recovery_cubic::CubicConfig;
 use recovery_events::feeding::{Sink, Source};
 use recovery_lines::lines::peer_at;
 use recovery_queue::items::ItemQueue;
@@ -140,9 +141,10 @@ pub fn play<R: Read, W: Write>(
     input: &mut R,
     output: &mut W,
 ) -> Outcome {
-    let played = match choice.fixed {
-        Some(factory) => play_over(alloc, factory, choice, input, output),
-        None => play_over(alloc, NewRenoConfig::default(), choice, input, output),
+    let played = match choice.window {
+        Window::Fixed(factory) => play_over(alloc, factory, choice, input, output),
+        Window::Cubic => play_over(alloc, CubicConfig::default(), choice, input, output),
+        Window::NewReno => play_over(alloc, NewRenoConfig::default(), choice, input, output),
     };
     played.unwrap_or(Outcome::OutOfMemory)
 }

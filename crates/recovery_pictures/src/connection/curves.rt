@@ -17,6 +17,8 @@ use std::alloc::Global;
 enum Told {
     /// A packet is declared lost.
     Loss,
+    /// A probe is due.
+    Probe,
     /// A round-trip time of so many nanoseconds was measured.
     Sample(u64),
     /// Nothing of its own.
@@ -28,10 +30,14 @@ enum Told {
 pub struct Curves {
     /// The congestion window (RFC 9002, 7).
     pub window: Vec<Point>,
+    /// The slow start threshold, from the first one on (RFC 9002, B.2).
+    pub ssthresh: Vec<Point>,
     /// The bytes in flight (RFC 9002, B.2).
     pub flight: Vec<Point>,
     /// The moments at which packets were declared lost.
     pub losses: Vec<u64>,
+    /// The moments at which probes were due (RFC 9002, 6.2.4).
+    pub probes: Vec<u64>,
     /// The smoothed round-trip time (RFC 9002, 5.3), in nanoseconds.
     pub smoothed: Vec<Point>,
     /// The round-trip times that were measured, in nanoseconds.
@@ -50,6 +56,7 @@ pub struct Curves {
 #[derive(Clone, Copy)]
 struct Noted {
     window: u64,
+    ssthresh: Option<u64>,
     flight: u64,
     smoothed: u64,
 }
@@ -59,8 +66,10 @@ impl Curves {
     pub fn new(alloc: Global, first: u64, choice: Choice) -> Self {
         Curves {
             window: Vec::new(alloc),
+            ssthresh: Vec::new(alloc),
             flight: Vec::new(alloc),
             losses: Vec::new(alloc),
+            probes: Vec::new(alloc),
             smoothed: Vec::new(alloc),
             samples: Vec::new(alloc),
             first,
@@ -90,6 +99,7 @@ impl Curves {
         }
         let last = self.now.min(self.end());
         hold(&mut self.window, last)?;
+        hold(&mut self.ssthresh, last)?;
         hold(&mut self.flight, last)?;
         hold(&mut self.smoothed, last)
     }
@@ -111,6 +121,7 @@ impl Curves {
         let path = recovery.recovery().current();
         let noted = Noted {
             window: path.congestion.window(),
+            ssthresh: path.congestion.metrics().ssthresh,
             flight: path.in_flight().bytes,
             smoothed: nanos(path.rtt.get()),
         };
@@ -126,6 +137,9 @@ impl Curves {
     /// Notes what stands where the picture begins.
     fn begin(&mut self, noted: Noted, told: Told) -> Result<(), NoMemory> {
         put_first(&mut self.window, self.from, noted.window)?;
+        if let Some(y) = finite(noted.ssthresh) {
+            put_first(&mut self.ssthresh, self.from, y)?;
+        }
         put_first(&mut self.flight, self.from, noted.flight)?;
         match told {
             Told::Sample(_) => put_first(&mut self.smoothed, self.from, noted.smoothed),
@@ -136,9 +150,13 @@ impl Curves {
     fn note(&mut self, done: bool, told: Told, noted: Noted) -> Result<(), NoMemory> {
         let x = self.now;
         push_change(&mut self.window, Point { x, y: noted.window })?;
+        if let Some(y) = finite(noted.ssthresh) {
+            push_change(&mut self.ssthresh, Point { x, y })?;
+        }
         push_change(&mut self.flight, Point { x, y: noted.flight })?;
         match told {
             Told::Loss if done => self.losses.push(x)?,
+            Told::Probe if done => self.probes.push(x)?,
             Told::Sample(rtt) => {
                 self.samples.push(Point { x, y: rtt })?;
                 let y = noted.smoothed;
@@ -147,6 +165,14 @@ impl Curves {
             _ => {}
         }
         Ok(())
+    }
+}
+
+/// A slow start threshold, where there is one: none is infinite (RFC 9002, B.3).
+fn finite(ssthresh: Option<u64>) -> Option<u64> {
+    match ssthresh {
+        Some(bytes) if bytes < u64::MAX => Some(bytes),
+        _ => None,
     }
 }
 
@@ -209,6 +235,7 @@ fn moment_of(event: &Event<ItemQueue>) -> Option<Instant> {
 fn news_of(event: &Event<ItemQueue>) -> Told {
     match event {
         Event::Lost { .. } => Told::Loss,
+        Event::QueueProbe { .. } => Told::Probe,
         Event::Sample { rtt, .. } => Told::Sample(nanos(*rtt)),
         _ => Told::Other,
     }

@@ -50,10 +50,14 @@ fn over(points: &[Point], others: &[Point], unit: u64) -> Axis {
 
 fn draw_flight(picture: &mut Picture, panel: &Panel, controller: &str, curves: &Curves) {
     picture.steps(panel, &curves.flight, Style::Thin);
+    picture.steps(panel, &curves.ssthresh, Style::Dotted);
     picture.steps(panel, &curves.window, Style::Solid);
+    picture.ticks(panel, &curves.probes, Style::Solid);
     picture.ticks(panel, &curves.losses, Style::Dashed);
-    picture.legend(panel, 2, controller, Mark::Line, Style::Solid);
-    picture.legend(panel, 1, "bytes in flight", Mark::Line, Style::Thin);
+    picture.legend(panel, 4, controller, Mark::Line, Style::Solid);
+    picture.legend(panel, 3, "ssthresh", Mark::Line, Style::Dotted);
+    picture.legend(panel, 2, "bytes in flight", Mark::Line, Style::Thin);
+    picture.legend(panel, 1, "a probe is due", Mark::Tick, Style::Solid);
     picture.legend(panel, 0, "a packet is lost", Mark::Tick, Style::Dashed);
 }
 

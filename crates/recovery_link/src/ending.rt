@@ -1,0 +1,74 @@
+//! How the program ends.
+use quic_recovery::Refusal;
+use quic_recovery::below::NoMemory;
+use recovery_sender::Refused;
+use std::alloc::{AllocError, AllocFailed};
+
+/// How the program ends.
+#[derive(Clone, Copy)]
+pub enum Ending {
+    /// All went well.
+    Ended,
+    /// A write failed.
+    WriteFailed,
+    /// Nobody reads what is written any more: it went into a pipe whose other end is closed.
+    Closed,
+    /// Memory was refused.
+    OutOfMemory,
+    /// A call of the sender was refused, which no transfer comes to.
+    Refused,
+    /// The arguments are wrong; nothing was written.
+    WrongArguments,
+}
+
+impl Ending {
+    /// The exit status: 0 where all went well, 2 where the arguments are wrong, else 1. That nobody reads on is no
+    /// failure.
+    pub fn status(self) -> u8 {
+        match self {
+            Ending::Ended | Ending::Closed => 0,
+            Ending::WrongArguments => 2,
+            Ending::WriteFailed | Ending::OutOfMemory | Ending::Refused => 1,
+        }
+    }
+
+    /// What is wrong, with a line feed behind; empty where nothing is.
+    pub fn text(self) -> &'static str {
+        match self {
+            Ending::Ended | Ending::Closed => "",
+            Ending::WriteFailed => "link: write failed\n",
+            Ending::OutOfMemory => "link: out of memory\n",
+            Ending::Refused => "link: the sender refused a call\n",
+            Ending::WrongArguments => {
+                "usage: recovery-link [--script|--qlog] [NAME=VALUE]..: --help has names and limits\n"
+            }
+        }
+    }
+}
+
+impl From<NoMemory> for Ending {
+    fn from(_: NoMemory) -> Self {
+        Ending::OutOfMemory
+    }
+}
+
+impl From<AllocError> for Ending {
+    fn from(_: AllocError) -> Self {
+        Ending::OutOfMemory
+    }
+}
+
+impl From<AllocFailed<u64>> for Ending {
+    fn from(_: AllocFailed<u64>) -> Self {
+        Ending::OutOfMemory
+    }
+}
+
+impl From<Refused> for Ending {
+    fn from(refused: Refused) -> Self {
+        match refused {
+            Refused::Event(Refusal::NoMemory) => Ending::OutOfMemory,
+            _ => Ending::Refused,
+        }
+    }
+}

@@ -1,0 +1,31 @@
+//! What the program says of itself.
+
+/// What `--version` writes.
+pub const VERSION: &str = "recovery-link 0.11.19\n";
+
+/// What `--help` writes.
+pub const HELP: &str = "\
+usage: recovery-link [--script|--qlog] [NAME=VALUE]..
+Transfers bytes over a simulated link, by a sender as recovery-sender has it, and writes a line of figures.
+
+  --script      writes the calls of the sender, as lines of recovery-sender client; the figures on standard error
+  --qlog        writes what happened, as qlog in JSON text sequences; the figures on standard error
+  controller=   newreno, cubic, or a window in bytes that nothing changes (newreno)
+  paced=        yes or no: whether datagrams wait for the pacer (yes)
+  bytes=        how many bytes are transferred, 1 to 1000G (1M)
+  rate=         of the link, in bits a second, 1 to 1000G (10M)
+  delay=        how long a packet takes there, and an ACK back (25ms)
+  queue=        how many bytes wait before the link, 1200 to 1000G (62500)
+  loss=         how many packets of a million are lost behind the queue, or so many % (0)
+  burst=        how many are lost at once, on the average, to 1M; 0: each by itself (0)
+  reorder=      how many packets of a million come late, or so many % (0)
+  late=         how late (5ms)
+  ack-delay=    how long the peer delays an ACK at most (25ms)
+  seed=         what losses and late packets are drawn by, 0 to 18446744073709551615 (0)
+  until=        when it is given up (1000s)
+  --help        writes this
+  --version     writes which recovery this is
+
+A time is a number of nanoseconds, or of us, ms or s, to 1000s; a count may end with k, M or G.
+Status: 0, or 1 where writing or memory failed, or 2 where the arguments could not be read.
+";

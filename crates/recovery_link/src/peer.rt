@@ -1,0 +1,104 @@
+//! The peer: what came to it, and when it acknowledges that (RFC 9000, 13.2).
+use quic_recovery::below::{ArrayRangeSet, NoMemory};
+use std::alloc::Global;
+
+/// How many ranges an ACK has at most, the highest; numbers below them are forgotten.
+const RANGES: usize = 32;
+
+/// Numbers from here on are none.
+const NUMBERS: u64 = 1 << 62;
+
+/// An ACK frame.
+#[derive(Drop)]
+pub struct Frame {
+    /// How long it waited for the largest number that it acknowledges, in nanoseconds.
+    pub delay: u64,
+    /// The first and last number of each of its ranges, the highest range first.
+    pub ranges: Vec<(u64, u64)>,
+}
+
+/// The peer. Moments are nanoseconds.
+#[derive(Drop)]
+pub struct Peer {
+    alloc: Global,
+    came: ArrayRangeSet,
+    /// The largest number that came, and when.
+    largest: Option<(u64, u64)>,
+    /// Whether a packet came that is not acknowledged yet.
+    owes: bool,
+    /// When an ACK is due.
+    due: Option<u64>,
+    /// How long an ACK may be delayed.
+    delay: u64,
+}
+
+impl Peer {
+    /// Nothing came yet.
+    pub fn new(alloc: Global, delay: u64) -> Self {
+        Peer {
+            alloc,
+            came: ArrayRangeSet::new(alloc),
+            largest: None,
+            owes: false,
+            due: None,
+            delay,
+        }
+    }
+
+    /// When an ACK is due.
+    pub fn due(&self) -> Option<u64> {
+        self.due
+    }
+
+    /// A packet came: an ACK is due at once for every second one, and for one behind which numbers are missing, or that
+    /// is not the largest (RFC 9000, 13.2.1, 13.2.2).
+    pub fn receive(&mut self, now: u64, number: u64) -> Result<(), NoMemory> {
+        if number >= NUMBERS {
+            return Ok(());
+        }
+        self.came.insert_one(number)?;
+        if self.came.len() > RANGES {
+            let _forgotten = self.came.pop_min();
+        }
+        let is_next = self.is_next(number);
+        if self.is_largest(number) {
+            self.largest = Some((number, now));
+        }
+        self.due = if self.owes || !is_next {
+            Some(now)
+        } else {
+            Some(now.saturating_add(self.delay))
+        };
+        self.owes = true;
+        Ok(())
+    }
+
+    fn is_largest(&self, number: u64) -> bool {
+        match self.largest {
+            Some((largest, _)) => largest < number,
+            None => true,
+        }
+    }
+
+    fn is_next(&self, number: u64) -> bool {
+        match self.largest {
+            Some((largest, _)) => largest.saturating_add(1) == number,
+            None => number == 0,
+        }
+    }
+
+    /// The ACK that is due.
+    pub fn acknowledge(&mut self, now: u64) -> Result<Frame, NoMemory> {
+        self.due = None;
+        self.owes = false;
+        let delay = match self.largest {
+            Some((_, came)) => now.saturating_sub(came),
+            None => 0,
+        };
+        let mut ranges = Vec::with_capacity(self.alloc, self.came.len())?;
+        for range in self.came.iter().rev() {
+            ranges.push((range.start, range.end.saturating_sub(1)))?;
+        }
+        Ok(Frame { delay, ranges })
+    }
+}

@@ -1,0 +1,271 @@
+//! The sender, with what is told of each of its calls.
+ghost use Rattle.std.specs.Prelude.{◌≡◌};
+
+use crate::ending::Ending;
+use crate::figures::Figures;
+use crate::peer::Frame;
+use crate::settings::{SIZE, Settings};
+use crate::telling::{Metrics, Teller};
+use quic_recovery::below::{NoMemory, SpaceId};
+use quic_recovery::congestion::{Controller, ControllerFactory};
+use quic_recovery::time::{Duration, Instant};
+use quic_recovery::{Answer, Event};
+use rand_core::SeedableRng;
+use rand_pcg::Pcg32;
+use recovery_lines::lines::peer_at;
+use recovery_queue::items::ItemQueue;
+use recovery_replay::replay::{FIRST_PORT, config, skips};
+use recovery_sender::{Ack, Losses, Refused, Sender, Side, Timeout, Transmission};
+use std::alloc::Global;
+use std::collections::VecDeque;
+use std::io::Write;
+
+/// The sender, with what is told of each of its calls. Moments are nanoseconds.
+#[derive(Drop)]
+pub struct Sending<'a, F: ControllerFactory, W> {
+    alloc: Global,
+    sender: Sender<F, ItemQueue, Pcg32>,
+    teller: Teller<'a, W>,
+    is_paced: bool,
+    pub figures: Figures,
+}
+
+/// A span in whole nanoseconds.
+fn nanos(span: Duration) -> u64 {
+    u64::try_from(span.as_nanos()).unwrap_or(u64::MAX)
+}
+
+impl<'a, F, W> Sending<'a, F, W>
+where
+    F: ControllerFactory + Drop,
+    F::Controller: Drop,
+    W: Write,
+{
+    /// A sender as `recovery-sender client` has it, with nothing sent.
+    pub fn new(
+        alloc: Global,
+        factory: F,
+        settings: &Settings,
+        teller: Teller<'a, W>,
+    ) -> Result<Self, NoMemory> {
+        let config = config(factory, peer_at(FIRST_PORT), skips(None));
+        let rng = Pcg32::seed_from_u64(0);
+        let sender = Sender::new(alloc, Side::Client, config, rng, Instant::from_nanos(0))?;
+        Ok(Sending {
+            alloc,
+            sender,
+            teller,
+            is_paced: settings.is_paced,
+            figures: Figures::new(settings.bytes),
+        })
+    }
+
+    /// The handshake is over, with a peer that delays its ACKs at most so long.
+    pub fn begin(&mut self, max_ack_delay: u64) -> Result<(), Ending> {
+        self.sender
+            .set_peer_max_ack_delay(Duration::from_nanos(max_ack_delay));
+        self.sender.on_handshake_confirmed();
+        self.teller.begins(max_ack_delay)
+    }
+
+    /// All that was told goes out.
+    pub fn finish(&mut self) -> Result<(), Ending> {
+        self.teller.finish()
+    }
+
+    /// How many bytes are in flight (RFC 9002, B.2).
+    pub fn in_flight(&self) -> u64 {
+        self.sender.recovery().current().in_flight().bytes
+    }
+
+    /// Whether the window has room for a packet (RFC 9002, 7), or a probe is due, which goes out beyond it (7.5).
+    pub fn may_send(&self) -> bool {
+        let window = self.sender.recovery().current().congestion.window();
+        let with = self.in_flight().saturating_add(u64::from(SIZE));
+        with <= window || self.is_probing()
+    }
+
+    /// Whether a probe is due.
+    pub fn is_probing(&self) -> bool {
+        match self.sender.recovery().space(SpaceId::Data) {
+            Some(here) => here.loss_probes > 0,
+            None => false,
+        }
+    }
+
+    /// When the timer for losses expires, if at all.
+    pub fn timer(&self) -> Option<u64> {
+        let moment = self.sender.loss_detection_timer()?;
+        Some(moment.as_nanos())
+    }
+
+    /// Asks for a datagram: the moment at which to ask again, where the pacer wants it later.
+    pub fn transmit(&mut self, now: u64) -> Result<Option<u64>, Ending> {
+        self.teller.asks(now, self.is_paced)?;
+        let at = Instant::from_nanos(now);
+        let until = match self.sender.transmit(at, SIZE, SpaceId::Data, self.is_paced) {
+            Ok(Transmission::Transmitted) => return Ok(None),
+            Ok(Transmission::Delayed(until)) => until.as_nanos(),
+            Ok(_) => return Err(Ending::Refused),
+            Err(refused) => return Err(Ending::from(refused)),
+        };
+        self.teller.delayed(now, until)?;
+        Ok(Some(until))
+    }
+
+    /// A packet with this item goes out: its number.
+    pub fn send(&mut self, now: u64, item: Option<u64>) -> Result<u64, Ending> {
+        self.teller.sends(now, item)?;
+        let number = self.track(now, item)?;
+        self.figures.sent = self.figures.sent.saturating_add(1);
+        self.teller.sent(now, number, item, self.is_paced)?;
+        self.tell_flight(now)?;
+        Ok(number)
+    }
+
+    fn track(&mut self, now: u64, item: Option<u64>) -> Result<u64, Ending> {
+        let mut items = Vec::new(self.alloc);
+        if let Some(item) = item {
+            items.push(item)?;
+        }
+        let queue = ItemQueue::from_items(items);
+        let at = Instant::from_nanos(now);
+        match self
+            .sender
+            .send(SpaceId::Data, at, SIZE, true, None, queue, ())
+        {
+            Ok(Answer::Sent { number, .. }) => Ok(number),
+            Ok(_) => Err(Ending::Refused),
+            Err(refused) => Err(Ending::from(refused)),
+        }
+    }
+
+    /// An ACK comes back: whether something is to be sent again.
+    pub fn acknowledged(
+        &mut self,
+        now: u64,
+        frame: &Frame,
+        app_limited: bool,
+    ) -> Result<bool, Ending> {
+        self.teller.received(now, frame, app_limited)?;
+        let ack = Ack {
+            delay: Duration::from_nanos(frame.delay),
+            ecn: None,
+            app_limited,
+        };
+        let at = Instant::from_nanos(now);
+        match self.sender.on_ack(SpaceId::Data, at, &frame.ranges, ack) {
+            Ok(acknowledged) => {
+                let count = acknowledged.numbers.len() as u64;
+                self.figures.acked = self.figures.acked.saturating_add(count);
+                self.look(now, &acknowledged.losses)
+            }
+            Err(refused) => Err(Ending::from(refused)),
+        }
+    }
+
+    /// The timer expires: whether something is to be sent again.
+    pub fn expire(&mut self, now: u64) -> Result<bool, Ending> {
+        self.teller.expires(now)?;
+        let at = Instant::from_nanos(now);
+        match self.sender.on_timeout(at, false, (), ()) {
+            Ok(Timeout::Lost(losses)) => self.look(now, &losses),
+            Ok(Timeout::Probe { count, .. }) => {
+                self.figures.probes = self.figures.probes.saturating_add(u64::from(count));
+                self.tell_state(now)?;
+                Ok(true)
+            }
+            Ok(Timeout::Nothing) => Ok(false),
+            Err(refused) => Err(Ending::from(refused)),
+        }
+    }
+
+    /// What was found lost is counted and told: whether there is something.
+    fn look(&mut self, now: u64, losses: &Losses) -> Result<bool, Ending> {
+        let count = losses.numbers.len() as u64;
+        self.figures.lost = self.figures.lost.saturating_add(count);
+        if losses.is_persistent {
+            self.figures.persistent = self.figures.persistent.saturating_add(1);
+        }
+        let largest = self.largest_acked();
+        self.teller.lost(now, losses, largest)?;
+        self.tell_state(now)?;
+        Ok(count > 0)
+    }
+
+    /// What waits to be sent again is handed out, behind the items that are to be sent again already.
+    pub fn take_pending(&mut self, now: u64, again: &mut VecDeque<u64>) -> Result<(), Ending> {
+        self.teller.takes()?;
+        let taken = Event::TakePending {
+            space: SpaceId::Data,
+        };
+        let items = match self.sender.on_event(taken) {
+            Ok(Answer::Queue(items)) => items,
+            Ok(_) => return Err(Ending::Refused),
+            Err(refused) => return Err(Ending::from(refused)),
+        };
+        for item in items.items() {
+            again.push_back(*item)?;
+        }
+        self.teller.taken(now, items.items())
+    }
+
+    fn largest_acked(&self) -> u64 {
+        match self.sender.recovery().space(SpaceId::Data) {
+            Some(here) => here.largest_acked_packet.unwrap_or(0),
+            None => 0,
+        }
+    }
+
+    fn waits_for_losses(&self) -> bool {
+        match self.sender.recovery().space(SpaceId::Data) {
+            Some(here) => here.loss_time.is_some(),
+            None => false,
+        }
+    }
+
+    fn metrics(&self) -> Metrics {
+        let path = self.sender.recovery().current();
+        let controller = path.congestion.metrics();
+        let flight = path.in_flight();
+        let rtt = [
+            nanos(path.rtt.get()),
+            nanos(path.rtt.variance()),
+            nanos(path.rtt.min()),
+            nanos(path.rtt.latest()),
+        ];
+        Metrics {
+            flight: (flight.bytes, flight.ack_eliciting),
+            window: controller.congestion_window,
+            ssthresh: controller.ssthresh.unwrap_or(u64::MAX),
+            rtt,
+            pto_count: u64::from(self.sender.variables().pto_count),
+        }
+    }
+
+    /// What is in flight, and the timer.
+    fn tell_flight(&mut self, now: u64) -> Result<(), Ending> {
+        if !self.teller.is_qlog() {
+            return Ok(());
+        }
+        let metrics = self.metrics();
+        self.teller.flies(now, &metrics)?;
+        self.tell_timer(now)
+    }
+
+    /// The state of the path, and the timer.
+    fn tell_state(&mut self, now: u64) -> Result<(), Ending> {
+        if !self.teller.is_qlog() {
+            return Ok(());
+        }
+        let metrics = self.metrics();
+        self.teller.stands(now, &metrics)?;
+        self.tell_timer(now)
+    }
+
+    fn tell_timer(&mut self, now: u64) -> Result<(), Ending> {
+        let timer = self.timer();
+        let is_loss = self.waits_for_losses();
+        self.teller.timed(now, timer, is_loss)
+    }
+}

@@ -1,0 +1,434 @@
+//! What is told of a run: the calls of the sender, as lines of `recovery-sender`, or what happened, as qlog in JSON
+//! text sequences (RFC 7464; draft-ietf-quic-qlog-main-schema, draft-ietf-quic-qlog-quic-events).
+use crate::ending::Ending;
+use crate::peer::Frame;
+use crate::settings::{Form, SIZE};
+use crate::tape::{Piece, Tape};
+use Piece::{Number, Text};
+use recovery_sender::Losses;
+use std::alloc::Global;
+use std::io::Write;
+
+/// What is told of the state of the path in use.
+#[derive(Clone, Copy)]
+pub struct Metrics {
+    /// The bytes in flight, and the packets of them that elicit an ACK.
+    pub flight: (u64, u64),
+    /// The congestion window in bytes, and the slow start threshold; the greatest number while there is none.
+    pub window: u64,
+    pub ssthresh: u64,
+    /// Round-trip times in nanoseconds: smoothed, variance, least and latest.
+    pub rtt: [u64; 4],
+    pub pto_count: u64,
+}
+
+/// What is told of a run, on an output.
+#[derive(Drop)]
+pub struct Teller<'a, W> {
+    form: Form,
+    tape: Tape<'a, W>,
+    /// The timer and the window that were told last.
+    timer: Option<u64>,
+    window: u64,
+    /// The state of the controller that was told last.
+    state: &'static str,
+}
+
+impl<'a, W: Write> Teller<'a, W> {
+    /// Nothing was told yet.
+    pub fn new(alloc: Global, form: Form, output: &'a mut W) -> Self {
+        Teller {
+            form,
+            tape: Tape::new(alloc, output),
+            timer: None,
+            window: 0,
+            state: "slow_start",
+        }
+    }
+
+    /// Whether what happens is told as qlog.
+    pub fn is_qlog(&self) -> bool {
+        self.form == Form::Qlog
+    }
+
+    /// All that was told goes out.
+    pub fn finish(&mut self) -> Result<(), Ending> {
+        self.tape.finish()
+    }
+
+    fn is_script(&self) -> bool {
+        self.form == Form::Script
+    }
+
+    /// An event begins.
+    fn begin(&mut self, now: u64, name: &'static str) -> Result<(), Ending> {
+        self.tape.write(&[
+            Text("\u{1e}{\"time\":"),
+            Number(now),
+            Text("e-6,\"name\":\""),
+            Text(name),
+            Text("\",\"data\":{"),
+        ])
+    }
+
+    /// An event with these data happens.
+    fn event(&mut self, now: u64, name: &'static str, pieces: &[Piece]) -> Result<(), Ending> {
+        self.begin(now, name)?;
+        self.tape.write(pieces)?;
+        self.tape.write(&[Text("}}\n")])
+    }
+
+    /// The connection is up, to a peer that delays its ACKs at most so long.
+    pub fn begins(&mut self, max_ack_delay: u64) -> Result<(), Ending> {
+        if self.is_script() {
+            let delay = Number(max_ack_delay);
+            return self
+                .tape
+                .write(&[Text("peer-delay "), delay, Text("\nconfirmed\n")]);
+        }
+        if !self.is_qlog() {
+            return Ok(());
+        }
+        self.tape.write(&[Text(HEADER)])?;
+        self.event(
+            0,
+            "transport:parameters_set",
+            &[
+                Text("\"owner\":\"remote\",\"max_ack_delay\":"),
+                Number(max_ack_delay),
+                Text("e-6"),
+            ],
+        )?;
+        self.event(
+            0,
+            "connectivity:connection_state_updated",
+            &[Text("\"new\":\"handshake_confirmed\"")],
+        )
+    }
+
+    /// A datagram is to go out, asked for with window and pacer or without.
+    pub fn asks(&mut self, now: u64, is_paced: bool) -> Result<(), Ending> {
+        if !self.is_script() {
+            return Ok(());
+        }
+        self.tape.write(&[
+            Text("transmit data "),
+            Number(now),
+            Text(" "),
+            Number(u64::from(SIZE)),
+            Text(if is_paced { " 1\n" } else { " 0\n" }),
+        ])
+    }
+
+    /// The pacer wants it later.
+    pub fn delayed(&mut self, now: u64, until: u64) -> Result<(), Ending> {
+        if !self.is_qlog() {
+            return Ok(());
+        }
+        self.event(
+            now,
+            "recovery:timer_updated",
+            &[
+                Text("\"timer_type\":\"pacing\",\"event_type\":\"set\",\"delta\":"),
+                Number(until.saturating_sub(now)),
+                Text("e-6"),
+            ],
+        )
+    }
+
+    /// A packet with an item, or with none, is to be sent.
+    pub fn sends(&mut self, now: u64, item: Option<u64>) -> Result<(), Ending> {
+        if !self.is_script() {
+            return Ok(());
+        }
+        self.tape.write(&[
+            Text("send data "),
+            Number(now),
+            Text(" "),
+            Number(u64::from(SIZE)),
+            Text(" 1 -"),
+        ])?;
+        if let Some(item) = item {
+            self.tape.write(&[Text(" "), Number(item)])?;
+        }
+        self.tape.write(&[Text("\n")])
+    }
+
+    /// A packet was sent.
+    pub fn sent(
+        &mut self,
+        now: u64,
+        number: u64,
+        item: Option<u64>,
+        is_paced: bool,
+    ) -> Result<(), Ending> {
+        if !self.is_qlog() {
+            return Ok(());
+        }
+        self.begin(now, "transport:packet_sent")?;
+        self.tape.write(&[
+            Text("\"header\":{\"packet_type\":\"1RTT\",\"packet_number\":"),
+            Number(number),
+            Text("},\"raw\":{\"length\":"),
+            Number(u64::from(SIZE)),
+            Text("},\"frames\":["),
+        ])?;
+        self.content(item)?;
+        self.tape.write(&[Text(if is_paced {
+            "]}}\n"
+        } else {
+            "],\"is_paced\":false}}\n"
+        })])
+    }
+
+    fn content(&mut self, item: Option<u64>) -> Result<(), Ending> {
+        match item {
+            Some(item) => self.tape.write(&[
+                Text("{\"frame_type\":\"stream\",\"stream_id\":0,\"offset\":"),
+                Number(item.saturating_mul(u64::from(SIZE))),
+                Text(",\"length\":"),
+                Number(u64::from(SIZE)),
+                Text("}"),
+            ]),
+            None => self.tape.write(&[Text("{\"frame_type\":\"ping\"}")]),
+        }
+    }
+
+    /// An ACK came.
+    pub fn received(&mut self, now: u64, frame: &Frame, app_limited: bool) -> Result<(), Ending> {
+        match self.form {
+            Form::Figures => Ok(()),
+            Form::Script => self.ack_line(now, frame, app_limited),
+            Form::Qlog => self.ack_event(now, frame, app_limited),
+        }
+    }
+
+    fn ack_line(&mut self, now: u64, frame: &Frame, app_limited: bool) -> Result<(), Ending> {
+        self.tape.write(&[
+            Text("ack data "),
+            Number(now),
+            Text(" "),
+            Number(frame.delay),
+            Text(if app_limited { " 1" } else { " 0" }),
+        ])?;
+        for (first, last) in frame.ranges.iter().copied() {
+            self.tape
+                .write(&[Text(" "), Number(first), Text(" "), Number(last)])?;
+        }
+        self.tape.write(&[Text("\n")])
+    }
+
+    fn ack_event(&mut self, now: u64, frame: &Frame, app_limited: bool) -> Result<(), Ending> {
+        self.begin(now, "transport:packet_received")?;
+        self.tape.write(&[
+            Text(
+                "\"header\":{\"packet_type\":\"1RTT\"},\"frames\":[{\"frame_type\":\"ack\",\"ack_delay\":",
+            ),
+            Number(frame.delay),
+            Text("e-6,\"acked_ranges\":["),
+        ])?;
+        let mut before = "[";
+        for (first, last) in frame.ranges.iter().rev().copied() {
+            self.tape.write(&[
+                Text(before),
+                Number(first),
+                Text(","),
+                Number(last),
+                Text("]"),
+            ])?;
+            before = ",[";
+        }
+        self.tape.write(&[Text(if app_limited {
+            "]}],\"app_limited\":true}}\n"
+        } else {
+            "]}]}}\n"
+        })])
+    }
+
+    /// The timer for losses is looked at.
+    pub fn expires(&mut self, now: u64) -> Result<(), Ending> {
+        match self.form {
+            Form::Figures => Ok(()),
+            Form::Script => self
+                .tape
+                .write(&[Text("timeout "), Number(now), Text("\n")]),
+            Form::Qlog => {
+                self.timer = None;
+                self.event(
+                    now,
+                    "recovery:timer_updated",
+                    &[Text("\"event_type\":\"expired\"")],
+                )
+            }
+        }
+    }
+
+    /// What a look for losses found, below this largest number acknowledged.
+    pub fn lost(&mut self, now: u64, losses: &Losses, largest: u64) -> Result<(), Ending> {
+        if !self.is_qlog() {
+            return Ok(());
+        }
+        for number in losses.numbers.iter().copied() {
+            self.event(
+                now,
+                "recovery:packet_lost",
+                &[
+                    Text("\"header\":{\"packet_type\":\"1RTT\",\"packet_number\":"),
+                    Number(number),
+                    Text(if largest.saturating_sub(number) < 3 {
+                        "},\"trigger\":\"time_threshold\""
+                    } else {
+                        "},\"trigger\":\"reordering_threshold\""
+                    }),
+                ],
+            )?;
+        }
+        match losses.congestion {
+            Some(_) if losses.is_persistent => self.turns(
+                now,
+                "recovery",
+                ",\"trigger\":\"persistent_congestion\"",
+            ),
+            Some(_) => self.turns(now, "recovery", ""),
+            None => Ok(()),
+        }
+    }
+
+    /// The controller is in another state.
+    fn turns(&mut self, now: u64, state: &'static str, why: &'static str) -> Result<(), Ending> {
+        let old = self.state;
+        self.state = state;
+        self.event(
+            now,
+            "recovery:congestion_state_updated",
+            &[
+                Text("\"old\":\""),
+                Text(old),
+                Text("\",\"new\":\""),
+                Text(state),
+                Text("\""),
+                Text(why),
+            ],
+        )
+    }
+
+    /// What is lost waits to be sent again, and is taken.
+    pub fn takes(&mut self) -> Result<(), Ending> {
+        if !self.is_script() {
+            return Ok(());
+        }
+        self.tape.write(&[Text("take-pending data\n")])
+    }
+
+    /// These items were taken.
+    pub fn taken(&mut self, now: u64, items: &[u64]) -> Result<(), Ending> {
+        if !self.is_qlog() {
+            return Ok(());
+        }
+        self.begin(now, "recovery:marked_for_retransmit")?;
+        self.tape.write(&[Text("\"frames\":[")])?;
+        let mut is_first = true;
+        for item in items.iter().copied() {
+            if !is_first {
+                self.tape.write(&[Text(",")])?;
+            }
+            is_first = false;
+            self.content(Some(item))?;
+        }
+        self.tape.write(&[Text("]}}\n")])
+    }
+
+    /// What is in flight, behind a packet that was sent.
+    pub fn flies(&mut self, now: u64, metrics: &Metrics) -> Result<(), Ending> {
+        self.event(
+            now,
+            "recovery:metrics_updated",
+            &[
+                Text("\"bytes_in_flight\":"),
+                Number(metrics.flight.0),
+                Text(",\"packets_in_flight\":"),
+                Number(metrics.flight.1),
+            ],
+        )
+    }
+
+    /// The state of the path, behind an ACK or a timeout.
+    pub fn stands(&mut self, now: u64, metrics: &Metrics) -> Result<(), Ending> {
+        let [smoothed, variance, least, latest] = metrics.rtt;
+        self.begin(now, "recovery:metrics_updated")?;
+        self.tape.write(&[
+            Text("\"bytes_in_flight\":"),
+            Number(metrics.flight.0),
+            Text(",\"packets_in_flight\":"),
+            Number(metrics.flight.1),
+            Text(",\"congestion_window\":"),
+            Number(metrics.window),
+            Text(",\"pto_count\":"),
+            Number(metrics.pto_count),
+            Text(",\"smoothed_rtt\":"),
+            Number(smoothed),
+            Text("e-6,\"rtt_variance\":"),
+            Number(variance),
+            Text("e-6,\"min_rtt\":"),
+            Number(least),
+            Text("e-6,\"latest_rtt\":"),
+            Number(latest),
+            Text("e-6"),
+        ])?;
+        if metrics.ssthresh < u64::MAX {
+            self.tape
+                .write(&[Text(",\"ssthresh\":"), Number(metrics.ssthresh)])?;
+        }
+        self.tape.write(&[Text("}}\n")])?;
+        self.goes_on(now, metrics)
+    }
+
+    /// The controller's state, where the window moved.
+    fn goes_on(&mut self, now: u64, metrics: &Metrics) -> Result<(), Ending> {
+        let grows = metrics.window > self.window;
+        self.window = metrics.window;
+        let state = if metrics.window < metrics.ssthresh {
+            "slow_start"
+        } else {
+            "congestion_avoidance"
+        };
+        if grows && state != self.state {
+            return self.turns(now, state, "");
+        }
+        Ok(())
+    }
+
+    /// The timer for losses, where it changed.
+    pub fn timed(&mut self, now: u64, timer: Option<u64>, is_loss: bool) -> Result<(), Ending> {
+        if timer == self.timer {
+            return Ok(());
+        }
+        self.timer = timer;
+        let Some(moment) = timer else {
+            return self.event(
+                now,
+                "recovery:timer_updated",
+                &[Text("\"event_type\":\"cancelled\"")],
+            );
+        };
+        self.event(
+            now,
+            "recovery:timer_updated",
+            &[
+                Text(if is_loss {
+                    "\"timer_type\":\"loss_timeout\",\"event_type\":\"set\",\"delta\":"
+                } else {
+                    "\"timer_type\":\"pto\",\"event_type\":\"set\",\"delta\":"
+                }),
+                Number(moment.saturating_sub(now)),
+                Text("e-6"),
+            ],
+        )
+    }
+}
+
+/// The record before all events.
+const HEADER: &str =
+    "\u{1e}{\"qlog_version\":\"0.3\",\"qlog_format\":\"JSON-SEQ\",\"title\":\"recovery-link\",\
+\"trace\":{\"vantage_point\":{\"type\":\"client\"},\"common_fields\":{\"time_format\":\"relative\",\
+\"reference_time\":0}}}\n";

@@ -1,0 +1,178 @@
+//! A transfer: a sender and a link in a closed loop.
+use crate::ending::Ending;
+use crate::figures::Figures;
+use crate::link::{Link, sooner};
+use crate::sending::Sending;
+use crate::settings::{SIZE, Settings, Window};
+use crate::telling::Teller;
+use quic_recovery::congestion::{ControllerFactory, NewRenoConfig};
+use recovery_cubic::CubicConfig;
+use recovery_replay::fixed_window::FixedWindowConfig;
+use std::alloc::Global;
+use std::collections::VecDeque;
+use std::io::Write;
+
+/// A transfer: bytes by packets, each with an item of so many of them.
+#[derive(Drop)]
+struct Transfer<'a, F: ControllerFactory, W> {
+    sending: Sending<'a, F, W>,
+    link: Link,
+    /// How many items there are, and how many were sent for the first time.
+    items: u64,
+    begun: u64,
+    /// Items that are sent again.
+    again: VecDeque<u64>,
+    /// The moment until which the sender waits for the pacer, if it does.
+    wake: Option<u64>,
+}
+
+impl<'a, F, W> Transfer<'a, F, W>
+where
+    F: ControllerFactory + Drop,
+    F::Controller: Drop,
+    W: Write,
+{
+    /// Whether nothing waits to be sent.
+    fn has_nothing(&self) -> bool {
+        self.begun >= self.items && self.again.is_empty()
+    }
+
+    /// The item that goes next, if there is one.
+    fn take_item(&mut self) -> Option<u64> {
+        if let Some(item) = self.again.pop_front() {
+            return Some(item);
+        }
+        let item = self.begun;
+        if item >= self.items {
+            return None;
+        }
+        self.begun = item.saturating_add(1);
+        Some(item)
+    }
+
+    /// All that happens, up to the last ACK or to a moment.
+    fn run(&mut self, settings: &Settings) -> Result<(), Ending> {
+        self.sending.begin(settings.ack_delay)?;
+        self.send(0)?;
+        let mut now = 0;
+        for _ in 0..u64::MAX {
+            now = match self.next(now) {
+                Some(next) if next <= settings.until => next,
+                _ => break,
+            };
+            self.step(now)?;
+        }
+        self.end(now);
+        self.sending.finish()
+    }
+
+    /// When something happens next, unless all is acknowledged.
+    fn next(&self, now: u64) -> Option<u64> {
+        if self.has_nothing() && self.sending.in_flight() == 0 {
+            return None;
+        }
+        let next = sooner(sooner(self.link.next(), self.wake), self.sending.timer())?;
+        Some(next.max(now))
+    }
+
+    /// One thing that happens at a moment: of the link, or of the sender.
+    fn step(&mut self, now: u64) -> Result<(), Ending> {
+        self.link.go_on(now)?;
+        let changes = if let Some(frame) = self.link.take_ack(now) {
+            let app_limited = self.has_nothing();
+            self.sending.acknowledged(now, &frame, app_limited)?
+        } else if is_due(self.sending.timer(), now) {
+            self.sending.expire(now)?
+        } else if is_due(self.wake, now) {
+            false
+        } else {
+            return Ok(());
+        };
+        if changes {
+            self.sending.take_pending(now, &mut self.again)?;
+        }
+        self.send(now)
+    }
+
+    /// Packets go out, as window and pacer let them.
+    fn send(&mut self, now: u64) -> Result<(), Ending> {
+        self.wake = None;
+        for _ in 0..u64::MAX {
+            if !self.goes_on() {
+                break;
+            }
+            if let Some(until) = self.sending.transmit(now)? {
+                self.wake = Some(until.max(now.saturating_add(1)));
+                break;
+            }
+            let item = self.take_item();
+            let number = self.sending.send(now, item)?;
+            self.link.enter(now, number)?;
+        }
+        Ok(())
+    }
+
+    /// Whether a packet is to go out: something waits, or a probe is due.
+    fn goes_on(&self) -> bool {
+        self.sending.may_send() && (self.sending.is_probing() || !self.has_nothing())
+    }
+
+    fn end(&mut self, now: u64) {
+        let queue = self.link.most();
+        let dropped = self.link.dropped;
+        self.sending.figures.time = now;
+        self.sending.figures.queue = queue;
+        self.sending.figures.dropped = dropped;
+    }
+}
+
+fn is_due(moment: Option<u64>, now: u64) -> bool {
+    match moment {
+        Some(moment) => moment <= now,
+        None => false,
+    }
+}
+
+/// A transfer over controllers of this factory.
+fn transferred_by<F, W>(
+    alloc: Global,
+    factory: F,
+    settings: &Settings,
+    output: &mut W,
+) -> Result<Figures, Ending>
+where
+    F: ControllerFactory + Drop,
+    F::Controller: Drop,
+    W: Write,
+{
+    let teller = Teller::new(alloc, settings.form, output);
+    let sending = Sending::new(alloc, factory, settings, teller)?;
+    let mut transfer = Transfer {
+        sending,
+        link: Link::new(alloc, settings),
+        items: settings.bytes.div_ceil(u64::from(SIZE)),
+        begun: 0,
+        again: VecDeque::new(alloc),
+        wake: None,
+    };
+    let ran = transfer.run(settings);
+    let figures = transfer.sending.figures;
+    drop(transfer);
+    ran?;
+    Ok(figures)
+}
+
+/// A transfer: what it came to. What is told of it goes to an output.
+pub fn transferred<W: Write>(
+    alloc: Global,
+    settings: &Settings,
+    output: &mut W,
+) -> Result<Figures, Ending> {
+    match settings.window {
+        Window::Fixed(bytes) if bytes > 0 => {
+            transferred_by(alloc, FixedWindowConfig::new(bytes), settings, output)
+        }
+        Window::Cubic => transferred_by(alloc, CubicConfig::default(), settings, output),
+        _ => transferred_by(alloc, NewRenoConfig::default(), settings, output),
+    }
+}

@@ -1,0 +1,163 @@
+#!/usr/bin/env python3
+"""qlog, out and in: what recovery-link writes is JSON text sequences (RFC 7464) whose events have the form of draft-ietf-quic-qlog-quic-events,
+which stands below, and so is what tools/trace2qlog makes of a trace; tools/qlog2script reads it back to the script that the same run writes, reads
+recordings by the draft's names and by those of version 0.3, as files of tests/qlog have them, and tells of what it cannot read.
+
+Arguments are other programs to try in place of the proved ones: the link and the trace."""
+import json
+import pathlib
+import re
+import sys
+import tempfile
+
+import tree
+from tree import ROOT
+
+PROGRAMS = [ROOT / "crates" / it / "out" / it for it in ("recovery_link", "recovery_trace")]
+READER = ROOT / "tools" / "qlog2script"
+FILES = ROOT / "tests" / "qlog"
+RUNS = [  # several losses at once, a link that is late, a queue that overflows unpaced, probes, and one that never ends
+    ["bytes=300k", "loss=3%", "reorder=1%"],
+    ["bytes=300k", "controller=cubic", "loss=4%", "burst=3"],
+    ["bytes=300k", "paced=no", "delay=100ms", "seed=18446744073709551615"],
+    ["bytes=60k", "loss=20%", "ack-delay=0", "controller=24000"],
+    ["bytes=60k", "loss=100%", "until=20s"],
+]
+
+# the schema of the events that are written: of each its data, with '?' behind what may be missing; a list is of any length
+COUNT, MILLIS, FLAG = "count", "millis", "flag"
+HEADER = {"packet_type": {"initial", "handshake", "1RTT"}, "packet_number?": COUNT}
+ACK = {"frame_type": {"ack"}, "ack_delay?": MILLIS, "acked_ranges?": [[COUNT]]}
+STREAM = {"frame_type": {"stream"}, "stream_id": COUNT, "offset": COUNT, "length": COUNT}
+SHORT = {"frame_type": {"ping", "padding"}}
+STATES = {"slow_start", "congestion_avoidance", "recovery"}
+SCHEMA = {
+    "transport:parameters_set": {"owner": {"local", "remote"}, "max_ack_delay": MILLIS},
+    "connectivity:connection_state_updated": {"new": {"handshake_confirmed"}},
+    "transport:packet_sent": {"header": HEADER, "raw": {"length": COUNT}, "frames": [(STREAM, SHORT, ACK)], "is_paced?": FLAG},
+    "transport:packet_received": {"header": HEADER, "frames": [(ACK, SHORT)], "app_limited?": FLAG},
+    "recovery:metrics_updated": {
+        "min_rtt?": MILLIS, "smoothed_rtt?": MILLIS, "latest_rtt?": MILLIS, "rtt_variance?": MILLIS, "pto_count?": COUNT,
+        "congestion_window?": COUNT, "bytes_in_flight?": COUNT, "ssthresh?": COUNT, "packets_in_flight?": COUNT,
+    },
+    "recovery:congestion_state_updated": {"old?": STATES, "new": STATES, "trigger?": {"persistent_congestion", "ECN"}},
+    "recovery:timer_updated": {
+        "timer_type?": {"ack", "pto", "loss_timeout", "pacing"}, "event_type": {"set", "expired", "cancelled"}, "delta?": MILLIS,
+    },
+    "recovery:packet_lost": {"header": HEADER, "trigger?": {"reordering_threshold", "time_threshold", "pto_expired"}},
+    "recovery:marked_for_retransmit": {"frames": [STREAM]},
+}
+TRACE = {"vantage_point": {"type": {"client", "unknown"}}, "common_fields": {"time_format": {"relative"}, "reference_time": COUNT}}
+FIRST = {"qlog_version": {"0.3"}, "qlog_format": {"JSON-SEQ"}, "title": {"recovery-link", "recovery-trace"}, "trace": TRACE}
+
+BAD = [  # a recording, the lines of its script, and what is told
+    ("", "", "the recording is no JSON, or is cut off"),
+    ("nothing", "", "the recording is no JSON, or is cut off"),
+    ("{}", "", "the recording has no trace"),
+    ("[1, 2]", "", "the recording has no trace"),
+    ('{"traces": [', "", "the recording is no JSON, or is cut off"),
+    ('\x1e{"trace":{}}\n\x1e[1,2]\n', "", "a record is no object of qlog"),
+    ('\x1e{"trace":{}}\n\x1e{"time":1}\n', "", "an event has no name, or no time"),
+    ('\x1e{"trace":{}}\n\x1e{"time":1,"name":"transport:packet_sent","data":{"header":7}}\n', "", "an event has not the form that qlog gives it"),
+    ('\x1e{"trace":{}}\n\x1e{"time":1,"name":"recovery:timer_updated","data":{"event_type":"expired"}}\n\x1e{"time":2,"na', "timeout 1000000\n",
+     "record 3 is no JSON, or is cut off"),
+]
+
+tests = tree.Tests("qlog")
+expect = tests.expect
+
+
+def fits(value, form):
+    """Whether a value of JSON has a form of the schema."""
+    if isinstance(form, dict):
+        keys = {it.rstrip("?"): it for it in form}
+        missing = [it for it, key in keys.items() if not key.endswith("?") and it not in value]
+        return isinstance(value, dict) and not missing and all(it in keys and fits(value[it], form[keys[it]]) for it in value)
+    if isinstance(form, list):
+        return isinstance(value, list) and all(fits(it, form[0]) for it in value)
+    if isinstance(form, tuple):
+        return any(fits(value, it) for it in form)
+    if isinstance(form, set):
+        return value in form
+    if form is FLAG:
+        return isinstance(value, bool)
+    number = isinstance(value, int) or form is MILLIS and isinstance(value, float)
+    return number and not isinstance(value, bool) and value >= 0
+
+
+def ran(*words):
+    status, output, _ = tree.ran([PROGRAMS[0], *words], "", text=True)
+    return status, output
+
+
+def read(text):
+    return tree.ran([READER], text, text=True)
+
+
+def fit(words, status, text):
+    """The records are JSON of the form above, and their times never go back."""
+    parts = text.split("\x1e")
+    records = [json.loads(it) for it in parts[1:]]
+    expect(f"{words}: status", (status, parts[0]), (0, ""))
+    expect(f"{words}: each record ends its line", all(it.count("\n") == 1 and it.endswith("\n") for it in parts[1:]), True)
+    expect(f"{words}: the first record", fits(records[0], FIRST), True)
+    unfit = [it for it in records[1:] if set(it) != {"time", "name", "data"} or not fits(it["data"], SCHEMA.get(it["name"], set()))]
+    expect(f"{words}: events that have not their form", unfit[:3], [])
+    times = [it["time"] for it in records[1:]]
+    expect(f"{words}: times rise", times == sorted(times) and len(times) > 20, True)
+    return records
+
+
+def written(words):
+    status, text = ran("--qlog", *words)
+    fit(words, status, text)
+    back = read(text)
+    expect(f"{words}: read back", back, (0, ran("--script", *words)[1], ""))
+
+
+def traced():
+    """A trace of a recording, as qlog: its losses, its samples and its windows are those of the trace."""
+    script = ROOT / "tests" / "pictures" / "connection.txt"
+    with tempfile.TemporaryDirectory() as folder:
+        states = pathlib.Path(folder) / "states.txt"
+        states.write_text(tree.ran([PROGRAMS[1], "--state"], script.read_text(), text=True)[1])
+        status, text, _ = tree.ran([ROOT / "tools" / "trace2qlog", script, states], "", text=True)
+        records = fit("a trace", status, text)
+        lines, told = script.read_text().splitlines(), [it.get("name") for it in records]
+        expect("a trace: losses", told.count("recovery:packet_lost"), sum(it.startswith("lost ") for it in lines))
+        expect("a trace: packets", told.count("transport:packet_sent"), sum(it.startswith("send ") for it in lines))
+        windows = [json.loads(it)["congestion_window"] for it in states.read_text().splitlines() if it.startswith("{")]
+        found = [it["data"]["congestion_window"] for it in records if "congestion_window" in it.get("data", {})]
+        expect("a trace: windows", found, [it for at, it in enumerate(windows) if at == 0 or windows[at - 1] != it])
+        expect("a script without its answers", tree.ran([ROOT / "tools" / "trace2qlog", script, script], "", text=True)[0], 2)
+
+
+def recordings():
+    """Each recording of tests/qlog with its script, and what it leaves open."""
+    for file in sorted(FILES.glob("*.qlog")):
+        status, script, told = read(file.read_text())
+        tests.expect(f"{file.name}: status", status, 0)
+        expect(f"{file.name}: its script", script, file.with_suffix(".script").read_text())
+        expect(f"{file.name}: what it leaves open", told, file.with_suffix(".open").read_text())
+
+
+def unreadable():
+    for text, lines, told in BAD:
+        status, script, said = read(text)
+        expect(f"{text[-40:]!r}", (status, script, bool(re.match(f"(?s).*qlog2script: {re.escape(told)}", said))), (2, lines, True))
+    status, script, said = tree.ran([READER, "nothing.qlog"], "", text=True)
+    expect("a file that is not there", (status, script, "nothing.qlog" in said), (2, "", True))
+
+
+def main():
+    PROGRAMS[:len(sys.argv) - 1] = sys.argv[1:]
+    for words in RUNS:
+        written(words)
+    traced()
+    recordings()
+    unreadable()
+    tests.end()
+
+
+if __name__ == "__main__":
+    main()
