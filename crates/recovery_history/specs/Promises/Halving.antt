@@ -43,8 +43,8 @@ module _ {F K Q S M P : Type 0} (beginning : Beginning F K Q S M P) where
       let last = if runs history then (last_probe history).1 else through in
       size_after settings.minimum_change through (may_pass bound lost) last (tries last lost)
 
-  -- a probe has that size, and a poll of a search that runs or is due, with none in flight, finds none where there is
-  -- none; where the least change is at least 3
+  -- a probe has that size; and where a poll of a search that runs or is due, with none in flight, gives no probe, none
+  -- is left. The least change is at least 3
   abbrev pub HalvesSizes : History Q S M P → Event Q S M P → Reply Q → Type 0
   HalvesSizes history (PollMtu now) (Ok (answer.Probe number size)) =
       WhereSearched beginning (λ settings. next_size settings history ≡ Some size)
