@@ -1,6 +1,6 @@
 -- Worked rows of the promises on counts of ECN, on requests for fewer ACKs, on counters that are full and on memory,
 -- computed: with the right answer each holds, and with a wrong one it does not. Nothing rests on them.
-use Rattle.std.proofs.Common.{◌≡◌, ◌^◌, ◌-◌, ℕ, true, false, [], ◌∷◌, Ok, Err, refl, arith}
+use Rattle.std.proofs.Common.{◌^◌, ◌-◌, ℕ, true, false, [], ◌∷◌, Ok, Err, refl, arith}
 use Rattle.std.specs.declared.net.socket_addr.SocketAddr.{SocketAddr}
 use Rattle.recovery_base.specs.declared.below.SpaceId.TheVariants.{Initial, Data}
 use Rattle.recovery_base.specs.declared.below.frames.EcnCounts.{EcnCounts}
