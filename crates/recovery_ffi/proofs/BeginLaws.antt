@@ -1,5 +1,5 @@
 -- What is made of settings in which nothing is wrong: `begin` rests on it.
-use Rattle.std.proofs.Common.{◌≡◌, ℕ, false, List, Option, Some, None, length, nat_lt, is_some, refl, subst, sym, arith, inl, rules, ◌∙◌}
+use Rattle.std.proofs.Common.{◌≡◌, ℕ, false, List, Option, Some, None, length, nat_lt, is_some, refl, subst, sym, arith, inl, ◌∙◌}
 use Rattle.std.proofs.lemmas.Bool.Decides.{nat_tests}
 use Rattle.std.specs.Prelude.{if◌then◌else◌}
 use Rattle.recovery_sender.specs.declared.sender.Side.{Side}

@@ -301,7 +301,7 @@ fn list_packet(number: u64, items: &[u64], packets: &mut Vec<u64>) -> bool
     if packets.push(number).is_err() || packets.push(items.len() as u64).is_err() {
         return false;
     }
-    packets.extend_from_slice(items).is_ok()
+    items.is_empty() || packets.extend_from_slice(items).is_ok()
 }
 
 /// These packets, with the items that they carry, in place of what a list held; false, where there is no memory.

@@ -240,6 +240,9 @@ where
         ensures { MatchOption result (NoneIn (packets_in (parts_in self.now) space) from last)
             (λ found. IsFirstIn (packets_in (parts_in self.now) space) from last found) }
     {
+        if from > last {
+            return None;
+        }
         let here = self.space(space)?;
         let (number, packet) = here.sent_packets.tracked_from(from)?;
         if number > last {

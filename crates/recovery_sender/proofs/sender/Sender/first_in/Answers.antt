@@ -1,8 +1,11 @@
-use Rattle.std.proofs.Common.{[], ap, ◌∙◌}
+use Rattle.std.proofs.Common.{[], ap, ◌∙◌, arith}
 use Rattle.std.specs.Option.{option_map_or}
 use Rattle.recovery_ledger.specs.Spaces.{packets_of}
 use Rattle.recovery_sender.proofs.AckLaws.{first_of_range, none_in_range, none_of_range}
 use Rattle.recovery_sender.proofs.sender.Sender.first_in.Goals as goal
+
+pub returns-then-from-last : goal.returns-then-from-last
+returns-then-from-last g c = λ number packet is above below. omega (arith, above, below, c.if-from-last.true)
 
 pub returns-in_err-number : goal.returns-in_err-number
 returns-in_err-number g c =
