@@ -35,6 +35,15 @@ fn nanos(span: Duration) -> u64 {
     u64::try_from(span.as_nanos()).unwrap_or(u64::MAX)
 }
 
+/// When a datagram is to be asked for again: at no moment where the window has no room, which was looked at before.
+fn again_at(sent: &Transmission) -> Option<u64> {
+    match sent {
+        Transmission::Transmitted => None,
+        Transmission::Delayed(until) => Some(until.as_nanos()),
+        Transmission::Blocked | Transmission::Full => Some(u64::MAX),
+    }
+}
+
 impl<'a, F, W> Sending<'a, F, W>
 where
     F: ControllerFactory + Drop,
@@ -99,18 +108,22 @@ where
         Some(moment.as_nanos())
     }
 
-    /// Asks for a datagram: the moment at which to ask again, where the pacer wants it later.
+    /// Asks for a datagram: the moment at which to ask again, where it does not go now.
     pub fn transmit(&mut self, now: u64) -> Result<Option<u64>, Ending> {
         self.teller.asks(now, self.is_paced)?;
+        let again = self.ask(now)?;
+        if let Some(until) = again {
+            self.teller.delayed(now, until)?;
+        }
+        Ok(again)
+    }
+
+    fn ask(&mut self, now: u64) -> Result<Option<u64>, Refused> {
         let at = Instant::from_nanos(now);
-        let until = match self.sender.transmit(at, SIZE, SpaceId::Data, self.is_paced) {
-            Ok(Transmission::Transmitted) => return Ok(None),
-            Ok(Transmission::Delayed(until)) => until.as_nanos(),
-            Ok(_) => return Err(Ending::Refused),
-            Err(refused) => return Err(Ending::from(refused)),
-        };
-        self.teller.delayed(now, until)?;
-        Ok(Some(until))
+        match self.sender.transmit(at, SIZE, SpaceId::Data, self.is_paced) {
+            Ok(sent) => Ok(again_at(&sent)),
+            Err(refused) => Err(refused),
+        }
     }
 
     /// A packet with this item goes out: its number.

@@ -227,16 +227,16 @@ impl<'a, W: Write> Teller<'a, W> {
             Number(frame.delay),
             Text("e-6,\"acked_ranges\":["),
         ])?;
-        let mut before = "[";
+        let mut is_first = true;
         for (first, last) in frame.ranges.iter().rev().copied() {
             self.tape.write(&[
-                Text(before),
+                Text(if is_first { "[" } else { ",[" }),
                 Number(first),
                 Text(","),
                 Number(last),
                 Text("]"),
             ])?;
-            before = ",[";
+            is_first = false;
         }
         self.tape.write(&[Text(if app_limited {
             "]}],\"app_limited\":true}}\n"
