@@ -10,12 +10,12 @@ ghost use Rattle.recovery_history.specs.Changes.{known_to};
 ghost use Rattle.recovery_history.specs.Left.{InFlightLeft};
 
 use crate::driver::Recovery;
-use recovery_history::RecoveryConfig;
 use rand_core::Rng;
 use recovery_base::below::{NoMemory, SpaceId};
 use recovery_base::time::Instant;
 use recovery_congestion::congestion::ControllerFactory;
 use recovery_events::event::{Answer, Event, PathName, Refusal};
+use recovery_history::RecoveryConfig;
 use recovery_paths::paths::PathMarks;
 use recovery_queue::queue::RetransmitQueue;
 use std::alloc::Global;

@@ -6,13 +6,13 @@ ghost use Rattle.recovery_events.specs.Feeding.{TakesAll};
 ghost use Rattle.quic_recovery.specs.Over.{PassesOn, RunsFrom};
 
 use crate::driver::Recovery;
-use recovery_history::RecoveryConfig;
 use rand_core::Rng;
 use recovery_base::below::NoMemory;
 use recovery_base::time::Instant;
 use recovery_congestion::congestion::ControllerFactory;
 use recovery_events::event::{Answer, Event, Refusal};
 use recovery_events::feeding::{Sink, Source};
+use recovery_history::RecoveryConfig;
 use recovery_queue::queue::RetransmitQueue;
 use std::alloc::Global;
 

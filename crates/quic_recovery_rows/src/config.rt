@@ -2,9 +2,9 @@
 ghost use Rattle.std.specs.Prelude.{◌≡◌};
 ghost use Rattle.recovery_skips.specs.Skips.{IsSkips};
 
+use quic_recovery::RecoveryConfig;
 use quic_recovery::config::TransportConfig;
 use quic_recovery::congestion::NewRenoConfig;
-use quic_recovery::RecoveryConfig;
 use rand_core::SeedableRng;
 use rand_pcg::Pcg32;
 use recovery_base::below::ConnectionId;

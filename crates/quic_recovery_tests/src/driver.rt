@@ -4,8 +4,8 @@ ghost use Rattle.recovery_skips.specs.Skips.{IsSkips};
 
 use quic_recovery::config::TransportConfig;
 use quic_recovery::congestion::NewRenoConfig;
-use quic_recovery::{Recovery, RecoveryConfig};
 use quic_recovery::spaces::PacketSpace;
+use quic_recovery::{Recovery, RecoveryConfig};
 use quic_recovery_rows::config::{settings, settings_with, words};
 use quic_recovery_rows::events::*;
 use quic_recovery_rows::refusals::Refusal;

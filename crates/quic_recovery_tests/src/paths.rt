@@ -1,7 +1,7 @@
 //! What the events of paths are replied, and what they leave.
 use crate::driver::{check, check_left, fresh, holds, right, told, walk};
-use quic_recovery::congestion::NewRenoConfig;
 use quic_recovery::RecoveryConfig;
+use quic_recovery::congestion::NewRenoConfig;
 use quic_recovery::event::PathName;
 use quic_recovery_rows::config::{settings, words};
 use quic_recovery_rows::events::*;
