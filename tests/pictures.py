@@ -19,7 +19,7 @@ PICTURES = [  # the picture, the arguments, and the input
     ("connection-fixed.svg", ["connection", "-", "60000"], SCRIPT),
     ("tunnel.svg", ["tunnel"], MEASURED),
 ]
-USAGE = "usage: recovery-pictures connection [from=MOMENT] [to=MOMENT] [SEED [WINDOW]] | tunnel\n"
+USAGE = "usage: recovery-pictures connection [from=MOMENT] [to=MOMENT] [over=WINDOW] [SEED [WINDOW]] | tunnel\n"
 REFUSED = [  # the arguments, the input, and what is told
     ([], "", USAGE),
     (["nothing"], "", USAGE),
@@ -29,6 +29,9 @@ REFUSED = [  # the arguments, the input, and what is told
     (["connection", "from=1", "till=2"], SCRIPT, USAGE),
     (["connection", "from=x"], SCRIPT, USAGE),
     (["connection", "from=5", "to=5"], SCRIPT, USAGE),
+    (["connection", "over=0"], SCRIPT, USAGE),
+    (["connection", "over=cubic"], SCRIPT, "no line 'over' between two scripts\n"),
+    (["connection", "over=cubic"], f"{SCRIPT}over\nnothing\n", "line 1: cannot be read\n"),
     (["tunnel", "60000"], MEASURED, USAGE),
     (["burst"], "newreno paced 400\n", USAGE),
     (["connection"], "validated current\nnothing\n", "line 2: cannot be read\n"),
@@ -120,6 +123,22 @@ def seeds():
         tests.expect(f"in flight, with seed {seed}", flight(["connection", *seed], script), left * HEIGHT // (window * 11 // 10))
 
 
+def lines(picture, style):
+    """The lines in this style, but for their marks in the legend."""
+    return re.findall(rf'<path fill="none" [^>]*{style} d="(M[^"]*V[^"]*)"', picture)
+
+
+def two():
+    """The window of a second script is drawn over that of the first."""
+    alone = drawn(["connection"], SCRIPT)
+    both = drawn(["connection", "over=60000"], f"{SCRIPT}over\n{SCRIPT}")
+    solid, dashed = 'stroke="#004080" stroke-width="3"', 'stroke-dasharray="16 8"'
+    tests.expect("the first of two", lines(both, solid), lines(alone, solid))
+    tests.expect("of one script there is no second", lines(alone, dashed), [])
+    heights = [set(re.findall(r"V(\d+)", it)) for it in lines(both, dashed)]
+    tests.expect("the second of two stays where it is", [len(it) for it in heights], [1])
+
+
 def refusals():
     for arguments, given, text in REFUSED:
         tests.expect(f"{arguments} with {given[:20]!r}", ran(arguments, given), (2, "", text))
@@ -129,7 +148,7 @@ def main():
     global PROGRAM
     if len(sys.argv) > 1:
         PROGRAM = pathlib.Path(sys.argv[1]).resolve()
-    for part in documents, scripts, seeds, refusals:
+    for part in documents, scripts, seeds, two, refusals:
         part()
     tests.end()
 

@@ -8,7 +8,7 @@ const SECOND: u128 = 1_000_000_000;
 /// What a transfer came to.
 #[derive(Clone, Copy)]
 pub struct Figures {
-    /// When the last packet was acknowledged, or it was given up, in nanoseconds.
+    /// When the last byte was acknowledged, or the last thing happened before it was given up, in nanoseconds.
     pub time: u64,
     /// How many bytes were to be transferred.
     pub bytes: u64,

@@ -27,7 +27,19 @@ pub struct Sending<'a, F: ControllerFactory, W> {
     sender: Sender<F, ItemQueue, Pcg32>,
     teller: Teller<'a, W>,
     is_paced: bool,
+    /// How many packets in flight carry an item, and the numbers of those that carry none.
+    carrying: u64,
+    silent: Vec<u64>,
     pub figures: Figures,
+}
+
+/// A number is taken out of a list: whether it was there.
+fn take_out(numbers: &mut Vec<u64>, number: u64) -> bool {
+    if !numbers.contains(&number) {
+        return false;
+    }
+    numbers.retain(|it| *it != number);
+    true
 }
 
 /// A span in whole nanoseconds.
@@ -65,6 +77,8 @@ where
             sender,
             teller,
             is_paced: settings.is_paced,
+            carrying: 0,
+            silent: Vec::new(alloc),
             figures: Figures::new(settings.bytes),
         })
     }
@@ -82,8 +96,22 @@ where
         self.teller.finish()
     }
 
+    /// Whether something that is in flight carries an item.
+    pub fn is_carrying(&self) -> bool {
+        self.carrying > 0
+    }
+
+    /// These packets are no longer in flight.
+    fn settle(&mut self, numbers: &[u64]) {
+        for number in numbers {
+            if !take_out(&mut self.silent, *number) {
+                self.carrying = self.carrying.saturating_sub(1);
+            }
+        }
+    }
+
     /// How many bytes are in flight (RFC 9002, B.2).
-    pub fn in_flight(&self) -> u64 {
+    fn in_flight(&self) -> u64 {
         self.sender.recovery().current().in_flight().bytes
     }
 
@@ -130,6 +158,10 @@ where
     pub fn send(&mut self, now: u64, item: Option<u64>) -> Result<u64, Ending> {
         self.teller.sends(now, item)?;
         let number = self.track(now, item)?;
+        match item {
+            Some(_) => self.carrying = self.carrying.saturating_add(1),
+            None => self.silent.push(number)?,
+        }
         self.figures.sent = self.figures.sent.saturating_add(1);
         self.teller.sent(now, number, item, self.is_paced)?;
         self.tell_flight(now)?;
@@ -171,6 +203,7 @@ where
             Ok(acknowledged) => {
                 let count = acknowledged.numbers.len() as u64;
                 self.figures.acked = self.figures.acked.saturating_add(count);
+                self.settle(&acknowledged.numbers);
                 self.look(now, &acknowledged.losses)
             }
             Err(refused) => Err(Ending::from(refused)),
@@ -195,6 +228,7 @@ where
 
     /// What was found lost is counted and told: whether there is something.
     fn look(&mut self, now: u64, losses: &Losses) -> Result<bool, Ending> {
+        self.settle(&losses.numbers);
         let count = losses.numbers.len() as u64;
         self.figures.lost = self.figures.lost.saturating_add(count);
         if losses.is_persistent {

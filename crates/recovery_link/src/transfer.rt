@@ -66,9 +66,9 @@ where
         self.sending.finish()
     }
 
-    /// When something happens next, unless all is acknowledged.
+    /// When something happens next, unless all items are acknowledged.
     fn next(&self, now: u64) -> Option<u64> {
-        if self.has_nothing() && self.sending.in_flight() == 0 {
+        if self.has_nothing() && !self.sending.is_carrying() {
             return None;
         }
         let next = sooner(sooner(self.link.next(), self.wake), self.sending.timer())?;

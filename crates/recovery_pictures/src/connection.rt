@@ -26,8 +26,30 @@ use std::io::Read;
 
 /// The picture of a script.
 pub fn picture_of(alloc: Global, choice: Choice, input: &mut impl Read) -> Result<String, Failure> {
+    let (name, curves) = curves_of(alloc, choice, input)?;
+    Ok(draw(alloc, name, &curves, None)?)
+}
+
+/// The picture of two scripts with a line `over` between them, the second one's window over the first one's.
+pub fn picture_of_two(alloc: Global, choice: Choice, text: &str) -> Result<String, Failure> {
+    let Some((first, second)) = text.split_once("\nover\n") else {
+        return Err(Failure::NoSecond);
+    };
+    let (name, curves) = curves_of(alloc, choice, &mut first.as_bytes())?;
+    let window = choice.over.unwrap_or(choice.window);
+    let other = Choice { window, ..choice };
+    let (over, others) = curves_of(alloc, other, &mut second.as_bytes())?;
+    Ok(draw(alloc, name, &curves, Some((over, &others)))?)
+}
+
+/// The name of a script's controllers, and its curves.
+fn curves_of(
+    alloc: Global,
+    choice: Choice,
+    input: &mut impl Read,
+) -> Result<(&'static str, Curves), Failure> {
     let events = events(alloc, input)?;
-    let (name, curves) = match choice.window {
+    let named = match choice.window {
         Window::Fixed(bytes) if bytes > 0 => {
             let factory = FixedWindowConfig::new(bytes);
             ("a fixed window", gathered(alloc, factory, choice, events)?)
@@ -41,7 +63,7 @@ pub fn picture_of(alloc: Global, choice: Choice, input: &mut impl Read) -> Resul
             ("NewReno", gathered(alloc, factory, choice, events)?)
         }
     };
-    Ok(draw(alloc, name, &curves)?)
+    Ok(named)
 }
 
 /// All events of a script. Where memory is refused it asks for no other.

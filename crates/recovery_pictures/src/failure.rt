@@ -9,12 +9,14 @@ use thiserror::Error;
 /// Why no picture is written.
 #[derive(Clone, Copy, Debug, Error)]
 pub enum Failure {
-    #[error("usage: recovery-pictures connection [from=MOMENT] [to=MOMENT] [SEED [WINDOW]] | tunnel")]
+    #[error("usage: recovery-pictures connection [from=MOMENT] [to=MOMENT] [over=WINDOW] [SEED [WINDOW]] | tunnel")]
     Usage,
     #[error("line {0}: cannot be read")]
     BadLine(u64),
     #[error("line {0}: not 'SIZE yes' or 'SIZE no'")]
     BadMeasurement(u64),
+    #[error("no line 'over' between two scripts")]
+    NoSecond,
     #[error("the input cannot be read")]
     Input,
     #[error("out of memory")]
@@ -27,7 +29,8 @@ impl Failure {
     /// The exit status: 2 where the arguments or the text cannot be read, else 1.
     pub fn status(&self) -> u8 {
         match self {
-            Failure::Usage | Failure::BadLine(_) | Failure::BadMeasurement(_) => 2,
+            Failure::Usage | Failure::BadLine(_) | Failure::BadMeasurement(_) | Failure::NoSecond =>
+                2,
             _ => 1,
         }
     }

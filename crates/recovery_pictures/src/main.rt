@@ -34,6 +34,9 @@ fn write(rt: &HostRuntime, text: &str) -> Result<(), Failure> {
 fn run(rt: &HostRuntime) -> Result<(), Failure> {
     let words = arguments(rt)?;
     let picture = match request_of(&words) {
+        Request::Connection(choice) if choice.over.is_some() => {
+            connection::picture_of_two(rt.alloc(), choice, text(rt)?.as_str())?
+        }
         Request::Connection(choice) => {
             connection::picture_of(rt.alloc(), choice, &mut rt.reader())?
         }

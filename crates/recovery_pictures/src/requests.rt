@@ -8,11 +8,12 @@ pub const VERSION: &str = "recovery-pictures 0.11.19\n";
 
 /// What `--help` writes.
 pub const HELP: &str = "\
-usage: recovery-pictures connection [from=MOMENT] [to=MOMENT] [SEED [WINDOW]] | tunnel
+usage: recovery-pictures connection [from=MOMENT] [to=MOMENT] [over=WINDOW] [SEED [WINDOW]] | tunnel
 Draws what a connection or a path did: reads a text from standard input, and writes an SVG picture.
 
   connection  a script of recovery-replay: window, flight and round-trip time
     from, to  draws what lies between two moments of the script, in nanoseconds; none: all of it
+    over      draws the window of a second script over it, which follows a line 'over': cubic, newreno or bytes
     SEED      skips packet numbers as this seed draws them (0 to 18446744073709551615); -, or none: skips none
     WINDOW    cubic, or a congestion window that never changes, in bytes, above 0; none: NewReno
   tunnel      a line for each measurement of a link, 'SIZE yes' or 'SIZE no': the search for the MTU
@@ -33,6 +34,8 @@ pub struct Choice {
     pub from: Option<u64>,
     /// The moment at which it ends, in nanoseconds; without it the last one of the script.
     pub to: Option<u64>,
+    /// Which window limits what is in flight in a second script, if there is one.
+    pub over: Option<Window>,
 }
 
 /// What the arguments ask for.
@@ -81,6 +84,7 @@ fn connection_of(words: &[String]) -> Request {
         window: Window::NewReno,
         from: None,
         to: None,
+        over: None,
     };
     let mut place = Place::Seed;
     for word in words {
@@ -101,6 +105,10 @@ fn connection_of(words: &[String]) -> Request {
 /// The choice with a word.
 fn with_word(choice: Choice, place: Place, word: &str) -> Option<(Choice, Place)> {
     match word.split_once('=') {
+        Some(("over", window)) => {
+            let over = Some(over_of(window)?);
+            Some((Choice { over, ..choice }, place))
+        }
         Some((name, moment)) => {
             let moment = number_in(moment.as_bytes())?;
             Some((with_moment(choice, name, moment)?, place))
@@ -145,6 +153,14 @@ fn seed_in(word: &str) -> Option<Option<u64>> {
         "-" => Some(None),
         _ => Some(Some(number_in(word.as_bytes())?)),
     }
+}
+
+/// The window of a second script.
+fn over_of(word: &str) -> Option<Window> {
+    if word == "newreno" {
+        return Some(Window::NewReno);
+    }
+    named(word)
 }
 
 /// The window that a word names: CUBIC's, or one in bytes and above zero.

@@ -6,14 +6,29 @@ use crate::plot::axis::{Axis, Panel, Point};
 use crate::plot::picture::{Mark, Picture, Style};
 use std::alloc::{AllocError, Global};
 
-/// The picture of the curves of a run over controllers of this name.
-pub fn draw(alloc: Global, controller: &str, curves: &Curves) -> Result<String, AllocError> {
+/// The picture of the curves of a run over controllers of this name, and of the window of another one over it.
+pub fn draw(
+    alloc: Global,
+    controller: &str,
+    curves: &Curves,
+    second: Option<(&str, &Curves)>,
+) -> Result<String, AllocError> {
     let mut picture = sheet(alloc, "Window, flight and round-trip time");
     let time = time(curves);
     let across = name_across(alloc, &time)?;
-    let flight = upper(time, over(&curves.window, &curves.flight, KILOBYTE));
+    let tallest = second.map_or(0, |(_, others)| highest(&others.window));
+    let bytes = over(&curves.window, &curves.flight, KILOBYTE);
+    let most = bytes.most.max(tallest);
+    let flight = upper(time, Axis { most, ..bytes });
     picture.axes(&flight, across.as_str(), "kB");
     draw_flight(&mut picture, &flight, controller, curves);
+    if let Some((other, others)) = second {
+        picture.steps(&flight, &others.window, Style::Dashed);
+        picture.legend(&flight, 3, other, Mark::Line, Style::Dashed);
+    } else {
+        picture.steps(&flight, &curves.ssthresh, Style::Dotted);
+        picture.legend(&flight, 3, "ssthresh", Mark::Line, Style::Dotted);
+    }
     let longest = highest(&curves.samples).max(highest(&curves.smoothed));
     let unit = unit_for(longest);
     let spans = lower(time, over(&curves.samples, &curves.smoothed, unit));
@@ -50,12 +65,10 @@ fn over(points: &[Point], others: &[Point], unit: u64) -> Axis {
 
 fn draw_flight(picture: &mut Picture, panel: &Panel, controller: &str, curves: &Curves) {
     picture.steps(panel, &curves.flight, Style::Thin);
-    picture.steps(panel, &curves.ssthresh, Style::Dotted);
     picture.steps(panel, &curves.window, Style::Solid);
     picture.ticks(panel, &curves.probes, Style::Solid);
     picture.ticks(panel, &curves.losses, Style::Dashed);
     picture.legend(panel, 4, controller, Mark::Line, Style::Solid);
-    picture.legend(panel, 3, "ssthresh", Mark::Line, Style::Dotted);
     picture.legend(panel, 2, "bytes in flight", Mark::Line, Style::Thin);
     picture.legend(panel, 1, "a probe is due", Mark::Tick, Style::Solid);
     picture.legend(panel, 0, "a packet is lost", Mark::Tick, Style::Dashed);
