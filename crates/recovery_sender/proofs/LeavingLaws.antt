@@ -1,4 +1,4 @@
--- The timer is due as it was where nothing changes that it is found by; so leave it events that come in and ACKs that go out.
+-- The timer is due as it was where nothing changes that it is found by.
 use Rattle.std.proofs.Common.{◌≡◌, ℕ, true, false, Bool, Option, None, Some, option_map, Ok, ◌⊎◌, refl, ap, sym, inl, inr, true≢false, ◌∙◌}
 use Rattle.std.specs.Prelude.{if◌then◌else◌, min}
 use Rattle.std.specs.Option.{option_and_then, option_or}
@@ -197,8 +197,8 @@ module _ {K Q S M P : Type 0} (queue : QueueMeaning Q S M P) (variables : Variab
   pub left_by : (event : Event Q S M P) (answer : Answer Q) → leaves_timer event ≡ true
       → Changes queue old event (Ok answer) new → TimerIsSet old variables → TimerIsSet new variables
   left_by (Received space now number eliciting) (answers.New arm) is changes =
-      by_spaces variables old new (quietly space (heard now number eliciting) tt changes.steps.spaces) changes.steps.paths
-      (ap plain_same changes.plain)
+      by_spaces variables old new (quietly space (heard now number eliciting) tt changes.steps.spaces)
+      changes.steps.paths (ap plain_same changes.plain)
   left_by (Received space now number eliciting) answer is changes =
       by_spaces variables old new (quietly space (heard_again number) tt changes.steps.spaces) changes.steps.paths
       (ap plain_same changes.plain)
