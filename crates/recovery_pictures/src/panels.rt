@@ -32,6 +32,16 @@ pub fn lower(x: Axis, y: Axis) -> Panel {
     panel(820, 280, x, y)
 }
 
+/// A picture with room for a third panel below the others.
+pub fn long_sheet(alloc: Global, title: &str) -> Picture {
+    Picture::new(alloc, 1920, 1720, title)
+}
+
+/// The third panel.
+pub fn lowest(x: Axis, y: Axis) -> Panel {
+    panel(1260, 340, x, y)
+}
+
 /// A panel over the whole width.
 fn panel(top: u16, height: u16, x: Axis, y: Axis) -> Panel {
     Panel {

@@ -34,6 +34,8 @@ pub struct Curves {
     pub ssthresh: Vec<Point>,
     /// The bytes in flight (RFC 9002, B.2).
     pub flight: Vec<Point>,
+    /// The bytes in the pacer's bucket, as it was left last (RFC 9002, 7.7).
+    pub tokens: Vec<Point>,
     /// The moments at which packets were declared lost.
     pub losses: Vec<u64>,
     /// The moments at which probes were due (RFC 9002, 6.2.4).
@@ -58,6 +60,7 @@ struct Noted {
     window: u64,
     ssthresh: Option<u64>,
     flight: u64,
+    tokens: u64,
     smoothed: u64,
 }
 
@@ -68,6 +71,7 @@ impl Curves {
             window: Vec::new(alloc),
             ssthresh: Vec::new(alloc),
             flight: Vec::new(alloc),
+            tokens: Vec::new(alloc),
             losses: Vec::new(alloc),
             probes: Vec::new(alloc),
             smoothed: Vec::new(alloc),
@@ -101,6 +105,7 @@ impl Curves {
         hold(&mut self.window, last)?;
         hold(&mut self.ssthresh, last)?;
         hold(&mut self.flight, last)?;
+        hold(&mut self.tokens, last)?;
         hold(&mut self.smoothed, last)
     }
 
@@ -123,6 +128,7 @@ impl Curves {
             window: path.congestion.window(),
             ssthresh: path.congestion.metrics().ssthresh,
             flight: path.in_flight().bytes,
+            tokens: path.pacing.tokens(),
             smoothed: nanos(path.rtt.get()),
         };
         if self.now < self.from {
@@ -141,6 +147,7 @@ impl Curves {
             put_first(&mut self.ssthresh, self.from, y)?;
         }
         put_first(&mut self.flight, self.from, noted.flight)?;
+        put_first(&mut self.tokens, self.from, noted.tokens)?;
         match told {
             Told::Sample(_) => put_first(&mut self.smoothed, self.from, noted.smoothed),
             _ => Ok(()),
@@ -154,6 +161,7 @@ impl Curves {
             push_change(&mut self.ssthresh, Point { x, y })?;
         }
         push_change(&mut self.flight, Point { x, y: noted.flight })?;
+        push_change(&mut self.tokens, Point { x, y: noted.tokens })?;
         match told {
             Told::Loss if done => self.losses.push(x)?,
             Told::Probe if done => self.probes.push(x)?,

@@ -1,7 +1,9 @@
-//! Two panels: window and flight above, round-trip times below.
+//! Three panels: window and flight, round-trip times, the pacer's bucket.
 
 use super::curves::Curves;
-use crate::panels::{KILOBYTE, highest, lower, name_of, sheet, unit_for, up_to, upper};
+use crate::panels::{
+    KILOBYTE, highest, long_sheet, lower, lowest, name_of, unit_for, up_to, upper,
+};
 use crate::plot::axis::{Axis, Panel, Point};
 use crate::plot::picture::{Mark, Picture, Style};
 use std::alloc::{AllocError, Global};
@@ -13,7 +15,7 @@ pub fn draw(
     curves: &Curves,
     second: Option<(&str, &Curves)>,
 ) -> Result<String, AllocError> {
-    let mut picture = sheet(alloc, "Window, flight and round-trip time");
+    let mut picture = long_sheet(alloc, "Window, flight and round-trip time");
     let time = time(curves);
     let across = name_across(alloc, &time)?;
     let tallest = second.map_or(0, |(_, others)| highest(&others.window));
@@ -34,6 +36,10 @@ pub fn draw(
     let spans = lower(time, over(&curves.samples, &curves.smoothed, unit));
     picture.axes(&spans, across.as_str(), name_of(unit));
     draw_rtt(&mut picture, &spans, curves);
+    let bucket = lowest(time, over(&curves.tokens, &[], KILOBYTE));
+    picture.axes(&bucket, across.as_str(), "kB");
+    picture.steps(&bucket, &curves.tokens, Style::Solid);
+    picture.legend(&bucket, 0, "the pacer's bucket", Mark::Line, Style::Solid);
     picture.finish()
 }
 
