@@ -40,6 +40,14 @@ fn burst_by(answer: &Answer<ItemQueue>) -> Departure {
     }
 }
 
+/// The bytes in flight, as the answer says.
+fn bytes_by(answer: &Answer<ItemQueue>) -> u64 {
+    match answer {
+        Answer::InFlight { bytes, .. } => *bytes,
+        _ => 0,
+    }
+}
+
 impl Connection {
     /// A datagram of the peer comes in, before its packets are looked at.
     pub fn datagram_in(&mut self, path: PathName, bytes: u64) -> Result<(), Refused> {
@@ -83,8 +91,7 @@ impl Connection {
     /// What is in flight on a path, in bytes.
     pub fn in_flight(&mut self, path: PathName) -> Result<u64, Refused> {
         match self.sender.on_event(Event::InFlight { path }) {
-            Ok(Answer::InFlight { bytes, .. }) => Ok(bytes),
-            Ok(_) => unreachable!(),
+            Ok(answer) => Ok(bytes_by(&answer)),
             Err(refused) => Err(refused),
         }
     }
