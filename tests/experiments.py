@@ -26,7 +26,7 @@ def commands():
     """The commands, each with the lines that stand behind it."""
     found = []
     for line in re.findall(r"^    (.*)$", PAGE, re.M):
-        if line.startswith(("./", "tools/")):
+        if line.startswith(("./", "examples/", "tools/")):
             found.append((line, []))
         else:
             found[-1][1].append(line)
@@ -45,7 +45,8 @@ def drawn(folder):
 def run(folder, programs):
     for name in NAMES:
         os.symlink(programs / name, folder / name)
-    os.symlink(ROOT / "tools", folder / "tools")
+    for name in "tools", "examples":
+        os.symlink(ROOT / name, folder / name)
     for line, wanted in commands():
         status, output, errors = tree.ran(["bash", "-c", line], "", text=True, cwd=folder)
         expect(line, (status, (output + errors).splitlines()), (0, wanted))
