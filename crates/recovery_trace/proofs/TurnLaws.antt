@@ -9,14 +9,14 @@ use Rattle.recovery_trace.specs.Outcomes.{IsBroken}
 use Rattle.recovery_trace.specs.Turns.{DoesEvent, Turns}
 
 module _ {F R C K : Type 0} {f : _} {c : _} {q : _} {m : _} {r : _} (shows : Bool) (line : List ℕ) (number : ℕ)
-    (old new : Recovery F (List ℕ) R C K (Unit {0}) (Unit {0}) (List ℕ) f c q m r)
+    (old new : Recovery F (List ℕ) R C K (Unit {0}) (Unit {0}) (List ℕ) f c q m r) (earlier later : ℕ)
     (before after unsaid said : Option (List ℕ)) where
-  pub broken_off : (outcome : Outcome) (text : List ℕ) → IsBroken outcome → DoesEvent shows line old new text
-      → AppendsFront before after text → Keeps unsaid said
-      → Turns shows line number old new before after unsaid said (Over outcome)
+  pub broken_off : (outcome : Outcome) (text : List ℕ) → IsBroken outcome
+      → DoesEvent shows line old new earlier later text → AppendsFront before after text → Keeps unsaid said
+      → Turns shows line number old new earlier later before after unsaid said (Over outcome)
   broken_off outcome text (inl is) does front kept =
-      subst (λ o. Turns shows line number old new before after unsaid said (Over o)) (sym is)
+      subst (λ o. Turns shows line number old new earlier later before after unsaid said (Over o)) (sym is)
       ((text, does, front), kept)
   broken_off outcome text (inr is) does front kept =
-      subst (λ o. Turns shows line number old new before after unsaid said (Over o)) (sym is)
+      subst (λ o. Turns shows line number old new earlier later before after unsaid said (Over o)) (sym is)
       ((text, does, front), kept)

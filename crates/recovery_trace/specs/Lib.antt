@@ -1,4 +1,5 @@
 pub mod Faults
+pub mod Moments
 pub mod Outcomes
 pub mod States
 pub mod Telling

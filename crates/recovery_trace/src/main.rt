@@ -3,6 +3,7 @@
 #![tactic(auto)]
 
 mod faults;
+mod moments;
 mod outcome;
 mod requests;
 mod states;

@@ -16,7 +16,7 @@ Answers events one at a time: reads a line, writes its answer, reads the next.
   SEED       skips packet numbers as this seed draws them (0 to 18446744073709551615); -, or none: skips none
   WINDOW     a congestion window that never changes, in bytes, above 0; none: NewReno
   --controller NAME  in place of a WINDOW: newreno, or cubic (RFC 9438)
-  --state    writes a JSON object behind each answer: what is in flight, the window, the RTT, the MTU
+  --state    writes a JSON object behind each answer: time, what is in flight, window, RTT, MTU, pacer
   --strict   stops at the first line that cannot be read; without it that line is named and passed over
   --help     writes this
   --version  writes which recovery this is

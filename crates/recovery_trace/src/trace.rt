@@ -39,6 +39,7 @@ where
 {
     let mut line = Vec::new(alloc);
     let mut text = String::new(alloc);
+    let mut time = 0;
     let mut ended = Outcome::Ended;
     for number in 1..u64::MAX {
         let next = match next_line(input, &mut line) {
@@ -52,6 +53,7 @@ where
             &line,
             number,
             choice.shows,
+            &mut time,
             &mut text,
             output,
             errors,

@@ -6,6 +6,7 @@ ghost use Rattle.recovery_replay.specs.Writing.{AppendsFront};
 ghost use Rattle.recovery_trace.specs.Outcomes.{IsBroken};
 ghost use Rattle.recovery_trace.specs.Turns.{Answers, IsSilent, Turns, turn_text};
 
+use crate::moments::moment_of;
 use crate::outcome::Outcome;
 use crate::states::write_state;
 use crate::telling::fault_line;
@@ -44,33 +45,36 @@ fn write_turn<F>(
     reply: &Result<Answer<ItemQueue>, Refusal>,
     recovery: &Recovery<F, ItemQueue, Pcg32>,
     shows: bool,
+    time: u64,
 ) -> Result<(), AllocError>
 where
     F: ControllerFactory + Drop,
     F::Controller: Drop,
     ensures { OnOk result (string_bytes text.new ≡ string_bytes text.old
-        ++ turn_text F.Controller.words shows reply.now (parts_of recovery.now)) }
+        ++ turn_text F.Controller.words shows time reply.now (parts_of recovery.now)) }
 {
     match write_reply(text, reply) {
-        Ok(()) if shows => write_state(text, recovery.current()),
+        Ok(()) if shows => write_state(text, time, recovery.current()),
         written => written,
     }
 }
 
-/// Does the event of a line, and puts what is written for it in place of the text; false, and no text, where it spells
-/// none.
+/// Does the event of a line, moves the time on to its moment, and puts what is written for it in place of the text;
+/// false, and no text, where it spells none.
 fn answer<F>(
     alloc: Global,
     live: &mut LiveRecovery<F, ItemQueue, Pcg32>,
     line: &[u8],
     shows: bool,
+    time: &mut u64,
     text: &mut String,
 ) -> Result<bool, NoMemory>
 where
     F: ControllerFactory + Drop,
     F::Controller: Drop,
     ensures { IfOk result
-        (Answers shows line.now live.old.recovery live.new.recovery (string_bytes text.new)) }
+        (Answers shows line.now live.old.recovery live.new.recovery time.old time.new
+        (string_bytes text.new)) }
 {
     text.clear();
     let mut events = Vec::with_capacity(alloc, 1)?;
@@ -80,8 +84,9 @@ where
     let Some(event) = events.pop() else {
         return Ok(false);
     };
+    *time = (*time).max(moment_of(&event));
     let reply = live.apply(event);
-    match write_turn(text, &reply, live.recovery(), shows) {
+    match write_turn(text, &reply, live.recovery(), shows, *time) {
         Ok(()) => Ok(true),
         Err(_) => Err(NoMemory),
     }
@@ -101,8 +106,8 @@ fn write_out<W: Write>(output: &mut W, text: &str) -> Result<(), Outcome>
 }
 
 /// One line: its event is done, and its answer is written to `output` and flushed before this returns; or what it is of
-/// it that cannot be read is told to `errors`, and nothing is done. `text` is what is written, of which the caller
-/// keeps the room.
+/// it that cannot be read is told to `errors`, and nothing is done. `time` is the greatest moment so far, in
+/// nanoseconds, and `text` what is written, of which the caller keeps the room.
 ///
 /// What cannot be told to `errors` is left out.
 pub fn take_turn<F, W, E>(
@@ -111,6 +116,7 @@ pub fn take_turn<F, W, E>(
     line: &[u8],
     number: u64,
     shows: bool,
+    time: &mut u64,
     text: &mut String,
     output: &mut W,
     errors: &mut E,
@@ -120,11 +126,11 @@ where
     F::Controller: Drop,
     W: Write,
     E: Write,
-    ensures { Turns shows line.now number live.old.recovery live.new.recovery
+    ensures { Turns shows line.now number live.old.recovery live.new.recovery time.old time.new
         (W.contents output.old) (W.contents output.new)
         (E.contents errors.old) (E.contents errors.new) result }
 {
-    match answer(alloc, live, line, shows, text) {
+    match answer(alloc, live, line, shows, time, text) {
         Ok(true) => match write_out(output, text) {
             Ok(()) => Turn::Done,
             Err(outcome) => Turn::Over(outcome),
