@@ -20,7 +20,7 @@ PROGRAM = ROOT / "crates" / "recovery_trace" / "out" / "recovery_trace"
 REPLAY = ROOT / "crates" / "recovery_program" / "out" / "recovery_program"
 METRICS = {"time", "bytes_in_flight", "packets_in_flight", "congestion_window", "smoothed_rtt", "rtt_variance", "min_rtt", "latest_rtt", "mtu", "pacer_tokens"}
 GOOD, ANSWER = "next-timeout", "timeout none"
-USAGE = "usage: recovery-trace [--state] [--strict] [--controller NAME] [SEED [WINDOW]]\n"
+USAGE = "usage: recovery-trace [--state|--qlog] [--strict] [--controller NAME] [SEED [WINDOW]]\n"
 
 # a line that cannot be read, and what is told of it behind its number
 BAD = [
@@ -169,7 +169,7 @@ def arguments():
     status, text, errors = ran(["--help"], "")
     expect("help", (status, text.startswith(USAGE), errors), (0, True, ""))
     with open("/dev/full", "wb") as full:
-        for words in [], ["--help"], ["--version"]:
+        for words in [], ["--qlog"], ["--help"], ["--version"]:
             run = subprocess.run([PROGRAM, *words], input=GOOD.encode(), stdout=full, stderr=subprocess.PIPE)
             expect(f"a failed write, {words}", (run.returncode, run.stderr), (1, b"recovery-trace: write failed\n"))
     folder = os.open(ROOT, os.O_RDONLY)
@@ -185,7 +185,7 @@ def closed_pipe():
         run.stdout.close()
         run.stdin.write(f"{GOOD}\n".encode() * 2)
         expect("a closed pipe", (run.wait(), run.stderr.read()), (0, b""))
-    for words in [], ["--state"], ["--help"], ["--version"]:
+    for words in [], ["--state"], ["--qlog"], ["--help"], ["--version"]:
         left, right = os.pipe()
         os.close(left)
         run = subprocess.run([PROGRAM, *words], input=GOOD.encode(), stdout=right, stderr=subprocess.PIPE)

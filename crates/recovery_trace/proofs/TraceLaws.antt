@@ -25,6 +25,7 @@ use Rattle.recovery_trace.specs.declared.requests.Choice.{Choice}
 use Rattle.recovery_trace.specs.declared.turn.Turn.TheVariants.{Done, Bad, Over}
 use Rattle.recovery_trace.specs.Outcomes.{outcome_of}
 use Rattle.recovery_trace.specs.Moments.{moment_of}
+use Rattle.recovery_trace.specs.Qlog.{note_of}
 use Rattle.recovery_trace.specs.Telling.{Tells}
 use Rattle.recovery_trace.specs.Turns.{DoesEvent, IsBad, IsFine, IsSilent, ItemParts, Passes, Turns, turn_text}
 use Rattle.recovery_trace.proofs.KeptLaws.{kept_passes, kept_silent, kept_speaks, kept_tells}
@@ -146,7 +147,7 @@ module _ {F K : Type 0} (beginning : ItemBeginning F K) (choice : Choice) where
     -- the line's event is done
     abbrev traced_done : (event : ItemEvent) (reply : Reply) (text : List ℕ) → Spells line event
         → ExtendsFrom beginning m.traced.past event reply new → later ≡ max earlier (moment_of event)
-        → text ≡ turn_text beginning.words choice.shows later reply new
+        → text ≡ turn_text beginning.words choice.shows later (note_of event) reply new
         → Traced beginning choice.shows (line ∷ lines) (m.text ++ text) m.told
     traced_done event reply text spells goes timed is = record {
       past = (event, reply) ∷ m.traced.past;
@@ -158,14 +159,15 @@ module _ {F K : Type 0} (beginning : ItemBeginning F K) (choice : Choice) where
         m.traced.written,
         goes.came,
         ap (λ l. m.text ++ l)
-            (is ∙ ap (λ time. turn_text beginning.words choice.shows time reply new) (is_later event timed)),
+            (is ∙ ap (λ time. turn_text beginning.words choice.shows time (note_of event) reply new)
+            (is_later event timed)),
       );
       is_told = inl (inl (event, spells), m.traced.is_told);
     }
 
     pub made_done : (event : ItemEvent) (reply : Reply) (text : List ℕ) → Spells line event
         → ExtendsFrom beginning m.traced.past event reply new → later ≡ max earlier (moment_of event)
-        → text ≡ turn_text beginning.words choice.shows later reply new
+        → text ≡ turn_text beginning.words choice.shows later (note_of event) reply new
         → Appends now after text → Keeps now_said said → Made before after unsaid said new later (line ∷ lines)
     made_done event reply text spells goes timed is writes kept = record {
       text = m.text ++ text;
@@ -218,7 +220,7 @@ module _ {F K : Type 0} (beginning : ItemBeginning F K) (choice : Choice) where
     pub front_out : (unread left : Option (List ℕ)) (event : ItemEvent) (reply : Reply) (text : List ℕ)
         → Spells line event
         → ExtendsFrom beginning m.traced.past event reply new → later ≡ max earlier (moment_of event)
-        → text ≡ turn_text beginning.words choice.shows later reply new
+        → text ≡ turn_text beginning.words choice.shows later (note_of event) reply new
         → AppendsFront now after text → Keeps now_said said
         → FrontOut beginning choice (streams_of unread left before after unsaid said) (line ∷ lines)
     front_out unread left event reply text spells goes timed is front kept = (

@@ -1,14 +1,15 @@
 -- A write that breaks off: `take_turn` rests on it.
-use Rattle.std.proofs.Common.{◌≡◌, ℕ, ◌⊎◌, inl, inr, Bool, List, Option, sym, subst}
+use Rattle.std.proofs.Common.{ℕ, inl, inr, List, Option, sym, subst}
 use Rattle.std.specs.Io.KnownBytes.{Keeps}
 use Rattle.quic_recovery.specs.declared.driver.Recovery.{Recovery}
 use Rattle.recovery_replay.specs.Writing.{AppendsFront}
 use Rattle.recovery_trace.specs.declared.outcome.Outcome.{Outcome}
+use Rattle.recovery_trace.specs.declared.requests.Shown.{Shown}
 use Rattle.recovery_trace.specs.declared.turn.Turn.TheVariants.{Over}
 use Rattle.recovery_trace.specs.Outcomes.{IsBroken}
 use Rattle.recovery_trace.specs.Turns.{DoesEvent, Turns}
 
-module _ {F R C K : Type 0} {f : _} {c : _} {q : _} {m : _} {r : _} (shows : Bool) (line : List ℕ) (number : ℕ)
+module _ {F R C K : Type 0} {f : _} {c : _} {q : _} {m : _} {r : _} (shows : Shown) (line : List ℕ) (number : ℕ)
     (old new : Recovery F (List ℕ) R C K (Unit {0}) (Unit {0}) (List ℕ) f c q m r) (earlier later : ℕ)
     (before after unsaid said : Option (List ℕ)) where
   pub broken_off : (outcome : Outcome) (text : List ℕ) → IsBroken outcome

@@ -5,6 +5,7 @@
 mod faults;
 mod moments;
 mod outcome;
+mod qlog;
 mod requests;
 mod states;
 mod telling;

@@ -16,7 +16,7 @@ fn write_time(text: &mut String, time: u64) -> Result<(), AllocError>
 }
 
 /// Bytes, and packets that elicit an ACK (RFC 9002, B.2).
-fn write_flight(text: &mut String, flight: InFlight) -> Result<(), AllocError>
+pub fn write_flight(text: &mut String, flight: InFlight) -> Result<(), AllocError>
     ensures { OnOk result (string_bytes text.new ≡ string_bytes text.old ++ flight_text flight) }
 {
     let bytes = flight.bytes;
@@ -28,7 +28,7 @@ fn write_flight(text: &mut String, flight: InFlight) -> Result<(), AllocError>
 }
 
 /// The window and the slow start threshold, in bytes; no threshold where there is none yet (RFC 9002, B.3: infinite).
-fn write_window(text: &mut String, metrics: &ControllerMetrics) -> Result<(), AllocError>
+pub fn write_window(text: &mut String, metrics: &ControllerMetrics) -> Result<(), AllocError>
     ensures { OnOk result
         (string_bytes text.new ≡ string_bytes text.old ++ window_text metrics.now) }
 {
@@ -62,7 +62,7 @@ fn write_spans(
 }
 
 /// The round-trip times (RFC 9002, 5): the best estimate, its mean deviation, the least sample and the last one.
-fn write_rtt(text: &mut String, rtt: &RttEstimator) -> Result<(), AllocError>
+pub fn write_rtt(text: &mut String, rtt: &RttEstimator) -> Result<(), AllocError>
     ensures { OnOk result (string_bytes text.new ≡ string_bytes text.old ++ rtt_text rtt.now) }
 {
     write_spans(

@@ -8,6 +8,8 @@ ghost use Rattle.recovery_trace.specs.Turns.{Answers, IsSilent, Turns, turn_text
 
 use crate::moments::moment_of;
 use crate::outcome::Outcome;
+use crate::qlog::{Note, note_of, write_metrics, write_note};
+use crate::requests::Shown;
 use crate::states::write_state;
 use crate::telling::fault_line;
 use quic_recovery::below::NoMemory;
@@ -39,23 +41,31 @@ fn is_silent(line: &[u8]) -> bool
     line.is_empty() || line[0] == b'#'
 }
 
-/// Appends the line of a reply, and behind it that of the state where it is asked for.
+/// Appends the line of a reply, and behind it that of the state where it is asked for; or records of qlog.
 fn write_turn<F>(
     text: &mut String,
     reply: &Result<Answer<ItemQueue>, Refusal>,
     recovery: &Recovery<F, ItemQueue, Pcg32>,
-    shows: bool,
+    shows: Shown,
     time: u64,
+    note: Note,
 ) -> Result<(), AllocError>
 where
     F: ControllerFactory + Drop,
     F::Controller: Drop,
     ensures { OnOk result (string_bytes text.new ≡ string_bytes text.old
-        ++ turn_text F.Controller.words shows time reply.now (parts_of recovery.now)) }
+        ++ turn_text F.Controller.words shows time note reply.now (parts_of recovery.now)) }
 {
-    match write_reply(text, reply) {
-        Ok(()) if shows => write_state(text, time, recovery.current()),
-        written => written,
+    match shows {
+        Shown::Answers => write_reply(text, reply),
+        Shown::States => {
+            write_reply(text, reply)?;
+            write_state(text, time, recovery.current())
+        }
+        Shown::Qlog => {
+            write_note(text, time, note, reply)?;
+            write_metrics(text, time, recovery.current())
+        }
     }
 }
 
@@ -65,7 +75,7 @@ fn answer<F>(
     alloc: Global,
     live: &mut LiveRecovery<F, ItemQueue, Pcg32>,
     line: &[u8],
-    shows: bool,
+    shows: Shown,
     time: &mut u64,
     text: &mut String,
 ) -> Result<bool, NoMemory>
@@ -85,15 +95,16 @@ where
         return Ok(false);
     };
     *time = (*time).max(moment_of(&event));
+    let note = note_of(&event);
     let reply = live.apply(event);
-    match write_turn(text, &reply, live.recovery(), shows, *time) {
+    match write_turn(text, &reply, live.recovery(), shows, *time, note) {
         Ok(()) => Ok(true),
         Err(_) => Err(NoMemory),
     }
 }
 
 /// Writes a text and flushes. After a failure a beginning of it was written.
-fn write_out<W: Write>(output: &mut W, text: &str) -> Result<(), Outcome>
+pub fn write_out<W: Write>(output: &mut W, text: &str) -> Result<(), Outcome>
     ensures whole { OnOk result (Appends (W.contents output.old) (W.contents output.new) text.now) }
     ensures front { AppendsFront (W.contents output.old) (W.contents output.new) text.now }
     ensures broken { IfErr result IsBroken }
@@ -115,7 +126,7 @@ pub fn take_turn<F, W, E>(
     live: &mut LiveRecovery<F, ItemQueue, Pcg32>,
     line: &[u8],
     number: u64,
-    shows: bool,
+    shows: Shown,
     time: &mut u64,
     text: &mut String,
     output: &mut W,
