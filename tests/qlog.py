@@ -1,14 +1,12 @@
 #!/usr/bin/env python3
 """qlog, out and in: what recovery-link writes is JSON text sequences (RFC 7464) whose events have the form of draft-ietf-quic-qlog-quic-events,
-which stands below, and so is what tools/trace2qlog makes of a trace; tools/qlog2script reads it back to the script that the same run writes, reads
+which stands below, and so is what recovery-trace writes of a trace; tools/qlog2script reads it back to the script that the same run writes, reads
 recordings by the draft's names and by those of version 0.3, as files of tests/qlog have them, and tells of what it cannot read.
 
 Arguments are other programs to try in place of the proved ones: the link and the trace."""
 import json
-import pathlib
 import re
 import sys
-import tempfile
 
 import tree
 from tree import ROOT
@@ -63,6 +61,21 @@ BAD = [  # a recording, the lines of its script, and what is told
      "record 3 is no JSON, or is cut off"),
 ]
 
+OWN = {"mtu", "pacer_tokens"}  # of the state, and no metrics of qlog
+TOLD = [  # a line, and the records of it beside that of the metrics
+    ("send initial 1 1200 1 -", [("transport:packet_sent", {
+        "header": {"packet_type": "initial", "packet_number": 0}, "raw": {"length": 1200}, "frames": [{"frame_type": "ping"}]})]),
+    ("poll-mtu 1", [("transport:packet_sent", {
+        "header": {"packet_type": "1RTT", "packet_number": 0}, "raw": {"length": 1326}, "frames": [{"frame_type": "ping"}]})]),
+    ("received handshake 1 7 0", [("transport:packet_received", {
+        "header": {"packet_type": "handshake", "packet_number": 7}, "frames": [{"frame_type": "padding"}]})]),
+    ("congestion 1 0 1 5", [("recovery:congestion_state_updated", {"new": "recovery", "trigger": "persistent_congestion"})]),
+    ("congestion 1 0 0 5", [("recovery:congestion_state_updated", {"new": "recovery"})]),
+    ("set-timer loss-detection 2500000", [("recovery:timer_updated", {"timer_type": "pto", "event_type": "set", "delta": 2.5})]),
+    ("stop-timer loss-detection", [("recovery:timer_updated", {"event_type": "cancelled"})]),
+    ("set-timer idle 7", []), ("stop-timer idle", []), ("lost data 0", []), ("next-timeout", []),
+]
+
 tests = tree.Tests("qlog")
 expect = tests.expect
 
@@ -108,6 +121,12 @@ def fit(words, status, text):
     return records
 
 
+def fit_first(run):
+    """No more than the first record was written."""
+    status, text, _ = run
+    return status == 0 and text.count("\x1e") == 1 and fits(json.loads(text[1:]), FIRST)
+
+
 def written(words):
     status, text = ran("--qlog", *words)
     fit(words, status, text)
@@ -116,20 +135,20 @@ def written(words):
 
 
 def traced():
-    """A trace of a recording, as qlog: its losses, its samples and its windows are those of the trace."""
-    script = ROOT / "tests" / "pictures" / "connection.txt"
-    with tempfile.TemporaryDirectory() as folder:
-        states = pathlib.Path(folder) / "states.txt"
-        states.write_text(tree.ran([PROGRAMS[1], "--state"], script.read_text(), text=True)[1])
-        status, text, _ = tree.ran([ROOT / "tools" / "trace2qlog", script, states], "", text=True)
-        records = fit("a trace", status, text)
-        lines, told = script.read_text().splitlines(), [it.get("name") for it in records]
-        expect("a trace: losses", told.count("recovery:packet_lost"), sum(it.startswith("lost ") for it in lines))
-        expect("a trace: packets", told.count("transport:packet_sent"), sum(it.startswith("send ") for it in lines))
-        windows = [json.loads(it)["congestion_window"] for it in states.read_text().splitlines() if it.startswith("{")]
-        found = [it["data"]["congestion_window"] for it in records if "congestion_window" in it.get("data", {})]
-        expect("a trace: windows", found, [it for at, it in enumerate(windows) if at == 0 or windows[at - 1] != it])
-        expect("a script without its answers", tree.ran([ROOT / "tools" / "trace2qlog", script, script], "", text=True)[0], 2)
+    """A trace of a recording, as qlog: its packets, and its losses, are those of the recording, its times and metrics those of the states."""
+    script = (ROOT / "tests" / "pictures" / "connection.txt").read_text()
+    records = fit("a trace", *tree.ran([PROGRAMS[1], "--qlog"], script, text=True)[:2])
+    lines, told = script.splitlines(), [it.get("name") for it in records]
+    expect("a trace: losses", told.count("recovery:packet_lost"), sum(it.startswith("lost ") for it in lines))
+    sent = [it["data"]["raw"]["length"] for it in records if it.get("name") == "transport:packet_sent"]
+    expect("a trace: packets", sent, [int(it.split()[3]) for it in lines if it.startswith("send ")])
+    states = [json.loads(it) for it in tree.ran([PROGRAMS[1], "--state"], script, text=True)[1].splitlines() if it.startswith("{")]
+    found = [{"time": it["time"], **it["data"]} for it in records if it.get("name") == "recovery:metrics_updated"]
+    expect("a trace: states", found, [{name: it for name, it in state.items() if name not in OWN} for state in states])
+    for given, events in TOLD:
+        told = [json.loads(it) for it in tree.ran([PROGRAMS[1], "--qlog"], given + "\n", text=True)[1].split("\x1e")[1:]]
+        expect(given, [(it["name"], it["data"]) for it in told[1:-1]], events)
+    expect("a trace of nothing", fit_first(tree.ran([PROGRAMS[1], "--qlog"], "", text=True)), True)
 
 
 def recordings():

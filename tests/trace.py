@@ -18,9 +18,9 @@ from tree import ROOT
 
 PROGRAM = ROOT / "crates" / "recovery_trace" / "out" / "recovery_trace"
 REPLAY = ROOT / "crates" / "recovery_program" / "out" / "recovery_program"
-METRICS = {"bytes_in_flight", "packets_in_flight", "congestion_window", "smoothed_rtt", "rtt_variance", "min_rtt", "latest_rtt", "mtu", "pacer_tokens"}
+METRICS = {"time", "bytes_in_flight", "packets_in_flight", "congestion_window", "smoothed_rtt", "rtt_variance", "min_rtt", "latest_rtt", "mtu", "pacer_tokens"}
 GOOD, ANSWER = "next-timeout", "timeout none"
-USAGE = "usage: recovery-trace [--state] [--strict] [--controller NAME] [SEED [WINDOW]]\n"
+USAGE = "usage: recovery-trace [--state|--qlog] [--strict] [--controller NAME] [SEED [WINDOW]]\n"
 
 # a line that cannot be read, and what is told of it behind its number
 BAD = [
@@ -65,6 +65,14 @@ BYTES = [
 # lines and answers that tell how a trace begins: 1.25 windows of 12,000 bytes a round-trip time of 1 ns are more than the bucket's
 # 12,000 bytes, 1 ns behind the beginning, which is the moment 0 (RFC 9002, 7.7)
 BEGINNING = [("sample 0 1", "done"), ("transmit 0 12000 0", "transmitted"), ("pacer-check 1 12000", "ready")]
+
+# lines, with the time behind each in nanoseconds: what tells no moment, or an earlier one, leaves it, and what is refused does not
+TIMES = [
+    ("next-timeout", 0), ("received data 7 0 1", 7), ("send data 8 1200 1 -", 8), ("acked data 9 0 0", 9), ("acked data 10 0 0", 10), ("sample 0 99", 10),
+    ("set-timer idle 99", 10), ("transmit 5 1 0", 10), ("transmit 11 1 0", 11), ("pacer-check 12 0", 12), ("congestion 13 99 0 0", 13), ("end-acks 14 0 -", 14),
+    ("issue-ids 15 1 1", 15), ("poll-mtu 16", 16), ("losses-done 17", 17), ("new-path 18 0 1", 18), ("reset-path 18446744073709551615", 18446744073709551615),
+    ("new-path 19 0 0", 18446744073709551615),
+]
 
 # arguments, with status, output and errors over one good line
 ARGUMENTS = [
@@ -161,7 +169,7 @@ def arguments():
     status, text, errors = ran(["--help"], "")
     expect("help", (status, text.startswith(USAGE), errors), (0, True, ""))
     with open("/dev/full", "wb") as full:
-        for words in [], ["--help"], ["--version"]:
+        for words in [], ["--qlog"], ["--help"], ["--version"]:
             run = subprocess.run([PROGRAM, *words], input=GOOD.encode(), stdout=full, stderr=subprocess.PIPE)
             expect(f"a failed write, {words}", (run.returncode, run.stderr), (1, b"recovery-trace: write failed\n"))
     folder = os.open(ROOT, os.O_RDONLY)
@@ -177,7 +185,7 @@ def closed_pipe():
         run.stdout.close()
         run.stdin.write(f"{GOOD}\n".encode() * 2)
         expect("a closed pipe", (run.wait(), run.stderr.read()), (0, b""))
-    for words in [], ["--state"], ["--help"], ["--version"]:
+    for words in [], ["--state"], ["--qlog"], ["--help"], ["--version"]:
         left, right = os.pipe()
         os.close(left)
         run = subprocess.run([PROGRAM, *words], input=GOOD.encode(), stdout=right, stderr=subprocess.PIPE)
@@ -193,12 +201,14 @@ def states():
         expect(f"{script.name}: answers", text[::2], answers)
         names = [set(json.loads(line)) - {"ssthresh"} for line in text[1::2]]
         expect(f"{script.name}: states", names, [METRICS] * len(answers))
+    text = ran(["--state"], "".join(f"{line}\n" for line, _ in TIMES))[1].splitlines()[1::2]
+    expect("times", [it.split(",")[0] for it in text], [f'{{"time":{time}e-6' for _, time in TIMES])
 
 
 def page():
     text = (ROOT / "docs" / "PROGRAMS.md").read_text()
-    given, wanted = (re.search(rf"```{name}\n(.*?)```", text, re.S)[1] for name in ("trace", "answers"))
-    expect("the example of docs/PROGRAMS.md", ran(["--state"], given), (0, wanted, ""))
+    given, wanted = re.search(r"An example, `(.*?)` and what `recovery-trace --state` writes to it:\n\n```answers\n(.*?)```", text, re.S).groups()
+    expect("the example of docs/PROGRAMS.md", ran(["--state"], given + "\n"), (0, wanted, ""))
 
 
 def peak(count):

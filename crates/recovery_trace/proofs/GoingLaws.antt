@@ -26,10 +26,10 @@ use Rattle.recovery_trace.proofs.TraceLaws.{Made, SoFar, Taken, also_taken, bad_
 
 -- what was read and done so far, and how the trace would end here
 pub record GoingBy {F K : Type 0} (beginning : ItemBeginning F K) (choice : Choice) (streams : Streams)
-    (recovery : ItemParts K) (outcome : Outcome) (number : ℕ) : Type 0 where
+    (recovery : ItemParts K) (time : ℕ) (outcome : Outcome) (number : ℕ) : Type 0 where
   pub lines : List (List ℕ)
   pub taken : Taken streams.unread streams.left lines
-  pub made : Made beginning choice streams.before streams.after streams.unsaid streams.said recovery lines
+  pub made : Made beginning choice streams.before streams.after streams.unsaid streams.said recovery time lines
   pub so_far : SoFar beginning choice outcome lines
   pub counted : number ≡ length lines + 1
 
@@ -71,13 +71,14 @@ whole Last not = absurd (not refl)
 module _ {F R C K : Type 0} {f : _} {c : _} {q : _} {m : _} {r : _} (choice : Choice)
     (first : Recovery F (List ℕ) R C K (Unit {0}) (Unit {0}) (List ℕ) f c q m r) where
   -- whatever the beginning by which the first recovery came
-  abbrev pub Going : Streams → Recovery F (List ℕ) R C K (Unit {0}) (Unit {0}) (List ℕ) f c q m r → Outcome → ℕ → Type 0
-  Going streams recovery outcome number = (config : RecoveryConfig F) (start : ℕ) (random : Stream) →
+  abbrev pub Going : Streams → Recovery F (List ℕ) R C K (Unit {0}) (Unit {0}) (List ℕ) f c q m r → ℕ → Outcome → ℕ
+      → Type 0
+  Going streams recovery time outcome number = (config : RecoveryConfig F) (start : ℕ) (random : Stream) →
       Reached (origin first config start random) [] (parts_of first)
-      → GoingBy (origin first config start random) choice streams (parts_of recovery) outcome number
+      → GoingBy (origin first config start random) choice streams (parts_of recovery) time outcome number
 
   pub begun : (unread before unsaid : Option (List ℕ))
-      → Going (streams_of unread unread before before unsaid unsaid) first Ended 1
+      → Going (streams_of unread unread before before unsaid unsaid) first 0 Ended 1
   begun unread before unsaid config start random came = record {
     lines = [];
     taken = nothing_taken unread unread (Consumes-nil unread);
@@ -86,6 +87,7 @@ module _ {F R C K : Type 0} {f : _} {c : _} {q : _} {m : _} {r : _} (choice : Ch
       told = [];
       traced = record { past = []; spelled = tt; keeps = tt; written = refl; is_told = refl };
       came = came;
+      timed = refl;
       out = Appends-nil before;
       is_said = Appends-nil unsaid;
     };
@@ -94,15 +96,15 @@ module _ {F R C K : Type 0} {f : _} {c : _} {q : _} {m : _} {r : _} (choice : Ch
   }
 
   module _ (unread now left before mid after unsaid now_said said : Option (List ℕ))
-      (old : Recovery F (List ℕ) R C K (Unit {0}) (Unit {0}) (List ℕ) f c q m r) (outcome : Outcome) (number : ℕ)
-      (going : Going (streams_of unread now before mid unsaid now_said) old outcome number) where
+      (old : Recovery F (List ℕ) R C K (Unit {0}) (Unit {0}) (List ℕ) f c q m r) (earlier : ℕ) (outcome : Outcome)
+      (number : ℕ) (going : Going (streams_of unread now before mid unsaid now_said) old earlier outcome number) where
     pub at_end : (kept : List ℕ) (found : Option Next) → found ≡ None → IsLine now left kept found
         → TracesFrom first choice (streams_of unread left before mid unsaid now_said) outcome
     at_end kept found is read config start random came =
         let g = going config start random came in
         let nothing = subst (λ (n : Option Next). IsLine now left kept n) is read in
         let whole = takes_whole unread now left g.lines g.taken in
-        ends_so (origin first config start random) choice unread left before mid unsaid now_said (parts_of old)
+        ends_so (origin first config start random) choice unread left before mid unsaid now_said (parts_of old) earlier
         g.lines g.made outcome g.so_far
         (whole.0, rw append-nil at (Consumes-trans unread now left whole.0 [] whole.1 nothing.0), whole.2) nothing.1
 
@@ -111,10 +113,10 @@ module _ {F R C K : Type 0} {f : _} {c : _} {q : _} {m : _} {r : _} (choice : Ch
     cut_off why breaks broken is config start random came =
         let g = going config start random came in
         rw is (ends_cut (origin first config start random) choice unread left before mid unsaid now_said (parts_of old)
-        g.lines g.made now outcome why g.so_far g.taken breaks)
+        earlier g.lines g.made now outcome why g.so_far g.taken breaks)
 
-    module _ (new : Recovery F (List ℕ) R C K (Unit {0}) (Unit {0}) (List ℕ) f c q m r) (kept items : List ℕ)
-        (same : kept ≡ items) (next : Next) (found : Option Next) (found_is : found ≡ Some next)
+    module _ (new : Recovery F (List ℕ) R C K (Unit {0}) (Unit {0}) (List ℕ) f c q m r) (later : ℕ)
+        (kept items : List ℕ) (same : kept ≡ items) (next : Next) (found : Option Next) (found_is : found ≡ Some next)
         (found_line : IsLine now left items found) where
       is_line : IsLine now left kept (Some next)
       is_line = subst (λ (k : List ℕ). IsLine now left k (Some next)) (sym same)
@@ -124,102 +126,105 @@ module _ {F R C K : Type 0} {f : _} {c : _} {q : _} {m : _} {r : _} (choice : Ch
       one = one_of now left kept next is_line
 
       -- a whole line whose event is done, or that is silent
-      pub one_done : next ≡ Line → Turns choice.shows kept number old new mid after now_said said Done
-          → Going (streams_of unread left before after unsaid said) new outcome (number + 1)
+      pub one_done : next ≡ Line → Turns choice.shows kept number old new earlier later mid after now_said said Done
+          → Going (streams_of unread left before after unsaid said) new later outcome (number + 1)
       one_done is turn config start random came =
           let g = going config start random came in
           let read = rw is at is_line in record {
             lines = read.0 ∷ g.lines;
             taken = taken_more unread now left g.lines g.taken read.0 read.1.no_feed read.2;
-            made = turn_done config start random choice old new before mid after unsaid now_said said g.lines read.0
-                kept number g.made g.counted read.1 turn;
+            made = turn_done config start random choice old new earlier later before mid after unsaid now_said said
+                g.lines read.0 kept number g.made g.counted read.1 turn;
             so_far = fine_more (origin first config start random) choice outcome read.0 g.lines
-                (done_fine config start random choice old new before mid after unsaid now_said said g.lines read.0 kept
-                number g.made g.counted read.1 turn) g.so_far;
+                (done_fine config start random choice old new earlier later before mid after unsaid now_said said
+                g.lines read.0 kept number g.made g.counted read.1 turn) g.so_far;
             counted = omega (arith, g.counted);
           }
 
       pub one_bad : next ≡ Line → choice.is_strict ≡ false
-          → Turns choice.shows kept number old new mid after now_said said Bad
-          → Going (streams_of unread left before after unsaid said) new BadLine (number + 1)
+          → Turns choice.shows kept number old new earlier later mid after now_said said Bad
+          → Going (streams_of unread left before after unsaid said) new later BadLine (number + 1)
       one_bad is lax turn config start random came =
           let g = going config start random came in
           let read = rw is at is_line in record {
             lines = read.0 ∷ g.lines;
             taken = taken_more unread now left g.lines g.taken read.0 read.1.no_feed read.2;
-            made = turn_bad config start random choice old new before mid after unsaid now_said said g.lines read.0 kept
-                number g.made g.counted read.1 turn;
+            made = turn_bad config start random choice old new earlier later before mid after unsaid now_said said
+                g.lines read.0 kept number g.made g.counted read.1 turn;
             so_far = (
               bad_one (origin first config start random) choice read.0 g.lines
-                  (bad_line config start random choice old new before mid after unsaid now_said said g.lines read.0 kept
-                  number g.made g.counted read.1 turn),
+                  (bad_line config start random choice old new earlier later before mid after unsaid now_said said
+                  g.lines read.0 kept number g.made g.counted read.1 turn),
               lax,
             );
             counted = omega (arith, g.counted);
           }
 
       -- the last line, which lacks its line feed
-      pub last_done : next ≡ Last → Turns choice.shows kept number old new mid after now_said said Done
+      pub last_done : next ≡ Last → Turns choice.shows kept number old new earlier later mid after now_said said Done
           → TracesFrom first choice (streams_of unread left before after unsaid said) outcome
       last_done is turn config start random came =
           let g = going config start random came in
           let read = rw is at is_line in
-          ends_so (origin first config start random) choice unread left before after unsaid said (parts_of new)
+          ends_so (origin first config start random) choice unread left before after unsaid said (parts_of new) later
           (one.line ∷ g.lines)
-          (turn_done config start random choice old new before mid after unsaid now_said said g.lines one.line kept
-          number g.made g.counted one.is_kept turn)
+          (turn_done config start random choice old new earlier later before mid after unsaid now_said said g.lines
+          one.line kept number g.made g.counted one.is_kept turn)
           outcome
           (fine_more (origin first config start random) choice outcome one.line g.lines
-          (done_fine config start random choice old new before mid after unsaid now_said said g.lines one.line kept
-          number g.made g.counted one.is_kept turn) g.so_far)
+          (done_fine config start random choice old new earlier later before mid after unsaid now_said said g.lines
+          one.line kept number g.made g.counted one.is_kept turn) g.so_far)
           (one.takes unread g.lines g.taken) read.4
 
       pub last_bad : next ≡ Last → choice.is_strict ≡ false
-          → Turns choice.shows kept number old new mid after now_said said Bad
+          → Turns choice.shows kept number old new earlier later mid after now_said said Bad
           → TracesFrom first choice (streams_of unread left before after unsaid said) BadLine
       last_bad is lax turn config start random came =
           let g = going config start random came in
           let read = rw is at is_line in
-          ends_so (origin first config start random) choice unread left before after unsaid said (parts_of new)
+          ends_so (origin first config start random) choice unread left before after unsaid said (parts_of new) later
           (one.line ∷ g.lines)
-          (turn_bad config start random choice old new before mid after unsaid now_said said g.lines one.line kept
-          number g.made g.counted one.is_kept turn)
+          (turn_bad config start random choice old new earlier later before mid after unsaid now_said said g.lines
+          one.line kept number g.made g.counted one.is_kept turn)
           BadLine (
             bad_one (origin first config start random) choice one.line g.lines
-                (bad_line config start random choice old new before mid after unsaid now_said said g.lines one.line kept
-                number g.made g.counted one.is_kept turn),
+                (bad_line config start random choice old new earlier later before mid after unsaid now_said said g.lines
+                one.line kept number g.made g.counted one.is_kept turn),
             lax,
           )
           (one.takes unread g.lines g.taken) read.4
 
       -- a line that ends the trace
-      pub strict_bad : choice.is_strict ≡ true → Turns choice.shows kept number old new mid after now_said said Bad
+      pub strict_bad : choice.is_strict ≡ true
+          → Turns choice.shows kept number old new earlier later mid after now_said said Bad
           → TracesFrom first choice (streams_of unread left before after unsaid said) BadLine
       strict_bad strict turn config start random came =
           let g = going config start random came in
-          ends_bad (origin first config start random) choice unread left before after unsaid said (parts_of new)
+          ends_bad (origin first config start random) choice unread left before after unsaid said (parts_of new) later
           one.line g.lines
-          (turn_bad config start random choice old new before mid after unsaid now_said said g.lines one.line kept
-          number g.made g.counted one.is_kept turn)
+          (turn_bad config start random choice old new earlier later before mid after unsaid now_said said g.lines
+          one.line kept number g.made g.counted one.is_kept turn)
           outcome g.so_far strict
-          (bad_line config start random choice old new before mid after unsaid now_said said g.lines one.line kept
-          number g.made g.counted one.is_kept turn)
+          (bad_line config start random choice old new earlier later before mid after unsaid now_said said g.lines
+          one.line kept number g.made g.counted one.is_kept turn)
           (one.takes unread g.lines g.taken)
 
-      pub over : (ends : Outcome) → Turns choice.shows kept number old new mid after now_said said (Over ends)
+      pub over : (ends : Outcome)
+          → Turns choice.shows kept number old new earlier later mid after now_said said (Over ends)
           → TracesFrom first choice (streams_of unread left before after unsaid said) ends
       over ends turn config start random came =
           let g = going config start random came in
-          turn_over config start random choice old new before mid after unsaid now_said said g.lines one.line kept
-          number g.made g.counted one.is_kept unread left outcome g.so_far ends turn (one.takes unread g.lines g.taken)
+          turn_over config start random choice old new earlier later before mid after unsaid now_said said g.lines
+          one.line kept number g.made g.counted one.is_kept unread left outcome g.so_far ends turn
+          (one.takes unread g.lines g.taken)
           (one.more, one.few, also_taken unread now left g.lines g.taken one.more one.consumed)
 
     -- so many lines that none more is counted
     pub too_many : TracesFrom first choice (streams_of unread now before mid unsaid now_said) ReadFailed
     too_many config start random came =
         let g = going config start random came in
-        ends_cut (origin first config start random) choice unread now before mid unsaid now_said (parts_of old) g.lines
-        g.made now outcome reasons.ReadFailed g.so_far g.taken ([], All-nil _, Consumes-nil now, inl refl)
+        ends_cut (origin first config start random) choice unread now before mid unsaid now_said (parts_of old) earlier
+        g.lines g.made now outcome reasons.ReadFailed g.so_far g.taken ([], All-nil _, Consumes-nil now, inl refl)
 
 -- memory was refused before anything was read
 pub refused : {F K : Type 0} (beginning : ItemBeginning F K) (choice : Choice) (unread before unsaid : Option (List ℕ))

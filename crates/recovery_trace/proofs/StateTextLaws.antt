@@ -1,4 +1,4 @@
--- Texts written one behind the other: `write_state` rests on it.
+-- Texts written one behind the other: `write_state`, `write_metrics` and `write_turn` rest on them.
 use Rattle.std.proofs.Common.{◌≡◌, ℕ, List, ◌++◌, OnOk, Result, Ok, Err, ap, ◌∙◌, append_assoc}
 
 -- five parts, of which the last may have been refused
@@ -11,3 +11,9 @@ five (Ok x) start one two three four five' a b c d e p q s t u =
     (q ∙ ap (λ (l : List ℕ). l ++ b) p)))
     ∙ append_assoc (((start ++ a) ++ b) ++ c) d e ∙ append_assoc ((start ++ a) ++ b) c (d ++ e)
     ∙ append_assoc (start ++ a) b (c ++ (d ++ e)) ∙ append_assoc start a (b ++ (c ++ (d ++ e)))
+
+-- two parts
+pub two : {X E : Type 0} (r : Result X E) (start one two' a b : List ℕ) → one ≡ start ++ a → OnOk r (two' ≡ one ++ b)
+    → OnOk r (two' ≡ start ++ (a ++ b))
+two (Err x) start one two' a b p q = tt
+two (Ok x) start one two' a b p q = q ∙ ap (λ (l : List ℕ). l ++ b) p ∙ append_assoc start a b

@@ -1,5 +1,5 @@
 -- One line more of a trace, and its ends: `run` rests on it.
-use Rattle.std.proofs.Common.{◌≡◌, ℕ, suc, ◌+◌, ◌<◌, ◌≤◌, inl, inr, true, false, List, [], ◌∷◌, ◌++◌, length, reverse, take, All, Option, refl, sym, ap, subst, true≢false, ◌∙◌, arith, append-nil, append_assoc}
+use Rattle.std.proofs.Common.{◌≡◌, ℕ, suc, ◌+◌, ◌<◌, ◌≤◌, max, inl, inr, true, false, List, [], ◌∷◌, ◌++◌, length, reverse, take, All, Option, refl, sym, ap, subst, true≢false, ◌∙◌, arith, append-nil, append_assoc}
 use Rattle.std.specs.List.{Any, flat_map}
 use Rattle.std.proofs.lemmas.List.{reverse-append}
 use Rattle.std.proofs.lemmas.List.Concat.{flat_map-append}
@@ -24,10 +24,12 @@ use Rattle.recovery_trace.specs.declared.outcome.Outcome.TheVariants.{Ended, Bad
 use Rattle.recovery_trace.specs.declared.requests.Choice.{Choice}
 use Rattle.recovery_trace.specs.declared.turn.Turn.TheVariants.{Done, Bad, Over}
 use Rattle.recovery_trace.specs.Outcomes.{outcome_of}
+use Rattle.recovery_trace.specs.Moments.{moment_of}
+use Rattle.recovery_trace.specs.Qlog.{note_of}
 use Rattle.recovery_trace.specs.Telling.{Tells}
 use Rattle.recovery_trace.specs.Turns.{DoesEvent, IsBad, IsFine, IsSilent, ItemParts, Passes, Turns, turn_text}
 use Rattle.recovery_trace.proofs.KeptLaws.{kept_passes, kept_silent, kept_speaks, kept_tells}
-use Rattle.recovery_trace.specs.Trace.{AllOut, AreAllowed, EndsBad, FrontOut, ItemBeginning, ItemHistory, SpelledBy, Streams, origin, streams_of, Takes, TakesAlso, Traced, Traces}
+use Rattle.recovery_trace.specs.Trace.{AllOut, AreAllowed, EndsBad, FrontOut, ItemBeginning, ItemHistory, SpelledBy, Streams, origin, streams_of, Takes, TakesAlso, Traced, Traces, time_of}
 
 -- ---- bytes and lines
 
@@ -105,13 +107,14 @@ module _ {F K : Type 0} (beginning : ItemBeginning F K) (choice : Choice) where
   SoFar BadLine lines = Any IsBad lines × (choice.is_strict ≡ false)
   SoFar outcome lines = ⊥
 
-  -- what these lines came to, and the recovery by then
-  pub record Made (before after unsaid said : Option (List ℕ)) (recovery : ItemParts K) (lines : List (List ℕ))
-      : Type 0 where
+  -- what these lines came to, and the recovery and the time by then
+  pub record Made (before after unsaid said : Option (List ℕ)) (recovery : ItemParts K) (time : ℕ)
+      (lines : List (List ℕ)) : Type 0 where
     pub text : List ℕ
     pub told : List ℕ
     pub traced : Traced beginning choice.shows lines text told
     pub came : Reached beginning traced.past recovery
+    pub timed : time ≡ time_of traced.past
     pub out : Appends before after text
     pub is_said : Appends unsaid said told
 
@@ -135,37 +138,50 @@ module _ {F K : Type 0} (beginning : ItemBeginning F K) (choice : Choice) where
   passes_more line lines [] passes spelled = (passes, spelled)
   passes_more line lines (happened ∷ past) passes spelled = inr (passes, spelled)
 
-  module _ (before now after unsaid now_said said : Option (List ℕ)) (old new : ItemParts K) (lines : List (List ℕ))
-      (line : List ℕ) (m : Made before now unsaid now_said old lines) where
+  module _ (before now after unsaid now_said said : Option (List ℕ)) (old new : ItemParts K) (earlier later : ℕ)
+      (lines : List (List ℕ)) (line : List ℕ) (m : Made before now unsaid now_said old earlier lines) where
+    is_later : (event : ItemEvent) → later ≡ max earlier (moment_of event)
+        → later ≡ max (time_of m.traced.past) (moment_of event)
+    is_later event timed = timed ∙ ap (λ time. max time (moment_of event)) m.timed
+
     -- the line's event is done
     abbrev traced_done : (event : ItemEvent) (reply : Reply) (text : List ℕ) → Spells line event
-        → ExtendsFrom beginning m.traced.past event reply new
-        → text ≡ turn_text beginning.words choice.shows reply new
+        → ExtendsFrom beginning m.traced.past event reply new → later ≡ max earlier (moment_of event)
+        → text ≡ turn_text beginning.words choice.shows later (note_of event) reply new
         → Traced beginning choice.shows (line ∷ lines) (m.text ++ text) m.told
-    traced_done event reply text spells goes is = record {
+    traced_done event reply text spells goes timed is = record {
       past = (event, reply) ∷ m.traced.past;
       spelled = inl (spells, m.traced.spelled);
       keeps = (goes.keeps, m.traced.keeps);
-      written = (m.text, new, m.traced.written, goes.came, ap (λ l. m.text ++ l) is);
+      written = (
+        m.text,
+        new,
+        m.traced.written,
+        goes.came,
+        ap (λ l. m.text ++ l)
+            (is ∙ ap (λ time. turn_text beginning.words choice.shows time (note_of event) reply new)
+            (is_later event timed)),
+      );
       is_told = inl (inl (event, spells), m.traced.is_told);
     }
 
     pub made_done : (event : ItemEvent) (reply : Reply) (text : List ℕ) → Spells line event
-        → ExtendsFrom beginning m.traced.past event reply new
-        → text ≡ turn_text beginning.words choice.shows reply new
-        → Appends now after text → Keeps now_said said → Made before after unsaid said new (line ∷ lines)
-    made_done event reply text spells goes is writes kept = record {
+        → ExtendsFrom beginning m.traced.past event reply new → later ≡ max earlier (moment_of event)
+        → text ≡ turn_text beginning.words choice.shows later (note_of event) reply new
+        → Appends now after text → Keeps now_said said → Made before after unsaid said new later (line ∷ lines)
+    made_done event reply text spells goes timed is writes kept = record {
       text = m.text ++ text;
       told = m.told;
-      traced = traced_done event reply text spells goes is;
+      traced = traced_done event reply text spells goes timed is;
       came = goes.came;
+      timed = is_later event timed;
       out = Appends-trans before now after m.text text m.out writes;
       is_said = Appends-kept unsaid now_said said m.told m.is_said kept;
     }
 
-    pub made_silent : Passes line → IsSilent line → new ≡ old → Keeps now after → Keeps now_said said
-        → Made before after unsaid said new (line ∷ lines)
-    made_silent passes silent same kept kept_said = record {
+    pub made_silent : Passes line → IsSilent line → new ≡ old → later ≡ earlier → Keeps now after → Keeps now_said said
+        → Made before after unsaid said new later (line ∷ lines)
+    made_silent passes silent same still kept kept_said = record {
       text = m.text;
       told = m.told;
       traced = record {
@@ -176,13 +192,15 @@ module _ {F K : Type 0} (beginning : ItemBeginning F K) (choice : Choice) where
         is_told = inl (inr (passes, silent), m.traced.is_told);
       };
       came = subst (Reached beginning m.traced.past) (sym same) m.came;
+      timed = still ∙ m.timed;
       out = Appends-kept before now after m.text m.out kept;
       is_said = Appends-kept unsaid now_said said m.told m.is_said kept_said;
     }
 
-    pub made_bad : (text : List ℕ) → IsBad line → new ≡ old → Keeps now after → Tells line (length lines + 1) text
-        → AppendsFront now_said said text → Made before after unsaid said new (line ∷ lines)
-    made_bad text bad same kept tells front = record {
+    pub made_bad : (text : List ℕ) → IsBad line → new ≡ old → later ≡ earlier → Keeps now after
+        → Tells line (length lines + 1) text → AppendsFront now_said said text
+        → Made before after unsaid said new later (line ∷ lines)
+    made_bad text bad same still kept tells front = record {
       text = m.text;
       told = m.told ++ take front.0 text;
       traced = record {
@@ -193,6 +211,7 @@ module _ {F K : Type 0} (beginning : ItemBeginning F K) (choice : Choice) where
         is_told = inr (bad, (m.told, text, front.0, m.traced.is_told, tells, refl));
       };
       came = subst (Reached beginning m.traced.past) (sym same) m.came;
+      timed = still ∙ m.timed;
       out = Appends-kept before now after m.text m.out kept;
       is_said = Appends-trans unsaid now_said said m.told (take front.0 text) m.is_said front.1;
     }
@@ -200,14 +219,14 @@ module _ {F K : Type 0} (beginning : ItemBeginning F K) (choice : Choice) where
     -- a write of its answer breaks off
     pub front_out : (unread left : Option (List ℕ)) (event : ItemEvent) (reply : Reply) (text : List ℕ)
         → Spells line event
-        → ExtendsFrom beginning m.traced.past event reply new
-        → text ≡ turn_text beginning.words choice.shows reply new
+        → ExtendsFrom beginning m.traced.past event reply new → later ≡ max earlier (moment_of event)
+        → text ≡ turn_text beginning.words choice.shows later (note_of event) reply new
         → AppendsFront now after text → Keeps now_said said
         → FrontOut beginning choice (streams_of unread left before after unsaid said) (line ∷ lines)
-    front_out unread left event reply text spells goes is front kept = (
+    front_out unread left event reply text spells goes timed is front kept = (
       m.text ++ text,
       m.told,
-      traced_done event reply text spells goes is,
+      traced_done event reply text spells goes timed is,
       (
         length m.text + front.0,
         rw (take_behind m.text text front.0) (Appends-trans before now after m.text (take front.0 text) m.out front.1),
@@ -219,44 +238,44 @@ module _ {F K : Type 0} (beginning : ItemBeginning F K) (choice : Choice) where
 
 module _ {F R C K : Type 0} {f : _} {c : _} {q : _} {m : _} {r : _} (config : RecoveryConfig F) (start : ℕ)
     (random : Stream) (choice : Choice)
-    (old new : Recovery F (List ℕ) R C K (Unit {0}) (Unit {0}) (List ℕ) f c q m r) where
+    (old new : Recovery F (List ℕ) R C K (Unit {0}) (Unit {0}) (List ℕ) f c q m r) (earlier later : ℕ) where
   module _ (before now after unsaid now_said said : Option (List ℕ)) (lines : List (List ℕ))
       (line kept : List ℕ) (number : ℕ)
-      (made : Made (origin old config start random) choice before now unsaid now_said (parts_of old) lines)
+      (made : Made (origin old config start random) choice before now unsaid now_said (parts_of old) earlier lines)
       (is_number : number ≡ length lines + 1) (is_kept : Kept line kept) where
-    pub turn_done : Turns choice.shows kept number old new now after now_said said Done
-        → Made (origin old config start random) choice before after unsaid said (parts_of new) (line ∷ lines)
+    pub turn_done : Turns choice.shows kept number old new earlier later now after now_said said Done
+        → Made (origin old config start random) choice before after unsaid said (parts_of new) later (line ∷ lines)
     turn_done (inl (text, does, writes), kept_said) =
         made_done (origin old config start random) choice before now after unsaid now_said said (parts_of old)
-        (parts_of new) lines line made
+        (parts_of new) earlier later lines line made
         does.event does.reply text (kept_spells line kept does.event is_kept does.spelled)
-        (does.goes config start random made.traced.past made.came) does.written writes kept_said
-    turn_done (inr (passes, silent, same, stays), kept_said) =
+        (does.goes config start random made.traced.past made.came) does.timed does.written writes kept_said
+    turn_done (inr (passes, silent, same, still, stays), kept_said) =
         made_silent (origin old config start random) choice before now after unsaid now_said said (parts_of old)
-        (parts_of new) lines line made
-        (kept_passes line kept is_kept passes) (kept_silent line kept is_kept silent) same stays kept_said
+        (parts_of new) earlier later lines line made
+        (kept_passes line kept is_kept passes) (kept_silent line kept is_kept silent) same still stays kept_said
 
-    pub done_fine : Turns choice.shows kept number old new now after now_said said Done → IsFine line
+    pub done_fine : Turns choice.shows kept number old new earlier later now after now_said said Done → IsFine line
     done_fine (inl (text, does, writes), kept_said) =
         inl (does.event, kept_spells line kept does.event is_kept does.spelled)
-    done_fine (inr (passes, silent, same, stays), kept_said) =
+    done_fine (inr (passes, silent, same, still, stays), kept_said) =
         inr (kept_passes line kept is_kept passes, kept_silent line kept is_kept silent)
 
-    pub bad_line : Turns choice.shows kept number old new now after now_said said Bad → IsBad line
+    pub bad_line : Turns choice.shows kept number old new earlier later now after now_said said Bad → IsBad line
     bad_line turn = (kept_passes line kept is_kept turn.0.0, kept_speaks line kept is_kept turn.0.1)
 
-    pub turn_bad : Turns choice.shows kept number old new now after now_said said Bad
-        → Made (origin old config start random) choice before after unsaid said (parts_of new) (line ∷ lines)
+    pub turn_bad : Turns choice.shows kept number old new earlier later now after now_said said Bad
+        → Made (origin old config start random) choice before after unsaid said (parts_of new) later (line ∷ lines)
     turn_bad turn =
         made_bad (origin old config start random) choice before now after unsaid now_said said (parts_of old)
-        (parts_of new) lines line made
-        turn.3.0 (bad_line turn) turn.1 turn.2
-        (subst (λ n. Tells line n turn.3.0) is_number (kept_tells line kept number turn.3.0 is_kept turn.3.1)) turn.3.2
+        (parts_of new) earlier later lines line made
+        turn.4.0 (bad_line turn) turn.1 turn.2 turn.3
+        (subst (λ n. Tells line n turn.4.0) is_number (kept_tells line kept number turn.4.0 is_kept turn.4.1)) turn.4.2
 
     module _ (unread left : Option (List ℕ)) (so_far : Outcome)
         (is_so_far : SoFar (origin old config start random) choice so_far lines) where
       -- the write of its answer broke off
-      broken : ((text : List ℕ) × DoesEvent choice.shows kept old new text × AppendsFront now after text)
+      broken : ((text : List ℕ) × DoesEvent choice.shows kept old new earlier later text × AppendsFront now after text)
           × Keeps now_said said
           → AreAllowed choice (line ∷ lines)
           × FrontOut (origin old config start random) choice (streams_of unread left before after unsaid said)
@@ -267,13 +286,13 @@ module _ {F R C K : Type 0} {f : _} {c : _} {q : _} {m : _} {r : _} (config : Re
                 (fine_more (origin old config start random) choice so_far line lines (inl (does.event, spells))
                 is_so_far),
             front_out (origin old config start random) choice before now after unsaid now_said said (parts_of old)
-                (parts_of new) lines line made unread left does.event does.reply text spells
-                (does.goes config start random made.traced.past made.came) does.written front kept_said,
+                (parts_of new) earlier later lines line made unread left does.event does.reply text spells
+                (does.goes config start random made.traced.past made.came) does.timed does.written front kept_said,
           )
 
       -- it is over with this line, which was taken
       pub turn_over : (outcome : Outcome)
-          → Turns choice.shows kept number old new now after now_said said (Over outcome)
+          → Turns choice.shows kept number old new earlier later now after now_said said (Over outcome)
           → Takes (streams_of unread left before after unsaid said) (line ∷ lines)
           → ((more : List ℕ) × (length (lines_of more) ≤ 1)
           × TakesAlso (streams_of unread left before after unsaid said) lines more)
@@ -299,8 +318,8 @@ module _ {F R C K : Type 0} {f : _} {c : _} {q : _} {m : _} {r : _} (config : Re
 -- ---- its ends
 
 module _ {F K : Type 0} (beginning : ItemBeginning F K) (choice : Choice)
-    (unread left before after unsaid said : Option (List ℕ)) (recovery : ItemParts K) (lines : List (List ℕ))
-    (made : Made beginning choice before after unsaid said recovery lines) where
+    (unread left before after unsaid said : Option (List ℕ)) (recovery : ItemParts K) (time : ℕ)
+    (lines : List (List ℕ)) (made : Made beginning choice before after unsaid said recovery time lines) where
   abbrev ends : Streams
   ends = streams_of unread left before after unsaid said
 
@@ -332,8 +351,9 @@ module _ {F K : Type 0} (beginning : ItemBeginning F K) (choice : Choice)
   )
 
 module _ {F K : Type 0} (beginning : ItemBeginning F K) (choice : Choice)
-    (unread left before after unsaid said : Option (List ℕ)) (recovery : ItemParts K) (line : List ℕ)
-    (lines : List (List ℕ)) (made : Made beginning choice before after unsaid said recovery (line ∷ lines)) where
+    (unread left before after unsaid said : Option (List ℕ)) (recovery : ItemParts K) (time : ℕ)
+    (line : List ℕ) (lines : List (List ℕ))
+    (made : Made beginning choice before after unsaid said recovery time (line ∷ lines)) where
   -- a line that cannot be read ends a strict trace
   pub ends_bad : (so_far : Outcome) → SoFar beginning choice so_far lines → choice.is_strict ≡ true → IsBad line
       → Takes (streams_of unread left before after unsaid said) (line ∷ lines)

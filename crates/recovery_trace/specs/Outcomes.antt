@@ -29,7 +29,8 @@ error_text ReadFailed = codes "recovery-trace: read failed\n"
 error_text WriteFailed = codes "recovery-trace: write failed\n"
 error_text Closed = []
 error_text OutOfMemory = codes "recovery-trace: out of memory\n"
-error_text WrongArguments = codes "usage: recovery-trace [--state] [--strict] [--controller NAME] [SEED [WINDOW]]\n"
+error_text WrongArguments =
+    codes "usage: recovery-trace [--state|--qlog] [--strict] [--controller NAME] [SEED [WINDOW]]\n"
 
 -- a write failed: where the answers go, or since nobody reads them any more
 abbrev pub IsBroken : Outcome → Type 0

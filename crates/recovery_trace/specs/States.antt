@@ -1,4 +1,4 @@
--- The line of a path's state.
+-- The line of a path's state at a time.
 use Rattle.std.specs.Prelude.{ℕ, ◌-◌, ◌^◌, nat_lt, List, [], ◌++◌, Option, Some, None, decimal, if◌then◌else◌}
 use lib.Chars.{codes}
 use Rattle.recovery_congestion.specs.Controllers.{ControllerWords}
@@ -7,6 +7,10 @@ use Rattle.recovery_congestion.specs.declared.congestion.ControllerMetrics.{Cont
 use Rattle.recovery_ledger.specs.declared.paths.InFlight.{InFlight}
 use Rattle.recovery_ledger.specs.Paths.{counters_of}
 use Rattle.recovery_paths.specs.PathStates.{Path}
+
+-- in milliseconds, as whole nanoseconds with an exponent, and so are the spans below
+unfoldable pub time_text : ℕ → List ℕ
+time_text time = codes "{\"time\":" ++ (decimal time ++ codes "e-6,")
 
 abbrev pub flight_text : InFlight → List ℕ
 flight_text flight =
@@ -22,7 +26,6 @@ abbrev pub window_text : ControllerMetrics → List ℕ
 window_text metrics =
     codes ",\"congestion_window\":" ++ (decimal metrics.congestion_window ++ threshold_text metrics.ssthresh)
 
--- in milliseconds, as whole nanoseconds with an exponent
 unfoldable pub spans_text : ℕ → ℕ → ℕ → ℕ → List ℕ
 spans_text smoothed variance least latest =
     codes ",\"smoothed_rtt\":" ++ (decimal smoothed ++ (codes "e-6,\"rtt_variance\":" ++ (decimal variance
@@ -38,7 +41,7 @@ unfoldable pub room_text : ℕ → ℕ → List ℕ
 room_text mtu tokens =
     codes ",\"mtu\":" ++ (decimal mtu ++ (codes ",\"pacer_tokens\":" ++ (decimal tokens ++ codes "}\n")))
 
-abbrev pub state_text : {K : Type 0} → ControllerWords K → Path K → List ℕ
-state_text words path =
-    codes "{" ++ (flight_text (counters_of path.ledger) ++ (window_text (words.metrics path.state.controller)
+abbrev pub state_text : {K : Type 0} → ControllerWords K → ℕ → Path K → List ℕ
+state_text words time path =
+    time_text time ++ (flight_text (counters_of path.ledger) ++ (window_text (words.metrics path.state.controller)
     ++ (rtt_text path.state.rtt ++ room_text path.state.discovery.mtu path.state.pacer.tokens)))

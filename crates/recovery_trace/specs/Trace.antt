@@ -1,5 +1,5 @@
 -- What a trace makes of its input.
-use Rattle.std.specs.Prelude.{◌≡◌, ℕ, ◌+◌, ◌≤◌, ◌⊎◌, Bool, true, false, List, [], ◌∷◌, ◌++◌, length, reverse, take, All, Option}
+use Rattle.std.specs.Prelude.{◌≡◌, ℕ, ◌+◌, ◌≤◌, max, ◌⊎◌, Bool, true, false, List, [], ◌∷◌, ◌++◌, length, reverse, take, All, Option}
 use Rattle.std.specs.List.{Any, flat_map}
 use Rattle.std.specs.declared.net.socket_addr.SocketAddr.{SocketAddr}
 use Rattle.std.specs.Io.KnownBytes.{Appends, Consumes, IsAtEnd}
@@ -22,8 +22,13 @@ use Rattle.recovery_replay.specs.Writing.{AppendsFront}
 use Rattle.recovery_trace.specs.declared.outcome.Outcome.{Outcome}
 use Rattle.recovery_trace.specs.declared.outcome.Outcome.TheVariants.{Ended, BadLine, ReadFailed, WriteFailed, Closed, OutOfMemory, WrongArguments}
 use Rattle.recovery_trace.specs.declared.requests.Choice.{Choice}
+use Rattle.recovery_trace.specs.declared.requests.Shown.{Shown}
+use Rattle.recovery_trace.specs.declared.requests.Shown.TheVariants.{Qlog}
 use Rattle.recovery_trace.specs.declared.requests.Controllers.{Controllers}
 use Rattle.recovery_trace.specs.declared.requests.Controllers.TheVariants.{NewReno, Cubic, Fixed}
+use Rattle.recovery_trace.specs.Moments.{moment_of}
+use Rattle.recovery_trace.specs.Outcomes.{IsBroken}
+use Rattle.recovery_trace.specs.Qlog.{header_text, note_of}
 use Rattle.recovery_trace.specs.Telling.{Tells}
 use Rattle.recovery_trace.specs.Turns.{IsBad, IsFine, ItemParts, Passes, turn_text}
 
@@ -51,14 +56,20 @@ ToldOf (line ∷ lines) told =
     ⊎ (IsBad line × ((front : List ℕ) × (text : List ℕ) × (n : ℕ) × ToldOf lines front
     × Tells line (length lines + 1) text × (told ≡ front ++ take n text)))
 
-module _ {F K : Type 0} (beginning : ItemBeginning F K) (shows : Bool) where
+-- the greatest moment at which an event of a past happened, or 0
+abbrev pub time_of : ItemHistory → ℕ
+time_of [] = 0
+time_of (happened ∷ past) = max (time_of past) (moment_of happened.0)
+
+module _ {F K : Type 0} (beginning : ItemBeginning F K) (shows : Shown) where
   -- what is written of a past: of each event the line of its reply, and behind it, where it is asked for, that of the
-  -- state to which the past came by then
+  -- time and of the state to which the past came by then, or its records of qlog
   abbrev pub WrittenOf : ItemHistory → List ℕ → Type 0
   WrittenOf [] text = text ≡ []
   WrittenOf (happened ∷ past) text =
       (front : List ℕ) × (left : ItemParts K) × WrittenOf past front × Reached beginning (happened ∷ past) left
-      × (text ≡ front ++ turn_text beginning.words shows happened.1 left)
+      × (text ≡ front
+      ++ turn_text beginning.words shows (time_of (happened ∷ past)) (note_of happened.0) happened.1 left)
 
   -- What these lines spell happened, and all that is promised of whole runs holds at each event; this is written of it,
   -- and this is told of the lines.
@@ -164,5 +175,17 @@ TracesBy Cubic choice streams outcome = TracesOver cubic_made cubic_words defaul
 TracesBy (Fixed factory) choice streams outcome =
     TracesOver (λ fixed now mtu. fixed_made fixed.window) fixed_words factory choice streams outcome
 
+-- a trace behind the record before all events of qlog, or a write of that broke off, and nothing was read
+abbrev pub TracesBehind : Choice → Streams → Outcome → Type 0
+TracesBehind choice streams outcome =
+    ((headed : Option (List ℕ)) × Appends streams.before headed header_text
+    × TracesBy choice.controllers choice (record streams { before = headed }) outcome)
+    ⊎ (IsBroken outcome × AppendsFront streams.before streams.after header_text × (streams.left ≡ streams.unread)
+    × (streams.said ≡ streams.unsaid))
+
+abbrev pub TracesWith : Shown → Choice → Streams → Outcome → Type 0
+TracesWith Qlog choice streams outcome = TracesBehind choice streams outcome
+TracesWith shows choice streams outcome = TracesBy choice.controllers choice streams outcome
+
 abbrev pub TracesAs : Choice → Streams → Outcome → Type 0
-TracesAs choice streams outcome = TracesBy choice.controllers choice streams outcome
+TracesAs choice streams outcome = TracesWith choice.shows choice streams outcome

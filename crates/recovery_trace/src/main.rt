@@ -3,7 +3,9 @@
 #![tactic(auto)]
 
 mod faults;
+mod moments;
 mod outcome;
+mod qlog;
 mod requests;
 mod states;
 mod telling;

@@ -4,7 +4,7 @@ use recovery_replay::fixed_window::FixedWindowConfig;
 
 /// How the program is called.
 pub const USAGE: &str =
-    "usage: recovery-trace [--state] [--strict] [--controller NAME] [SEED [WINDOW]]\n";
+    "usage: recovery-trace [--state|--qlog] [--strict] [--controller NAME] [SEED [WINDOW]]\n";
 
 /// What `--version` writes.
 pub const VERSION: &str = "recovery-trace 0.11.19\n";
@@ -16,7 +16,8 @@ Answers events one at a time: reads a line, writes its answer, reads the next.
   SEED       skips packet numbers as this seed draws them (0 to 18446744073709551615); -, or none: skips none
   WINDOW     a congestion window that never changes, in bytes, above 0; none: NewReno
   --controller NAME  in place of a WINDOW: newreno, or cubic (RFC 9438)
-  --state    writes a JSON object behind each answer: what is in flight, the window, the RTT, the MTU
+  --state    writes a JSON object behind each answer: time, what is in flight, window, RTT, MTU, pacer
+  --qlog     writes qlog in place of answers, as JSON text sequences (RFC 7464)
   --strict   stops at the first line that cannot be read; without it that line is named and passed over
   --help     writes this
   --version  writes which recovery this is
@@ -36,6 +37,17 @@ pub enum Controllers {
     Fixed(FixedWindowConfig),
 }
 
+/// What is written of an event.
+#[derive(Clone, Copy)]
+pub enum Shown {
+    /// Its answer.
+    Answers,
+    /// Its answer, and the state behind it.
+    States,
+    /// Its records of qlog.
+    Qlog,
+}
+
 /// What a trace is to do.
 #[derive(Clone, Copy)]
 pub struct Choice {
@@ -43,8 +55,8 @@ pub struct Choice {
     pub seed: Option<u64>,
     /// The controllers of paths; unless asked for otherwise they are NewReno's.
     pub controllers: Controllers,
-    /// Whether the state is written behind each answer.
-    pub shows: bool,
+    /// What is written of each event.
+    pub shows: Shown,
     /// Whether the first line that cannot be read ends the trace.
     pub is_strict: bool,
 }
@@ -130,7 +142,7 @@ pub fn request_of(words: &[String]) -> Request {
     let mut choice = Choice {
         seed: None,
         controllers: Controllers::NewReno,
-        shows: false,
+        shows: Shown::Answers,
         is_strict: false,
     };
     let mut place = Place::Seed;
@@ -146,7 +158,8 @@ pub fn request_of(words: &[String]) -> Request {
             },
             b"--help" => return Request::Help,
             b"--version" => return Request::Version,
-            b"--state" => choice.shows = true,
+            b"--state" => choice.shows = Shown::States,
+            b"--qlog" => choice.shows = Shown::Qlog,
             b"--strict" => choice.is_strict = true,
             b"--controller" => is_name = true,
             word => match with_word(choice, place, word) {

@@ -1,14 +1,22 @@
-//! The state of a path as one JSON object, by the names that qlog gives to metrics of recovery.
+//! The state of a path at a time as one JSON object, by the names that qlog gives to metrics of recovery.
 ghost use Rattle.std.specs.Prelude.{◌≡◌, ◌++◌, OnOk, string_bytes};
-ghost use Rattle.recovery_trace.specs.States.{flight_text, window_text, spans_text, rtt_text, room_text, state_text};
+ghost use Rattle.recovery_trace.specs.States.{time_text, flight_text, window_text, spans_text, rtt_text, room_text, state_text};
 
 use quic_recovery::congestion::{Controller, ControllerMetrics};
 use quic_recovery::paths::{InFlight, PathData};
 use quic_recovery::rtt::RttEstimator;
 use std::alloc::AllocError;
 
+/// The time, in milliseconds: the beginning of the line.
+#[tactic(auto, unfolding(crate::specs::States::time_text))]
+fn write_time(text: &mut String, time: u64) -> Result<(), AllocError>
+    ensures { OnOk result (string_bytes text.new ≡ string_bytes text.old ++ time_text time) }
+{
+    write!(text, "{{\"time\":{time}e-6,")
+}
+
 /// Bytes, and packets that elicit an ACK (RFC 9002, B.2).
-fn write_flight(text: &mut String, flight: InFlight) -> Result<(), AllocError>
+pub fn write_flight(text: &mut String, flight: InFlight) -> Result<(), AllocError>
     ensures { OnOk result (string_bytes text.new ≡ string_bytes text.old ++ flight_text flight) }
 {
     let bytes = flight.bytes;
@@ -20,7 +28,7 @@ fn write_flight(text: &mut String, flight: InFlight) -> Result<(), AllocError>
 }
 
 /// The window and the slow start threshold, in bytes; no threshold where there is none yet (RFC 9002, B.3: infinite).
-fn write_window(text: &mut String, metrics: &ControllerMetrics) -> Result<(), AllocError>
+pub fn write_window(text: &mut String, metrics: &ControllerMetrics) -> Result<(), AllocError>
     ensures { OnOk result
         (string_bytes text.new ≡ string_bytes text.old ++ window_text metrics.now) }
 {
@@ -54,7 +62,7 @@ fn write_spans(
 }
 
 /// The round-trip times (RFC 9002, 5): the best estimate, its mean deviation, the least sample and the last one.
-fn write_rtt(text: &mut String, rtt: &RttEstimator) -> Result<(), AllocError>
+pub fn write_rtt(text: &mut String, rtt: &RttEstimator) -> Result<(), AllocError>
     ensures { OnOk result (string_bytes text.new ≡ string_bytes text.old ++ rtt_text rtt.now) }
 {
     write_spans(
@@ -75,15 +83,17 @@ fn write_room(text: &mut String, mtu: u16, tokens: u64) -> Result<(), AllocError
     writeln!(text, ",\"mtu\":{mtu},\"pacer_tokens\":{tokens}}}")
 }
 
-/// Appends the line of a path's state. The one refusal is want of memory; nothing is then promised of the text.
+/// Appends the line of a path's state at a time, in nanoseconds. The one refusal is want of memory; nothing is then
+/// promised of the text.
 pub fn write_state<C: Controller + Drop>(
     text: &mut String,
+    time: u64,
     path: &PathData<C>,
 ) -> Result<(), AllocError>
     ensures { OnOk result
-        (string_bytes text.new ≡ string_bytes text.old ++ state_text C.words path.now) }
+        (string_bytes text.new ≡ string_bytes text.old ++ state_text C.words time path.now) }
 {
-    text.push_str("{")?;
+    write_time(text, time)?;
     write_flight(text, path.in_flight())?;
     write_window(text, &path.congestion.metrics())?;
     write_rtt(text, &path.rtt)?;

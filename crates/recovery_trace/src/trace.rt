@@ -1,9 +1,10 @@
 //! A trace: each line is read, its event done and its answer written before the next line is read.
-ghost use Rattle.recovery_trace.specs.Trace.{streams_of, TracesAs, TracesFrom, TracesOver};
+ghost use Rattle.recovery_trace.specs.Trace.{streams_of, TracesAs, TracesBehind, TracesBy, TracesFrom, TracesOver};
 
 use crate::outcome::Outcome;
-use crate::requests::{Choice, Controllers};
-use crate::turn::{Turn, take_turn};
+use crate::qlog::HEADER;
+use crate::requests::{Choice, Controllers, Shown};
+use crate::turn::{Turn, take_turn, write_out};
 use quic_recovery::LiveRecovery;
 use quic_recovery::congestion::{ControllerFactory, NewRenoConfig};
 use quic_recovery::time::Instant;
@@ -39,6 +40,7 @@ where
 {
     let mut line = Vec::new(alloc);
     let mut text = String::new(alloc);
+    let mut time = 0;
     let mut ended = Outcome::Ended;
     for number in 1..u64::MAX {
         let next = match next_line(input, &mut line) {
@@ -52,6 +54,7 @@ where
             &line,
             number,
             choice.shows,
+            &mut time,
             &mut text,
             output,
             errors,
@@ -96,6 +99,51 @@ where
     }
 }
 
+/// A trace over the controllers that are chosen.
+fn trace_by<R: Read, W: Write, E: Write>(
+    alloc: Global,
+    choice: Choice,
+    input: &mut R,
+    output: &mut W,
+    errors: &mut E,
+) -> Outcome
+    ensures { TracesBy choice.controllers choice (streams_of
+        (R.remaining input.old) (R.remaining input.new)
+        (W.contents output.old) (W.contents output.new)
+        (E.contents errors.old) (E.contents errors.new)) result }
+{
+    match choice.controllers {
+        Controllers::NewReno => {
+            let factory = NewRenoConfig::default();
+            trace_over(alloc, factory, choice, input, output, errors)
+        }
+        Controllers::Cubic => {
+            let factory = CubicConfig::default();
+            trace_over(alloc, factory, choice, input, output, errors)
+        }
+        Controllers::Fixed(factory) => { trace_over(alloc, factory, choice, input, output, errors) }
+    }
+}
+
+/// A trace behind the record before all events of qlog.
+fn trace_behind<R: Read, W: Write, E: Write>(
+    alloc: Global,
+    choice: Choice,
+    input: &mut R,
+    output: &mut W,
+    errors: &mut E,
+) -> Outcome
+    ensures { TracesBehind choice (streams_of
+        (R.remaining input.old) (R.remaining input.new)
+        (W.contents output.old) (W.contents output.new)
+        (E.contents errors.old) (E.contents errors.new)) result }
+{
+    match write_out(output, HEADER) {
+        Ok(()) => trace_by(alloc, choice, input, output, errors),
+        Err(outcome) => outcome,
+    }
+}
+
 /// Reads lines and answers each before it reads the next; the answers, and with them what is shown of the state, go to
 /// `output` and are flushed, what cannot be read is told to `errors`.
 ///
@@ -113,15 +161,8 @@ pub fn trace<R: Read, W: Write, E: Write>(
         (W.contents output.old) (W.contents output.new)
         (E.contents errors.old) (E.contents errors.new)) result }
 {
-    match choice.controllers {
-        Controllers::NewReno => {
-            let factory = NewRenoConfig::default();
-            trace_over(alloc, factory, choice, input, output, errors)
-        }
-        Controllers::Cubic => {
-            let factory = CubicConfig::default();
-            trace_over(alloc, factory, choice, input, output, errors)
-        }
-        Controllers::Fixed(factory) => { trace_over(alloc, factory, choice, input, output, errors) }
+    match choice.shows {
+        Shown::Qlog => trace_behind(alloc, choice, input, output, errors),
+        _ => trace_by(alloc, choice, input, output, errors),
     }
 }

@@ -6,7 +6,10 @@ ghost use Rattle.recovery_replay.specs.Writing.{AppendsFront};
 ghost use Rattle.recovery_trace.specs.Outcomes.{IsBroken};
 ghost use Rattle.recovery_trace.specs.Turns.{Answers, IsSilent, Turns, turn_text};
 
+use crate::moments::moment_of;
 use crate::outcome::Outcome;
+use crate::qlog::{Note, note_of, write_metrics, write_note};
+use crate::requests::Shown;
 use crate::states::write_state;
 use crate::telling::fault_line;
 use quic_recovery::below::NoMemory;
@@ -38,39 +41,50 @@ fn is_silent(line: &[u8]) -> bool
     line.is_empty() || line[0] == b'#'
 }
 
-/// Appends the line of a reply, and behind it that of the state where it is asked for.
+/// Appends the line of a reply, and behind it that of the state where it is asked for; or records of qlog.
 fn write_turn<F>(
     text: &mut String,
     reply: &Result<Answer<ItemQueue>, Refusal>,
     recovery: &Recovery<F, ItemQueue, Pcg32>,
-    shows: bool,
+    shows: Shown,
+    time: u64,
+    note: Note,
 ) -> Result<(), AllocError>
 where
     F: ControllerFactory + Drop,
     F::Controller: Drop,
     ensures { OnOk result (string_bytes text.new ≡ string_bytes text.old
-        ++ turn_text F.Controller.words shows reply.now (parts_of recovery.now)) }
+        ++ turn_text F.Controller.words shows time note reply.now (parts_of recovery.now)) }
 {
-    match write_reply(text, reply) {
-        Ok(()) if shows => write_state(text, recovery.current()),
-        written => written,
+    match shows {
+        Shown::Answers => write_reply(text, reply),
+        Shown::States => {
+            write_reply(text, reply)?;
+            write_state(text, time, recovery.current())
+        }
+        Shown::Qlog => {
+            write_note(text, time, note, reply)?;
+            write_metrics(text, time, recovery.current())
+        }
     }
 }
 
-/// Does the event of a line, and puts what is written for it in place of the text; false, and no text, where it spells
-/// none.
+/// Does the event of a line, moves the time on to its moment, and puts what is written for it in place of the text;
+/// false, and no text, where it spells none.
 fn answer<F>(
     alloc: Global,
     live: &mut LiveRecovery<F, ItemQueue, Pcg32>,
     line: &[u8],
-    shows: bool,
+    shows: Shown,
+    time: &mut u64,
     text: &mut String,
 ) -> Result<bool, NoMemory>
 where
     F: ControllerFactory + Drop,
     F::Controller: Drop,
     ensures { IfOk result
-        (Answers shows line.now live.old.recovery live.new.recovery (string_bytes text.new)) }
+        (Answers shows line.now live.old.recovery live.new.recovery time.old time.new
+        (string_bytes text.new)) }
 {
     text.clear();
     let mut events = Vec::with_capacity(alloc, 1)?;
@@ -80,15 +94,17 @@ where
     let Some(event) = events.pop() else {
         return Ok(false);
     };
+    *time = (*time).max(moment_of(&event));
+    let note = note_of(&event);
     let reply = live.apply(event);
-    match write_turn(text, &reply, live.recovery(), shows) {
+    match write_turn(text, &reply, live.recovery(), shows, *time, note) {
         Ok(()) => Ok(true),
         Err(_) => Err(NoMemory),
     }
 }
 
 /// Writes a text and flushes. After a failure a beginning of it was written.
-fn write_out<W: Write>(output: &mut W, text: &str) -> Result<(), Outcome>
+pub fn write_out<W: Write>(output: &mut W, text: &str) -> Result<(), Outcome>
     ensures whole { OnOk result (Appends (W.contents output.old) (W.contents output.new) text.now) }
     ensures front { AppendsFront (W.contents output.old) (W.contents output.new) text.now }
     ensures broken { IfErr result IsBroken }
@@ -101,8 +117,8 @@ fn write_out<W: Write>(output: &mut W, text: &str) -> Result<(), Outcome>
 }
 
 /// One line: its event is done, and its answer is written to `output` and flushed before this returns; or what it is of
-/// it that cannot be read is told to `errors`, and nothing is done. `text` is what is written, of which the caller
-/// keeps the room.
+/// it that cannot be read is told to `errors`, and nothing is done. `time` is the greatest moment so far, in
+/// nanoseconds, and `text` what is written, of which the caller keeps the room.
 ///
 /// What cannot be told to `errors` is left out.
 pub fn take_turn<F, W, E>(
@@ -110,7 +126,8 @@ pub fn take_turn<F, W, E>(
     live: &mut LiveRecovery<F, ItemQueue, Pcg32>,
     line: &[u8],
     number: u64,
-    shows: bool,
+    shows: Shown,
+    time: &mut u64,
     text: &mut String,
     output: &mut W,
     errors: &mut E,
@@ -120,11 +137,11 @@ where
     F::Controller: Drop,
     W: Write,
     E: Write,
-    ensures { Turns shows line.now number live.old.recovery live.new.recovery
+    ensures { Turns shows line.now number live.old.recovery live.new.recovery time.old time.new
         (W.contents output.old) (W.contents output.new)
         (E.contents errors.old) (E.contents errors.new) result }
 {
-    match answer(alloc, live, line, shows, text) {
+    match answer(alloc, live, line, shows, time, text) {
         Ok(true) => match write_out(output, text) {
             Ok(()) => Turn::Done,
             Err(outcome) => Turn::Over(outcome),

@@ -1,0 +1,27 @@
+//! When an event happens.
+ghost use Rattle.std.specs.Prelude.{◌≡◌};
+ghost use Rattle.recovery_trace.specs.Moments.{moment_of};
+
+use quic_recovery::event::Event;
+use recovery_queue::items::ItemQueue;
+
+/// The moment at which an event happens, in nanoseconds, or 0 where it tells none.
+pub fn moment_of(event: &Event<ItemQueue>) -> u64
+    ensures { result ≡ moment_of event.now }
+{
+    match event {
+        Event::Received { now, .. }
+        | Event::Send { now, .. }
+        | Event::Acked { now, .. }
+        | Event::IssueIds { now, .. }
+        | Event::Transmit { now, .. }
+        | Event::PacerCheck { now, .. }
+        | Event::Congestion { now, .. }
+        | Event::EndAcks { now, .. }
+        | Event::PollMtu { now }
+        | Event::LossesDone { now }
+        | Event::NewPath { now, .. }
+        | Event::ResetPath { now } => now.as_nanos(),
+        _ => 0,
+    }
+}
