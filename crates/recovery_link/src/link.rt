@@ -1,16 +1,16 @@
 //! The link: a queue, a way there on which packets are lost and late, the peer, and a way back.
 use crate::peer::{Frame, Peer};
-use crate::queue::Queue;
 use crate::settings::{SIZE, Settings};
 use crate::way::Way;
 use crate::weather::Weather;
 use quic_recovery::below::NoMemory;
+use recovery_bottleneck::Bottleneck;
 use std::alloc::Global;
 
 /// The link. Moments are nanoseconds.
 #[derive(Drop)]
 pub struct Link {
-    queue: Queue,
+    queue: Bottleneck,
     weather: Weather,
     there: Way<u64>,
     peer: Peer,
@@ -26,7 +26,7 @@ impl Link {
     pub fn new(alloc: Global, settings: &Settings) -> Self {
         let shape = settings.link;
         Link {
-            queue: Queue::new(alloc, shape),
+            queue: Bottleneck::new(alloc, shape.rate, shape.queue),
             weather: Weather::new(settings.seed, shape),
             there: Way::new(alloc),
             peer: Peer::new(alloc, settings.ack_delay),

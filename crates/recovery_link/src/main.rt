@@ -7,7 +7,6 @@ mod figures;
 mod link;
 mod pages;
 mod peer;
-mod queue;
 mod sending;
 mod settings;
 mod tape;

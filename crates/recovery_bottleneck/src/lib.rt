@@ -1,9 +1,10 @@
-//! The queue before the link, which drops what finds no room.
+//! The queue before a simulated link: packets go out at a rate, one behind another, and one that finds no room is
+//! dropped. It knows nothing of QUIC.
+#![tactic(auto)]
+
 ghost use Rattle.std.specs.Prelude.{◌≤◌, ◌<◌, ◌≡◌, IfOk, IfSome};
 
-use crate::settings::Shape;
-use quic_recovery::below::NoMemory;
-use std::alloc::Global;
+use std::alloc::{AllocError, Global};
 use std::collections::VecDeque;
 
 /// In nanoseconds.
@@ -17,9 +18,9 @@ struct Waiting {
     size: u64,
 }
 
-/// The queue before the link. Moments are nanoseconds.
+/// The queue before a link. Moments are nanoseconds.
 #[derive(Drop)]
-pub struct Queue {
+pub struct Bottleneck {
     rate: u64,
     room: u64,
     waiting: VecDeque<Waiting>,
@@ -34,14 +35,15 @@ pub struct Queue {
     ghost fitted: { most ≤ room },
 }
 
-impl Queue {
-    /// An empty queue.
-    pub fn new(alloc: Global, shape: Shape) -> Self
-        ensures { result.room ≡ shape.queue }
+impl Bottleneck {
+    /// An empty queue of so many bytes, those of the packet that goes out among them, before a link of so many bits a
+    /// second, at least one.
+    pub fn new(alloc: Global, rate: u64, room: u64) -> Self
+        ensures { result.room ≡ room }
     {
-        Queue {
-            rate: shape.rate.max(1),
-            room: shape.queue,
+        Bottleneck {
+            rate: rate.max(1),
+            room,
             waiting: VecDeque::new(alloc),
             bytes: 0,
             free: 0,
@@ -61,8 +63,9 @@ impl Queue {
         (u64::from(size) * 8 * SECOND).div_ceil(self.rate)
     }
 
-    /// A packet comes to the queue: when its last bit has gone out, or nothing where it is dropped.
-    pub fn enter(&mut self, now: u64, size: u16) -> Result<Option<u64>, NoMemory>
+    /// A packet comes to the queue: when its last bit has gone out, or nothing where it is dropped. It costs what left
+    /// since the last one came.
+    pub fn enter(&mut self, now: u64, size: u16) -> Result<Option<u64>, AllocError>
         ensures room { self.new.room ≡ self.old.room }
 
         // It goes out behind all that came before, and not before it came.
