@@ -9,13 +9,14 @@ use Rattle.recovery_ledger.specs.Spaces.{space_of}
 use Rattle.recovery_paths.specs.declared.path_pair.PathName.TheVariants.{Current}
 use Rattle.recovery_sender.specs.Abandoning.{Abandons}
 use Rattle.recovery_sender.specs.Acking.{OnAck}
-use Rattle.recovery_sender.specs.Calls.{begun_anew, bytes_in_flight, datagram_reply, discard_reply, is_checked, transmit_reply, transmit_steps, window_of, Passes, Takes}
+use Rattle.recovery_losses.specs.Variables.{begun_anew}
+use Rattle.recovery_sender.specs.Calls.{bytes_in_flight, datagram_reply, discard_reply, is_checked, transmit_reply, transmit_steps, window_of, Passes, Takes}
 use Rattle.recovery_sender.specs.Senders.{parts_in}
 use Rattle.recovery_sender.specs.Steps.{told, Does}
 use Rattle.recovery_sender.specs.Timeouts.{TimesOut}
 use Rattle.recovery_sender.specs.declared.sender.Refused.{Refused}
 use Rattle.recovery_sender.specs.declared.sender.Sender.{Sender}
-use Rattle.recovery_sender.specs.declared.sender.Variables.{Variables}
+use Rattle.recovery_losses.specs.declared.variables.Variables.{Variables}
 use Rattle.recovery_sender.specs.declared.sender.packets.Transmission.{Transmission}
 use Rattle.recovery_sender.specs.declared.sender.packets.Transmission.TheVariants.{Transmitted}
 use Rattle.recovery_calls.specs.declared.calls.Call.{Call}

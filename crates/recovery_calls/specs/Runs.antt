@@ -7,7 +7,7 @@ use Rattle.recovery_history.specs.declared.config.RecoveryConfig.{RecoveryConfig
 use Rattle.recovery_sender.specs.Calls.{Begins}
 use Rattle.recovery_sender.specs.Senders.{parts_in}
 use Rattle.recovery_sender.specs.declared.sender.Sender.{Sender}
-use Rattle.recovery_sender.specs.declared.sender.Side.{Side}
+use Rattle.recovery_losses.specs.declared.variables.Side.{Side}
 use Rattle.recovery_calls.specs.Calls.{Says}
 use Rattle.recovery_calls.specs.declared.calls.Call.{Call}
 use Rattle.recovery_calls.specs.declared.calls.Said.{Said}

@@ -2,7 +2,7 @@
 use Rattle.std.proofs.Common.{◌≡◌, ℕ, false, List, Option, Some, None, length, nat_lt, is_some, refl, subst, sym, arith, inl, ◌∙◌}
 use Rattle.std.proofs.lemmas.Bool.Decides.{nat_tests}
 use Rattle.std.specs.Prelude.{if◌then◌else◌}
-use Rattle.recovery_sender.specs.declared.sender.Side.{Side}
+use Rattle.recovery_losses.specs.declared.variables.Side.{Side}
 use Rattle.recovery_ffi.specs.Codes.{cid}
 use Rattle.recovery_ffi.specs.Made.{Made, NewOr, new_fault}
 use Rattle.recovery_ffi.specs.Settings.{settings_fault}

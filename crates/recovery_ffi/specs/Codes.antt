@@ -14,8 +14,8 @@ use Rattle.recovery_base.specs.declared.timer.Timer.{Timer}
 use Rattle.recovery_base.specs.declared.timer.TheConstants.Timer.{VALUES}
 use Rattle.recovery_paths.specs.declared.path_pair.PathName.{PathName}
 use Rattle.recovery_paths.specs.declared.path_pair.PathName.TheVariants.{Current, Previous}
-use Rattle.recovery_sender.specs.declared.sender.Side.{Side}
-use Rattle.recovery_sender.specs.declared.sender.Side.TheVariants.{Client, Server}
+use Rattle.recovery_losses.specs.declared.variables.Side.{Side}
+use Rattle.recovery_losses.specs.declared.variables.Side.TheVariants.{Client, Server}
 use Rattle.recovery_ffi.specs.declared.codes.Address.{Address}
 use Rattle.recovery_ffi.specs.declared.codes.Id.{Id}
 

@@ -12,7 +12,7 @@ use Rattle.recovery_sender.specs.declared.sender.acks.EcnEnd.TheVariants.{Quiet}
 use Rattle.recovery_sender.specs.declared.sender.losses.Losses.{Losses}
 use Rattle.recovery_sender.specs.declared.sender.Refused.{Refused}
 use Rattle.recovery_sender.specs.declared.sender.Refused.TheVariants as refused
-use Rattle.recovery_sender.specs.declared.sender.Side.{Side}
+use Rattle.recovery_losses.specs.declared.variables.Side.{Side}
 use Rattle.recovery_history.specs.History as History
 use Rattle.recovery_history.specs.Parts.{Parts}
 use Rattle.quic_recovery.specs.Live.{Extends, Extended}

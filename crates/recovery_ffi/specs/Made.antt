@@ -4,7 +4,7 @@ use Rattle.std.specs.declared.net.socket_addr.SocketAddr.{SocketAddr}
 use Rattle.recovery_ffi.specs.declared.controllers.ChosenConfig.{ChosenConfig}
 use Rattle.rand_core.specs.Stream.{Stream}
 use Rattle.recovery_history.specs.declared.config.RecoveryConfig.{RecoveryConfig}
-use Rattle.recovery_sender.specs.declared.sender.Side.{Side}
+use Rattle.recovery_losses.specs.declared.variables.Side.{Side}
 use Rattle.recovery_ffi.specs.Codes.{IsAt}
 use Rattle.recovery_ffi.specs.Kept.{IsFresh}
 use Rattle.recovery_ffi.specs.declared.codes.Address.{Address}

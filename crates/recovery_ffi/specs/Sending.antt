@@ -9,7 +9,8 @@ use Rattle.recovery_ledger.specs.Packets.{Packets}
 use Rattle.recovery_ledger.specs.Spaces.{space_of}
 use Rattle.recovery_sender.specs.Abandoning.{Abandons}
 use Rattle.recovery_sender.specs.Acking.{OnAck}
-use Rattle.recovery_sender.specs.Calls.{begun_anew, bytes_in_flight, challenged, discard_reply, is_checked, transmit_reply, transmit_steps, window_of}
+use Rattle.recovery_losses.specs.Variables.{begun_anew}
+use Rattle.recovery_sender.specs.Calls.{bytes_in_flight, challenged, discard_reply, is_checked, transmit_reply, transmit_steps, window_of}
 use Rattle.recovery_sender.specs.Senders.{parts_in}
 use Rattle.recovery_sender.specs.Spaces.{packets_in}
 use Rattle.recovery_sender.specs.Steps as Steps
@@ -26,7 +27,7 @@ use Rattle.recovery_sender.specs.declared.sender.probes.Timeout.{Timeout}
 use Rattle.recovery_sender.specs.declared.sender.probes.Timeout.TheVariants.{Nothing, Lost, Probe}
 use Rattle.recovery_sender.specs.declared.sender.Refused.{Refused}
 use Rattle.recovery_sender.specs.declared.sender.Refused.TheVariants as refused
-use Rattle.recovery_sender.specs.declared.sender.Variables.{Variables}
+use Rattle.recovery_losses.specs.declared.variables.Variables.{Variables}
 use Rattle.recovery_ffi.specs.Answers.{IsBad}
 use Rattle.recovery_ffi.specs.Codes.{counts, space_coded, space_number, span}
 use Rattle.recovery_ffi.specs.Controllers.{chosen_words}

@@ -4,3 +4,4 @@ pub mod Looking
 pub mod Losses
 pub mod Persisting
 pub mod Timeouts
+pub mod Variables

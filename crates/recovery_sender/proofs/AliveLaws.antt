@@ -22,12 +22,13 @@ use Rattle.recovery_sender.specs.declared.sender.Sender.{Sender}
 use Rattle.recovery_losses.specs.declared.due.Due.{Due}
 use Rattle.recovery_losses.specs.declared.due.Due.TheVariants.{Losses, Probes}
 use Rattle.recovery_losses.specs.Due.{sooner}
-use Rattle.recovery_sender.specs.declared.sender.Variables.{Variables}
+use Rattle.recovery_losses.specs.declared.variables.Variables.{Variables}
 use Rattle.recovery_sender.specs.Promises.Alive.{IsOwed, IsSetFor, NeverStalls}
 use Rattle.recovery_sender.specs.Promises.Pasts.{ByPasts}
 use Rattle.recovery_sender.specs.Senders.{parts_in}
 use Rattle.recovery_sender.specs.Spaces.{space_in}
-use Rattle.recovery_sender.specs.Timer.{TimerIsSet, behind, deadlock_due, deadlock_space, due_of, has_eliciting, is_address_validated, loss_due, probe_due, probes_due, pto_of, soonest}
+use Rattle.recovery_losses.specs.Variables.{is_address_validated}
+use Rattle.recovery_sender.specs.Timer.{TimerIsSet, behind, deadlock_due, deadlock_space, due_of, has_eliciting, loss_due, probe_due, probes_due, pto_of, soonest}
 
 -- ---- where something that elicits an ACK is tracked, one was sent
 

@@ -12,9 +12,10 @@ use Rattle.recovery_history.specs.Parts.{Parts}
 use Rattle.recovery_losses.specs.declared.due.Due.{Due}
 use Rattle.recovery_losses.specs.declared.due.Due.TheVariants.{Losses, Probes, AntiDeadlock}
 use Rattle.recovery_losses.specs.Due.{sooner}
-use Rattle.recovery_sender.specs.declared.sender.Variables.{Variables}
+use Rattle.recovery_losses.specs.declared.variables.Variables.{Variables}
 use Rattle.recovery_sender.specs.Calls.{space_due}
-use Rattle.recovery_sender.specs.Timer.{soonest, loss_due, probe_in, probe_due, waits, deadlock_space, due_of, is_address_validated, behind, pto_of}
+use Rattle.recovery_losses.specs.Variables.{is_address_validated}
+use Rattle.recovery_sender.specs.Timer.{soonest, loss_due, probe_in, probe_due, waits, deadlock_space, due_of, behind, pto_of}
 
 module _ (discarded : DiscardedSpaces) where
   -- in a space that is not discarded, where something is due

@@ -32,13 +32,14 @@ use Rattle.recovery_history.specs.Logs.{StepBy}
 use Rattle.recovery_history.specs.Parts.{Parts}
 use Rattle.recovery_history.specs.Plain.{Plain, plain_of}
 use Rattle.recovery_history.specs.Changes.{Changes}
-use Rattle.recovery_sender.specs.declared.sender.Variables.{Variables}
+use Rattle.recovery_losses.specs.declared.variables.Variables.{Variables}
 use Rattle.recovery_sender.specs.declared.sender.packets.Transmission.{Transmission}
 use Rattle.recovery_sender.specs.declared.sender.packets.Transmission.TheVariants as transmissions
 use Rattle.recovery_sender.specs.Calls.{transmit_steps}
 use Rattle.recovery_sender.specs.Leaving.{leaves_timer}
 use Rattle.recovery_sender.specs.Steps.{Leads}
-use Rattle.recovery_sender.specs.Timer.{ack_delay_in, behind, deadlock_due, due_of, has_eliciting, loss_due, probe_due, probe_in, pto_of, soonest, waits, TimerIsSet}
+use Rattle.recovery_losses.specs.Variables.{ack_delay_in}
+use Rattle.recovery_sender.specs.Timer.{behind, deadlock_due, due_of, has_eliciting, loss_due, probe_due, probe_in, pto_of, soonest, waits, TimerIsSet}
 
 -- ---- what is read of a space
 

@@ -10,9 +10,10 @@ use Rattle.recovery_history.specs.Changes.{Changes}
 use Rattle.recovery_history.specs.History.{QueueMeaning, queue_meaning}
 use Rattle.recovery_history.specs.Parts.{Parts}
 use Rattle.recovery_sender.specs.declared.sender.Sender.{Sender}
-use Rattle.recovery_sender.specs.declared.sender.Variables.{Variables}
+use Rattle.recovery_losses.specs.declared.variables.Variables.{Variables}
 use Rattle.recovery_sender.specs.declared.sender.packets.Transmission.{Transmission}
-use Rattle.recovery_sender.specs.Calls.{based, goes_out, sent_at, to_send, transmit_steps}
+use Rattle.recovery_losses.specs.Variables.{based}
+use Rattle.recovery_sender.specs.Calls.{goes_out, sent_at, to_send, transmit_steps}
 use Rattle.recovery_sender.specs.Leaving.{leaves_timer}
 use Rattle.recovery_sender.specs.Senders.{parts_in}
 use Rattle.recovery_sender.specs.Steps.{told, Goes}

@@ -6,7 +6,7 @@ use Rattle.recovery_history.specs.History.{queue_meaning}
 use Rattle.recovery_history.specs.Past.{ExtendsOn}
 use Rattle.recovery_history.specs.Changes.{Changes}
 use Rattle.recovery_sender.specs.declared.sender.Sender.{Sender}
-use Rattle.recovery_sender.specs.declared.sender.Variables.{Variables}
+use Rattle.recovery_losses.specs.declared.variables.Variables.{Variables}
 use Rattle.recovery_sender.specs.Senders.{parts_in}
 use Rattle.recovery_sender.specs.Steps.{Step, Leads, Goes, Does, told}
 use Rattle.recovery_sender.proofs.LeadLaws.{leads_on}

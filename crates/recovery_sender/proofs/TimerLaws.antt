@@ -25,7 +25,7 @@ use Rattle.recovery_history.specs.Past.{ExtendsOn}
 use Rattle.recovery_history.specs.Changes.{Changes}
 use Rattle.quic_recovery.specs.State.{OnlyTells}
 use Rattle.recovery_losses.specs.declared.due.Due.{Due}
-use Rattle.recovery_sender.specs.declared.sender.Variables.{Variables}
+use Rattle.recovery_losses.specs.declared.variables.Variables.{Variables}
 use Rattle.recovery_sender.specs.Steps.{Leads, told, timed, timer_event}
 use Rattle.recovery_sender.specs.Timer.{due_of, has_eliciting, TimerIsSet}
 

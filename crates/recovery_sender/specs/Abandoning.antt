@@ -9,7 +9,7 @@ use Rattle.recovery_losses.specs.Losses.{IsOneOf, without_all}
 use Rattle.recovery_sender.specs.declared.sender.Refused.{Refused}
 use Rattle.recovery_sender.specs.declared.sender.Refused.TheVariants as refused
 use Rattle.recovery_sender.specs.declared.sender.Sender.{Sender}
-use Rattle.recovery_sender.specs.Calls.{begun_anew}
+use Rattle.recovery_losses.specs.Variables.{begun_anew}
 use Rattle.recovery_sender.specs.Judging.{losing}
 use Rattle.recovery_sender.specs.Promises.Acked.{LosesAll}
 use Rattle.recovery_sender.specs.Promises.Pasts.{ByPasts}

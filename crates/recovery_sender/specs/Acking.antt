@@ -16,6 +16,7 @@ use Rattle.recovery_paths.specs.PathStates.{PathMarks}
 use Rattle.recovery_history.specs.Parts.{Parts}
 use Rattle.recovery_losses.specs.declared.frames.Ack.{Ack}
 use Rattle.recovery_losses.specs.Frames.{largest_of}
+use Rattle.recovery_losses.specs.Variables.{ack_delay_in, heard_in}
 use Rattle.recovery_sender.specs.declared.sender.acks.Acknowledged.{Acknowledged}
 use Rattle.recovery_sender.specs.declared.sender.acks.EcnEnd.{EcnEnd}
 use Rattle.recovery_sender.specs.declared.sender.acks.Newly.{Newly}
@@ -23,7 +24,7 @@ use Rattle.recovery_sender.specs.declared.sender.acks.EcnEnd.TheVariants.{Quiet,
 use Rattle.recovery_sender.specs.declared.sender.Refused.{Refused}
 use Rattle.recovery_sender.specs.declared.sender.Refused.TheVariants as refused
 use Rattle.recovery_sender.specs.declared.sender.Sender.{Sender}
-use Rattle.recovery_sender.specs.declared.sender.Variables.{Variables}
+use Rattle.recovery_losses.specs.declared.variables.Variables.{Variables}
 use Rattle.recovery_sender.specs.Acks.{AckChecked, AreAllowed, AreNewly, AreWhole, WereSent}
 use Rattle.recovery_sender.specs.Judging.{Detects, congested}
 use Rattle.recovery_sender.specs.Losses.{largest_in, NothingLost}
@@ -32,7 +33,6 @@ use Rattle.recovery_sender.specs.Promises.Pasts.{ByPasts}
 use Rattle.recovery_sender.specs.Senders.{parts_in}
 use Rattle.recovery_sender.specs.Spaces.{packets_in, space_in}
 use Rattle.recovery_sender.specs.Steps.{Step, Does, Goes, marked, occurs, told}
-use Rattle.recovery_sender.specs.Timer.{ack_delay_in, is_address_validated}
 
 -- each of these is acknowledged
 abbrev pub acking : {Q S M P : Type 0} → SpaceId → ℕ → Bool → List ℕ → List (Step Q S M P)
@@ -70,16 +70,6 @@ abbrev pub is_raised : Option ℕ → Option ℕ → Bool
 is_raised before None = false
 is_raised None (Some after) = true
 is_raised (Some before) (Some after) = nat_lt before after
-
--- probe timeouts are counted anew, but at a client that does not know its address validated, which an ACK of a
--- Handshake packet tells it (RFC 9002, 6.2.1 and 6.2.2.1); a deadlock is counted on from there
-abbrev pub heard_in : SpaceId → ℕ → Variables → Variables
-heard_in space now variables =
-    let known : Variables = record variables {
-      is_address_known = variables.is_address_known || same_space space Handshake;
-      base = now;
-    } in
-    record known { pto_count = (if is_address_validated known then 0 else variables.pto_count) }
 
 -- ---- what is known of a sample and of ECN
 

@@ -25,13 +25,14 @@ use Rattle.recovery_sender.specs.declared.sender.Refused.TheVariants as refused
 use Rattle.recovery_sender.specs.declared.sender.Sender.{Sender}
 use Rattle.recovery_sender.specs.declared.sender.packets.Transmission.{Transmission}
 use Rattle.recovery_sender.specs.declared.sender.packets.Transmission.TheVariants.{Transmitted, Blocked, Full, Delayed}
-use Rattle.recovery_sender.specs.declared.sender.Side.{Side}
+use Rattle.recovery_losses.specs.declared.variables.Side.{Side}
 use Rattle.recovery_losses.specs.declared.due.Due.{Due}
 use Rattle.recovery_losses.specs.declared.due.Due.TheVariants.{Losses, Probes, AntiDeadlock}
-use Rattle.recovery_sender.specs.declared.sender.Variables.{Variables}
-use Rattle.recovery_sender.specs.Senders.{parts_in, fresh}
+use Rattle.recovery_losses.specs.declared.variables.Variables.{Variables}
+use Rattle.recovery_losses.specs.Variables.{based, fresh, is_server, timed_out}
+use Rattle.recovery_sender.specs.Senders.{parts_in}
 use Rattle.recovery_sender.specs.Steps.{Step, told, Goes, Does}
-use Rattle.recovery_sender.specs.Timer.{due_of, is_server}
+use Rattle.recovery_sender.specs.Timer.{due_of}
 
 -- the path in use, with this challenge open or none, and with one that is to be sent or none (RFC 9000, 8.2.1)
 abbrev pub challenged : {K P M : Type 0} → Parts K P M → Option ℕ → Bool → PathMarks
@@ -103,15 +104,6 @@ goes_out answer = false
 abbrev pub sent_at : {Q : Type 0} → Option ℕ → Answer Q → Option ℕ
 sent_at time answer = if goes_out answer then time else None
 
--- a deadlock is counted on from there (RFC 9002, 6.2.2.1)
-abbrev pub based : Option ℕ → Variables → Variables
-based None variables = variables
-based (Some now) variables = record variables { base = now }
-
--- probe timeouts are counted anew (RFC 9002, 6.2.2 and A.11)
-abbrev pub begun_anew : ℕ → Variables → Variables
-begun_anew now variables = record variables { pto_count = 0; base = now }
-
 -- a discarded space is refused (RFC 9002, 6.4)
 abbrev pub discard_reply : {K P M : Type 0} → Parts K P M → SpaceId → Result (Unit {0}) Refused
 discard_reply recovery space =
@@ -167,10 +159,6 @@ space_due (AntiDeadlock space) = space
 abbrev pub due_now : {K P M : Type 0} → ℕ → Parts K P M → Variables → Option Due
 due_now now recovery variables =
     option_and_then (λ due. if nat_le due.0 now then Some due.1 else None) (due_of recovery variables)
-
--- a probe timeout expired
-abbrev pub timed_out : ℕ → Variables → Variables
-timed_out now variables = record variables { pto_count = min (variables.pto_count + 1) (2 ^ 32 - 1); base = now }
 
 -- how many probes are to be sent, where the second was replied so: one suffices (RFC 9002, 6.2.4)
 abbrev pub probes_with : {Q : Type 0} → Reply Q → ℕ

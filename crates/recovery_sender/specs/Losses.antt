@@ -11,7 +11,7 @@ use Rattle.recovery_losses.specs.declared.looks.Look.{Look}
 use Rattle.recovery_losses.specs.Losses.{first_of}
 use Rattle.recovery_history.specs.Parts.{Parts}
 use Rattle.recovery_sender.specs.declared.sender.losses.Losses.{Losses}
-use Rattle.recovery_sender.specs.declared.sender.Variables.{Variables}
+use Rattle.recovery_losses.specs.declared.variables.Variables.{Variables}
 use Rattle.recovery_sender.specs.Spaces.{space_in}
 
 -- nothing was lost

@@ -16,7 +16,7 @@ use Rattle.recovery_history.specs.Past.{ExtendsOn}
 use Rattle.recovery_history.specs.Changes.{Changes}
 use Rattle.recovery_sender.specs.declared.sender.Sender.{Sender}
 use Rattle.recovery_losses.specs.declared.due.Due.{Due}
-use Rattle.recovery_sender.specs.declared.sender.Variables.{Variables}
+use Rattle.recovery_losses.specs.declared.variables.Variables.{Variables}
 use Rattle.recovery_sender.specs.Promises.Alive.{NeverStalls}
 use Rattle.recovery_sender.specs.Promises.Pasts.{ByPasts}
 use Rattle.recovery_sender.specs.Senders.{parts_in}

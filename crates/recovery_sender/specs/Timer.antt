@@ -12,14 +12,12 @@ use Rattle.recovery_ledger.specs.Discarded.{is_discarded}
 use Rattle.recovery_ledger.specs.Packets.{Packets}
 use Rattle.recovery_ledger.specs.Spaces.{Space, packets_of}
 use Rattle.recovery_losses.specs.Due.{sooner}
-use Rattle.recovery_losses.specs.Timeouts.{probe_timeout_of}
+use Rattle.recovery_losses.specs.Variables.{is_address_validated, pto_by}
 use Rattle.recovery_paths.specs.PathStates.{is_blocked}
 use Rattle.recovery_history.specs.Parts.{Parts}
-use Rattle.recovery_sender.specs.declared.sender.Side.{Side}
-use Rattle.recovery_sender.specs.declared.sender.Side.TheVariants.{Client, Server}
 use Rattle.recovery_losses.specs.declared.due.Due.{Due}
 use Rattle.recovery_losses.specs.declared.due.Due.TheVariants.{Losses, Probes, AntiDeadlock}
-use Rattle.recovery_sender.specs.declared.sender.Variables.{Variables}
+use Rattle.recovery_losses.specs.declared.variables.Variables.{Variables}
 use Rattle.recovery_sender.specs.Spaces.{space_in}
 
 -- ---- the least of moments
@@ -32,26 +30,13 @@ soonest due = sooner (sooner (due Initial) (due Handshake)) (due Data)
 abbrev pub behind : ℕ → ℕ → ℕ
 behind time span = min (time + span) (2 ^ 64 - 1)
 
--- ---- what is asked of packets and ends
+-- ---- what is asked of packets
 
 -- some packet elicits an ACK
 abbrev pub has_eliciting : {P M : Type 0} → Packets P M → Bool
 has_eliciting packets = list_any (λ entry. entry.1.ack_eliciting) packets
 
-abbrev pub is_server : Side → Bool
-is_server Server = true
-is_server Client = false
-
--- this end is a server, or a client that knows its address validated (RFC 9002, A.8: PeerCompletedAddressValidation)
-abbrev pub is_address_validated : Variables → Bool
-is_address_validated variables = is_server variables.side || variables.is_address_known
-
 -- ---- spans
-
--- the peer delays its ACKs in the space of 1-RTT packets alone (RFC 9002, 6.2.1)
-abbrev pub ack_delay_in : Variables → SpaceId → ℕ
-ack_delay_in variables Data = variables.max_ack_delay
-ack_delay_in variables space = 0
 
 module _ {K P M : Type 0} (recovery : Parts K P M) where
   -- a packet of the space may be lost
@@ -59,10 +44,9 @@ module _ {K P M : Type 0} (recovery : Parts K P M) where
   loss_due space = option_map (λ time. (time, Losses space)) (option_and_then (λ here. here.loss_time)
       (space_in recovery space))
 
-  -- the probe timeout, as often doubled as it expired in a row, but 16 times at most (RFC 9002, 6.2.1)
+  -- the probe timeout, by the path in use (RFC 9002, 6.2.1)
   abbrev pub pto_of : Variables → SpaceId → ℕ
-  pto_of variables space = probe_timeout_of (pto_base_of recovery.paths.current.state.rtt)
-      (ack_delay_in variables space) (min variables.pto_count 16)
+  pto_of variables space = pto_by (pto_base_of recovery.paths.current.state.rtt) variables space
 
 module _ {K P M : Type 0} (recovery : Parts K P M) (variables : Variables) where
   -- 1-RTT packets are not probed for until the handshake is confirmed (RFC 9002, 6.2.1)

@@ -5,8 +5,7 @@
 
 pub mod sender;
 
-pub use recovery_losses::{Ack, Due};
+pub use recovery_losses::{Ack, Due, Side, Variables};
 pub use sender::{
-    Acknowledged, EcnEnd, Losses, Newly, Refused, Sender, Side, Timeout, Transmission, Variables,
-    passes,
+    Acknowledged, EcnEnd, Losses, Newly, Refused, Sender, Timeout, Transmission, passes,
 };

@@ -5,9 +5,9 @@ ghost use Rattle.recovery_sender.specs.Timer.{TimerIsSet};
 
 use quic_recovery::congestion::ControllerFactory;
 use quic_recovery::queue::RetransmitQueue;
-use quic_recovery::time::{Duration, Instant};
 use quic_recovery::{LiveRecovery, Recovery, Refusal};
 use rand_core::Rng;
+use recovery_losses::Variables;
 use std::alloc::Global;
 
 mod acks;
@@ -25,15 +25,6 @@ pub use losses::Losses;
 pub use packets::Transmission;
 pub use probes::Timeout;
 
-/// Which end of the connection this is.
-#[derive(Clone, Copy, PartialEq, Eq)]
-pub enum Side {
-    /// The end that began the connection.
-    Client,
-    /// The other end.
-    Server,
-}
-
 /// Why a call is refused.
 #[derive(Clone, Copy)]
 pub enum Refused {
@@ -47,25 +38,6 @@ impl From<Refusal> for Refused {
     fn from(refusal: Refusal) -> Refused {
         Refused::Event(refusal)
     }
-}
-
-/// What a sender keeps beside its recovery (RFC 9002, A.3).
-#[derive(Clone, Copy)]
-pub struct Variables {
-    /// Which end of the connection this is.
-    pub side: Side,
-    /// How late the peer's ACKs may be in the space of 1-RTT packets (RFC 9000, 18.2: max_ack_delay).
-    pub max_ack_delay: Duration,
-    /// How many probe timeouts expired in a row; it stops at `u32::MAX`.
-    pub pto_count: u32,
-    /// Whether the handshake is confirmed (RFC 9001, 4.1.2).
-    pub is_handshake_confirmed: bool,
-    /// Whether a client knows that the server validated its address (RFC 9002, 6.2.2.1).
-    pub is_address_known: bool,
-    /// Whether there are keys of Handshake packets.
-    pub has_handshake_keys: bool,
-    /// From when on the timer runs that is to end a deadlock (RFC 9002, 6.2.2.1).
-    pub base: Instant,
 }
 
 /// The sending half of a connection: what is in flight is what its recovery tracks, and no second list is kept.

@@ -8,9 +8,10 @@ use Rattle.recovery_ledger.specs.Discarded.{is_discarded}
 use Rattle.recovery_ledger.specs.Spaces.{Space, packets_of}
 use Rattle.recovery_paths.specs.PathStates.{is_blocked}
 use Rattle.recovery_history.specs.Parts.{Parts}
-use Rattle.recovery_sender.specs.declared.sender.Variables.{Variables}
+use Rattle.recovery_losses.specs.declared.variables.Variables.{Variables}
 use Rattle.recovery_sender.specs.Spaces.{space_in}
-use Rattle.recovery_sender.specs.Timer.{behind, deadlock_space, has_eliciting, is_address_validated, pto_of, waits}
+use Rattle.recovery_losses.specs.Variables.{is_address_validated}
+use Rattle.recovery_sender.specs.Timer.{behind, deadlock_space, has_eliciting, pto_of, waits}
 
 module _ {K P M : Type 0} (recovery : Parts K P M) (variables : Variables) where
   -- the space lives, and something tracked there elicits an ACK; it does not wait for the handshake

@@ -1,7 +1,8 @@
 //! An ACK frame comes in (RFC 9002, A.7; RFC 9000, 13.1 and 13.4.2).
-ghost use Rattle.std.specs.Prelude.{◌≡◌, ◌≢◌, ◌∷◌, [], None, ◌+◌, ◌^◌, ◌≤◌, ◌<◌, true, false, Decides, MatchOption, IfSome, IfOk, IfErr, OnOk, ℕ, Err, length, get_or, min, option_copied};
+ghost use Rattle.std.specs.Prelude.{◌≡◌, ◌≢◌, ◌∷◌, [], None, ◌+◌, ◌^◌, ◌≤◌, ◌<◌, true, false, Decides, MatchOption, IfSome, IfOk, IfErr, OnOk, ℕ, Err, length, get_or, option_copied};
 ghost use Rattle.recovery_events.specs.declared.event.Event.TheVariants.{CheckAck, EndAcks};
 ghost use Rattle.recovery_losses.specs.Losses.{AreRising, IsOneOf};
+ghost use Rattle.recovery_losses.specs.Variables.{heard_in};
 ghost use Rattle.quic_recovery.specs.State.{OnlyTells};
 ghost use Rattle.recovery_losses.specs.Frames.{are_ranges, is_unsent, largest_of};
 ghost use Rattle.recovery_sender.specs.Acks.{AckChecked, AreAllowed, AreNewly, IsFirstIn, NoneIn, SomeElicits, TakesFrom};
@@ -10,12 +11,12 @@ ghost use Rattle.recovery_sender.specs.Promises.Acked.{AcksTracked};
 ghost use Rattle.recovery_sender.specs.Promises.Pasts.{ByPasts};
 ghost use Rattle.recovery_sender.specs.Senders.{parts_in};
 ghost use Rattle.recovery_sender.specs.Spaces.{packets_in, space_in};
-ghost use Rattle.recovery_sender.specs.Acking.{IsNewly, OnAck, TakesNewly, acking, first_marked, heard_in, is_limited, is_marked, is_raised, largest_sent, marks_now, rtt_of, sent_on, unmarked, with_marks_now, Acknowledges, EcnCompared, EcnComes, Samples};
+ghost use Rattle.recovery_sender.specs.Acking.{IsNewly, OnAck, TakesNewly, acking, first_marked, is_limited, is_marked, is_raised, largest_sent, marks_now, rtt_of, sent_on, unmarked, with_marks_now, Acknowledges, EcnCompared, EcnComes, Samples};
 ghost use Rattle.recovery_sender.specs.Steps.{marked, occurs, Does, Goes};
 ghost use Rattle.recovery_ledger.specs.Discarded.{is_discarded};
 ghost use Rattle.recovery_ledger.specs.Packets.{packet_at};
 
-use super::{Losses, Refused, Sender, Side, Variables};
+use super::{Losses, Refused, Sender};
 use quic_recovery::below::{EcnCounts, SpaceId};
 use quic_recovery::congestion::ControllerFactory;
 use quic_recovery::event::PathName;
@@ -58,26 +59,6 @@ pub struct Newly {
     pub elicits: bool,
 }
 
-impl Variables {
-    /// Something was newly acknowledged in a space: so far the peer was heard.
-    fn heard(self, space: SpaceId, now: Instant) -> Self
-        ensures { result ≡ heard_in space now self }
-    {
-        let is_address_known = self.is_address_known || space == SpaceId::Handshake;
-        let pto_count = if self.side == Side::Server || is_address_known {
-            0
-        } else {
-            self.pto_count
-        };
-        Variables {
-            is_address_known,
-            pto_count,
-            base: now,
-            ..self
-        }
-    }
-}
-
 /// Whether the largest number that was acknowledged rises.
 fn is_raised(before: Option<u64>, after: Option<u64>) -> bool
     ensures { result ≡ is_raised before after }
@@ -97,13 +78,6 @@ fn is_marked<Q>(answer: &Answer<Q>) -> bool
         Answer::Flag(is_marked) => *is_marked,
         _ => false,
     }
-}
-
-/// The lesser of two spans.
-fn lesser(one: Duration, other: Duration) -> Duration
-    ensures { result ≡ min one other }
-{
-    if other < one { other } else { one }
 }
 
 impl<F, Q, R> Sender<F, Q, R>
@@ -362,7 +336,7 @@ where
         let Some(rtt) = rtt else {
             return;
         };
-        let delay = lesser(delay, self.ack_delay_in(space));
+        let delay = self.variables.delay_counted(space, delay);
         self.tell(Event::Sample { delay, rtt });
         self.mark_first_packet(space);
     }
@@ -554,8 +528,7 @@ where
         }
     }
 
-    /// Probe timeouts are counted anew, but at a client that does not know its address validated (RFC 9002, 6.2.1): an
-    /// ACK of a Handshake packet tells it (6.2.2.1). The timer is set.
+    /// The peer was heard so far. The timer is set.
     fn hear(&mut self, space: SpaceId, now: Instant)
         ensures { Does [] (heard_in space now self.old.variables) self.old self.new }
     {

@@ -1,7 +1,8 @@
 //! Spaces that end, and what was sent in vain (RFC 9002, 6.2.2, 6.3 and 6.4).
 ghost use Rattle.std.specs.Prelude.{◌≡◌, ◌∷◌, [], true, false, Ok, OnOk, OnErr, IfSome, IfNone};
 ghost use Rattle.recovery_ledger.specs.Discarded.{is_discarded};
-ghost use Rattle.recovery_sender.specs.Calls.{begun_anew, discard_reply};
+ghost use Rattle.recovery_losses.specs.Variables.{begun_anew};
+ghost use Rattle.recovery_sender.specs.Calls.{discard_reply};
 ghost use Rattle.recovery_sender.specs.Abandoning.{Abandons, Forsakes, IsLeast};
 ghost use Rattle.recovery_sender.specs.Senders.{parts_in};
 ghost use Rattle.recovery_sender.specs.Spaces.{packets_in};
@@ -60,8 +61,7 @@ where
         ensures { Does [] (begun_anew now self.old.variables) self.old self.new }
     {
         self.is_timed = false;
-        self.variables.pto_count = 0;
-        self.variables.base = now;
+        self.variables = self.variables.begun_anew(now);
         self.set_loss_detection_timer();
     }
 

@@ -8,7 +8,7 @@ ghost use Rattle.recovery_sender.specs.Steps.{marked, told, Goes, Does};
 ghost use Rattle.recovery_sender.specs.Timer.{TimerIsSet};
 
 use super::packets::counted_at;
-use super::{Refused, Sender, Side, Variables};
+use super::{Refused, Sender};
 use quic_recovery::below::NoMemory;
 use quic_recovery::congestion::ControllerFactory;
 use quic_recovery::event::PathName;
@@ -18,6 +18,7 @@ use quic_recovery::time::Instant;
 use quic_recovery::timer::Timer;
 use quic_recovery::{Answer, Event, LiveRecovery, RecoveryConfig, Refusal};
 use rand_core::Rng;
+use recovery_losses::{Side, Variables};
 use std::alloc::Global;
 
 /// The settings of the recovery of a side's sender.

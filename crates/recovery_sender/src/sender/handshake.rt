@@ -1,33 +1,12 @@
 //! What is told of the handshake and of the peer (RFC 9001, 4.1.2; RFC 9002, A.8).
-ghost use Rattle.std.specs.Prelude.{◌≡◌, true, []};
-ghost use Rattle.recovery_sender.specs.Senders.{fresh};
+ghost use Rattle.std.specs.Prelude.{true, []};
 ghost use Rattle.recovery_sender.specs.Steps.{Does};
 
-use super::{Sender, Side, Variables};
+use super::Sender;
 use quic_recovery::congestion::ControllerFactory;
 use quic_recovery::queue::RetransmitQueue;
-use quic_recovery::time::{Duration, Instant};
+use quic_recovery::time::Duration;
 use rand_core::Rng;
-
-/// How late the ACKs of a peer may be that said nothing of it (RFC 9000, 18.2: max_ack_delay), in milliseconds.
-const DEFAULT_MAX_ACK_DELAY: u64 = 25;
-
-impl Variables {
-    /// Those of a sender to which nothing has happened yet.
-    pub(super) fn new(side: Side, now: Instant) -> Self
-        ensures { result ≡ fresh side now }
-    {
-        Variables {
-            side,
-            max_ack_delay: Duration::from_millis(DEFAULT_MAX_ACK_DELAY),
-            pto_count: 0,
-            is_handshake_confirmed: false,
-            is_address_known: false,
-            has_handshake_keys: false,
-            base: now,
-        }
-    }
-}
 
 impl<F, Q, R> Sender<F, Q, R>
 where

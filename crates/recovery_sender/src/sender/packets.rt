@@ -3,12 +3,13 @@ ghost use Rattle.std.specs.Prelude.{◌≡◌, ◌<◌, ◌≤◌, ◌+◌, ◌^
 ghost use Rattle.recovery_ledger.specs.Discarded.{is_discarded};
 ghost use Rattle.recovery_ledger.specs.Spaces.{space_of};
 ghost use Rattle.recovery_paths.specs.PathStates.{is_blocked};
+ghost use Rattle.recovery_losses.specs.Variables.{based};
 ghost use Rattle.recovery_sender.specs.Senders.{parts_in};
-ghost use Rattle.recovery_sender.specs.Calls.{based, bytes_in_flight, is_checked, is_full, sent_at, transmission, transmit_reply, transmit_steps, window_of, Takes};
+ghost use Rattle.recovery_sender.specs.Calls.{bytes_in_flight, is_checked, is_full, sent_at, transmission, transmit_reply, transmit_steps, window_of, Takes};
 ghost use Rattle.recovery_sender.specs.Steps.{told, Goes, Does};
 ghost use Rattle.recovery_sender.specs.Timer.{TimerIsSet};
 
-use super::{Refused, Sender, Variables};
+use super::{Refused, Sender};
 use quic_recovery::below::SpaceId;
 use quic_recovery::congestion::{Controller, ControllerFactory};
 use quic_recovery::queue::RetransmitQueue;
@@ -43,18 +44,6 @@ fn sent_at<Q>(time: Option<Instant>, answer: &Answer<Q>) -> Option<Instant>
     match answer {
         Answer::Sent { .. } | Answer::Probe { .. } => time,
         _ => None,
-    }
-}
-
-impl Variables {
-    /// A deadlock is counted on from a moment, if there is one (RFC 9002, 6.2.2.1).
-    fn based(self, time: Option<Instant>) -> Self
-        ensures { result ≡ based time self }
-    {
-        match time {
-            Some(base) => Variables { base, ..self },
-            None => self,
-        }
     }
 }
 

@@ -2,7 +2,8 @@
 ghost use Rattle.std.specs.Prelude.{◌≡◌, ◌∷◌, [], false, IfSome};
 ghost use Rattle.recovery_ledger.specs.Discarded.{is_discarded};
 ghost use Rattle.recovery_history.specs.History.{Reply};
-ghost use Rattle.recovery_sender.specs.Calls.{done_of, due_now, probes_with, space_due, timed_out, ProbesOnce, ProbesTwice, QueuesProbe};
+ghost use Rattle.recovery_sender.specs.Calls.{done_of, due_now, probes_with, space_due, ProbesOnce, ProbesTwice, QueuesProbe};
+ghost use Rattle.recovery_losses.specs.Variables.{timed_out};
 ghost use Rattle.recovery_sender.specs.Senders.{parts_in};
 ghost use Rattle.recovery_sender.specs.Steps.{told, Goes, Does};
 ghost use Rattle.recovery_sender.specs.Timeouts.{LosesByTime, TimesOut};
@@ -183,8 +184,7 @@ where
         ensures { Does [] (timed_out now self.old.variables) self.old self.new }
     {
         self.is_timed = false;
-        self.variables.pto_count = self.variables.pto_count.saturating_add(1);
-        self.variables.base = now;
+        self.variables = self.variables.timed_out(now);
         self.set_loss_detection_timer();
     }
 }

@@ -7,10 +7,10 @@ ghost use Rattle.recovery_ledger.specs.Spaces.{packets_of};
 ghost use Rattle.quic_recovery.specs.State.{OnlyTells};
 ghost use Rattle.recovery_sender.specs.Senders.{parts_in};
 ghost use Rattle.recovery_sender.specs.Spaces.{space_in};
-ghost use Rattle.recovery_sender.specs.Timer.{TimerIsSet, ack_delay_in, due_of, has_eliciting, loss_due, probe_due, probe_in, deadlock_due, deadlock_space, pto_of, is_address_validated};
+ghost use Rattle.recovery_sender.specs.Timer.{TimerIsSet, due_of, has_eliciting, loss_due, probe_due, probe_in, deadlock_due, deadlock_space, pto_of};
 ghost use Rattle.recovery_sender.specs.Steps.{told, timer_event, Goes, Does};
 
-use super::{Sender, Side};
+use super::Sender;
 use quic_recovery::below::SpaceId;
 use quic_recovery::congestion::ControllerFactory;
 use quic_recovery::paths::PathData;
@@ -20,10 +20,7 @@ use quic_recovery::time::{Duration, Instant};
 use quic_recovery::timer::Timer;
 use quic_recovery::{Answer, Event};
 use rand_core::Rng;
-use recovery_losses::{Due, probe_timeout, sooner};
-
-/// The most times that a probe timeout is doubled.
-const MOST_DOUBLINGS: u32 = 16;
+use recovery_losses::{Due, sooner};
 
 /// Whether some packet tracked in a space elicits an ACK (RFC 9002, 2).
 fn has_eliciting<Q>(here: &PacketSpace<Q>) -> bool
@@ -184,7 +181,7 @@ where
     fn deadlock_due(&self) -> Option<(Instant, Due)>
         ensures { result ≡ deadlock_due (parts_in self.now) self.now.variables }
     {
-        if self.is_address_validated() {
+        if self.variables.is_address_validated() {
             return None;
         }
         let space = self.deadlock_space();
@@ -206,30 +203,11 @@ where
         }
     }
 
-    /// Whether this end is no client that has to fear for its address (RFC 9002, A.8: PeerCompletedAddressValidation).
-    pub(super) fn is_address_validated(&self) -> bool
-        ensures { result ≡ is_address_validated self.now.variables }
-    {
-        self.variables.side == Side::Server || self.variables.is_address_known
-    }
-
-    /// The probe timeout of a space, as often doubled as it expired in a row, but 16 times at most (RFC 9002, 6.2.1).
+    /// The probe timeout of a space, by the path in use (RFC 9002, 6.2.1).
     fn pto(&self, space: SpaceId) -> Duration
         ensures { result ≡ pto_of (parts_in self.now) self.now.variables space }
     {
-        let delay = self.ack_delay_in(space);
-        let count = self.variables.pto_count.min(MOST_DOUBLINGS);
-        probe_timeout(self.path().rtt.pto_base(), delay, count)
-    }
-
-    /// How late the peer's ACKs may be: that counts in the space of 1-RTT packets alone (RFC 9002, 5.3 and 6.2.1).
-    pub(super) fn ack_delay_in(&self, space: SpaceId) -> Duration
-        ensures { result ≡ ack_delay_in self.now.variables space }
-    {
-        match space {
-            SpaceId::Data => self.variables.max_ack_delay,
-            _ => Duration::ZERO,
-        }
+        self.variables.pto(self.path().rtt.pto_base(), space)
     }
 
     /// What is kept for a space that is not discarded.

@@ -1,6 +1,6 @@
 use Rattle.std.proofs.Common.{None, [], ◌∷◌, inr, refl, sym, subst, ◌∙◌}
-use Rattle.recovery_sender.specs.declared.sender.Variables.{Variables}
-use Rattle.recovery_sender.specs.Calls.{begun_anew}
+use Rattle.recovery_losses.specs.declared.variables.Variables.{Variables}
+use Rattle.recovery_losses.specs.Variables.{begun_anew}
 use Rattle.recovery_sender.specs.Steps.{Does, loss_time}
 use Rattle.recovery_sender.proofs.PromiseLaws.{loses_all}
 use Rattle.recovery_sender.proofs.StepLaws.{does_as, does_behind_with}

@@ -1,6 +1,6 @@
 use Rattle.std.proofs.Common.{[], subst, ◌∙◌}
-use Rattle.recovery_sender.specs.declared.sender.Variables.{Variables}
-use Rattle.recovery_sender.specs.Acking.{heard_in}
+use Rattle.recovery_losses.specs.declared.variables.Variables.{Variables}
+use Rattle.recovery_losses.specs.Variables.{heard_in}
 use Rattle.recovery_sender.specs.Steps.{Does}
 use Rattle.recovery_sender.proofs.DetectLaws.{variables_kept}
 use Rattle.recovery_sender.proofs.KeptLaws.{ecn_keeps, sample_keeps}

@@ -1,5 +1,5 @@
 use Rattle.recovery_sender.proofs.StepLaws.{does_behind_with}
-use Rattle.recovery_sender.specs.Calls.{begun_anew}
+use Rattle.recovery_losses.specs.Variables.{begun_anew}
 use Rattle.recovery_sender.proofs.sender.Sender.discard.Goals as goal
 
 pub returns-clause-steps : goal.returns-clause-steps

@@ -1,5 +1,5 @@
 use Rattle.std.proofs.Common.{refl, ap, ◌∙◌}
-use Rattle.recovery_sender.specs.Calls.{based}
+use Rattle.recovery_losses.specs.Variables.{based}
 use Rattle.recovery_sender.proofs.StepLaws.{does_as}
 use Rattle.recovery_sender.proofs.sender.Sender.goes_on.Goals as goal
 

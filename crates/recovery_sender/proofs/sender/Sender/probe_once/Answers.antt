@@ -1,5 +1,5 @@
 use Rattle.std.proofs.Common.{refl}
-use Rattle.recovery_sender.specs.Calls.{timed_out}
+use Rattle.recovery_losses.specs.Variables.{timed_out}
 use Rattle.recovery_sender.proofs.StepLaws.{does_behind_with}
 use Rattle.recovery_sender.proofs.sender.Sender.probe_once.Goals as goal
 

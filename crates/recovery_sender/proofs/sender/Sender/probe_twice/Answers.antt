@@ -1,4 +1,4 @@
-use Rattle.recovery_sender.specs.Calls.{timed_out}
+use Rattle.recovery_losses.specs.Variables.{timed_out}
 use Rattle.recovery_sender.proofs.CallLaws.{kept_by}
 use Rattle.recovery_sender.proofs.StepLaws.{does_behind_with, goes_on}
 use Rattle.recovery_sender.proofs.sender.Sender.probe_twice.Goals as goal

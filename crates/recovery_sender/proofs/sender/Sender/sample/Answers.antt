@@ -4,6 +4,6 @@ use Rattle.recovery_sender.proofs.sender.Sender.sample.Goals as goal
 pub returns : goal.returns
 returns g c = rw c.in-Some.is (
   c.tell.new.self,
-  rw (← c.ack_delay_in.ensures, ← c.lesser-delay.ensures) (occurred _ _ _ _ c.tell.ensures),
+  rw (← c.delay_counted-delay.ensures) (occurred _ _ _ _ c.tell.ensures),
   c.mark_first_packet.ensures,
 )

@@ -1,0 +1,62 @@
+-- What a sender keeps beside its recovery, and how it changes (RFC 9002, A.3).
+use Rattle.std.specs.Prelude.{ℕ, ◌+◌, ◌-◌, ◌*◌, ◌^◌, ◌||◌, min, Bool, true, false, Option, None, Some, if◌then◌else◌}
+use Rattle.recovery_base.specs.declared.below.SpaceId.{SpaceId}
+use Rattle.recovery_base.specs.declared.below.SpaceId.TheVariants.{Handshake, Data}
+use Rattle.recovery_base.specs.Spaces.{same_space}
+use Rattle.recovery_losses.specs.Timeouts.{probe_timeout_of}
+use Rattle.recovery_losses.specs.declared.variables.Side.{Side}
+use Rattle.recovery_losses.specs.declared.variables.Side.TheVariants.{Client, Server}
+use Rattle.recovery_losses.specs.declared.variables.Variables.{Variables}
+
+-- nothing was said of the connection, and no probe timeout expired; the peer's max_ack_delay is 25 ms until it is told
+-- (RFC 9000, 18.2)
+abbrev pub fresh : Side → ℕ → Variables
+fresh side now = record {
+  side = side;
+  max_ack_delay = 25 * 10 ^ 6;
+  pto_count = 0;
+  is_handshake_confirmed = false;
+  is_address_known = false;
+  has_handshake_keys = false;
+  base = now;
+}
+
+abbrev pub is_server : Side → Bool
+is_server Server = true
+is_server Client = false
+
+-- this end is a server, or a client that knows its address validated (RFC 9002, A.8: PeerCompletedAddressValidation)
+abbrev pub is_address_validated : Variables → Bool
+is_address_validated variables = is_server variables.side || variables.is_address_known
+
+-- the peer delays its ACKs in the space of 1-RTT packets alone (RFC 9002, 6.2.1)
+abbrev pub ack_delay_in : Variables → SpaceId → ℕ
+ack_delay_in variables Data = variables.max_ack_delay
+ack_delay_in variables space = 0
+
+-- the probe timeout, as often doubled as it expired in a row, but 16 times at most (RFC 9002, 6.2.1)
+abbrev pub pto_by : ℕ → Variables → SpaceId → ℕ
+pto_by base variables space = probe_timeout_of base (ack_delay_in variables space) (min variables.pto_count 16)
+
+-- probe timeouts are counted anew, but at a client that does not know its address validated, which an ACK of a
+-- Handshake packet tells it (RFC 9002, 6.2.1 and 6.2.2.1); a deadlock is counted on from there
+abbrev pub heard_in : SpaceId → ℕ → Variables → Variables
+heard_in space now variables =
+    let known : Variables = record variables {
+      is_address_known = variables.is_address_known || same_space space Handshake;
+      base = now;
+    } in
+    record known { pto_count = (if is_address_validated known then 0 else variables.pto_count) }
+
+-- a deadlock is counted on from there (RFC 9002, 6.2.2.1)
+abbrev pub based : Option ℕ → Variables → Variables
+based None variables = variables
+based (Some now) variables = record variables { base = now }
+
+-- probe timeouts are counted anew (RFC 9002, 6.2.2 and A.11)
+abbrev pub begun_anew : ℕ → Variables → Variables
+begun_anew now variables = record variables { pto_count = 0; base = now }
+
+-- a probe timeout expired
+abbrev pub timed_out : ℕ → Variables → Variables
+timed_out now variables = record variables { pto_count = min (variables.pto_count + 1) (2 ^ 32 - 1); base = now }
