@@ -2,9 +2,7 @@
 use Rattle.std.specs.Prelude.{◌≡◌, ℕ, ◌-◌, ◌||◌, ◌==◌, min, nat_lt, ◌⊎◌, Bool, true, false, List, [], ◌∷◌, length, map, Option, None, Some, option_map, is_some, Result, Ok, Err, if◌then◌else◌}
 use Rattle.std.specs.Option.{option_and_then}
 use Rattle.recovery_base.specs.declared.below.SpaceId.{SpaceId}
-use Rattle.recovery_base.specs.declared.below.SpaceId.TheVariants.{Handshake}
 use Rattle.recovery_base.specs.declared.below.frames.EcnCounts.{EcnCounts}
-use Rattle.recovery_base.specs.Spaces.{same_space}
 use Rattle.recovery_events.specs.declared.event.Answer.{Answer}
 use Rattle.recovery_events.specs.declared.event.Answer.TheVariants.{Flag}
 use Rattle.recovery_events.specs.declared.event.Event.TheVariants.{Acked, EndAcks, Sample, Ecn}
@@ -24,7 +22,6 @@ use Rattle.recovery_sender.specs.declared.sender.acks.EcnEnd.TheVariants.{Quiet,
 use Rattle.recovery_sender.specs.declared.sender.Refused.{Refused}
 use Rattle.recovery_sender.specs.declared.sender.Refused.TheVariants as refused
 use Rattle.recovery_sender.specs.declared.sender.Sender.{Sender}
-use Rattle.recovery_losses.specs.declared.variables.Variables.{Variables}
 use Rattle.recovery_sender.specs.Acks.{AckChecked, AreAllowed, AreNewly, AreWhole, WereSent}
 use Rattle.recovery_sender.specs.Judging.{Detects, congested}
 use Rattle.recovery_sender.specs.Losses.{largest_in, NothingLost}

@@ -1,5 +1,5 @@
 -- When the timer for losses is due, and what for (RFC 9002, 6.2 and A.8), by what can be read of a sender.
-use Rattle.std.specs.Prelude.{◌≡◌, ℕ, ◌+◌, ◌-◌, ◌^◌, ◌||◌, ◌&&◌, not, min, Bool, true, false, Option, None, Some, option_map, if◌then◌else◌}
+use Rattle.std.specs.Prelude.{◌≡◌, ℕ, ◌+◌, ◌-◌, ◌^◌, ◌||◌, ◌&&◌, not, min, Bool, Option, None, Some, option_map, if◌then◌else◌}
 use Rattle.std.specs.List.{list_any}
 use Rattle.std.specs.Option.{option_and_then, option_or}
 use Rattle.recovery_base.specs.declared.below.SpaceId.{SpaceId}
