@@ -13,7 +13,7 @@ use Rattle.recovery_history.specs.Told.{logs_of, known_by, Told}
 use Rattle.recovery_history.specs.History.{Beginning, History, Reply}
 use Rattle.recovery_history.specs.Logs.{onto}
 use Rattle.recovery_history.specs.Promises.Ecn.{last_counts, ChecksEcn}
-use Rattle.recovery_history.proofs.EntryKinds.{SpaceKind, counting, space_kept}
+use Rattle.recovery_history.proofs.EntryKinds.{SpaceKind, counting, space_kind, space_kept}
 
 abbrev counts_none : SpaceKind → Bool
 counts_none counting = false
@@ -29,6 +29,11 @@ module _ {F K Q S M P : Type 0} (beginning : Beginning F K Q S M P) where
   taken log true counts last is = refl
   taken log false counts last is = is
 
+  -- what is not of counts keeps them
+  untaken : (log : List (SpaceEntry P M)) (last : EcnCounts) → kept_counts log ≡ last → (entry : SpaceEntry P M)
+      → counts_none (space_kind entry) ≡ true → kept_counts (entry ∷ log) ≡ last
+  untaken log last is entry none = grind (arith, none, is)
+
   same_counts : (history : History Q S M P) (space : SpaceId)
       → kept_counts ((logs_of beginning history).spaces space) ≡ last_counts space history
   same_counts [] space = refl
@@ -39,7 +44,7 @@ module _ {F K Q S M P : Type 0} (beginning : Beginning F K Q S M P) where
       let same = same_counts earlier space in
       space_kept beginning.queue (known_by beginning earlier) space
       (λ entry. kept_counts (onto entry log) ≡ last_counts space earlier) counts_none same
-      (λ entry none. grind (arith, none, same)) event (Ok answer) refl
+      (untaken log _ same) event (Ok answer) refl
   same_counts ((Ecn there newly counts, Err refusal) ∷ earlier) space = same_counts earlier space
   same_counts ((event, Err refusal) ∷ earlier) space = same_counts earlier space
 

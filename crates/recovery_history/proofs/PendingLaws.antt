@@ -14,7 +14,7 @@ use Rattle.recovery_history.specs.Told.{logs_of, known_by, Told}
 use Rattle.recovery_history.specs.History.{Beginning, History, Reply}
 use Rattle.recovery_history.specs.Logs.{onto}
 use Rattle.recovery_history.specs.Promises.Pending.{joined_all, waiting, HandsOutInOrder}
-use Rattle.recovery_history.proofs.EntryKinds.{SpaceKind, losing, probing, taking, emptying, space_kept}
+use Rattle.recovery_history.proofs.EntryKinds.{SpaceKind, losing, probing, taking, emptying, space_kind, space_kept}
 use Rattle.recovery_history.proofs.TrackedLaws.{one_space}
 
 -- what waits stays
@@ -50,6 +50,11 @@ module _ {F K Q S M P : Type 0} (beginning : Beginning F K Q S M P) where
       here true entry after is = is refl
       here false entry after is = same
 
+      -- what takes none out and puts none in keeps them
+      stays : (entry : SpaceEntry P M) → waits_on (space_kind entry) ≡ true
+          → waits (entry ∷ log space) ≡ joined_all beginning (waiting beginning space earlier)
+      stays entry none = grind (arith, none, same)
+
   same_waits : (history : History Q S M P) (space : SpaceId)
       → waits ((logs_of beginning history).spaces space) ≡ joined_all beginning (waiting beginning space history)
   same_waits [] space = refl
@@ -70,7 +75,7 @@ module _ {F K Q S M P : Type 0} (beginning : Beginning F K Q S M P) where
       space_kept beginning.queue (known_by beginning earlier) space
       (λ entry. waits (onto entry ((logs_of beginning earlier).spaces space))
       ≡ joined_all beginning (waiting beginning space earlier)) waits_on same
-      (λ entry none. grind (arith, none, same)) event (Ok answer) refl
+      (stays earlier space same) event (Ok answer) refl
   same_waits ((Lost there number, Err refusal) ∷ earlier) space = same_waits earlier space
   same_waits ((QueueProbe there immediate streams, Err refusal) ∷ earlier) space = same_waits earlier space
   same_waits ((TakePending there, Err refusal) ∷ earlier) space = same_waits earlier space
