@@ -18,7 +18,7 @@ use Rattle.recovery_history.specs.Known.{Known}
 use Rattle.recovery_history.specs.Logs.{onto}
 use Rattle.recovery_history.specs.Promises.Duty.{KeepsDuty, timer_runs, waits}
 use Rattle.recovery_history.proofs.Runs.{AllAlong, throughout_kept}
-use Rattle.recovery_history.proofs.EntryKinds.{SpaceKind, hearing, answering, delaying, space_kept}
+use Rattle.recovery_history.proofs.EntryKinds.{SpaceKind, hearing, answering, delaying, space_kind, space_kept}
 use Rattle.recovery_history.proofs.RequiredLaws.{either, asks, is_required}
 use Rattle.recovery_history.proofs.TrackedLaws.{one_space}
 use Rattle.recovery_history.proofs.SearchSaid.{Keeps}
@@ -73,6 +73,10 @@ module _ {F K Q S M P : Type 0} (beginning : Beginning F K Q S M P) (before : Hi
   abbrev After : Option (SpaceEntry P M) → Bool → Bool → Type 0
   After entry waiting running = AttendsTo beginning.queue.words waiting running (onto entry (log space))
 
+  -- what an ACK has nothing to do with
+  silent : (entry : SpaceEntry P M) → is_silent (space_kind entry) ≡ true → After (Some entry) waiting running
+  silent entry is = grind (arith, is, here)
+
   -- a new ack-eliciting packet with which the timer does not start
   module _ (there : SpaceId) (now number : ℕ)
       (other : ¬ ArmsBy (acks_by beginning.queue.words (log there)) (counts_by (log there)) number true) where
@@ -94,8 +98,8 @@ module _ {F K Q S M P : Type 0} (beginning : Beginning F K Q S M P) (before : Hi
   reply_attends (AcksSent there) (Ok answer) told = grind (arith, nat_tests, here)
   reply_attends (AckDelayTimeout there) (Ok answer) told = grind (arith, nat_tests, here)
   reply_attends event (Ok answer) told =
-      space_kept beginning.queue known space (λ entry. After entry waiting running) is_silent here
-      (λ entry is. grind (arith, is, here)) event (Ok answer) refl
+      space_kept beginning.queue known space (λ entry. After entry waiting running) is_silent here silent event
+      (Ok answer) refl
   reply_attends (Received there now number true) (Err refusal) told = here
   reply_attends event (Err refusal) told = here
 
