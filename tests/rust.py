@@ -25,6 +25,8 @@ import tree
 from tree import ROOT
 
 CRATE = ROOT / "crates" / "recovery_ffi"
+STACK = ROOT / "crates" / "recovery_stack"  # what stands behind the exports
+KEPT = ROOT / "crates" / "recovery_kept"
 LIBRARY = CRATE / "out" / "librecovery_ffi.a"
 RUST = ROOT / "rust" / "quic-recovery"
 DECLARED = {"library": CRATE / "src" / "layout.rt", "rust": RUST / "src" / "ffi.rs", "events": RUST / "src" / "event.rs",
@@ -120,12 +122,12 @@ def coded(source, enum, form):
 
 def constants():
     """The numbers that stand for what crosses, by groups: the name, the number and what it is."""
-    text = (CRATE / "src" / "numbers.rt").read_text()
+    text = (KEPT / "src" / "numbers.rt").read_text()
     found = re.findall(r"((?:///[^\n]*\n)+)pub const ([A-Z]+)_(\w+): u\d+ = (\d+);", text)
     groups = {}
     for docs, group, name, number in found:
         groups.setdefault(group, []).append((name, number, documented(docs)))
-    codes = (CRATE / "src" / "codes.rt").read_text()
+    codes = (STACK / "src" / "codes.rt").read_text()
     numbered = [(str(number), name) for number, (name, _) in enumerate(tree.refusals(), 1)]
     groups["REFUSAL"] = coded(EVENTS, "Refusal", numbered) + groups["REFUSAL"]
     groups["SPACE"] = coded("recovery_base/src/below.rt", "SpaceId", re.findall(r"(\d+) => Some\(SpaceId::(\w+)\)", codes))
@@ -144,7 +146,7 @@ def structs():
 def all_structs():
     form = re.compile(r"((?:///[^\n]*\n)*)#\[repr\(C\)\]\n(?:#\[derive[^\n]*\n)?pub struct (\w+) \{\n(.*?)\n\}", re.S)
     field = re.compile(r"((?: *///[^\n]*\n)*) *(?:pub )?(\w+): ([^\n,]+),")
-    for path in sorted((CRATE / "src").glob("*.rt")):
+    for path in sorted((it for crate in (KEPT, STACK) for it in (crate / "src").glob("*.rt")), key=lambda it: it.name):
         for docs, name, body in form.findall(path.read_text()):
             fields = [(documented(more), it, kind) for more, it, kind in field.findall(body) if not re.match(r"Global|\{", kind)]
             yield documented(docs), name, fields
@@ -325,7 +327,7 @@ def shown(name, arms):
 
 def faults_in_rust():
     """What is wrong with counts of ECN, with the texts by which the library knows it."""
-    text = (CRATE / "src" / "stack.rt").read_text()
+    text = (KEPT / "src" / "spelling.rt").read_text()
     told = {name: said for said, name in re.findall(r'text == "([^"]+)" \{\s+FAULT_(\w+)', text)}
     found = constants()["FAULT"]
     told[found[-1][0]] = CORRUPTED

@@ -1,12 +1,12 @@
 //! How often and how late this end acknowledges (RFC 9000, 13.2): an export for each event.
-ghost use Rattle.recovery_ffi.specs.Answers.{AnswersTo};
-ghost use Rattle.recovery_ffi.specs.Codes.{request, space_coded};
+ghost use Rattle.recovery_stack.specs.Answers.{AnswersTo};
+ghost use Rattle.recovery_stack.specs.Codes.{request, space_coded};
 ghost use Rattle.recovery_events.specs.declared.event.Event.TheVariants.{AckDelayTimeout, AckFrequencyIn, AcksSent};
 
-use crate::codes::{request, space_coded};
-use crate::handle::Handle;
-use crate::stack::Reply;
 use quic_recovery::Event;
+use recovery_kept::spelling::Reply;
+use recovery_stack::codes::{request, space_coded};
+use recovery_stack::handle::Handle;
 use std::alloc::Global;
 
 /// An ACK_FREQUENCY frame came in: the event `AckFrequencyIn`; its numbers lie below 2^62.

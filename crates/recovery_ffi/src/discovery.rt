@@ -1,11 +1,11 @@
 //! The search for the MTU (RFC 9000, 14.3; RFC 8899): an export for each event.
-ghost use Rattle.recovery_ffi.specs.Answers.{Answers};
+ghost use Rattle.recovery_stack.specs.Answers.{Answers};
 ghost use Rattle.recovery_events.specs.declared.event.Event.TheVariants.{LossesDone, PeerLimit, PollMtu};
 
-use crate::handle::Handle;
-use crate::stack::Reply;
 use quic_recovery::Event;
 use quic_recovery::time::Instant;
+use recovery_kept::spelling::Reply;
+use recovery_stack::handle::Handle;
 use std::alloc::Global;
 
 /// Is a probe of the MTU due (RFC 9000, 14.3)? The event `PollMtu`.

@@ -2,74 +2,14 @@
 //! use, and of what a space has in flight.
 ghost use Rattle.std.specs.Prelude.{◌≡◌, false, Decides};
 ghost use Rattle.recovery_ids.specs.CidQueue.{active_of};
-ghost use Rattle.recovery_ffi.specs.Answers.{Reads};
-ghost use Rattle.recovery_ffi.specs.Kept.{parts_kept};
-ghost use Rattle.recovery_ffi.specs.Views.{space_named};
-ghost use Rattle.recovery_ffi.specs.Glances.{no_rtt, no_window, rtt_shown, window_shown, HasInFlight};
+ghost use Rattle.recovery_stack.specs.Answers.{Reads};
+ghost use Rattle.recovery_kept.specs.Kept.{parts_kept};
+ghost use Rattle.recovery_stack.specs.Views.{space_named};
+ghost use Rattle.recovery_stack.specs.Glances.{no_rtt, no_window, rtt_shown, window_shown, HasInFlight};
 
-use crate::codes::nanos_shown;
-use crate::handle::Handle;
-use crate::stack::Stack;
-use quic_recovery::congestion::Controller;
+use recovery_stack::glances::{RttView, WindowView};
+use recovery_stack::handle::Handle;
 use std::alloc::Global;
-
-/// The congestion window of the path in use, in bytes.
-#[repr(C)]
-#[derive(Clone, Copy)]
-pub struct WindowView {
-    /// How many bytes may be in flight (RFC 9002, 7); 0 where there is no recovery.
-    pub window: u64,
-    /// How many are (RFC 9002, B.2).
-    pub in_flight: u64,
-}
-
-/// The round-trip time of the path in use, in nanoseconds, which stop at `u64::MAX`.
-#[repr(C)]
-#[derive(Clone, Copy)]
-pub struct RttView {
-    /// The best estimate: the smoothed one, or the initial one before the first sample (RFC 9002, 5.3); 0 where there
-    /// is no recovery.
-    pub rtt: u64,
-    /// The probe timeout without the peer's delay of ACKs (RFC 9002, 6.2.1).
-    pub pto_base: u64,
-}
-
-impl Stack {
-    fn window(&self) -> WindowView
-        ensures { result ≡ window_shown (parts_kept self.now.kept).paths.current }
-    {
-        let path = self.recovery().current();
-        WindowView {
-            window: path.congestion.window(),
-            in_flight: path.in_flight().bytes,
-        }
-    }
-
-    fn rtt(&self) -> RttView
-        ensures { result ≡ rtt_shown (parts_kept self.now.kept).paths.current }
-    {
-        let path = self.recovery().current();
-        RttView {
-            rtt: nanos_shown(path.rtt.get()),
-            pto_base: nanos_shown(path.rtt.pto_base()),
-        }
-    }
-
-    fn active_id(&self) -> u64
-        ensures { result ≡ active_of (parts_kept self.now.kept).remote_cids }
-    {
-        self.recovery().remote_ids().active_seq()
-    }
-
-    fn has_in_flight(&self, space: u8) -> bool
-        ensures { Decides result (HasInFlight (space_named space (parts_kept self.now.kept))) }
-    {
-        match self.named(space) {
-            Some(space) => space.sent_packets.has_size(),
-            None => false,
-        }
-    }
-}
 
 /// Window and bytes in flight of the path in use.
 #[unsafe(no_mangle)]
@@ -77,15 +17,7 @@ pub extern "C" fn recovery_ffi_window(alloc: Global, handle: &mut Handle) -> Win
     ensures { Reads handle.old.slot.held handle.new.slot.held (λ stack.
         result ≡ window_shown (parts_kept stack.kept).paths.current) (result ≡ no_window) }
 {
-    let Some(stack) = handle.take(alloc) else {
-        return WindowView {
-            window: 0,
-            in_flight: 0,
-        };
-    };
-    let view = stack.window();
-    handle.put(stack);
-    view
+    handle.window(alloc)
 }
 
 /// The round-trip time of the path in use.
@@ -94,15 +26,7 @@ pub extern "C" fn recovery_ffi_rtt(alloc: Global, handle: &mut Handle) -> RttVie
     ensures { Reads handle.old.slot.held handle.new.slot.held (λ stack.
         result ≡ rtt_shown (parts_kept stack.kept).paths.current) (result ≡ no_rtt) }
 {
-    let Some(stack) = handle.take(alloc) else {
-        return RttView {
-            rtt: 0,
-            pto_base: 0,
-        };
-    };
-    let view = stack.rtt();
-    handle.put(stack);
-    view
+    handle.rtt(alloc)
 }
 
 /// The number of the peer's id in use (RFC 9000, 5.1.1); 0 where there is no recovery.
@@ -111,12 +35,7 @@ pub extern "C" fn recovery_ffi_active_id(alloc: Global, handle: &mut Handle) -> 
     ensures { Reads handle.old.slot.held handle.new.slot.held (λ stack.
         result ≡ active_of (parts_kept stack.kept).remote_cids) (result ≡ 0) }
 {
-    let Some(stack) = handle.take(alloc) else {
-        return 0;
-    };
-    let active = stack.active_id();
-    handle.put(stack);
-    active
+    handle.active_id(alloc)
 }
 
 /// Whether a packet that counts in flight is tracked in a space (RFC 9002, 2), by whichever path it went.
@@ -126,10 +45,5 @@ pub extern "C" fn recovery_ffi_has_in_flight(alloc: Global, handle: &mut Handle,
         Decides result (HasInFlight (space_named space (parts_kept stack.kept))))
         (result ≡ false) }
 {
-    let Some(stack) = handle.take(alloc) else {
-        return false;
-    };
-    let has = stack.has_in_flight(space);
-    handle.put(stack);
-    has
+    handle.has_in_flight(alloc, space)
 }

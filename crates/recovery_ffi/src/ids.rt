@@ -1,16 +1,16 @@
 //! Connection ids of the peer and of this end (RFC 9000, 5.1): an export for each event, and what is read of tokens.
 ghost use Rattle.std.specs.Prelude.{◌≡◌, ◌≤◌, Decides, IsFalse, replicate};
 ghost use Rattle.std.specs.List.{All};
-ghost use Rattle.recovery_ffi.specs.Answers.{Answers, AnswersTo, IsBad, IssuesOr, Reads};
-ghost use Rattle.recovery_ffi.specs.Codes.{cid, frame};
+ghost use Rattle.recovery_stack.specs.Answers.{Answers, AnswersTo, IsBad, IssuesOr, Reads};
+ghost use Rattle.recovery_stack.specs.Codes.{cid, frame};
 ghost use Rattle.recovery_events.specs.declared.event.Event.TheVariants.{IdTimeout, InitialId, NewId, NextId, PeerRetired};
 
-use crate::codes::{Id, are_ids, cid, ids_of};
-use crate::handle::Handle;
-use crate::stack::Reply;
 use quic_recovery::Event;
 use quic_recovery::time::Instant;
 use recovery_base::below::{NewConnectionId, ResetToken};
+use recovery_kept::spelling::Reply;
+use recovery_stack::codes::{Id, are_ids, cid, ids_of};
+use recovery_stack::handle::Handle;
 use std::alloc::Global;
 
 /// A NEW_CONNECTION_ID frame came in (RFC 9000, 19.15): the event `NewId`; an id has at most 20 bytes.
@@ -74,19 +74,7 @@ pub extern "C" fn recovery_ffi_issue_ids(
     ensures long { ¬ All (λ id. id.len ≤ 20) given.now
         → IsBad handle.old.slot.held result handle.new.slot.held }
 {
-    if !are_ids(given) {
-        return Reply::bad_argument();
-    }
-    match ids_of(alloc, given) {
-        Ok(ids) => handle.apply(
-            alloc,
-            Event::IssueIds {
-                now: Instant::from_nanos(now),
-                ids,
-            },
-        ),
-        Err(_) => Reply::no_memory(),
-    }
+    handle.issue_ids(alloc, now, given)
 }
 
 /// The timer for new ids expired: the event `IdTimeout`.
@@ -117,13 +105,7 @@ pub extern "C" fn recovery_ffi_token(alloc: Global, handle: &mut Handle, out: &m
     ensures { Reads handle.old.slot.held handle.new.slot.held
         (λ stack. out.new ≡ stack.token) (out.new ≡ replicate 16 0) }
 {
-    let Some(stack) = handle.take(alloc) else {
-        *out = [0; 16];
-        return;
-    };
-    let bytes = stack.token_bytes();
-    *out = bytes;
-    handle.put(stack);
+    handle.token(alloc, out);
 }
 
 /// Whether this is the token that was answered last; of none where no recovery is held.
@@ -136,10 +118,5 @@ pub extern "C" fn recovery_ffi_is_token(
     ensures { Reads handle.old.slot.held handle.new.slot.held
         (λ stack. Decides result (stack.token ≡ token.now)) (IsFalse result) }
 {
-    let Some(stack) = handle.take(alloc) else {
-        return false;
-    };
-    let is = stack.is_token(token);
-    handle.put(stack);
-    is
+    handle.is_token(alloc, token)
 }

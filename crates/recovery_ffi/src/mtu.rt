@@ -1,34 +1,16 @@
 //! MTU discovery alone, without a recovery: for a tunnel, or another datagram protocol (RFC 8899). Packets are numbered
 //! by the caller, upward, probes among them.
 ghost use Rattle.std.specs.Prelude.{◌≡◌, None};
-ghost use Rattle.recovery_ffi.specs.Answers.{Reads};
-ghost use Rattle.recovery_ffi.specs.Discoveries.{DiscoveryAnswers, NewDiscovery, discovery_by, mtu_shown, no_mtu};
-ghost use Rattle.recovery_ffi.specs.Settings.{IsSound};
-ghost use Rattle.recovery_ffi.specs.declared.mtu_handle.Call.TheVariants.{Poll, Limit, Acked, ProbeLost, Lost, LossesDone, Reset};
+ghost use Rattle.recovery_stack.specs.Answers.{Reads};
+ghost use Rattle.recovery_stack.specs.Discoveries.{DiscoveryAnswers, NewDiscovery, mtu_shown, no_mtu};
+ghost use Rattle.recovery_stack.specs.declared.mtu_handle.Call.TheVariants.{Poll, Limit, Acked, ProbeLost, Lost, LossesDone, Reset};
 
-use crate::mtu_handle::{Call, MtuHandle};
-use crate::numbers::{NEW_HELD, NEW_MADE, NEW_NO_MEMORY};
-use crate::settings::{Settings, discovery, fault};
-use crate::stack::Reply;
 use quic_recovery::time::Instant;
-use recovery_mtud::mtud::MtuDiscovery;
+use recovery_kept::spelling::Reply;
+use recovery_stack::mtu::MtuView;
+use recovery_stack::mtu_handle::{Call, MtuHandle};
+use recovery_stack::settings::Settings;
 use std::alloc::Global;
-
-/// What is known of an MTU.
-#[repr(C)]
-#[derive(Clone, Copy)]
-pub struct MtuView {
-    /// The number of the probe in flight, where there is one; otherwise 0.
-    pub probe: u64,
-    /// The MTU in use, in bytes.
-    pub mtu: u16,
-    /// Whether a probe is in flight.
-    pub probes: bool,
-    /// Whether a search runs.
-    pub searches: bool,
-    /// Whether a discovery is held; if not, all else is 0.
-    pub some: bool,
-}
 
 /// Makes an MTU discovery, as a path of these settings has it: by `initial_mtu`, `min_mtu`, `allow_mtud` and what they
 /// say of the search. The peer takes datagrams of at most `limit` bytes; 0 says that it did not tell. The answer is
@@ -42,35 +24,7 @@ pub extern "C" fn recovery_ffi_mtu_new(
 ) -> u8
     ensures { NewDiscovery result settings.now limit mtu.old.slot.held mtu.new.slot.held }
 {
-    if mtu.holds() {
-        return NEW_HELD;
-    }
-    let fault = fault(settings);
-    if fault != NEW_MADE {
-        return fault;
-    }
-    if mtu.make(alloc, begun(settings, limit)) {
-        NEW_MADE
-    } else {
-        NEW_NO_MEMORY
-    }
-}
-
-fn begun(settings: &Settings, limit: u16) -> MtuDiscovery
-    requires { IsSound settings.now }
-    ensures { result ≡ discovery_by settings.now limit }
-{
-    let initial = settings.initial_mtu.max(settings.min_mtu);
-    let limit = if limit == 0 { None } else { Some(limit) };
-    let searched = if settings.allow_mtud {
-        discovery(settings)
-    } else {
-        None
-    };
-    match searched {
-        Some(searched) => MtuDiscovery::new(initial, settings.min_mtu, limit, searched),
-        None => MtuDiscovery::disabled(initial, settings.min_mtu),
-    }
+    mtu.begin(alloc, settings, limit)
 }
 
 /// Frees a discovery. The handle holds none then; one that holds none stays so.
@@ -78,7 +32,7 @@ fn begun(settings: &Settings, limit: u16) -> MtuDiscovery
 pub extern "C" fn recovery_ffi_mtu_drop(alloc: Global, mtu: &mut MtuHandle)
     ensures { mtu.new.slot.held ≡ None }
 {
-    drop(mtu.take(alloc));
+    mtu.free(alloc);
 }
 
 /// What is known.
@@ -87,31 +41,7 @@ pub extern "C" fn recovery_ffi_mtu(alloc: Global, mtu: &mut MtuHandle) -> MtuVie
     ensures { Reads mtu.old.slot.held mtu.new.slot.held
         (λ discovery. result ≡ mtu_shown discovery) (result ≡ no_mtu) }
 {
-    let Some(discovery) = mtu.take(alloc) else {
-        return MtuView {
-            probe: 0,
-            mtu: 0,
-            probes: false,
-            searches: false,
-            some: false,
-        };
-    };
-    let view = show(&discovery);
-    mtu.put(discovery);
-    view
-}
-
-fn show(discovery: &MtuDiscovery) -> MtuView
-    ensures { result ≡ mtu_shown discovery.now }
-{
-    let probe = discovery.in_flight_mtu_probe();
-    MtuView {
-        probe: probe.unwrap_or(0),
-        mtu: discovery.current_mtu(),
-        probes: probe.is_some(),
-        searches: discovery.is_searching(),
-        some: true,
-    }
+    mtu.view(alloc)
 }
 
 /// Is a probe due? Its size is that of the answer (`ANSWER_PROBE`, otherwise `ANSWER_NO_PROBE`), and it is sent as the

@@ -1,55 +1,10 @@
 //! Pacing alone, without a recovery: for a tunnel, or another datagram protocol (RFC 9002, 7.7). The bucket is the
 //! caller's, and takes no memory of the library.
-ghost use Rattle.std.specs.Prelude.{◌≡◌, None, MatchOption};
-ghost use Rattle.recovery_congestion.specs.Pacing.{IsBucketSound};
-ghost use Rattle.recovery_ffi.specs.Buckets.{Delays, Transmits, bucket_first, bucket_in, bucket_shown};
+ghost use Rattle.std.specs.Prelude.{◌≡◌};
+ghost use Rattle.recovery_stack.specs.Buckets.{Delays, Transmits, bucket_first};
 
-use crate::numbers::{ANSWER_DELAYED, ANSWER_READY, ANSWER_TRANSMITTED};
-use crate::stack::{Reply, spell_number};
-use quic_recovery::time::{Duration, Instant};
-use recovery_congestion::pacing::{Pacer, PacerState};
-
-/// A bucket of tokens, one a byte. All zeros is none, and refused.
-#[repr(C)]
-#[derive(Clone, Copy)]
-pub struct Bucket {
-    /// The most bytes that it takes.
-    pub capacity: u64,
-    /// The congestion window that this was computed for, in bytes.
-    pub window: u64,
-    /// The bytes in it.
-    pub tokens: u64,
-    /// The latest moment at which it was refilled, or made, in nanoseconds.
-    pub last: u64,
-    /// The MTU that its capacity was computed for, in bytes.
-    pub mtu: u16,
-}
-
-fn pacer_in(bucket: &Bucket) -> Option<Pacer>
-    ensures { MatchOption result (¬ IsBucketSound (bucket_in bucket.now))
-        (λ pacer. pacer ≡ bucket_in bucket.now) }
-{
-    Pacer::from_state(PacerState {
-        capacity: bucket.capacity,
-        last_window: bucket.window,
-        last_mtu: bucket.mtu,
-        tokens: bucket.tokens,
-        prev: Instant::from_nanos(bucket.last),
-    })
-}
-
-fn bucket_of(pacer: &Pacer) -> Bucket
-    ensures { result ≡ bucket_shown pacer.now }
-{
-    let state = pacer.state();
-    Bucket {
-        capacity: state.capacity,
-        window: state.last_window,
-        tokens: state.tokens,
-        last: state.prev.as_nanos(),
-        mtu: state.last_mtu,
-    }
-}
+use recovery_kept::spelling::Reply;
+use recovery_stack::pacer::Bucket;
 
 /// A full bucket at the moment `now`, by the RTT (nanoseconds), the congestion window and the MTU (bytes). Of a window
 /// or an MTU of 0 it is all zeros, which is none.
@@ -57,21 +12,7 @@ fn bucket_of(pacer: &Pacer) -> Bucket
 pub extern "C" fn recovery_ffi_pacer(rtt: u64, window: u64, mtu: u16, now: u64) -> Bucket
     ensures { result ≡ bucket_first rtt window mtu now }
 {
-    if window == 0 || mtu == 0 {
-        return Bucket {
-            capacity: 0,
-            window: 0,
-            tokens: 0,
-            last: 0,
-            mtu: 0,
-        };
-    }
-    bucket_of(&Pacer::new(
-        Duration::from_nanos(rtt),
-        window,
-        mtu,
-        Instant::from_nanos(now),
-    ))
+    Bucket::full(rtt, window, mtu, now)
 }
 
 /// A packet of so many bytes was sent (`ANSWER_TRANSMITTED`): it takes tokens, as far as they go. Refused where the
@@ -80,12 +21,7 @@ pub extern "C" fn recovery_ffi_pacer(rtt: u64, window: u64, mtu: u16, now: u64) 
 pub extern "C" fn recovery_ffi_pacer_transmit(bucket: &mut Bucket, bytes: u16) -> Reply
     ensures { Transmits bytes bucket.old result bucket.new }
 {
-    let Some(mut paced) = pacer_in(bucket) else {
-        return Reply::bad_argument();
-    };
-    paced.on_transmit(bytes);
-    *bucket = bucket_of(&paced);
-    Reply::plain(ANSWER_TRANSMITTED)
+    bucket.transmit(bytes)
 }
 
 /// May so many bytes be sent at the moment `now` (`ANSWER_READY`), or when is it to be asked again (`ANSWER_DELAYED`)?
@@ -103,22 +39,5 @@ pub extern "C" fn recovery_ffi_pacer_delay(
     ensures { Delays (record { bytes = bytes; rtt = rtt; mtu = mtu; window = window; now = now })
         bucket.old result bucket.new }
 {
-    if window == 0 || mtu == 0 {
-        return Reply::bad_argument();
-    }
-    let Some(mut paced) = pacer_in(bucket) else {
-        return Reply::bad_argument();
-    };
-    let until = paced.delay(
-        Duration::from_nanos(rtt),
-        bytes,
-        mtu,
-        window,
-        Instant::from_nanos(now),
-    );
-    *bucket = bucket_of(&paced);
-    match until {
-        Some(until) => spell_number(ANSWER_DELAYED, until.as_nanos()),
-        None => Reply::plain(ANSWER_READY),
-    }
+    bucket.delay(rtt, bytes, mtu, window, now)
 }

@@ -1,15 +1,15 @@
 //! Packets that come in and go out (RFC 9000, 12; RFC 9002, A.5 and A.7): an export for each event.
 ghost use Rattle.std.specs.Prelude.{◌≡◌};
-ghost use Rattle.recovery_ffi.specs.Answers.{AnswersTo, AnswersWith, Reads};
-ghost use Rattle.recovery_ffi.specs.Codes.{space_coded, maybe};
-ghost use Rattle.recovery_ffi.specs.Views.{IsWritten};
+ghost use Rattle.recovery_stack.specs.Answers.{AnswersTo, AnswersWith, Reads};
+ghost use Rattle.recovery_stack.specs.Codes.{space_coded, maybe};
+ghost use Rattle.recovery_kept.specs.Replies.{IsWritten};
 ghost use Rattle.recovery_events.specs.declared.event.Event.TheVariants.{Acked, DiscardSpace, Lost, Received, Send};
 
-use crate::codes::{copy_items, maybe, queue_of, space_coded};
-use crate::handle::Handle;
-use crate::stack::Reply;
 use quic_recovery::Event;
 use quic_recovery::time::Instant;
+use recovery_kept::spelling::Reply;
+use recovery_stack::codes::{copy_items, maybe, queue_of, space_coded};
+use recovery_stack::handle::Handle;
 use std::alloc::Global;
 
 /// A packet came in (RFC 9000, 12.3): the event `Received`.
@@ -144,10 +144,5 @@ pub extern "C" fn recovery_ffi_taken(alloc: Global, handle: &mut Handle, out: &m
         (λ stack. IsWritten stack.taken out.old result out.new)
         ((result ≡ 0) × (out.new ≡ out.old)) }
 {
-    let Some(stack) = handle.take(alloc) else {
-        return 0;
-    };
-    let count = copy_items(&stack.taken, out);
-    handle.put(stack);
-    count
+    handle.taken(alloc, out)
 }

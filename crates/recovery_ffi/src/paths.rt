@@ -1,13 +1,13 @@
 //! Paths, congestion and pacing (RFC 9000, 8.1 and 9; RFC 9002, 5 and 7): an export for each event.
-ghost use Rattle.recovery_ffi.specs.Answers.{Answers, AnswersTo, MovesTo};
-ghost use Rattle.recovery_ffi.specs.Codes.{path_coded, maybe, spans};
+ghost use Rattle.recovery_stack.specs.Answers.{Answers, AnswersTo, MovesTo};
+ghost use Rattle.recovery_stack.specs.Codes.{path_coded, maybe, spans};
 ghost use Rattle.recovery_events.specs.declared.event.Event.TheVariants.{Congestion, DatagramIn, DropPrevious, EndAcks, InFlight, PacerCheck, ResetPath, RevertPath, Sample, Transmit, Validated};
 
-use crate::codes::{Address, maybe, path_coded, socket_of, spans};
-use crate::handle::Handle;
-use crate::stack::Reply;
 use quic_recovery::Event;
 use quic_recovery::time::Instant;
+use recovery_kept::spelling::Reply;
+use recovery_stack::codes::{Address, maybe, path_coded, socket_of, spans};
+use recovery_stack::handle::Handle;
 use std::alloc::Global;
 
 /// What is in flight on a path? The event `InFlight`.

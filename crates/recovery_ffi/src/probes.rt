@@ -1,14 +1,14 @@
 //! Counts of ECN, ranges that are acknowledged, probes and what waits to be sent again (RFC 9000, 13.4; RFC 9002,
 //! 6.2.4).
-ghost use Rattle.recovery_ffi.specs.Answers.{AnswersTo};
-ghost use Rattle.recovery_ffi.specs.Codes.{counts, space_coded};
+ghost use Rattle.recovery_stack.specs.Answers.{AnswersTo};
+ghost use Rattle.recovery_stack.specs.Codes.{counts, space_coded};
 ghost use Rattle.recovery_events.specs.declared.event.Event.TheVariants.{CheckAck, Ecn, QueueProbe, TakePending};
 
-use crate::codes::space_coded;
-use crate::handle::Handle;
-use crate::stack::Reply;
 use quic_recovery::Event;
 use recovery_base::below::EcnCounts;
+use recovery_kept::spelling::Reply;
+use recovery_stack::codes::space_coded;
+use recovery_stack::handle::Handle;
 use std::alloc::Global;
 
 /// The counts of ECN of an ACK frame (RFC 9000, 13.4.2): the event `Ecn`.

@@ -1,74 +1,24 @@
 //! The sending half of a connection (RFC 9002, Appendices A and B): which packets are lost, when to probe, and whether
 //! a datagram may go out. An export for each call of it that is no event; events that pass it takes as a recovery does.
 ghost use Rattle.std.specs.Prelude.{◌≡◌, Some};
-ghost use Rattle.recovery_ffi.specs.Answers.{Reads};
-ghost use Rattle.recovery_ffi.specs.Codes.{maybe, side_coded, space_coded, span};
-ghost use Rattle.recovery_ffi.specs.Kept.{numbers_told, packets_told, pto_count_of};
-ghost use Rattle.recovery_ffi.specs.Made.{NewOr};
-ghost use Rattle.recovery_ffi.specs.Sending.{ack_given, frame_given, no_told, told_view, Asks, AsksAck, AsksTo};
-ghost use Rattle.recovery_ffi.specs.Views.{IsWritten};
-ghost use Rattle.recovery_ffi.specs.declared.sending.Call.TheVariants.{Transmit, Expire, Discard, Abandon, HandshakeKeys, HandshakeConfirmed, PeerDelay, Challenge};
+ghost use Rattle.recovery_stack.specs.Answers.{Reads};
+ghost use Rattle.recovery_stack.specs.Codes.{maybe, side_coded, space_coded, span};
+ghost use Rattle.recovery_kept.specs.Kept.{numbers_told, packets_told, pto_count_of};
+ghost use Rattle.recovery_stack.specs.Made.{NewOr};
+ghost use Rattle.recovery_stack.specs.Asking.{frame_given, Asks, AsksAck, AsksTo};
+ghost use Rattle.recovery_kept.specs.Sending.{no_told, told_view};
+ghost use Rattle.recovery_kept.specs.Replies.{IsWritten};
+ghost use Rattle.recovery_kept.specs.declared.sending.Call.TheVariants.{Transmit, Expire, Discard, Abandon, HandshakeKeys, HandshakeConfirmed, PeerDelay, Challenge};
 
-use crate::begin;
-use crate::codes::{Address, maybe, space_coded, span};
-use crate::handle::Handle;
-use crate::sending::{AckRange, Call, ToldView};
-use crate::settings::Settings;
-use crate::stack::Reply;
 use quic_recovery::time::Instant;
-use recovery_base::below::{EcnCounts, SpaceId};
-use recovery_sender::{Ack, Side};
+use recovery_kept::sending::{AckRange, Call, ToldView};
+use recovery_kept::spelling::Reply;
+use recovery_stack::codes::{Address, maybe, space_coded, span};
+use recovery_stack::handle::Handle;
+use recovery_stack::making::begin;
+use recovery_stack::sender::{AckFrame, side_of};
+use recovery_stack::settings::Settings;
 use std::alloc::Global;
-
-/// What an ACK frame says beside its ranges, and what the stack knows at its arrival.
-#[repr(C)]
-#[derive(Clone, Copy)]
-pub struct AckFrame {
-    /// How long the peer says that it delayed the ACK, in whole seconds.
-    pub delay_secs: u64,
-    /// The count of ECT(0), where the frame has counts (RFC 9000, 19.3.2).
-    pub ect0: u64,
-    /// The count of ECT(1).
-    pub ect1: u64,
-    /// The count of ECN-CE.
-    pub ce: u64,
-    /// The nanoseconds of that delay beside its seconds, below 10^9.
-    pub delay_nanos: u32,
-    /// Whether the frame has counts of ECN.
-    pub has_ecn: bool,
-    /// Whether the sender had too little to send to fill its window (RFC 9002, 7.8).
-    pub app_limited: bool,
-}
-
-/// What a frame says, where its delay has fewer nanoseconds than a second.
-fn ack_of(given: &AckFrame) -> Option<Ack>
-    ensures { result ≡ ack_given given.now }
-{
-    let delay = span(given.delay_secs, given.delay_nanos)?;
-    let counts = EcnCounts {
-        ect0: given.ect0,
-        ect1: given.ect1,
-        ce: given.ce,
-    };
-    Some(Ack {
-        delay,
-        ecn: if given.has_ecn { Some(counts) } else { None },
-        app_limited: given.app_limited,
-    })
-}
-
-/// Its space and what it says.
-fn frame_of(space: u8, given: &AckFrame) -> Option<(SpaceId, Ack)>
-    ensures { result ≡ frame_given space given.now }
-{
-    Some((space_coded(space)?, ack_of(given)?))
-}
-
-fn side_of(client: bool) -> Side
-    ensures { result ≡ side_coded client }
-{
-    if client { Side::Client } else { Side::Server }
-}
 
 /// Makes a recovery of a sender, of the client or else of the server, whose peer is at this address and has this id of
 /// at most 20 bytes. A client's first path is validated, whatever the settings say (RFC 9000, 8.1). The answer is
@@ -146,18 +96,7 @@ pub extern "C" fn recovery_ffi_sender_ack(
     ensures { AsksAck (frame_given space frame.now) now ranges.now
         handle.old.slot.held result handle.new.slot.held }
 {
-    let Some((space, ack)) = frame_of(space, frame) else {
-        return Reply::bad_argument();
-    };
-    handle.ask_with(
-        alloc,
-        Call::TakeAck {
-            space,
-            now: Instant::from_nanos(now),
-            ack,
-        },
-        ranges,
-    )
+    handle.take_ack(alloc, space, now, frame, ranges)
 }
 
 /// The timer for losses may be due (RFC 9002, A.9): `ANSWER_NOTHING` where it is not; `ANSWER_LOSSES` where packets
@@ -295,12 +234,7 @@ pub extern "C" fn recovery_ffi_pto_count(alloc: Global, handle: &mut Handle) -> 
     ensures { Reads handle.old.slot.held handle.new.slot.held (λ stack.
         result ≡ pto_count_of stack.kept) (result ≡ 0) }
 {
-    let Some(stack) = handle.take(alloc) else {
-        return 0;
-    };
-    let count = stack.kept.pto_count();
-    handle.put(stack);
-    count
+    handle.pto_count(alloc)
 }
 
 /// What was told last: by an ACK frame that was not refused, by a timeout that looked for losses, or by an abandoned
@@ -310,12 +244,7 @@ pub extern "C" fn recovery_ffi_told(alloc: Global, handle: &mut Handle) -> ToldV
     ensures { Reads handle.old.slot.held handle.new.slot.held (λ stack.
         result ≡ told_view stack.kept) (result ≡ no_told) }
 {
-    let Some(stack) = handle.take(alloc) else {
-        return ToldView::none();
-    };
-    let view = stack.kept.told();
-    handle.put(stack);
-    view
+    handle.told(alloc)
 }
 
 /// How many numbers were newly acknowledged as something was told last, or, with `lost`, how many were found lost,
@@ -331,12 +260,7 @@ pub extern "C" fn recovery_ffi_told_numbers(
         IsWritten (numbers_told lost stack.kept) out.old result out.new)
         ((result ≡ 0) × (out.new ≡ out.old)) }
 {
-    let Some(stack) = handle.take(alloc) else {
-        return 0;
-    };
-    let count = stack.kept.copy_numbers(lost, out);
-    handle.put(stack);
-    count
+    handle.told_numbers(alloc, lost, out)
 }
 
 /// Of each packet that was newly acknowledged as something was told last, rising: its number, how many items it
@@ -351,10 +275,5 @@ pub extern "C" fn recovery_ffi_told_packets(
         IsWritten (packets_told stack.kept) out.old result out.new)
         ((result ≡ 0) × (out.new ≡ out.old)) }
 {
-    let Some(stack) = handle.take(alloc) else {
-        return 0;
-    };
-    let count = stack.kept.copy_packets(out);
-    handle.put(stack);
-    count
+    handle.told_packets(alloc, out)
 }

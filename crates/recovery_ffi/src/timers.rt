@@ -1,13 +1,13 @@
 //! Timers (RFC 9002, 6.2): an export for each event.
-ghost use Rattle.recovery_ffi.specs.Answers.{Answers, AnswersTo};
-ghost use Rattle.recovery_ffi.specs.Codes.{timer_coded};
+ghost use Rattle.recovery_stack.specs.Answers.{Answers, AnswersTo};
+ghost use Rattle.recovery_stack.specs.Codes.{timer_coded};
 ghost use Rattle.recovery_events.specs.declared.event.Event.TheVariants.{NextTimeout, SetTimer, StopTimer};
 
-use crate::codes::timer_coded;
-use crate::handle::Handle;
-use crate::stack::Reply;
 use quic_recovery::Event;
 use quic_recovery::time::Instant;
+use recovery_kept::spelling::Reply;
+use recovery_stack::codes::timer_coded;
+use recovery_stack::handle::Handle;
 use std::alloc::Global;
 
 /// A timer is set to a moment in nanoseconds: the event `SetTimer`.

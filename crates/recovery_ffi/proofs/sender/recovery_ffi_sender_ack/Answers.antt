@@ -1,7 +1,0 @@
-use Rattle.recovery_ffi.proofs.HeldLaws.{frame_taken}
-use Rattle.recovery_ffi.proofs.sender.recovery_ffi_sender_ack.Goals as goal
-
-pub returns : goal.returns
-returns c =
-    frame_taken c.args.ranges.now c.args.handle.now.slot.held c.ask_with.result c.ask_with.new.self.slot.held
-    c.in-Some.ensures c.from_nanos.ensures c.ask_with.ensures

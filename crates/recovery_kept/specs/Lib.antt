@@ -1,0 +1,4 @@
+pub mod Replies
+pub mod Controllers
+pub mod Kept
+pub mod Sending

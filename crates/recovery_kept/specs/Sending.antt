@@ -1,0 +1,248 @@
+-- What a call of a sender comes to, in numbers.
+use Rattle.std.specs.Prelude.{◌≡◌, ◌⊎◌, ℕ, ◌+◌, ◌<◌, ◌≤◌, ◌||◌, not, Bool, true, false, List, [], length, map, Option, None, Some, is_some, Result, Ok, Err, IfOk, OnOk, OnErr, Vec, ◌∷◌, if◌then◌else◌}
+use Rattle.std.specs.Global.{Global}
+use Rattle.std.specs.Option.{option_map_or}
+use Rattle.recovery_base.specs.declared.below.SpaceId.{SpaceId}
+use Rattle.recovery_events.specs.declared.event.Answer.TheVariants.{Done}
+use Rattle.recovery_events.specs.declared.event.Event.TheVariants.{DiscardSpace}
+use Rattle.recovery_ledger.specs.Packets.{Packets}
+use Rattle.recovery_ledger.specs.Spaces.{space_of}
+use Rattle.recovery_sender.specs.Abandoning.{Abandons}
+use Rattle.recovery_sender.specs.Acking.{OnAck}
+use Rattle.recovery_losses.specs.Variables.{begun_anew}
+use Rattle.recovery_sender.specs.Calls.{bytes_in_flight, challenged, discard_reply, is_checked, transmit_reply, transmit_steps, window_of}
+use Rattle.recovery_sender.specs.Senders.{parts_in}
+use Rattle.recovery_sender.specs.Spaces.{packets_in}
+use Rattle.recovery_sender.specs.Steps as Steps
+use Rattle.recovery_sender.specs.Steps.{Does, marked}
+use Rattle.recovery_sender.specs.Timeouts.{TimesOut}
+use Rattle.recovery_losses.specs.declared.frames.Ack.{Ack}
+use Rattle.recovery_sender.specs.declared.sender.acks.Acknowledged.{Acknowledged}
+use Rattle.recovery_sender.specs.declared.sender.acks.EcnEnd.{EcnEnd}
+use Rattle.recovery_sender.specs.declared.sender.acks.EcnEnd.TheVariants.{Quiet, Marked, Failed}
+use Rattle.recovery_sender.specs.declared.sender.losses.Losses.{Losses}
+use Rattle.recovery_sender.specs.declared.sender.packets.Transmission.{Transmission}
+use Rattle.recovery_sender.specs.declared.sender.packets.Transmission.TheVariants.{Transmitted, Blocked, Full, Delayed}
+use Rattle.recovery_sender.specs.declared.sender.probes.Timeout.{Timeout}
+use Rattle.recovery_sender.specs.declared.sender.probes.Timeout.TheVariants.{Nothing, Lost, Probe}
+use Rattle.recovery_sender.specs.declared.sender.Refused.{Refused}
+use Rattle.recovery_sender.specs.declared.sender.Refused.TheVariants as refused
+use Rattle.recovery_losses.specs.declared.variables.Variables.{Variables}
+use Rattle.recovery_kept.specs.Controllers.{chosen_words}
+use Rattle.recovery_kept.specs.Kept.{packets_listed, LosesAlone}
+use Rattle.recovery_kept.specs.Replies.{no_memory, no_sender, plain, refusal_spelled, space_number}
+use Rattle.recovery_kept.specs.declared.kept.Kept.{Kept}
+use Rattle.recovery_kept.specs.declared.kept.Kept.TheVariants.{Alone, Sends}
+use Rattle.recovery_kept.specs.declared.numbers.TheConstants.{ANSWER_ACKNOWLEDGED, ANSWER_BLOCKED, ANSWER_DELAYED, ANSWER_DONE, ANSWER_FULL, ANSWER_LOSSES, ANSWER_NOTHING, ANSWER_PROBES, ANSWER_REFUSED, ANSWER_TRANSMITTED, ECN_FAILED, ECN_MARKED, ECN_QUIET, REFUSAL_UNSENT}
+use Rattle.recovery_kept.specs.declared.sending.AckRange.{AckRange}
+use Rattle.recovery_kept.specs.declared.sending.Call.{Call}
+use Rattle.recovery_kept.specs.declared.sending.Call.TheVariants.{Transmit, TakeAck, Expire, Discard, Abandon, HandshakeKeys, HandshakeConfirmed, PeerDelay, Challenge}
+use Rattle.recovery_kept.specs.declared.sending.Sending.{Sending}
+use Rattle.recovery_kept.specs.declared.sending.Told.{Told}
+use Rattle.recovery_kept.specs.declared.sending.ToldView.{ToldView}
+use Rattle.recovery_kept.specs.declared.spelling.Reply.{Reply}
+
+-- ---- answers in numbers
+
+abbrev pub refused_spelled : Refused → Reply
+refused_spelled (refused.Event refusal) = refusal_spelled refusal
+refused_spelled refused.Unsent = record (plain ANSWER_REFUSED) { refusal = REFUSAL_UNSENT }
+
+abbrev pub spelled_by : {T : Type 0} → (T → Reply) → Result T Refused → Reply
+spelled_by spell (Ok answer) = spell answer
+spelled_by spell (Err refusal) = refused_spelled refusal
+
+abbrev pub transmission_spelled : Transmission → Reply
+transmission_spelled Transmitted = plain ANSWER_TRANSMITTED
+transmission_spelled Blocked = plain ANSWER_BLOCKED
+transmission_spelled Full = plain ANSWER_FULL
+transmission_spelled (Delayed until) = record (plain ANSWER_DELAYED) { first = until }
+
+abbrev pub timeout_spelled : Timeout → Reply
+timeout_spelled Nothing = plain ANSWER_NOTHING
+timeout_spelled (Lost losses) = plain ANSWER_LOSSES
+timeout_spelled (Probe space count) = record (plain ANSWER_PROBES) { first = space_number space; second = count }
+
+-- a frame: how many numbers are newly acknowledged, how many lost, and whether more is told than these
+abbrev pub is_quiet : EcnEnd → Bool
+is_quiet Quiet = true
+is_quiet end = false
+
+abbrev pub tells_more : Acknowledged → Bool
+tells_more told = is_some told.losses.probe || is_some told.losses.congestion || told.losses.is_black_hole
+    || not (is_quiet told.ecn)
+
+abbrev pub acknowledged_spelled : Acknowledged → Reply
+acknowledged_spelled told = record (plain ANSWER_ACKNOWLEDGED) {
+  first = length told.numbers.items;
+  second = length told.losses.numbers.items;
+  flag = tells_more told;
+}
+
+-- ---- what a call comes to
+
+-- a datagram goes out, or does not (RFC 9002, 7; RFC 9000, 8.1)
+pub record Transmits (now bytes : ℕ) (space : SpaceId) (in_flight : Bool) (old : Sending) (spelling : Reply)
+    (new : Sending) : Type 0 where
+  pub reply : Result Transmission Refused
+  pub is : reply ≡ transmit_reply chosen_words (parts_in old.sender) now bytes space in_flight
+  pub window : reply ≡ Ok Transmitted → in_flight ≡ true
+      → (space_of space (parts_in old.sender).spaces).loss_probes ≡ 0
+      → bytes_in_flight (parts_in old.sender) + bytes ≤ window_of chosen_words (parts_in old.sender)
+  pub steps : IfOk reply (λ sent. let checked = is_checked (parts_in old.sender) space in_flight in
+      Does (transmit_steps now bytes checked sent) old.sender.variables old.sender new.sender)
+  pub stays : OnErr reply (new.sender ≡ old.sender)
+  pub spells : spelling ≡ spelled_by transmission_spelled reply
+  pub told : new.told ≡ old.told
+
+-- an ACK frame: what it comes to is kept, to be read, with what its packets carried (RFC 9002, A.7)
+abbrev pub IsToldByAck : Packets (List ℕ) (Unit {0}) → Result Acknowledged Refused → Told → Told → Type 0
+IsToldByAck packets (Ok acked) old new =
+    (new.acked ≡ acked) × (new.packets.items ≡ packets_listed packets acked.numbers.items)
+IsToldByAck packets (Err refusal) old new = new ≡ old
+
+pub record Acks (space : SpaceId) (now : ℕ) (ranges : List (ℕ × ℕ)) (ack : Ack) (old : Sending) (spelling : Reply)
+    (new : Sending) : Type 0 where
+  pub reply : Result Acknowledged Refused
+  pub comes : OnAck space now ranges ack old.sender new.sender reply
+  pub spells : spelling ≡ spelled_by acknowledged_spelled reply
+  pub told : IsToldByAck (packets_in (parts_in old.sender) space) reply old.told new.told
+
+-- with its ranges as they are given, or there is no memory to hand them in
+abbrev pub range_given : AckRange → ℕ × ℕ
+range_given range = (range.first, range.last)
+
+pub record HadNoRoom (given : List AckRange) (old : Sending) (spelling : Reply) (new : Sending) : Type 0 where
+  pub some : 0 < length given
+  pub spells : spelling ≡ no_memory
+  pub sender : new.sender ≡ old.sender
+  pub told : new.told ≡ old.told
+
+abbrev pub TakesFrame : SpaceId → ℕ → List AckRange → Ack → Sending → Reply → Sending → Type 0
+TakesFrame space now given ack old spelling new =
+    Acks space now (map range_given given) ack old spelling new ⊎ HadNoRoom given old spelling new
+
+-- a timeout: so are losses that it finds (RFC 9002, A.9)
+abbrev pub IsToldByTimeout : Result Timeout Refused → Told → Told → Type 0
+IsToldByTimeout (Ok (Lost losses)) old new = LosesAlone losses new
+IsToldByTimeout reply old new = new ≡ old
+
+pub record Expires (now : ℕ) (immediate : Bool) (old : Sending) (spelling : Reply) (new : Sending) : Type 0 where
+  pub reply : Result Timeout Refused
+  pub comes : TimesOut now immediate (tt {0}) (tt {0}) old.sender new.sender reply
+  pub spells : spelling ≡ spelled_by timeout_spelled reply
+  pub told : IsToldByTimeout reply old.told new.told
+
+-- a space ends (RFC 9002, 6.2.2, 6.4 and A.11)
+pub record Discards (space : SpaceId) (now : ℕ) (old : Sending) (spelling : Reply) (new : Sending) : Type 0 where
+  pub reply : Result (Unit {0}) Refused
+  pub is : reply ≡ discard_reply (parts_in old.sender) space
+  pub steps : OnOk reply (Does (Steps.told (DiscardSpace space) (Ok Done) ∷ []) (begun_anew now old.sender.variables)
+      old.sender new.sender)
+  pub stays : OnErr reply (new.sender ≡ old.sender)
+  pub spells : spelling ≡ spelled_by (λ done. plain ANSWER_DONE) reply
+  pub told : new.told ≡ old.told
+
+-- what a space tracks is lost, all of it or what memory lets: so are these numbers kept (RFC 9002, 6.3 and 6.4)
+abbrev pub lost_alone : Vec ℕ Global → Losses
+lost_alone numbers = record {
+  numbers = numbers;
+  probe = None;
+  congestion = None;
+  is_persistent = false;
+  is_black_hole = false;
+}
+
+abbrev pub IsToldLost : Result (Vec ℕ Global) Refused → Told → Told → Type 0
+IsToldLost (Ok numbers) old new = LosesAlone (lost_alone numbers) new
+IsToldLost (Err refusal) old new = new ≡ old
+
+pub record Forsakes (space : SpaceId) (now : ℕ) (old : Sending) (spelling : Reply) (new : Sending) : Type 0 where
+  pub reply : Result (Vec ℕ Global) Refused
+  pub comes : Abandons space old.sender now new.sender reply
+  pub spells : spelling ≡ spelled_by (λ numbers. plain ANSWER_LOSSES) reply
+  pub told : IsToldLost reply old.told new.told
+
+-- something is said of the connection, and the timer set
+pub record IsSaid (change : Variables → Variables) (old : Sending) (spelling : Reply) (new : Sending) : Type 0 where
+  pub does : Does [] (change old.sender.variables) old.sender new.sender
+  pub spells : spelling ≡ plain ANSWER_DONE
+  pub told : new.told ≡ old.told
+
+-- there are keys of Handshake packets (RFC 9002, A.8)
+abbrev pub keyed : Variables → Variables
+keyed variables = record variables { has_handshake_keys = true }
+
+-- the handshake is confirmed (RFC 9001, 4.1.2)
+abbrev pub confirmed : Variables → Variables
+confirmed variables = record variables { is_handshake_confirmed = true; is_address_known = true }
+
+-- the peer delays its ACKs at most so long (RFC 9000, 18.2)
+abbrev pub delayed_by : ℕ → Variables → Variables
+delayed_by span variables = record variables { max_ack_delay = span }
+
+-- a challenge of the path in use is open, or none (RFC 9000, 8.2.1)
+pub record Challenges (content : Option ℕ) (pending : Bool) (old : Sending) (spelling : Reply) (new : Sending) : Type 0
+  where
+    pub does : Does (marked (challenged (parts_in old.sender) content pending) ∷ []) old.sender.variables old.sender
+        new.sender
+    pub spells : spelling ≡ plain ANSWER_DONE
+    pub told : new.told ≡ old.told
+
+-- a call, with the ranges of an ACK frame beside it
+abbrev pub Says : Call → List AckRange → Sending → Reply → Sending → Type 0
+Says (Transmit now bytes space in_flight) given old spelling new =
+    Transmits now bytes space in_flight old spelling new
+Says (TakeAck space now ack) given old spelling new = TakesFrame space now given ack old spelling new
+Says (Expire now immediate) given old spelling new = Expires now immediate old spelling new
+Says (Discard space now) given old spelling new = Discards space now old spelling new
+Says (Abandon space now) given old spelling new = Forsakes space now old spelling new
+Says HandshakeKeys given old spelling new = IsSaid keyed old spelling new
+Says HandshakeConfirmed given old spelling new = IsSaid confirmed old spelling new
+Says (PeerDelay span) given old spelling new = IsSaid (delayed_by span) old spelling new
+Says (Challenge challenge pending) given old spelling new = Challenges challenge pending old spelling new
+
+-- ---- of what is kept
+
+-- a recovery that stands alone refuses a call of a sender, and stays
+abbrev pub OfSender : Call → List AckRange → Kept → Reply → Kept → Type 0
+OfSender call given (Alone old) spelling new = (spelling ≡ no_sender) × (new ≡ Alone old)
+OfSender call given (Sends old) spelling (Sends new) = Says call given old spelling new
+OfSender call given (Sends old) spelling (Alone new) = ⊥
+
+-- ---- what was told last, in numbers
+
+abbrev pub ecn_number : EcnEnd → ℕ
+ecn_number Quiet = ECN_QUIET
+ecn_number Marked = ECN_MARKED
+ecn_number Failed = ECN_FAILED
+
+abbrev pub told_shown : Acknowledged → ToldView
+told_shown told = record {
+  acked = length told.numbers.items;
+  lost = length told.losses.numbers.items;
+  probe = option_map_or (λ number. number) told.losses.probe 0;
+  congestion = option_map_or (λ bytes. bytes) told.losses.congestion 0;
+  ecn = ecn_number told.ecn;
+  has_probe = is_some told.losses.probe;
+  has_congestion = is_some told.losses.congestion;
+  is_persistent = told.losses.is_persistent;
+  is_black_hole = told.losses.is_black_hole;
+}
+
+abbrev pub no_told : ToldView
+no_told = record {
+  acked = 0;
+  lost = 0;
+  probe = 0;
+  congestion = 0;
+  ecn = ECN_QUIET;
+  has_probe = false;
+  has_congestion = false;
+  is_persistent = false;
+  is_black_hole = false;
+}
+
+abbrev pub told_view : Kept → ToldView
+told_view (Alone recovery) = no_told
+told_view (Sends sending) = told_shown sending.told.acked

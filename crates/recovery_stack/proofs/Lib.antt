@@ -1,0 +1,4 @@
+pub mod AsBox
+pub mod BeginLaws
+pub mod HeldLaws
+pub mod SettingsMadeLaws

@@ -1,0 +1,94 @@
+-- `empty` puts the two fields together, and keeps nothing at the pointer.
+use Rattle.std.specs.Prelude.{None}
+use mathlib.Core.Path.{refl, sym, subst}
+use mathlib.Core.Bool.{Bool, true, false, ◌&&◌}
+use mathlib.Core.List.{List, [], ◌∷◌, ◌++◌}
+use lib.Dec.{T}
+use seplogic.Ra.Ura.{Ura}
+use mir.Syntax.{ty_ptr}
+use mir.Val.{Val, vstruct, vcons, vnil, has_ty, WT}
+use base.Logic.{SProp, ent, emp, id⊢}
+use base.Fml.{ftrue, fsep}
+use prog.Memory.{Memory}
+use prog.Routine.{Routine}
+use prog.Wp.{WpFn, Tables}
+use types.Logic.{Logic}
+use contract.Monad.{Fun}
+use contract.Running.{tables, tables_of}
+use sound.WpLaws.{WpFn-mono}
+use types.Kit.{Item, ‵, raw, ◌⊛◌, ◌$◌, ◌∵◌, !, qed, by, move, drop, use1, join, split, fsplit, fjoin, fpack, feq_i, suffices, done}
+use types.Part.{agg}
+use types.Run.{lit, no_more, and_then, returns, enter}
+use types.ByLocal.{alloc_all, pass_all, free_all, look_at, get, sets}
+use denote.Exit.{yes}
+use denote.RattleType.{Valss}
+use denote.RawPtr.{RawPtr, ptr_val, null_ptr, rawptr_Lawful}
+use denote.Signature.{plain}
+use denote.Steps.{nothing}
+use denote.Struct.Struct.{within}
+use denote.Struct.Owning.{shape, to}
+use denote.Param.{layout}
+use denote.Triple.Spec.{triple_of}
+use denote.Triple.Table.{entered}
+use denote.Triple.Walked.{says, Stays, stay_dropped, walk_of, ends_at, Goes-dropped, walk_Meets}
+use Rattle.std.proofs.alloc.Calls.{handle_tells}
+use Rattle.std_heap.specs.contracts.Global as Heap
+use Rattle.recovery_stack.proofs.AsBox.{Search as E}
+use Rattle.recovery_stack.specs.contracts.mtu_slot.MtuSlot as Slot
+use Rattle.recovery_stack.specs.contracts.mtu_slot.MtuSlot.empty as F
+use Rattle.recovery_stack.specs.contracts.mtu_slot.MtuSlot.empty.Key.{name as #self}
+use Rattle.recovery_stack.proofs.mtu_slot.MtuSlot.empty.Statement as stated
+use Rattle.recovery_stack.proofs.mtu_slot.MtuSlot.empty.Code as code
+
+abbrev stayed : Stays (F.ended).signature.params (F.ended).kept
+stayed = (stay_dropped (plain (λ _. Heap.the_row)) yes, tt)
+
+both_tt : (x y : Bool) → T x → T y → T (x && (y && true))
+both_tt true true s t = tt
+both_tt true false s t = absurd t
+both_tt false y s t = absurd s
+
+module _ {M : Type 1} {𝓤 : Ura M} (𝓛 : Logic 𝓤) (at_mem : Memory → SProp 𝓤) (run : Routine
+    → Fun 𝓤) (𝓣 : Tables 𝓤 𝓛.H) where
+  open 𝓛 use {H}
+
+  walk : (z : (walk_of 𝓛 F.ended stayed (F.clauses 𝓛 at_mem run)).Ghost)
+      → ent 𝓤 ((walk_of 𝓛 F.ended stayed (F.clauses 𝓛 at_mem run)).pre z)
+      (WpFn 𝓤 H 𝓣.C 𝓣.Λ code.function (z.0.4.0 ++ []) ((walk_of 𝓛 F.ended stayed (F.clauses 𝓛 at_mem run)).post z))
+  walk z =
+      let Post = (walk_of 𝓛 F.ended stayed (F.clauses 𝓛 at_mem run)).post z in
+      let x = null_ptr in let a = z.0.3.0 in let Z = Heap.the_row in
+      let made : Slot.the_row.Denot = record { ptr = x; alloc = a; held = None } in
+      let p = ((rawptr_Lawful 𝓛).typed x (ptr_val x ∷ []) refl).0 in
+      qed 𝓛 ((‵ ftrue ⊛ ‵ (fsep (Z.own_val a z.0.4.0) ftrue)) ∷ raw (emp 𝓤) ∷ []) ∵ split ! $ drop ! $ fsplit ! $
+      handle_tells E.al ! a z.0.4.0 (λ h eh fits.
+      let w : Val = vstruct (vcons (ptr_val x) (vcons h vnil)) in
+      let good : T (has_ty (layout Slot.the_row) w) × WT w = (
+        both_tt (has_ty ty_ptr (ptr_val x)) (has_ty (layout Z)
+            h) p.0 fits.0,
+        (p.1, (fits.1, tt)),
+      ) in
+      let Γ : List (Item 𝓤) = ‵ (Z.own_val a (h ∷ [])) ∷ ‵ ftrue ∷ raw (emp 𝓤) ∷ [] in
+      by ! (subst (λ (us : List Val). ent 𝓤 (types.Kit.⋆ 𝓛 Γ) (WpFn 𝓤 H 𝓣.C 𝓣.Λ code.function us Post))
+      (sym (λ i. eh i ++ []))
+      (qed 𝓛 Γ ∵ enter ! 𝓣.C 𝓣.Λ code.function (h ∷ []) _ $ alloc_all ! (λ ls. pass_all ! refl (fits, tt) $
+      sets ! (agg ! (and_then ! (lit ! tt) (and_then ! (get ! refl) (no_more !)))) refl good $
+      returns ! (look_at ! 0 refl) $ free_all ! refl $
+      fjoin ! $ feq_i ! (List Val) (ptr_val x ∷ []) (ptr_val x ∷ []) refl $ fjoin ! $
+      feq_i ! (List Val) (w ∷ []) (w ∷ []) refl $ fjoin ! $
+      fpack ! (Valss (RawPtr ∷ Z ∷ [])) (within (shape Slot.the_type) (to Slot.the_type made) (w ∷ []))
+      (ptr_val x ∷ [], (h ∷ [], tt)) $
+      nothing ! $ move ! (1 ∷ 0 ∷ []) $ fjoin ! $ use1 𝓛 (‵ (Slot.the_row.own_val made (w ∷ []))) (id⊢ 𝓤 _) $
+      move ! (1 ∷ []) $ drop ! $
+      suffices ! _ (ends_at 𝓛 F.ended stayed (F.clauses 𝓛 at_mem run) z w made (tt, tt) (tt, tt)) $ says ! refl $
+      nothing ! $ nothing ! $ fjoin ! $ join ! $ nothing ! $ join ! $ done !))))
+
+pub empty_spec : {M : Type 1} → stated.statement M
+unfolding tables_of
+empty_spec 𝓤 𝓛 𝓜 𝓡 wired =
+    let 𝓣 : Tables 𝓤 𝓛.H = tables_of 𝓤 𝓛.H 𝓜 (tables 𝓤 𝓛.H 𝓜 𝓡 𝓡.env) in
+    entered 𝓤 𝓛.H (triple_of 𝓛 F.signature (F.spec 𝓛 𝓜.mem 𝓡.returns))
+    𝓣.C 𝓣.Λ #self code.function (code.unfolded 𝓤 𝓛.H 𝓜 𝓡 wired)
+    (walk_Meets 𝓛 F.ended stayed (Goes-dropped 𝓛 0 (plain (λ _. Heap.the_row)) yes (λ κs x f. refl), tt)
+    (F.clauses 𝓛 𝓜.mem 𝓡.returns) (WpFn 𝓤 𝓛.H 𝓣.C 𝓣.Λ code.function) (WpFn-mono 𝓤 𝓛.H 𝓛.laws 𝓣 code.function)
+    (walk 𝓛 𝓜.mem 𝓡.returns 𝓣))

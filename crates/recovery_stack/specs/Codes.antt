@@ -1,0 +1,91 @@
+-- Enums and what else crosses by numbers.
+use Rattle.std.specs.Prelude.{◌≡◌, ℕ, ◌+◌, ◌-◌, ◌*◌, ◌^◌, ◌&&◌, Bool, IsTrue, IsFalse, List, length, Option, Some, None, option_map, option_and_then, min, take, slice_get, if◌then◌else◌, ◌==◌, nat_lt, nat_le}
+use Rattle.std.specs.Net.Addr.{ipv4_octets, ipv6_segments, segments_of}
+use Rattle.std.specs.Net.Socket.{v4_ip, v4_port, v6_ip, v6_port, v6_flowinfo, v6_scope_id}
+use Rattle.std.specs.declared.net.socket_addr.SocketAddr.{SocketAddr}
+use Rattle.std.specs.declared.net.socket_addr.SocketAddr.TheVariants.{V4, V6}
+use Rattle.recovery_base.specs.declared.below.SpaceId.{SpaceId}
+use Rattle.recovery_base.specs.declared.below.SpaceId.TheVariants.{Initial, Handshake, Data}
+use Rattle.recovery_base.specs.declared.below.frames.AckFrequency.{AckFrequency}
+use Rattle.recovery_base.specs.declared.below.frames.EcnCounts.{EcnCounts}
+use Rattle.recovery_base.specs.declared.below.ids.IssuedCid.{IssuedCid}
+use Rattle.recovery_base.specs.declared.below.ids.NewConnectionId.{NewConnectionId}
+use Rattle.recovery_base.specs.declared.timer.Timer.{Timer}
+use Rattle.recovery_base.specs.declared.timer.TheConstants.Timer.{VALUES}
+use Rattle.recovery_paths.specs.declared.path_pair.PathName.{PathName}
+use Rattle.recovery_paths.specs.declared.path_pair.PathName.TheVariants.{Current, Previous}
+use Rattle.recovery_losses.specs.declared.variables.Side.{Side}
+use Rattle.recovery_losses.specs.declared.variables.Side.TheVariants.{Client, Server}
+use Rattle.recovery_stack.specs.declared.codes.Address.{Address}
+use Rattle.recovery_stack.specs.declared.codes.Id.{Id}
+
+-- ---- what a number names, if anything
+
+abbrev pub space_coded : ℕ → Option SpaceId
+space_coded code =
+    if code == 0 then Some Initial else (if code == 1 then Some Handshake else (if code == 2 then Some Data else None))
+
+abbrev pub timer_coded : ℕ → Option Timer
+timer_coded = slice_get VALUES
+
+abbrev pub path_coded : Bool → PathName
+path_coded previous = if previous then Previous else Current
+
+abbrev pub side_coded : Bool → Side
+side_coded client = if client then Client else Server
+
+abbrev pub maybe : Bool → ℕ → Option ℕ
+maybe some number = if some then Some number else None
+
+-- nanoseconds that stop at the end of 64 bits
+abbrev pub nanos_shown : ℕ → ℕ
+nanos_shown span = min span (2 ^ 64 - 1)
+
+-- the address that is given
+abbrev pub IsAt : Address → SocketAddr → Type 0
+IsAt given (V4 address) =
+    IsFalse given.v6 × (ipv4_octets (v4_ip address) ≡ take 4 given.octets) × (v4_port address ≡ given.port)
+IsAt given (V6 address) =
+    IsTrue given.v6 × (ipv6_segments (v6_ip address) ≡ segments_of given.octets) × (v6_port address ≡ given.port)
+    × (v6_flowinfo address ≡ given.flowinfo) × (v6_scope_id address ≡ given.scope_id)
+
+-- an id as it is issued
+abbrev pub issued_of : Id → IssuedCid
+issued_of given = record { sequence = given.sequence; id = take given.len given.bytes; reset_token = given.token }
+
+-- ---- spans, ids and frames, from the numbers and bytes that cross, where these are in their ranges
+
+-- seconds and nanoseconds, which are fewer than a second's
+abbrev pub span : ℕ → ℕ → Option ℕ
+span secs nanos = if nat_lt nanos (10 ^ 9) then Some (secs * 10 ^ 9 + nanos) else None
+
+abbrev pub spans : ℕ → ℕ → ℕ → ℕ → Option (ℕ × ℕ)
+spans delay_secs delay_nanos rtt_secs rtt_nanos =
+    option_and_then (λ delay. option_map (λ rtt. (delay, rtt)) (span rtt_secs rtt_nanos)) (span delay_secs delay_nanos)
+
+-- an id has at most 20 bytes
+abbrev pub cid : List ℕ → Option (List ℕ)
+cid bytes = if nat_le (length bytes) 20 then Some bytes else None
+
+-- the numbers of a frame lie below 2^62
+abbrev pub request : ℕ → ℕ → ℕ → ℕ → Option AckFrequency
+request sequence threshold micros reordering =
+    if nat_lt sequence (2 ^ 62) && nat_lt threshold (2 ^ 62) && nat_lt micros (2 ^ 62) && nat_lt reordering (2 ^ 62)
+    then Some (record {
+      sequence = sequence;
+      ack_eliciting_threshold = threshold;
+      request_max_ack_delay = micros;
+      reordering_threshold = reordering;
+    })
+    else None
+
+abbrev pub counts : ℕ → ℕ → ℕ → EcnCounts
+counts ect0 ect1 ce = record { ect0 = ect0; ect1 = ect1; ce = ce }
+
+abbrev pub frame : ℕ → ℕ → List ℕ → List ℕ → NewConnectionId
+frame sequence retire_prior_to id token = record {
+  sequence = sequence;
+  retire_prior_to = retire_prior_to;
+  id = id;
+  reset_token = token;
+}

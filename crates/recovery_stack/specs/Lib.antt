@@ -1,0 +1,11 @@
+pub mod Held
+pub mod Answers
+pub mod Asking
+pub mod Codes
+pub mod Settings
+pub mod Made
+pub mod Views
+pub mod Marks
+pub mod Discoveries
+pub mod Buckets
+pub mod Glances

@@ -1,0 +1,119 @@
+-- What a recovery is made with.
+use Rattle.std.specs.Prelude.{ℕ, ◌*◌, ◌≤◌, ◌<◌, ◌^◌, ◌==◌, ◌||◌, nat_lt, nat_le, min, max, true, false, List, Option, None, Some, if◌then◌else◌}
+use Rattle.std.specs.declared.net.socket_addr.SocketAddr.{SocketAddr}
+use Rattle.rand_core.specs.Pcg32Seed.{pcg32_seed}
+use Rattle.rand_core.specs.Steps.{stream_of, steps_u32}
+use Rattle.rand_core.specs.Stream.{Stream}
+use Rattle.rand_pcg.specs.Pcg.{pcg32, pcg32_of_seed}
+use Rattle.recovery_congestion.specs.RenoSettings.{RenoSettings}
+use Rattle.recovery_config.specs.Settings.{settings_with}
+use Rattle.recovery_config.specs.declared.config.TransportConfig.{TransportConfig}
+use Rattle.recovery_mtud.specs.declared.config.MtuDiscoveryConfig.{MtuDiscoveryConfig}
+use Rattle.recovery_skips.specs.declared.filter.Skips.{Skips}
+use Rattle.recovery_skips.specs.declared.filter.Skips.TheVariants.{Drawn, Disabled, Starting}
+use Rattle.recovery_history.specs.declared.config.RecoveryConfig.{RecoveryConfig}
+use Rattle.recovery_history.specs.Config.{config_with}
+use Rattle.recovery_kept.specs.declared.controllers.ChosenConfig.{ChosenConfig}
+use Rattle.recovery_kept.specs.declared.controllers.ChosenConfig.TheVariants.{Reno, Fixed, Cubic}
+use Rattle.recovery_kept.specs.declared.numbers.TheConstants.{CONTROLLER_CUBIC, CONTROLLER_FIXED, CONTROLLER_NEW_RENO, NEW_MADE, NEW_SKIP_TOO_LARGE, NEW_TOO_MANY_ISSUED, NEW_UNKNOWN_CONTROLLER, NEW_UNKNOWN_SKIPS, NEW_ZERO_DENOMINATOR, NEW_ZERO_MTU, NEW_ZERO_WINDOW, SKIPS_DISABLED, SKIPS_DRAWN, SKIPS_STARTING}
+use Rattle.recovery_stack.specs.declared.settings.Settings.{Settings}
+use Rattle.recovery_stack.specs.Codes.{maybe}
+
+-- the first thing that is wrong with settings; `NEW_MADE` where nothing is
+abbrev pub settings_fault : Settings → ℕ
+settings_fault settings =
+    if nat_lt (2 ^ 62) settings.issued then NEW_TOO_MANY_ISSUED else
+    (if nat_le 64 settings.first_skip then NEW_SKIP_TOO_LARGE else
+    (if settings.initial_mtu == 0 || settings.min_mtu == 0 then NEW_ZERO_MTU else
+    (if settings.initial_window == 0 then NEW_ZERO_WINDOW else
+    (if settings.loss_denominator == 0 then NEW_ZERO_DENOMINATOR else
+    (if nat_lt CONTROLLER_CUBIC settings.controller then NEW_UNKNOWN_CONTROLLER else
+    (if nat_lt SKIPS_STARTING settings.skips then NEW_UNKNOWN_SKIPS else NEW_MADE))))))
+
+-- what the parts of a recovery require of settings in which nothing is wrong
+pub record IsSound (settings : Settings) : Type 0 where
+  pub issued : settings.issued ≤ 2 ^ 62
+  pub first_skip : settings.first_skip < 64
+  pub window : 0 < settings.initial_window
+  pub factor : 0 < settings.loss_denominator
+  pub initial_mtu : 0 < settings.initial_mtu
+  pub min_mtu : 0 < settings.min_mtu
+
+abbrev pub skips_of : ℕ → ℕ → Skips
+skips_of kind first =
+    if kind == SKIPS_DISABLED then Disabled else (if kind == SKIPS_DRAWN then Drawn else Starting first)
+
+abbrev pub reno_of : Settings → RenoSettings
+reno_of settings = record {
+  initial_window = settings.initial_window;
+  numerator = settings.loss_numerator;
+  denominator = settings.loss_denominator;
+}
+
+abbrev pub controller_of : Settings → ChosenConfig
+controller_of settings =
+    if settings.controller == CONTROLLER_NEW_RENO then Reno (reno_of settings) else
+    (if settings.controller == CONTROLLER_FIXED then Fixed settings.initial_window else Cubic settings.initial_window)
+
+-- how the MTU is searched for: a bound above what UDP carries, and a step of nothing, are stored as the nearest that
+-- serve
+abbrev pub discovery_of : Settings → Option MtuDiscoveryConfig
+discovery_of settings =
+    if settings.searches
+    then Some (record {
+      interval = settings.mtu_interval;
+      upper_bound = min settings.mtu_upper_bound 65527;
+      black_hole_cooldown = settings.black_hole_cooldown;
+      minimum_change = max settings.mtu_minimum_change 1;
+    })
+    else None
+
+abbrev pub transport_of : Settings → TransportConfig ChosenConfig
+transport_of settings = record (settings_with (controller_of settings)) {
+  initial_rtt = settings.initial_rtt;
+  initial_mtu = settings.initial_mtu;
+  min_mtu = settings.min_mtu;
+  mtu_discovery_config = discovery_of settings;
+}
+
+abbrev pub config_of : Settings → List ℕ → SocketAddr → RecoveryConfig ChosenConfig
+config_of settings cid remote = record (config_with (transport_of settings) remote cid) {
+  validated = settings.validated;
+  allow_mtud = settings.allow_mtud;
+  max_ack_delay = settings.max_ack_delay;
+  cid_len = settings.cid_len;
+  cid_lifetime = maybe settings.ids_end settings.cid_lifetime;
+  issued = settings.issued;
+  skips = skips_of settings.skips settings.first_skip;
+}
+
+-- the settings that are used by default (RFC 9000, 14 and 18.2; RFC 9002, 6.2.2 and 7.2)
+abbrev pub default_settings : Settings
+default_settings = record {
+  max_ack_delay = 25 * 10 ^ 6;
+  cid_lifetime = 10 * 10 ^ 9;
+  issued = 1;
+  seed = 0;
+  first_skip = 0;
+  initial_rtt = 333 * 10 ^ 6;
+  mtu_interval = 600 * 10 ^ 9;
+  black_hole_cooldown = 60 * 10 ^ 9;
+  initial_window = 12000;
+  loss_numerator = 1;
+  loss_denominator = 2;
+  initial_mtu = 1200;
+  min_mtu = 1200;
+  mtu_upper_bound = 1452;
+  mtu_minimum_change = 20;
+  cid_len = 8;
+  controller = CONTROLLER_NEW_RENO;
+  skips = SKIPS_DISABLED;
+  ids_end = true;
+  validated = false;
+  allow_mtud = true;
+  searches = true;
+}
+
+-- the words that are drawn: those of PCG32 with the seed
+abbrev pub words_of : ℕ → Stream
+words_of seed = stream_of (steps_u32 pcg32) (pcg32_of_seed (pcg32_seed 16 seed))

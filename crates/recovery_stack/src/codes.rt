@@ -1,0 +1,204 @@
+//! Enums by their numbers, and what else crosses.
+ghost use Rattle.std.specs.Prelude.{◌≡◌, ◌≤◌, ◌<◌, Decides, IfOk, OnErr, length, map};
+ghost use Rattle.std.specs.List.{All};
+ghost use Rattle.recovery_kept.specs.Replies.{IsWritten};
+ghost use Rattle.recovery_stack.specs.Codes.{space_coded, timer_coded, path_coded, maybe, nanos_shown, issued_of, cid, request, span, spans, IsAt};
+
+use quic_recovery::event::PathName;
+use quic_recovery::time::Duration;
+use quic_recovery::timer::Timer;
+use recovery_base::below::{
+    AckFrequency, ConnectionId, IssuedCid, NoMemory, ResetToken, SpaceId, VarInt,
+};
+use recovery_kept::spelling::copy_numbers;
+use recovery_queue::items::ItemQueue;
+use std::alloc::Global;
+use std::net::{Ipv4Addr, Ipv6Addr, SocketAddr, SocketAddrV4, SocketAddrV6};
+
+/// An address and a port.
+#[repr(C)]
+#[derive(Clone, Copy)]
+pub struct Address {
+    /// The octets of an IPv6 address; of an IPv4 address the first four.
+    pub octets: [u8; 16],
+    /// The flow information of an IPv6 address.
+    pub flowinfo: u32,
+    /// The scope of an IPv6 address.
+    pub scope_id: u32,
+    /// The port.
+    pub port: u16,
+    /// Whether it is an IPv6 address.
+    pub v6: bool,
+}
+
+/// An id that this end issues (RFC 9000, 19.15).
+#[repr(C)]
+#[derive(Clone, Copy)]
+pub struct Id {
+    /// Its number.
+    pub sequence: u64,
+    /// Its bytes, of which the first `len` count.
+    pub bytes: [u8; 20],
+    /// Its stateless reset token.
+    pub token: [u8; 16],
+    /// How many bytes it has, at most 20.
+    pub len: u8,
+}
+
+/// The packet number space of a number (RFC 9000, 12.3); none has any other.
+pub fn space_coded(code: u8) -> Option<SpaceId>
+    ensures { result ≡ space_coded code }
+{
+    match code {
+        0 => Some(SpaceId::Initial),
+        1 => Some(SpaceId::Handshake),
+        2 => Some(SpaceId::Data),
+        _ => None,
+    }
+}
+
+/// The timer of a number: its place in the enum, from 0 on. None has any other.
+pub fn timer_coded(code: u8) -> Option<Timer>
+    ensures { result ≡ timer_coded code }
+{
+    Timer::VALUES.get(usize::from(code)).copied()
+}
+
+/// Which of the two paths: the previous one, or else the one in use.
+pub fn path_coded(previous: bool) -> PathName
+    ensures { result ≡ path_coded previous }
+{
+    if previous {
+        PathName::Previous
+    } else {
+        PathName::Current
+    }
+}
+
+/// The number where it is said to be there, and else none; any number is then passed over.
+pub fn maybe(some: bool, number: u64) -> Option<u64>
+    ensures { result ≡ maybe some number }
+{
+    if some { Some(number) } else { None }
+}
+
+/// What an ACK_FREQUENCY frame asks for, where each of its numbers is below 2^62.
+pub fn request(sequence: u64, threshold: u64, micros: u64, reordering: u64) -> Option<AckFrequency>
+    ensures { result ≡ request sequence threshold micros reordering }
+{
+    Some(AckFrequency {
+        sequence: VarInt::from_u64(sequence).ok()?,
+        ack_eliciting_threshold: VarInt::from_u64(threshold).ok()?,
+        request_max_ack_delay: VarInt::from_u64(micros).ok()?,
+        reordering_threshold: VarInt::from_u64(reordering).ok()?,
+    })
+}
+
+/// A connection id, where it has at most 20 bytes.
+pub fn cid(bytes: &[u8]) -> Option<ConnectionId>
+    ensures { result ≡ cid bytes.now }
+{
+    if bytes.len() <= 20 {
+        Some(ConnectionId::new(bytes))
+    } else {
+        None
+    }
+}
+
+/// A queue of these items; where there are none, it takes no memory.
+pub fn queue_of(alloc: Global, items: &[u64]) -> Result<ItemQueue, NoMemory>
+    ensures items { IfOk result (λ queue. queue ≡ items.now) }
+    ensures memory { OnErr result (0 < length items.now) }
+{
+    let mut queue = Vec::new(alloc);
+    queue.extend_from_slice(items)?;
+    Ok(ItemQueue::from_items(queue))
+}
+
+/// How many items there are; they are written where there is room for all.
+pub fn copy_items(queue: &ItemQueue, out: &mut [u64]) -> usize
+    ensures { IsWritten queue.now out.old result out.new }
+{
+    copy_numbers(queue.items(), out)
+}
+
+/// An id as it is issued.
+fn issued_of(given: &Id) -> IssuedCid
+    requires { given.now.len ≤ 20 }
+    ensures { result ≡ issued_of given.now }
+{
+    IssuedCid {
+        sequence: given.sequence,
+        id: ConnectionId::new(&given.bytes[..usize::from(given.len)]),
+        reset_token: ResetToken::from(given.token),
+    }
+}
+
+/// Whether each id has at most 20 bytes.
+pub fn are_ids(given: &[Id]) -> bool
+    ensures { Decides result (All (λ id. id.len ≤ 20) given.now) }
+{
+    given.iter().all(|id| id.len <= 20)
+}
+
+/// Ids as they are issued, in the same order; where there are none, it takes no memory.
+pub fn ids_of(alloc: Global, given: &[Id]) -> Result<Vec<IssuedCid>, NoMemory>
+    requires { All (λ id. id.len ≤ 20) given.now }
+    ensures ids { IfOk result (λ ids. ids.items ≡ map issued_of given.now) }
+    ensures memory { OnErr result (0 < length given.now) }
+{
+    let mut ids = Vec::new(alloc);
+    ids.reserve_exact(given.len())?;
+    for id in given {
+        ids.push_reserved(issued_of(id));
+    }
+    Ok(ids)
+}
+
+/// The address that is given.
+pub fn socket_of(given: &Address) -> SocketAddr
+    ensures { IsAt given.now result }
+{
+    let octets = given.octets;
+    if given.v6 {
+        SocketAddr::V6(SocketAddrV6::new(
+            Ipv6Addr::from_octets(octets),
+            given.port,
+            given.flowinfo,
+            given.scope_id,
+        ))
+    } else {
+        let ip = Ipv4Addr::new(octets[0], octets[1], octets[2], octets[3]);
+        SocketAddr::V4(SocketAddrV4::new(ip, given.port))
+    }
+}
+
+/// A span of seconds and nanoseconds, where these are fewer than a second's.
+pub fn span(secs: u64, nanos: u32) -> Option<Duration>
+    ensures { result ≡ span secs nanos }
+{
+    if nanos < 1_000_000_000 {
+        Duration::checked_from_nanos(u128::from(secs) * 1_000_000_000 + u128::from(nanos))
+    } else {
+        None
+    }
+}
+
+/// Two such spans.
+pub fn spans(
+    delay_secs: u64,
+    delay_nanos: u32,
+    rtt_secs: u64,
+    rtt_nanos: u32,
+) -> Option<(Duration, Duration)>
+    ensures { result ≡ spans delay_secs delay_nanos rtt_secs rtt_nanos }
+{
+    Some((span(delay_secs, delay_nanos)?, span(rtt_secs, rtt_nanos)?))
+}
+
+/// The nanoseconds of a span, which stop at `u64::MAX`.
+pub fn nanos_shown(span: Duration) -> u64
+    ensures { result ≡ nanos_shown span }
+{
+    u64::try_from(span.as_nanos()).unwrap_or(u64::MAX)
+}

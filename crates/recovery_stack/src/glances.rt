@@ -1,0 +1,133 @@
+//! Readings of a few instructions, for a stack that reads more often than it changes: of the path in use, of the id in
+//! use, and of what a space has in flight.
+ghost use Rattle.std.specs.Prelude.{◌≡◌, false, Decides};
+ghost use Rattle.recovery_ids.specs.CidQueue.{active_of};
+ghost use Rattle.recovery_stack.specs.Answers.{Reads};
+ghost use Rattle.recovery_kept.specs.Kept.{parts_kept};
+ghost use Rattle.recovery_stack.specs.Views.{space_named};
+ghost use Rattle.recovery_stack.specs.Glances.{no_rtt, no_window, rtt_shown, window_shown, HasInFlight};
+
+use crate::codes::nanos_shown;
+use crate::handle::Handle;
+use crate::stack::Stack;
+use quic_recovery::congestion::Controller;
+use std::alloc::Global;
+
+/// The congestion window of the path in use, in bytes.
+#[repr(C)]
+#[derive(Clone, Copy)]
+pub struct WindowView {
+    /// How many bytes may be in flight (RFC 9002, 7); 0 where there is no recovery.
+    pub window: u64,
+    /// How many are (RFC 9002, B.2).
+    pub in_flight: u64,
+}
+
+/// The round-trip time of the path in use, in nanoseconds, which stop at `u64::MAX`.
+#[repr(C)]
+#[derive(Clone, Copy)]
+pub struct RttView {
+    /// The best estimate: the smoothed one, or the initial one before the first sample (RFC 9002, 5.3); 0 where there
+    /// is no recovery.
+    pub rtt: u64,
+    /// The probe timeout without the peer's delay of ACKs (RFC 9002, 6.2.1).
+    pub pto_base: u64,
+}
+
+impl Stack {
+    fn window(&self) -> WindowView
+        ensures { result ≡ window_shown (parts_kept self.now.kept).paths.current }
+    {
+        let path = self.recovery().current();
+        WindowView {
+            window: path.congestion.window(),
+            in_flight: path.in_flight().bytes,
+        }
+    }
+
+    fn rtt(&self) -> RttView
+        ensures { result ≡ rtt_shown (parts_kept self.now.kept).paths.current }
+    {
+        let path = self.recovery().current();
+        RttView {
+            rtt: nanos_shown(path.rtt.get()),
+            pto_base: nanos_shown(path.rtt.pto_base()),
+        }
+    }
+
+    fn active_id(&self) -> u64
+        ensures { result ≡ active_of (parts_kept self.now.kept).remote_cids }
+    {
+        self.recovery().remote_ids().active_seq()
+    }
+
+    fn has_in_flight(&self, space: u8) -> bool
+        ensures { Decides result (HasInFlight (space_named space (parts_kept self.now.kept))) }
+    {
+        match self.named(space) {
+            Some(space) => space.sent_packets.has_size(),
+            None => false,
+        }
+    }
+}
+
+impl Handle {
+    /// Window and bytes in flight of the path in use.
+    pub fn window(&mut self, alloc: Global) -> WindowView
+        ensures { Reads self.old.slot.held self.new.slot.held (λ stack.
+            result ≡ window_shown (parts_kept stack.kept).paths.current) (result ≡ no_window) }
+    {
+        let Some(stack) = self.take(alloc) else {
+            return WindowView {
+                window: 0,
+                in_flight: 0,
+            };
+        };
+        let view = stack.window();
+        self.put(stack);
+        view
+    }
+
+    /// The round-trip time of the path in use.
+    pub fn rtt(&mut self, alloc: Global) -> RttView
+        ensures { Reads self.old.slot.held self.new.slot.held (λ stack.
+            result ≡ rtt_shown (parts_kept stack.kept).paths.current) (result ≡ no_rtt) }
+    {
+        let Some(stack) = self.take(alloc) else {
+            return RttView {
+                rtt: 0,
+                pto_base: 0,
+            };
+        };
+        let view = stack.rtt();
+        self.put(stack);
+        view
+    }
+
+    /// The number of the peer's id in use (RFC 9000, 5.1.1); 0 where there is no recovery.
+    pub fn active_id(&mut self, alloc: Global) -> u64
+        ensures { Reads self.old.slot.held self.new.slot.held (λ stack.
+            result ≡ active_of (parts_kept stack.kept).remote_cids) (result ≡ 0) }
+    {
+        let Some(stack) = self.take(alloc) else {
+            return 0;
+        };
+        let active = stack.active_id();
+        self.put(stack);
+        active
+    }
+
+    /// Whether a packet that counts in flight is tracked in a space (RFC 9002, 2), by whichever path it went.
+    pub fn has_in_flight(&mut self, alloc: Global, space: u8) -> bool
+        ensures { Reads self.old.slot.held self.new.slot.held (λ stack.
+            Decides result (HasInFlight (space_named space (parts_kept stack.kept))))
+            (result ≡ false) }
+    {
+        let Some(stack) = self.take(alloc) else {
+            return false;
+        };
+        let has = stack.has_in_flight(space);
+        self.put(stack);
+        has
+    }
+}

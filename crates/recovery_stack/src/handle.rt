@@ -1,0 +1,132 @@
+//! What C holds of a stack.
+ghost use Rattle.std.specs.Prelude.{◌≡◌, ◌≤◌, Some, None, is_some, MatchOption};
+ghost use Rattle.std.specs.List.{All};
+ghost use Rattle.recovery_stack.specs.Answers.{Answers, IsBad, IssuesOr};
+ghost use Rattle.recovery_stack.specs.Held.{Holds};
+ghost use Rattle.recovery_stack.specs.Asking.{Asks, AsksWith};
+
+use crate::codes::{Id, are_ids, ids_of};
+use crate::slot::Slot;
+use crate::stack::Stack;
+use quic_recovery::Event;
+use quic_recovery::time::Instant;
+use recovery_kept::sending::{AckRange, Call};
+use recovery_kept::spelling::Reply;
+use recovery_queue::items::ItemQueue;
+use std::alloc::Global;
+
+/// What a caller holds a recovery by. It begins as all zeros, which holds none; from then on it is the library's own.
+#[repr(C)]
+pub struct Handle {
+    pub slot: Slot,
+    holds: bool,
+    ghost tells: { holds ≡ is_some slot.held },
+}
+
+impl Handle {
+    /// Takes out the stack that is held, where one is; the handle then holds none.
+    #[inline(always)]
+    pub fn take(&mut self, alloc: Global) -> Option<Box<Stack>>
+        ensures taken { MatchOption result (self.old.slot.held ≡ None)
+            (λ stack. self.old.slot.held ≡ Some stack.value) }
+        ensures none { self.new.slot.held ≡ None }
+    {
+        if !self.holds {
+            return None;
+        }
+        self.holds = false;
+        Some(self.slot.take(alloc))
+    }
+
+    /// Holds this stack, in a handle that holds none. It takes no memory.
+    #[inline(always)]
+    pub fn put(&mut self, stack: Box<Stack>)
+        requires { self.old.slot.held ≡ None }
+        ensures { self.new.slot.held ≡ Some stack.value }
+    {
+        self.slot.put(stack);
+        self.holds = true;
+    }
+
+    /// Frees the stack that is held, where one is; the handle then holds none.
+    pub fn free(&mut self, alloc: Global)
+        ensures { self.new.slot.held ≡ None }
+    {
+        drop(self.take(alloc));
+    }
+
+    /// Whether it holds a stack.
+    pub fn holds(&self) -> bool
+        ensures { result ≡ is_some self.now.slot.held }
+    {
+        self.holds
+    }
+
+    /// One event; refused where no stack is held.
+    #[inline(always)]
+    pub fn apply(&mut self, alloc: Global, event: Event<ItemQueue>) -> Reply
+        ensures { Answers self.old.slot.held event result self.new.slot.held }
+    {
+        let Some(mut stack) = self.take(alloc) else {
+            return Reply::no_recovery();
+        };
+        let reply = stack.apply(event);
+        self.put(stack);
+        reply
+    }
+
+    /// One call of a sender that is no ACK frame; refused where no stack is held.
+    pub fn ask(&mut self, alloc: Global, call: Call) -> Reply
+        ensures { Asks self.old.slot.held call result self.new.slot.held }
+    {
+        self.ask_with(alloc, call, &[])
+    }
+
+    /// One call of a sender, with the ranges of an ACK frame; refused where no stack is held.
+    pub fn ask_with(&mut self, alloc: Global, call: Call, ranges: &[AckRange]) -> Reply
+        ensures { AsksWith self.old.slot.held call ranges.now result self.new.slot.held }
+    {
+        let Some(mut stack) = self.take(alloc) else {
+            return Reply::no_recovery();
+        };
+        let reply = stack.ask(alloc, call, ranges);
+        self.put(stack);
+        reply
+    }
+
+    /// Holds a stack; false where there is no memory.
+    pub fn make(&mut self, alloc: Global, stack: Stack) -> bool
+        requires { self.old.slot.held ≡ None }
+        ensures { Holds result stack self.new.slot.held }
+    {
+        match Box::new(alloc, stack) {
+            Ok(stack) => {
+                self.put(stack);
+                true
+            }
+            Err(_) => false,
+        }
+    }
+
+    /// This end issues these ids (RFC 9000, 5.1.1): the event `IssueIds`; an id has at most 20 bytes.
+    pub fn issue_ids(&mut self, alloc: Global, now: u64, given: &[Id]) -> Reply
+        ensures short { All (λ id. id.len ≤ 20) given.now
+            → IssuesOr self.old.slot.held now given.now result self.new.slot.held }
+        ensures long { ¬ All (λ id. id.len ≤ 20) given.now
+            → IsBad self.old.slot.held result self.new.slot.held }
+    {
+        if !are_ids(given) {
+            return Reply::bad_argument();
+        }
+        match ids_of(alloc, given) {
+            Ok(ids) => self.apply(
+                alloc,
+                Event::IssueIds {
+                    now: Instant::from_nanos(now),
+                    ids,
+                },
+            ),
+            Err(_) => Reply::no_memory(),
+        }
+    }
+}

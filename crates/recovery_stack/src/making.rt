@@ -1,0 +1,74 @@
+//! A recovery is made of settings and of the peer's address and id.
+ghost use Rattle.std.specs.Prelude.{◌≡◌, None};
+ghost use Rattle.recovery_stack.specs.Made.{MadeOr, NewOr};
+ghost use Rattle.recovery_stack.specs.Settings.{IsSound};
+
+use crate::codes::{Address, cid, socket_of};
+use crate::handle::Handle;
+use crate::settings::{Settings, config, fault};
+use crate::stack::Stack;
+use quic_recovery::time::Instant;
+use rand_core::SeedableRng;
+use rand_pcg::Pcg32;
+use recovery_base::below::ConnectionId;
+use recovery_kept::numbers::{NEW_CID_TOO_LONG, NEW_HELD, NEW_MADE, NEW_NO_MEMORY};
+use recovery_sender::Side;
+use std::alloc::Global;
+
+/// A handle that holds none comes to hold a recovery: of a sender of this side, if there is one. `NEW_MADE`, or the
+/// number of what is wrong.
+pub fn begin(
+    alloc: Global,
+    handle: &mut Handle,
+    side: Option<Side>,
+    settings: &Settings,
+    remote: &Address,
+    initial_cid: &[u8],
+    now: u64,
+) -> u8
+    ensures { NewOr side result settings.now remote.now initial_cid.now now
+        handle.old.slot.held handle.new.slot.held }
+{
+    if handle.holds() {
+        return NEW_HELD;
+    }
+    let Some(id) = cid(initial_cid) else {
+        return NEW_CID_TOO_LONG;
+    };
+    let fault = fault(settings);
+    if fault != NEW_MADE {
+        return fault;
+    }
+    if make(alloc, handle, side, settings, remote, id, now) {
+        NEW_MADE
+    } else {
+        NEW_NO_MEMORY
+    }
+}
+
+/// Holds a recovery that is made of sound settings; false where there is no memory.
+///
+/// Never inlined: its frame is large, and where clang puts the probe of a large frame behind the tests of a caller's
+/// arguments, the probe overwrites a register that a test has set.
+#[inline(never)]
+fn make(
+    alloc: Global,
+    handle: &mut Handle,
+    side: Option<Side>,
+    settings: &Settings,
+    remote: &Address,
+    id: ConnectionId,
+    now: u64,
+) -> bool
+    requires none { handle.old.slot.held ≡ None }
+    requires sound { IsSound settings.now }
+    ensures { MadeOr side result settings.now remote.now id now handle.new.slot.held }
+{
+    let peer = socket_of(remote);
+    let config = config(settings, id, peer);
+    let rng = Pcg32::seed_from_u64(settings.seed);
+    match Stack::new(alloc, side, config, rng, Instant::from_nanos(now)) {
+        Ok(stack) => handle.make(alloc, stack),
+        Err(_) => false,
+    }
+}

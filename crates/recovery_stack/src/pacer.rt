@@ -1,0 +1,113 @@
+//! A pacer that stands alone, without a recovery (RFC 9002, 7.7). The bucket is the caller's, and takes no memory of
+//! the library.
+ghost use Rattle.std.specs.Prelude.{◌≡◌, None, MatchOption};
+ghost use Rattle.recovery_congestion.specs.Pacing.{IsBucketSound};
+ghost use Rattle.recovery_stack.specs.Buckets.{Delays, Transmits, bucket_first, bucket_in, bucket_shown};
+
+use quic_recovery::time::{Duration, Instant};
+use recovery_congestion::pacing::{Pacer, PacerState};
+use recovery_kept::numbers::{ANSWER_DELAYED, ANSWER_READY, ANSWER_TRANSMITTED};
+use recovery_kept::spelling::{Reply, spell_number};
+
+/// A bucket of tokens, one a byte. All zeros is none, and refused.
+#[repr(C)]
+#[derive(Clone, Copy)]
+pub struct Bucket {
+    /// The most bytes that it takes.
+    pub capacity: u64,
+    /// The congestion window that this was computed for, in bytes.
+    pub window: u64,
+    /// The bytes in it.
+    pub tokens: u64,
+    /// The latest moment at which it was refilled, or made, in nanoseconds.
+    pub last: u64,
+    /// The MTU that its capacity was computed for, in bytes.
+    pub mtu: u16,
+}
+
+fn pacer_in(bucket: &Bucket) -> Option<Pacer>
+    ensures { MatchOption result (¬ IsBucketSound (bucket_in bucket.now))
+        (λ pacer. pacer ≡ bucket_in bucket.now) }
+{
+    Pacer::from_state(PacerState {
+        capacity: bucket.capacity,
+        last_window: bucket.window,
+        last_mtu: bucket.mtu,
+        tokens: bucket.tokens,
+        prev: Instant::from_nanos(bucket.last),
+    })
+}
+
+fn bucket_of(pacer: &Pacer) -> Bucket
+    ensures { result ≡ bucket_shown pacer.now }
+{
+    let state = pacer.state();
+    Bucket {
+        capacity: state.capacity,
+        window: state.last_window,
+        tokens: state.tokens,
+        last: state.prev.as_nanos(),
+        mtu: state.last_mtu,
+    }
+}
+
+impl Bucket {
+    /// A full bucket at the moment `now`; of a window or an MTU of 0 it is all zeros, which is none.
+    pub fn full(rtt: u64, window: u64, mtu: u16, now: u64) -> Bucket
+        ensures { result ≡ bucket_first rtt window mtu now }
+    {
+        if window == 0 || mtu == 0 {
+            return Bucket {
+                capacity: 0,
+                window: 0,
+                tokens: 0,
+                last: 0,
+                mtu: 0,
+            };
+        }
+        bucket_of(&Pacer::new(
+            Duration::from_nanos(rtt),
+            window,
+            mtu,
+            Instant::from_nanos(now),
+        ))
+    }
+
+    /// A packet of so many bytes was sent. Refused where the bucket is none.
+    pub fn transmit(&mut self, bytes: u16) -> Reply
+        ensures { Transmits bytes self.old result self.new }
+    {
+        let Some(mut paced) = pacer_in(self) else {
+            return Reply::bad_argument();
+        };
+        paced.on_transmit(bytes);
+        *self = bucket_of(&paced);
+        Reply::plain(ANSWER_TRANSMITTED)
+    }
+
+    /// Whether so many bytes may be sent. Refused where the window or the MTU is 0, or the bucket is none.
+    pub fn delay(&mut self, rtt: u64, bytes: u64, mtu: u16, window: u64, now: u64) -> Reply
+        ensures { Delays
+            (record { bytes = bytes; rtt = rtt; mtu = mtu; window = window; now = now })
+            self.old result self.new }
+    {
+        if window == 0 || mtu == 0 {
+            return Reply::bad_argument();
+        }
+        let Some(mut paced) = pacer_in(self) else {
+            return Reply::bad_argument();
+        };
+        let until = paced.delay(
+            Duration::from_nanos(rtt),
+            bytes,
+            mtu,
+            window,
+            Instant::from_nanos(now),
+        );
+        *self = bucket_of(&paced);
+        match until {
+            Some(until) => spell_number(ANSWER_DELAYED, until.as_nanos()),
+            None => Reply::plain(ANSWER_READY),
+        }
+    }
+}

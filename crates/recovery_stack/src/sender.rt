@@ -1,0 +1,153 @@
+//! The calls of a sender that take more than numbers, and what it told last (RFC 9002).
+ghost use Rattle.std.specs.Prelude.{◌≡◌};
+ghost use Rattle.recovery_kept.specs.Kept.{numbers_told, packets_told, pto_count_of};
+ghost use Rattle.recovery_kept.specs.Replies.{IsWritten};
+ghost use Rattle.recovery_kept.specs.Sending.{no_told, told_view};
+ghost use Rattle.recovery_stack.specs.Answers.{Reads};
+ghost use Rattle.recovery_stack.specs.Asking.{ack_given, frame_given, AsksAck};
+ghost use Rattle.recovery_stack.specs.Codes.{side_coded};
+
+use crate::codes::{space_coded, span};
+use crate::handle::Handle;
+use quic_recovery::time::Instant;
+use recovery_base::below::{EcnCounts, SpaceId};
+use recovery_kept::sending::{AckRange, Call, ToldView};
+use recovery_kept::spelling::Reply;
+use recovery_sender::{Ack, Side};
+use std::alloc::Global;
+
+/// What an ACK frame says beside its ranges, and what the stack knows at its arrival.
+#[repr(C)]
+#[derive(Clone, Copy)]
+pub struct AckFrame {
+    /// How long the peer says that it delayed the ACK, in whole seconds.
+    pub delay_secs: u64,
+    /// The count of ECT(0), where the frame has counts (RFC 9000, 19.3.2).
+    pub ect0: u64,
+    /// The count of ECT(1).
+    pub ect1: u64,
+    /// The count of ECN-CE.
+    pub ce: u64,
+    /// The nanoseconds of that delay beside its seconds, below 10^9.
+    pub delay_nanos: u32,
+    /// Whether the frame has counts of ECN.
+    pub has_ecn: bool,
+    /// Whether the sender had too little to send to fill its window (RFC 9002, 7.8).
+    pub app_limited: bool,
+}
+
+/// What a frame says, where its delay has fewer nanoseconds than a second.
+fn ack_of(given: &AckFrame) -> Option<Ack>
+    ensures { result ≡ ack_given given.now }
+{
+    let delay = span(given.delay_secs, given.delay_nanos)?;
+    let counts = EcnCounts {
+        ect0: given.ect0,
+        ect1: given.ect1,
+        ce: given.ce,
+    };
+    Some(Ack {
+        delay,
+        ecn: if given.has_ecn { Some(counts) } else { None },
+        app_limited: given.app_limited,
+    })
+}
+
+/// Its space and what it says.
+fn frame_of(space: u8, given: &AckFrame) -> Option<(SpaceId, Ack)>
+    ensures { result ≡ frame_given space given.now }
+{
+    Some((space_coded(space)?, ack_of(given)?))
+}
+
+/// The end of a connection that a sender is of.
+pub fn side_of(client: bool) -> Side
+    ensures { result ≡ side_coded client }
+{
+    if client { Side::Client } else { Side::Server }
+}
+
+impl Handle {
+    /// An ACK frame came in (RFC 9002, A.7), with its ranges, the highest first, as on the wire; refused where there is
+    /// no such space, and where its delay has the nanoseconds of a second.
+    pub fn take_ack(
+        &mut self,
+        alloc: Global,
+        space: u8,
+        now: u64,
+        frame: &AckFrame,
+        ranges: &[AckRange],
+    ) -> Reply
+        ensures { AsksAck (frame_given space frame.now) now ranges.now
+            self.old.slot.held result self.new.slot.held }
+    {
+        let Some((space, ack)) = frame_of(space, frame) else {
+            return Reply::bad_argument();
+        };
+        self.ask_with(
+            alloc,
+            Call::TakeAck {
+                space,
+                now: Instant::from_nanos(now),
+                ack,
+            },
+            ranges,
+        )
+    }
+
+    /// How many probe timeouts expired in a row (RFC 9002, 6.2.1); 0 where there is no sender.
+    pub fn pto_count(&mut self, alloc: Global) -> u32
+        ensures { Reads self.old.slot.held self.new.slot.held (λ stack.
+            result ≡ pto_count_of stack.kept) (result ≡ 0) }
+    {
+        let Some(stack) = self.take(alloc) else {
+            return 0;
+        };
+        let count = stack.kept.pto_count();
+        self.put(stack);
+        count
+    }
+
+    /// What was told last; nothing before it, and where there is no sender.
+    pub fn told(&mut self, alloc: Global) -> ToldView
+        ensures { Reads self.old.slot.held self.new.slot.held (λ stack.
+            result ≡ told_view stack.kept) (result ≡ no_told) }
+    {
+        let Some(stack) = self.take(alloc) else {
+            return ToldView::none();
+        };
+        let view = stack.kept.told();
+        self.put(stack);
+        view
+    }
+
+    /// How many numbers were newly acknowledged as something was told last, or found lost; they are written where there
+    /// is room for all.
+    pub fn told_numbers(&mut self, alloc: Global, lost: bool, out: &mut [u64]) -> usize
+        ensures { Reads self.old.slot.held self.new.slot.held (λ stack.
+            IsWritten (numbers_told lost stack.kept) out.old result out.new)
+            ((result ≡ 0) × (out.new ≡ out.old)) }
+    {
+        let Some(stack) = self.take(alloc) else {
+            return 0;
+        };
+        let count = stack.kept.copy_numbers(lost, out);
+        self.put(stack);
+        count
+    }
+
+    /// The packets that were newly acknowledged as something was told last, with their items: how many words they are;
+    /// they are written where there is room for all.
+    pub fn told_packets(&mut self, alloc: Global, out: &mut [u64]) -> usize
+        ensures { Reads self.old.slot.held self.new.slot.held (λ stack.
+            IsWritten (packets_told stack.kept) out.old result out.new)
+            ((result ≡ 0) × (out.new ≡ out.old)) }
+    {
+        let Some(stack) = self.take(alloc) else {
+            return 0;
+        };
+        let count = stack.kept.copy_packets(out);
+        self.put(stack);
+        count
+    }
+}
