@@ -503,14 +503,15 @@ def rlib(name):
 
 
 def compiled():
-    """Builds the library over what the crates below it were built as, which proves it; the gate leaves those."""
+    """Builds the library over what the crates below it were built as, which proves it; the gate leaves those. One job: a further one reads
+    all that stands below once more, which takes longer than the proofs of exports."""
     uses = dict(tree.listed())
     named = {it: rlib(it) if it in uses else kit() / "rlibs" / f"{it}.rlib" for it in ("std", *uses[CRATE.name])}
     words = [kit() / "bin" / "rattle", "build", "--crate-name", CRATE.name, "src/lib.rt", "--crate-type", "staticlib", "--links", f"{CRATE.name}="]
     words += [word for name, at in named.items() for word in ("--extern", f"{name}={at}")]
     words += [word for at in (kit() / "rlibs", *(rlib(it).parent for it in below(CRATE.name))) for word in ("-L", f"dependency={at}")]
     words += ["--antt-project", kit() / "rattle" / "logic" / "antt-project.json", "--logic-built", kit() / "logic_built"]
-    words += ["--toolchain", kit() / "toolchain", "--backend", "llvm", "--jobs", str(min(4, os.cpu_count() or 1)), "-o", LIBRARY]
+    words += ["--toolchain", kit() / "toolchain", "--backend", "llvm", "--jobs", "1", "-o", LIBRARY]
     LIBRARY.parent.mkdir(exist_ok=True)
     build = subprocess.run(words, cwd=CRATE, stdin=subprocess.DEVNULL, stdout=subprocess.PIPE, stderr=subprocess.STDOUT, text=True)
     if build.returncode:
