@@ -1,5 +1,5 @@
 -- What a call of a sender comes to, in numbers.
-use Rattle.std.specs.Prelude.{◌≡◌, ◌⊎◌, ℕ, ◌+◌, ◌<◌, ◌≤◌, ◌||◌, not, Bool, true, false, List, [], length, map, Option, None, Some, is_some, Result, Ok, Err, IfOk, OnOk, OnErr, Vec, ◌∷◌, if◌then◌else◌}
+use Rattle.std.specs.Prelude.{◌≡◌, ◌⊎◌, ℕ, ◌+◌, ◌<◌, ◌≤◌, ◌||◌, not, Bool, true, false, List, [], length, map, Option, None, is_some, Result, Ok, Err, IfOk, OnOk, OnErr, Vec, ◌∷◌}
 use Rattle.std.specs.Global.{Global}
 use Rattle.std.specs.Option.{option_map_or}
 use Rattle.recovery_base.specs.declared.below.SpaceId.{SpaceId}
