@@ -50,7 +50,7 @@ is_silent kind = true
 module _ (number : ℕ) where
   silent_one : (entry : PathsEntry) (earlier : List PathsEntry) → is_silent (path_kind entry) ≡ true
       → told_in number earlier ≡ 0 → told_in number (entry ∷ earlier) ≡ 0
-  silent_one (on Current (searches loses_probe)) earlier silent none = grind (arith, silent, none)
+  silent_one (on Current (searches call)) earlier silent none = grind (arith, silent, none)
   silent_one entry earlier silent none = grind (arith, silent, none)
 
 module _ {K Q S M P : Type 0} (q : QueueMeaning Q S M P) (known : Known K P M) (number : ℕ) (earlier : History Q S M P)
