@@ -27,8 +27,12 @@ def counts(name):
     functions = sum(bool(re.search(r"\bfn ", line)) for line in code)
     written = sum(bool(line.strip()) and not line.strip().startswith("//") for line in code)
     proofs = len(lines(name, ["specs", "proofs"], "antt"))
-    edits = len(list((CRATES / name / "must-fail").glob("*.edit")))
-    return functions, written, proofs, edits
+    return functions, written, proofs, len(edits(name))
+
+
+def edits(name):
+    """The wrong bodies of a crate: those that rt ci tries one by one, and those that tests/wrong_bodies.py tries together."""
+    return sorted(it for room in ("must-fail", "wrong") for it in (CRATES / name / room).glob("*.edit"))
 
 
 def show_table(names):
@@ -70,19 +74,23 @@ def long_clauses(name):
                        "≡, →, × or an argument, and go on four columns further in (rt fmt keeps a clause's lines as they are)")
 
 
-def missed_edits():
-    """Edits that a change of the code has left behind."""
-    for edit in sorted(CRATES.glob("*/must-fail/*.edit")):
-        text = turned = ""
+def missed_edits(name):
+    """Edits of a crate that a change of the code has left behind."""
+    for edit in edits(name):
+        text = turned = function = ""
         for word, _, rest in (line.partition(": ") for line in edit.read_text().splitlines()):
-            if word == "file":
+            if word == "fn":
+                function = rest.rpartition("::")[2]
+            elif word == "file":
                 file = edit.parent.parent / rest
                 text = file.read_text() if file.is_file() else ""
+                if function and not re.search(rf"\bfn {function}\b", text):
+                    yield f"{edit.relative_to(ROOT)}: its file has no function {function}: say in its line 'fn:' which one it turns, as a check prints it"
             elif word == "old":
                 turned = rest
                 if text.count(turned) != 1:
                     yield (f"{edit.relative_to(ROOT)}: {turned.strip()!r} stands {text.count(turned)} times in its file, and not once: turn a value of the code "
-                           "as it is now, and see which goal refuses it (rt must-fail)")
+                           "as it is now, and see which goal refuses it (rt must-fail, tests/wrong_bodies.py --goals)")
             elif word == "new":
                 text = text.replace(turned, rest)
 
@@ -105,7 +113,7 @@ def main():
         [f"docs/ARCHITECTURE.md does not name {it}: say there what it is for" for it in names if f"`{it}`" not in architecture],
         [fault for it in names for fault in too_long(it)],
         [fault for it in names for fault in long_clauses(it)],
-        list(missed_edits()),
+        [fault for it in names for fault in missed_edits(it)],
     ]
     for fault in [it for check in checks for it in check]:
         print(f"crates: {fault}", file=sys.stderr)

@@ -59,6 +59,32 @@ def made_of(target):
     return found
 
 
+def lanes(memory_each):
+    """How many checks run side by side: one a processor, where there is so much memory for each, in kB."""
+    free = next(int(it.split()[1]) for it in open("/proc/meminfo") if it.startswith("MemAvailable"))
+    return max(1, min(len(os.sched_getaffinity(0)), free // memory_each))
+
+
+def lend(room, name):
+    """Makes a tree that has a crate and those that it stands on alone, as they are built, and gives the crate's folder there."""
+    crates, names = room / "crates", made_of(name)
+    for it in names:
+        for part in "src", "specs", "proofs":
+            if (ROOT / "crates" / it / part).is_dir():
+                shutil.copytree(ROOT / "crates" / it / part, crates / it / part)
+        if it != name:
+            shutil.copytree(ROOT / "crates" / it / "out" / "rlib", crates / it / "out" / "rlib", copy_function=link)
+    (room / "crates.txt").write_text(list_of(names))
+    return crates / name
+
+
+def link(old, new):
+    try:
+        os.link(old, new)
+    except OSError:
+        shutil.copy2(old, new)
+
+
 def version():
     return f"quic-recovery {(ROOT / 'VERSION').read_text().strip()}, {logic()}"
 

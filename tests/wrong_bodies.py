@@ -1,0 +1,139 @@
+#!/usr/bin/env python3
+"""Tries the wrong bodies crates/NAME/wrong/*.edit: the prover must refuse each, by a goal of the function that it turns. Those of a crate are tried in
+one check of the functions that they turn and of what these call, since a proof rests on no other's body; two of one function take two checks.
+
+    tests/wrong_bodies.py                         all
+    tests/wrong_bodies.py recovery_ids            a crate's
+    tests/wrong_bodies.py recovery_ids next__     those of its wrong bodies whose names begin so
+    tests/wrong_bodies.py --goals recovery_ids    says of each by which goals it is refused
+
+Such a file is written as those of must-fail/, behind a line 'fn: queue::CidQueue::next' with the function's name as a check prints it. What the crate
+stands on has to be built (./prove NAME)."""
+import argparse
+import re
+import shutil
+import subprocess
+import sys
+from concurrent.futures import ThreadPoolExecutor
+
+import tree
+from tree import ROOT
+
+TREES = ROOT / "out" / "wrong"
+MEMORY_EACH = 3_000_000  # kB, of one check
+
+VERDICT = re.compile(r"fn (\S+): (proved|not proved|no proof|could not tell)(.*)")
+UNANSWERED = re.compile(r"`search` did not prove ((?:`[^`]+`(?:, | and |,? )?)+)")
+NOTED = re.compile(r"note: src/\S+: it is not proved that .*\(`([^`]+)`\)")  # a goal of the function whose verdict comes next
+ANSWERED = re.compile(r"\./proofs/(\S+)/\w+\.antt:\d+:\d+: error: `([^`]+)`: (.*)")
+GONE = re.compile(r"has no (field )?`|is not in scope|was not admitted")  # what an answer says of a name that is gone: no goal refuses that
+
+
+class Edit:
+    """A wrong body: the function that it turns, and in which file what stands in place of what."""
+
+    def __init__(self, path):
+        self.name, self.function, self.pairs, file, old = path.stem, None, [], None, None
+        for word, _, rest in (line.partition(": ") for line in path.read_text().splitlines()):
+            if word == "fn":
+                self.function = rest
+            elif word == "file":
+                file = rest
+            elif word == "old":
+                old = rest
+            elif word == "new":
+                self.pairs.append((file, old, rest))
+
+    def turn(self, crate):
+        """Turns the function in a copy of its crate."""
+        for file, old, new in self.pairs:
+            text = (crate / file).read_text()
+            if text.count(old) != 1:
+                raise ValueError(f"{old.strip()!r} stands {text.count(old)} times in {file}, and not once")
+            (crate / file).write_text(text.replace(old, new))
+
+
+def rounds(edits):
+    """The edits by checks, in none of which two turn one function."""
+    found = []
+    for edit in edits:
+        room = next((it for it in found if edit.function not in it), None)
+        if room is None:
+            found.append(room := {})
+        room[edit.function] = edit
+    return found
+
+
+def checked(crate, number, edits):
+    """What a check says of a copy of the crate with these edits."""
+    room = TREES / f"{crate}-{number}"
+    shutil.rmtree(room, ignore_errors=True)
+    try:
+        folder = tree.lend(room, crate)
+        for it in edits.values():
+            it.turn(folder)
+        only = [word for it in edits for word in ("--only", f"{crate}::{it}")]
+        how = {"cwd": folder, "stdin": subprocess.DEVNULL, "stdout": subprocess.PIPE, "stderr": subprocess.STDOUT}
+        return subprocess.run(["rt", "check", "--jobs", "1", *only], text=True, errors="replace", **how).stdout
+    finally:
+        shutil.rmtree(room, ignore_errors=True)
+
+
+def refused(crate, said):
+    """The functions that are refused themselves, and not for what they call, each with the goals that are not proved."""
+    found, noted, answered = {}, [], {}
+    for line in said.splitlines():
+        if of_answer := ANSWERED.match(line):
+            folder, goal, why = of_answer.groups()
+            if not GONE.search(why):
+                answered.setdefault(folder.replace("/", "::"), []).append(goal)
+        elif of_goal := NOTED.match(line):
+            noted.append(of_goal[1])
+        elif of_function := VERDICT.match(line):
+            name, verdict, why = of_function.groups()
+            left = [goal for goals in UNANSWERED.findall(why) for goal in re.findall(r"`([^`]+)`", goals)]
+            if left or verdict == "not proved":
+                name = name.removeprefix(f"{crate}::")
+                found[name] = list(dict.fromkeys(answered.get(name, []) + left + noted))
+            noted = []
+    return found
+
+
+def try_round(crate, number, edits):
+    """Each edit with the goals that refuse it, and what is wrong where none does."""
+    try:
+        said = checked(crate, number, edits)
+    except (OSError, ValueError) as why:
+        return [(it, [], str(why)) for it in edits.values()]
+    found = refused(crate, said)
+    others = sorted(set(found) - set(edits))
+    if others:
+        return [(it, [], f"refused is what none of the edits turns: {', '.join(others)}") for it in edits.values()]
+    ends = said.rstrip().splitlines()[-1:]
+    return [(it, found.get(name, []), f"no goal of {name} refuses it; the check ends in {ends}") for name, it in edits.items()]
+
+
+def main():
+    parser = argparse.ArgumentParser(description=__doc__, formatter_class=argparse.RawDescriptionHelpFormatter)
+    parser.add_argument("--goals", action="store_true", help="says of each which goals refuse it")
+    parser.add_argument("crate", nargs="?", help="one crate")
+    parser.add_argument("name", nargs="?", default="", help="how the name of a wrong body begins")
+    given = tree.arguments(parser)
+    tree.stop_on_signals()
+    tests = tree.Tests("wrong bodies")
+    with tree.alone("tests/wrong_bodies.py", lambda text: print(f"wrong bodies: {text}", file=sys.stderr)):
+        work = []
+        for crate in [given.crate] if given.crate else tree.crates():
+            edits = map(Edit, sorted((ROOT / "crates" / crate / "wrong").glob(f"{given.name}*.edit")))
+            work += [(crate, number, it) for number, it in enumerate(rounds(edits))]
+        with ThreadPoolExecutor(tree.lanes(MEMORY_EACH)) as pool:
+            for (crate, _, _), found in zip(work, pool.map(lambda it: try_round(*it), work)):
+                for edit, goals, why in found:
+                    tests.holds(f"{crate}: {edit.name}", goals, why)
+                    if given.goals:
+                        print(f"{crate}: {edit.name}: {', '.join(goals)}")
+    tests.end()
+
+
+if __name__ == "__main__":
+    tree.ends_quietly(main)
