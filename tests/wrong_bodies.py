@@ -113,25 +113,40 @@ def try_round(crate, number, edits):
     return [(it, found.get(name, []), f"no goal of {name} refuses it; the check ends in {ends}") for name, it in edits.items()]
 
 
+def show(text):
+    print(f"wrong bodies: {text}", file=sys.stderr, flush=True)
+
+
+def try_all(crates, prefix, says_goals, tests):
+    """Tries those of these crates whose names begin so, what takes long first."""
+    work = []
+    for crate in crates:
+        edits = map(Edit, sorted((ROOT / "crates" / crate / "wrong").glob(f"{prefix}*.edit")))
+        work += [(crate, number, it) for number, it in enumerate(rounds(edits))]
+    work.sort(key=lambda it: -len(it[2]))
+    with ThreadPoolExecutor(tree.lanes(MEMORY_EACH)) as pool:
+        for (crate, _, _), found in zip(work, pool.map(lambda it: try_round(*it), work)):
+            for edit, goals, why in found:
+                tests.holds(f"{crate}: {edit.name}", goals, why)
+                if says_goals:
+                    print(f"{crate}: {edit.name}: {', '.join(goals) or 'not refused'}", flush=True)
+
+
 def main():
     parser = argparse.ArgumentParser(description=__doc__, formatter_class=argparse.RawDescriptionHelpFormatter)
     parser.add_argument("--goals", action="store_true", help="says of each which goals refuse it")
-    parser.add_argument("crate", nargs="?", help="one crate")
+    parser.add_argument("crate", nargs="?", choices=tree.crates(), metavar="CRATE", help="one crate")
     parser.add_argument("name", nargs="?", default="", help="how the name of a wrong body begins")
     given = tree.arguments(parser)
     tree.stop_on_signals()
     tests = tree.Tests("wrong bodies")
-    with tree.alone("tests/wrong_bodies.py", lambda text: print(f"wrong bodies: {text}", file=sys.stderr)):
-        work = []
-        for crate in [given.crate] if given.crate else tree.crates():
-            edits = map(Edit, sorted((ROOT / "crates" / crate / "wrong").glob(f"{given.name}*.edit")))
-            work += [(crate, number, it) for number, it in enumerate(rounds(edits))]
-        with ThreadPoolExecutor(tree.lanes(MEMORY_EACH)) as pool:
-            for (crate, _, _), found in zip(work, pool.map(lambda it: try_round(*it), work)):
-                for edit, goals, why in found:
-                    tests.holds(f"{crate}: {edit.name}", goals, why)
-                    if given.goals:
-                        print(f"{crate}: {edit.name}: {', '.join(goals)}")
+    try:
+        with tree.alone("tests/wrong_bodies.py", show):
+            try_all([given.crate] if given.crate else tree.crates(), given.name, given.goals, tests)
+    except tree.Unfit as why:
+        sys.exit(f"wrong bodies: {why}")
+    except KeyboardInterrupt:
+        sys.exit("wrong bodies: broken off")
     tests.end()
 
 
