@@ -24,9 +24,6 @@ pub type Given = Result<Answer, quic_recovery::event::Refusal>;
 /// What a row wants.
 pub type Reply = Result<Answer, Refusal>;
 
-/// A number is 2^62 or more.
-pub const TOO_LARGE: Reply = Err(Refusal::NumberTooLarge);
-
 /// The allocator refused memory.
 pub const NO_MEMORY: Reply = Err(Refusal::NoMemory);
 
@@ -35,9 +32,6 @@ pub const DONE: Reply = Ok(Answer::Done);
 
 /// The packet came before, or is too old to be told from one that did.
 pub const DUPLICATE: Reply = Ok(Answer::Duplicate);
-
-/// No timer is set.
-pub const NO_TIMEOUT: Reply = Ok(Answer::Timeout(None));
 
 /// A packet that is no probe was acknowledged.
 pub const ACKED: Reply = Ok(Answer::Acked { probe: false });
@@ -51,31 +45,12 @@ pub const LOST: Reply = Ok(Answer::Lost { probe: false });
 /// Yes, to what the event asks.
 pub const YES: Reply = Ok(Answer::Flag(true));
 
-/// No, to what the event asks.
-pub const NO: Reply = Ok(Answer::Flag(false));
-
-/// The space is discarded.
-pub const DISCARDED: Reply = Err(Refusal::SpaceDiscarded);
-
 /// The packet is not tracked.
 pub const NOT_TRACKED: Reply = Err(Refusal::NotTracked);
-
-/// There is no previous path.
-pub const NO_SUCH_PATH: Reply = Err(Refusal::NoSuchPath);
-
-/// The space of Data is discarded.
-pub const DISCARD_DATA: Event = Event::DiscardSpace {
-    space: SpaceId::Data,
-};
 
 /// What is in flight on the path in use.
 pub const CURRENT: Event = Event::InFlight {
     path: PathName::Current,
-};
-
-/// What is in flight on the path before it.
-pub const PREVIOUS: Event = Event::InFlight {
-    path: PathName::Previous,
 };
 
 /// The moment this many nanoseconds after the first one.
@@ -145,9 +120,4 @@ pub fn sent(number: u64, forgotten: Option<u64>) -> Reply {
 /// The packet is new, and the timer of delayed ACKs is to be armed, or not.
 pub fn new(arm: bool) -> Reply {
     Ok(Answer::New { arm })
-}
-
-/// The next timer ends then.
-pub fn timeout(nanos: u64) -> Reply {
-    Ok(Answer::Timeout(Some(at(nanos))))
 }

@@ -2,7 +2,7 @@
 use crate::events::{Given, Reply};
 use quic_recovery::event::Refusal as Cause;
 
-/// A refusal, in the order of the library's numbers; behind these one by ECN for each cause of its own.
+/// A refusal, in the order of the library's numbers.
 #[derive(Clone, Copy, PartialEq, Eq)]
 pub enum Refusal {
     /// The allocator refused memory.
@@ -37,7 +37,7 @@ pub enum Refusal {
     DelayTooSmall,
     /// A skipped number is acknowledged.
     SkippedAcked,
-    /// The counts of ECN cannot be right, for another cause than those below.
+    /// The counts of ECN cannot be right.
     Ecn,
     /// The initial id is not active.
     NotInitialId,
@@ -45,14 +45,6 @@ pub enum Refusal {
     BadRange,
     /// The connection id conflicts with the one that is held.
     Conflict,
-    /// The count of ECT(0) falls.
-    Ect0Falls,
-    /// The count of CE falls.
-    CeFalls,
-    /// Fewer packets are counted than were acknowledged.
-    Bleached,
-    /// Packets are counted that were not sent so.
-    Corrupted,
 }
 
 /// Whether an event was replied what a row wants.
@@ -71,22 +63,5 @@ pub fn number_wanted(refusal: Refusal) -> u64 {
 
 /// The same of one that is given.
 pub fn number_given(refusal: &Cause) -> u64 {
-    match refusal {
-        Cause::Ecn(text) => number_wanted(fault_of(text)),
-        other => u64::from(other.number()),
-    }
-}
-
-fn fault_of(text: &str) -> Refusal {
-    if text == "peer ECT(0) count regression" {
-        Refusal::Ect0Falls
-    } else if text == "peer CE count regression" {
-        Refusal::CeFalls
-    } else if text == "ECN bleaching" {
-        Refusal::Bleached
-    } else if text == "ECN corruption" {
-        Refusal::Corrupted
-    } else {
-        Refusal::Ecn
-    }
+    u64::from(refusal.number())
 }

@@ -2,12 +2,11 @@
 ghost use Rattle.std.specs.Prelude.{◌≡◌, ◌<◌};
 ghost use Rattle.recovery_skips.specs.Skips.{IsSkips};
 
-use crate::config::{settings, words};
-use crate::events::{Event, Given, Reno, Reply, at};
+use crate::events::{Event, Given, Reply, at};
 use crate::refusals::is;
 use crate::shown::{Shown, given, wanted};
 use crate::tally::Tally;
-use quic_recovery::congestion::{ControllerFactory, NewRenoConfig};
+use quic_recovery::congestion::ControllerFactory;
 use quic_recovery::{Recovery, RecoveryConfig};
 use rand_core::Rng;
 use std::alloc::Global;
@@ -34,14 +33,6 @@ pub enum Wrong {
     Count,
 }
 
-/// A recovery to which nothing has happened yet.
-pub fn fresh(alloc: Global) -> Result<Reno, Wrong> {
-    match Recovery::new(alloc, settings(8), words(), at(0)) {
-        Ok(recovery) => Ok(recovery),
-        Err(_) => Err(Wrong::NoMemory),
-    }
-}
-
 /// Compares a reply with what its row wants.
 pub fn same(row: u64, reply: &Given, want: &Reply) -> Result<(), Wrong> {
     if is(reply, want) {
@@ -65,17 +56,6 @@ pub fn compare(replies: &[Given], wanted: &[Reply]) -> Result<(), Wrong> {
         row = row.saturating_add(1);
     }
     Ok(())
-}
-
-/// Lets one event happen, and compares the reply with what its row wants.
-pub fn told<R: Rng + Drop>(
-    recovery: &mut Recovery<NewRenoConfig, Tally, R>,
-    row: u64,
-    event: Event,
-    want: Reply,
-) -> Result<(), Wrong> {
-    let reply = recovery.apply(event);
-    same(row, &reply, &want)
 }
 
 /// Runs the events of rows, and compares the replies with what the rows want: what the run leaves.

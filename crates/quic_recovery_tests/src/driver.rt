@@ -1,9 +1,10 @@
-//! What the events of a connection are replied, and what they leave: its packets, ids and timers.
+//! What events leave of a connection, and what they are replied where no line of a script shows it: its packets, ids
+//! and timers.
 ghost use Rattle.std.specs.Prelude.{◌≡◌, ◌<◌};
 ghost use Rattle.recovery_skips.specs.Skips.{IsSkips};
 
 use quic_recovery::config::TransportConfig;
-use quic_recovery::congestion::NewRenoConfig;
+use quic_recovery::congestion::{ControllerFactory, NewRenoConfig};
 use quic_recovery::spaces::PacketSpace;
 use quic_recovery::{Recovery, RecoveryConfig};
 use quic_recovery_rows::config::{settings, settings_with, words};
@@ -12,28 +13,19 @@ use quic_recovery_rows::refusals::Refusal;
 use quic_recovery_rows::runs::{self, Wrong};
 use quic_recovery_rows::tally::Tally;
 use rand_core::Rng;
-use rand_pcg::Pcg32;
-use recovery_base::below::{EcnCounts, SpaceId};
+use recovery_base::below::{AckFrequency, EcnCounts, SpaceId, VarInt};
+use recovery_base::time::Duration;
 use recovery_base::timer::Timer;
 use recovery_skips::Skips;
 use std::alloc::Global;
 use std::process::Abort;
 
-mod acks;
 mod ids;
-mod items;
 mod live;
 mod refusals;
+mod settings;
 mod skips;
-
-const DISCARD_INITIAL: Event = Event::DiscardSpace {
-    space: SpaceId::Initial,
-};
-
-const LOST_1: Event = Event::Lost {
-    space: SpaceId::Data,
-    number: 1,
-};
+mod tallies;
 
 /// What went right, or the end of the test with what went wrong.
 pub(crate) fn right<T>(rt: &impl Abort, found: Result<T, Wrong>) -> T {
@@ -49,61 +41,72 @@ pub(crate) fn holds(rt: &impl Abort, is_right: bool, row: u64) {
 }
 
 /// A recovery to which nothing has happened yet.
-pub(crate) fn fresh(rt: &impl Abort, alloc: Global) -> Reno {
-    right(rt, runs::fresh(alloc))
-}
-
-/// Asserts what one event is replied.
-pub(crate) fn told<R: Rng + Drop>(
-    rt: &impl Abort,
-    recovery: &mut Recovery<NewRenoConfig, Tally, R>,
-    row: u64,
-    event: Event,
-    want: Reply,
-) {
-    right(rt, runs::told(recovery, row, event, want));
-}
-
-/// Asserts what the events of a run are replied, one a row.
-pub(crate) fn check<const N: usize>(rt: &impl Abort, alloc: Global, rows: [(Event, Reply); N])
-    requires { N < 1000 }
-{
-    drop(walk(rt, alloc, settings(8), words(), rows));
-}
-
-/// Asserts what the events of a run are replied, one a row, and something of what they leave.
-pub(crate) fn check_left<const N: usize, F: FnOnce(&Reno) -> bool>(
+pub(crate) fn made<F, R>(
     rt: &impl Abort,
     alloc: Global,
-    rows: [(Event, Reply); N],
-    is_left: F,
-)
-    requires rows { N < 1000 }
-    requires callable { F.IsAlwaysCallable is_left }
-{
-    let recovery = walk(rt, alloc, settings(8), words(), rows);
-    let is_wanted = is_left(&recovery);
-    drop(recovery);
-    holds(rt, is_wanted, N as u64);
-}
-
-/// Asserts what the events of a run with these settings are replied: what it leaves.
-pub(crate) fn walk<const N: usize>(
-    rt: &impl Abort,
-    alloc: Global,
-    config: RecoveryConfig<NewRenoConfig>,
-    rng: Pcg32,
-    rows: [(Event, Reply); N],
-) -> Reno
-    requires rows { N < 1000 }
+    config: RecoveryConfig<F>,
+    rng: R,
+) -> Recovery<F, Tally, R>
+where
+    F: ControllerFactory + Drop,
+    F::Controller: Drop,
+    R: Rng + Drop,
     requires issued { config.issued ≡ 1 }
     requires skips { IsSkips config.skips }
 {
-    right(rt, runs::walk(alloc, config, rng, rows))
+    match Recovery::new(alloc, config, rng, at(0)) {
+        Ok(recovery) => recovery,
+        Err(_) => panic!(rt; "NoMemory"),
+    }
+}
+
+/// The same with the settings of the replay program.
+pub(crate) fn fresh(rt: &impl Abort, alloc: Global) -> Reno {
+    made(rt, alloc, settings(8), words())
+}
+
+/// Asserts what one event is replied.
+pub(crate) fn told<F, R>(
+    rt: &impl Abort,
+    recovery: &mut Recovery<F, Tally, R>,
+    row: u64,
+    event: Event,
+    want: Reply,
+)
+where
+    F: ControllerFactory + Drop,
+    F::Controller: Drop,
+    R: Rng + Drop,
+{
+    let reply = recovery.apply(event);
+    right(rt, runs::same(row, &reply, &want));
+}
+
+/// Asserts what events are replied, one a row.
+pub(crate) fn play<F, R, const N: usize>(
+    rt: &impl Abort,
+    recovery: &mut Recovery<F, Tally, R>,
+    rows: [(Event, Reply); N],
+)
+where
+    F: ControllerFactory + Drop,
+    F::Controller: Drop,
+    R: Rng + Drop,
+    requires { N < 1000 }
+{
+    let mut row = 0u64;
+    for (event, want) in rows {
+        told(rt, recovery, row, event, want);
+        row = row.saturating_add(1);
+    }
 }
 
 /// What is kept for a space that is not discarded.
-fn kept<'a>(rt: &impl Abort, recovery: &'a Reno, space: SpaceId) -> &'a PacketSpace<Tally> {
+pub(crate) fn kept<'a, R: Rng + Drop>(
+    rt: &impl Abort,
+    recovery: &'a Recovery<NewRenoConfig, Tally, R>,
+    space: SpaceId,
+) -> &'a PacketSpace<Tally> {
     match recovery.space(space) {
         Some(here) => here,
         None => panic!(rt; "the space is discarded"),
@@ -112,7 +115,7 @@ fn kept<'a>(rt: &impl Abort, recovery: &'a Reno, space: SpaceId) -> &'a PacketSp
 
 /// Nothing is held for lost, nothing was sent in CRYPTO frames, and no packet came with an ECN codepoint.
 #[test]
-fn a_fresh_space(rt: HostRuntime) {
+fn a_fresh_connection(rt: HostRuntime) {
     let recovery = fresh(&rt, rt.alloc());
     for space in [SpaceId::Initial, SpaceId::Handshake, SpaceId::Data] {
         let here = kept(&rt, &recovery, space);
@@ -121,91 +124,144 @@ fn a_fresh_space(rt: HostRuntime) {
             && here.ecn_counters == EcnCounts::ZERO;
         holds(&rt, is_fresh, 0);
     }
+    holds(&rt, recovery.peer_limit().is_none(), 1);
     drop(recovery);
 }
 
+/// A list of events at once, which may be empty.
 #[test]
 fn run_answers_with_memory(rt: HostRuntime) {
     let data = SpaceId::Data;
-    check(&rt, rt.alloc(), []);
-    check(
-        &rt,
-        rt.alloc(),
-        [
-            (received(data, 0, true), new(true)),
-            (received(data, 0, true), DUPLICATE),
-        ],
-    );
-    check(
-        &rt,
-        rt.alloc(),
-        [
-            (received(data, 7, true), new(false)),
-            (received(SpaceId::Initial, 1, true), new(true)),
-            (received(SpaceId::Handshake, 3, false), new(false)),
-            (received(SpaceId::Handshake, 4, true), new(false)),
-        ],
-    );
-}
-
-fn leaves_idle_set(left: &Reno) -> bool {
-    let timers = left.timers();
-    timers.get(Timer::Idle) == Some(at(50)) && timers.get(Timer::Pacing) == None
+    drop(right(&rt, runs::walk(rt.alloc(), settings(8), words(), [])));
+    let rows = [
+        (received(data, 0, true), new(true)),
+        (received(data, 0, true), DUPLICATE),
+    ];
+    drop(right(&rt, runs::walk(rt.alloc(), settings(8), words(), rows)));
 }
 
 #[test]
-fn the_next_timeout_is_the_least(rt: HostRuntime) {
-    check_left(
-        &rt,
-        rt.alloc(),
-        [
-            (Event::NextTimeout, NO_TIMEOUT),
-            (set(Timer::Idle, 50), DONE),
-            (set(Timer::Pacing, 20), DONE),
-            (Event::NextTimeout, timeout(20)),
-            (stop(Timer::Pacing), DONE),
-            (Event::NextTimeout, timeout(50)),
-        ],
-        leaves_idle_set,
-    );
+fn what_events_leave(rt: HostRuntime) {
+    let mut recovery = fresh(&rt, rt.alloc());
+    timers_left(&rt, &mut recovery);
+    packets_left(&rt, &mut recovery);
+    acks_left(&rt, &mut recovery);
+    ranges_left(&rt, &mut recovery);
+    limit_left(&rt, &mut recovery);
+    probe_left(&rt, &mut recovery);
+    drop(recovery);
 }
 
-#[test]
-fn packets_are_tracked_until_they_leave(rt: HostRuntime) {
+fn timers_left(rt: &impl Abort, recovery: &mut Reno) {
+    let rows = [
+        (set(Timer::Idle, 50), DONE),
+        (set(Timer::Pacing, 20), DONE),
+        (stop(Timer::Pacing), DONE),
+    ];
+    play(rt, recovery, rows);
+    let timers = recovery.timers();
+    let is_left = timers.get(Timer::Idle) == Some(at(50)) && timers.get(Timer::Pacing) == None;
+    holds(rt, is_left, 3);
+}
+
+/// Packets are tracked until they leave: none is then, and the space of one is discarded.
+fn packets_left(rt: &impl Abort, recovery: &mut Reno) {
     let (initial, data) = (SpaceId::Initial, SpaceId::Data);
-    check_left(
-        &rt,
-        rt.alloc(),
-        [
-            (send(initial, 500, true), sent(0, None)),
-            (send(data, 0, false), sent(0, None)),
-            (CURRENT, in_flight(500, 1)),
-            (DISCARD_INITIAL, DONE),
-            (CURRENT, in_flight(0, 0)),
-            (send(initial, 500, true), DISCARDED),
-            (acked(data, 9), NOT_TRACKED),
-            (PREVIOUS, NO_SUCH_PATH),
-            (send(data, 700, true), sent(1, None)),
-            (LOST_1, LOST),
-            (LOST_1, NOT_TRACKED),
-            (acked(data, 0), ACKED),
-            (DISCARD_INITIAL, DISCARDED),
-        ],
-        leaves_nothing_in_flight,
-    );
+    let discard = Event::DiscardSpace { space: initial };
+    let lost = Event::Lost {
+        space: data,
+        number: 1,
+    };
+    let rows = [
+        (send(initial, 500, true), sent(0, None)),
+        (send(data, 0, false), sent(0, None)),
+        (discard, DONE),
+        (send(data, 700, true), sent(1, None)),
+        (lost, LOST),
+        (acked(data, 0), ACKED),
+    ];
+    play(rt, recovery, rows);
+    let here = kept(rt, recovery, data);
+    let is_left = here.next_packet_number() == 2
+        && here.sent_packets.last_eliciting() == Some(1)
+        && here.largest_acked_packet == Some(0)
+        && !here.sent_packets.has_size();
+    holds(rt, is_left, 6);
+    let (path, counters) = (recovery.current(), recovery.current().in_flight());
+    let is_empty = counters.bytes == 0 && counters.ack_eliciting == 0 && path.generation() == 0;
+    holds(rt, is_empty && recovery.space(initial).is_none(), 7);
 }
 
-fn leaves_nothing_in_flight(left: &Reno) -> bool {
-    let counters = left.current().in_flight();
-    let Some(space) = left.space(SpaceId::Data) else {
-        return false;
+/// A request that is refused leaves the delay that this end takes; a late timer leaves it running.
+fn acks_left(rt: &impl Abort, recovery: &mut Reno) {
+    let space = SpaceId::Data;
+    let one = VarInt::from_u32(1);
+    let request = AckFrequency {
+        sequence: one,
+        ack_eliciting_threshold: one,
+        request_max_ack_delay: VarInt::from_u32(999),
+        reordering_threshold: one,
     };
-    counters.bytes == 0
-        && counters.ack_eliciting == 0
-        && left.current().generation() == 0
-        && left.space(SpaceId::Initial).is_none()
-        && space.next_packet_number() == 2
-        && space.sent_packets.last_eliciting() == Some(1)
-        && space.largest_acked_packet == Some(0)
-        && !space.sent_packets.has_size()
+    let rows = [
+        (Event::AckFrequencyIn(request), Err(Refusal::DelayTooSmall)),
+        (received(space, 0, true), new(true)),
+        (Event::AckDelayTimeout { space }, DONE),
+        (received(space, 1, true), new(false)),
+        (Event::AcksSent { space }, DONE),
+        (Event::AckDelayTimeout { space }, DONE),
+        (received(space, 2, true), new(true)),
+    ];
+    play(rt, recovery, rows);
+    let here = kept(rt, recovery, space);
+    let is_left = !here.pending_acks.can_send()
+        && here.pending_acks.can_send_with_other_frames()
+        && here.rx_packet == 2;
+    holds(rt, is_left, 7);
+    let delay = recovery.ack_frequency().max_ack_delay;
+    holds(rt, delay == Duration::from_millis(25), 8);
+}
+
+/// Of 0, 2, .. 128 all but the least are to be acknowledged: 64 ranges.
+fn ranges_left(rt: &impl Abort, recovery: &mut Reno) {
+    let space = SpaceId::Handshake;
+    for half in 0..65u64 {
+        let event = received(space, half.saturating_mul(2), false);
+        told(rt, recovery, half, event, new(false));
+    }
+    let mut least = 2u64;
+    for range in kept(rt, recovery, space).pending_acks.ranges().iter() {
+        let end = least.saturating_add(1);
+        holds(rt, range.start == least && range.end == end, least);
+        least = end.saturating_add(1);
+    }
+    holds(rt, least == 130, least);
+}
+
+/// A limit is kept where it is not refused.
+fn limit_left(rt: &impl Abort, recovery: &mut Reno) {
+    let rows = [
+        (Event::PeerLimit { size: 600 }, DONE),
+        (Event::PeerLimit { size: 1400 }, DONE),
+        (Event::PeerLimit { size: 0 }, Err(Refusal::ZeroMtu)),
+    ];
+    play(rt, recovery, rows);
+    let is_left = recovery.peer_limit() == Some(1400) && recovery.current().current_mtu() == 600;
+    holds(rt, is_left, 3);
+}
+
+/// A probe is a packet that elicits an ACK, and is in no total of the path.
+fn probe_left(rt: &impl Abort, recovery: &mut Reno) {
+    let probe = Ok(Answer::Probe {
+        number: 2,
+        size: 1000,
+    });
+    play(rt, recovery, [(Event::PollMtu { now: at(5) }, probe)]);
+    let here = kept(rt, recovery, SpaceId::Data);
+    let is_left = here.next_packet_number() == 3
+        && here.sent_packets.last_eliciting() == Some(2)
+        && here.time_of_last_ack_eliciting_packet == Some(at(5));
+    holds(rt, is_left, 1);
+    let path = recovery.current();
+    let is_kept = path.total_sent == 0 && path.total_recvd == 0 && path.current_mtu() == 600;
+    holds(rt, is_kept, 2);
 }

@@ -1,52 +1,315 @@
-//! What the events of paths are replied, and what they leave.
-use crate::driver::{check, check_left, fresh, holds, right, told, walk};
-use quic_recovery::RecoveryConfig;
-use quic_recovery::congestion::NewRenoConfig;
+//! Two paths: what each keeps of its own, what another one goes on with (RFC 9000, 9), and what the layer above keeps
+//! with each, which no event changes, and which a path that is made has fresh.
+ghost use Rattle.std.specs.Prelude.{◌<◌};
+
+use crate::driver::{fresh, holds, told};
+use quic_recovery::congestion::NewReno;
 use quic_recovery::event::PathName;
-use quic_recovery_rows::config::{settings, words};
+use quic_recovery::paths::{PathData, PathMarks, PathResponses};
 use quic_recovery_rows::events::*;
-use quic_recovery_rows::refusals::Refusal;
-use quic_recovery_rows::runs;
-use rand_pcg::Pcg32;
 use recovery_base::below::SpaceId;
 use recovery_base::time::Duration;
 use std::alloc::Global;
+use std::net::{IpAddr, Ipv4Addr, SocketAddr};
 use std::process::Abort;
 
-mod discovery;
-mod marks;
-mod moves;
-mod probes;
-mod sending;
+/// Marks, in a form that compares.
+#[derive(Clone, Copy, PartialEq, Eq)]
+struct Marks {
+    sending_ecn: bool,
+    challenge: Option<u64>,
+    challenge_pending: bool,
+    responds: bool,
+    first: Option<(SpaceId, u64)>,
+}
 
-const NO_PROBE: Reply = Ok(Answer::NoProbe);
-
-const NO_BLACK_HOLE: Reply = Ok(Answer::BlackHole(false));
-
-const SEARCHING: Reply = Err(Refusal::Searching);
-
-const TRANSMITTED: Reply = Ok(Answer::Transmitted);
-
-const BLOCKED: Reply = Ok(Answer::Blocked);
-
-const READY: Reply = Ok(Answer::Ready);
-
-const VALIDATED: Event = Event::Validated {
-    path: PathName::Current,
+/// Those of a path that is made.
+const FRESH: Marks = Marks {
+    sending_ecn: true,
+    challenge: None,
+    challenge_pending: false,
+    responds: false,
+    first: None,
 };
 
-fn limit(size: u16) -> Event {
-    Event::PeerLimit { size }
+/// Those of a path that goes on with another one's samples.
+const GOING_ON: Marks = Marks {
+    sending_ecn: true,
+    challenge: None,
+    challenge_pending: false,
+    responds: false,
+    first: Some((SpaceId::Data, 3)),
+};
+
+/// Those that are set here.
+const SET: Marks = Marks {
+    sending_ecn: false,
+    challenge: Some(7),
+    challenge_pending: true,
+    responds: true,
+    first: Some((SpaceId::Data, 3)),
+};
+
+/// What a path was sampled (in milliseconds), whether it is validated, its totals, generation and MTU, and its marks.
+#[derive(Clone, Copy, PartialEq, Eq)]
+struct Path {
+    port: u16,
+    rtt: u64,
+    validated: bool,
+    total_sent: u64,
+    total_recvd: u64,
+    generation: u64,
+    mtu: u16,
+    marks: Marks,
 }
 
-fn probe(number: u64, size: u16) -> Reply {
-    Ok(Answer::Probe { number, size })
+/// The first path, as it is made.
+const FIRST: Path = Path {
+    port: 4433,
+    rtt: 333,
+    validated: false,
+    total_sent: 0,
+    total_recvd: 0,
+    generation: 0,
+    mtu: 1200,
+    marks: FRESH,
+};
+
+/// The first path, sampled and used, its MTU found.
+const USED: Path = Path {
+    port: 4433,
+    rtt: 400,
+    validated: true,
+    total_sent: 100,
+    total_recvd: 400,
+    generation: 0,
+    mtu: 1326,
+    marks: SET,
+};
+
+/// A path to another address goes on with its RTT and MTU.
+const OTHER: Path = Path {
+    port: 4434,
+    rtt: 400,
+    validated: false,
+    total_sent: 0,
+    total_recvd: 0,
+    generation: 1,
+    mtu: 1326,
+    marks: GOING_ON,
+};
+
+/// An address of the peer: the first path has port 4433.
+fn address(port: u16) -> SocketAddr {
+    SocketAddr::new(IpAddr::V4(Ipv4Addr::new(192, 0, 2, 1)), port)
 }
 
-fn datagram_in(path: PathName, bytes: u64) -> Event {
-    Event::DatagramIn { path, bytes }
+fn to_set() -> PathMarks {
+    let mut path_responses = PathResponses::new();
+    path_responses.push(1, 9, address(4433));
+    PathMarks {
+        sending_ecn: false,
+        challenge: Some(7),
+        challenge_pending: true,
+        path_responses,
+        first_packet_after_rtt_sample: Some((SpaceId::Data, 3)),
+    }
 }
 
-fn delayed(nanos: u64) -> Reply {
-    Ok(Answer::Delayed(at(nanos)))
+fn of_marks(marks: PathMarks) -> Marks {
+    Marks {
+        sending_ecn: marks.sending_ecn,
+        challenge: marks.challenge,
+        challenge_pending: marks.challenge_pending,
+        responds: !marks.path_responses.is_empty(),
+        first: marks.first_packet_after_rtt_sample,
+    }
+}
+
+/// Whether a path is what a row says.
+fn is_path(path: &PathData<NewReno>, want: Path) -> bool {
+    let marks = Marks {
+        sending_ecn: path.sending_ecn,
+        challenge: path.challenge,
+        challenge_pending: path.challenge_pending,
+        responds: !path.path_responses.is_empty(),
+        first: path.first_packet_after_rtt_sample,
+    };
+    let found = Path {
+        port: path.remote.port(),
+        rtt: want.rtt,
+        validated: path.validated,
+        total_sent: path.total_sent,
+        total_recvd: path.total_recvd,
+        generation: path.generation(),
+        mtu: path.current_mtu(),
+        marks,
+    };
+    found == want && path.rtt.get() == Duration::from_millis(want.rtt)
+}
+
+/// Asserts what the path in use is, and the one before it where it lives.
+fn left(rt: &impl Abort, recovery: &Reno, row: u64, current: Path, previous: Option<Path>) {
+    let is_previous = match (recovery.previous(), previous) {
+        (Some(path), Some(want)) => is_path(path, want),
+        (None, None) => true,
+        _ => false,
+    };
+    holds(rt, is_previous && is_path(recovery.current(), current), row);
+}
+
+/// Sets marks, and asserts which ones were there.
+fn replaced(rt: &impl Abort, recovery: &mut Reno, path: PathName, want: Option<Marks>) {
+    let is_wanted = recovery.set_marks(path, to_set()).map(of_marks) == want;
+    holds(rt, is_wanted, 0);
+}
+
+/// What one event is replied, and the paths that it leaves.
+type Row = (Event, Reply, Path, Option<Path>);
+
+fn play<const N: usize>(rt: &impl Abort, recovery: &mut Reno, rows: [Row; N])
+    requires { N < 1000 }
+{
+    let mut row = 0u64;
+    for (event, want, current, previous) in rows {
+        told(rt, recovery, row, event, want);
+        left(rt, recovery, row, current, previous);
+        row = row.saturating_add(1);
+    }
+}
+
+fn move_to(port: u16, fresh: bool) -> Event {
+    Event::NewPath {
+        now: at(0),
+        remote: address(port),
+        fresh,
+    }
+}
+
+/// A first path whose marks are set, and which is used then.
+fn used(rt: &impl Abort, alloc: Global) -> Reno {
+    let mut recovery = fresh(rt, alloc);
+    left(rt, &recovery, 0, FIRST, None);
+    replaced(rt, &mut recovery, PathName::Previous, None);
+    left(rt, &recovery, 1, FIRST, None);
+    replaced(rt, &mut recovery, PathName::Current, Some(FRESH));
+    let marked = Path {
+        marks: SET,
+        ..FIRST
+    };
+    left(rt, &recovery, 2, marked, None);
+    let path = PathName::Current;
+    let sample = Event::Sample {
+        delay: Duration::from_nanos(0),
+        rtt: Duration::from_millis(400),
+    };
+    let transmit = Event::Transmit {
+        now: at(0),
+        bytes: 100,
+        checked: false,
+    };
+    let probe = Ok(Answer::Probe {
+        number: 0,
+        size: 1326,
+    });
+    let sampled = Path { rtt: 400, ..marked };
+    let validated = Path {
+        validated: true,
+        ..sampled
+    };
+    let reached = Path {
+        total_recvd: 400,
+        ..validated
+    };
+    let answered = Path {
+        total_sent: 100,
+        ..reached
+    };
+    let rows = [
+        (sample, DONE, sampled, None),
+        (Event::Validated { path }, DONE, validated, None),
+        (Event::DatagramIn { path, bytes: 400 }, DONE, reached, None),
+        (transmit, Ok(Answer::Transmitted), answered, None),
+        (Event::PollMtu { now: at(0) }, probe, answered, None),
+        (acked(SpaceId::Data, 0), PROBE_ACKED, USED, None),
+    ];
+    play(rt, &mut recovery, rows);
+    recovery
+}
+
+/// A path that begins anew keeps what came in and went out there.
+#[test]
+fn a_path_begins_anew(rt: HostRuntime) {
+    let mut recovery = used(&rt, rt.alloc());
+    let congestion = Event::Congestion {
+        now: at(2),
+        sent: at(1),
+        persistent: false,
+        bytes: 1200,
+    };
+    let end_acks = Event::EndAcks {
+        now: at(9),
+        app_limited: false,
+        largest: Some(0),
+    };
+    let anew = Path {
+        rtt: 333,
+        mtu: 1200,
+        ..USED
+    };
+    let rows = [
+        (congestion, DONE, USED, None),
+        (end_acks, DONE, USED, None),
+        (Event::ResetPath { now: at(0) }, DONE, anew, None),
+    ];
+    play(&rt, &mut recovery, rows);
+    drop(recovery);
+}
+
+/// A path to another address goes on with RTT and MTU, unless it is fresh, and each has its own marks.
+#[test]
+fn another_path(rt: HostRuntime) {
+    let mut recovery = used(&rt, rt.alloc());
+    let third = Path {
+        port: 4435,
+        generation: 2,
+        ..FIRST
+    };
+    let rows = [
+        (move_to(4434, false), DONE, OTHER, Some(USED)),
+        (move_to(4435, true), DONE, third, Some(OTHER)),
+    ];
+    play(&rt, &mut recovery, rows);
+    replaced(&rt, &mut recovery, PathName::Previous, Some(GOING_ON));
+    let marked = Path {
+        marks: SET,
+        ..OTHER
+    };
+    left(&rt, &recovery, 2, third, Some(marked));
+    replaced(&rt, &mut recovery, PathName::Previous, Some(SET));
+    play(
+        &rt,
+        &mut recovery,
+        [(Event::DropPrevious, DONE, third, None)],
+    );
+    replaced(&rt, &mut recovery, PathName::Previous, None);
+    left(&rt, &recovery, 3, third, None);
+    drop(recovery);
+}
+
+/// A fresh path begins as the first one did, whatever that has come to.
+#[test]
+fn a_fresh_path(rt: HostRuntime) {
+    let mut recovery = used(&rt, rt.alloc());
+    let second = Path {
+        port: 4434,
+        generation: 1,
+        ..FIRST
+    };
+    play(
+        &rt,
+        &mut recovery,
+        [(move_to(4434, true), DONE, second, Some(USED))],
+    );
+    drop(recovery);
 }

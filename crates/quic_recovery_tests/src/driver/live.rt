@@ -3,14 +3,20 @@ use super::*;
 use quic_recovery::LiveRecovery;
 use quic_recovery::event::PathName;
 use quic_recovery::paths::{PathMarks, PathResponses};
-use quic_recovery::time::Instant;
+use rand_pcg::Pcg32;
 
 type Live = LiveRecovery<NewRenoConfig, Tally, Pcg32>;
 
-/// Asserts what one event is replied.
-fn told(rt: &impl Abort, live: &mut Live, row: u64, event: Event, want: Reply) {
-    let reply = live.apply(event);
-    right(rt, runs::same(row, &reply, &want));
+fn apply(rt: &impl Abort, live: &mut Live) {
+    let rows = [
+        (received(SpaceId::Data, 0, true), new(true)),
+        (received(SpaceId::Data, 0, true), DUPLICATE),
+        (send(SpaceId::Data, 500, true), sent(0, None)),
+    ];
+    for (event, want) in rows {
+        let reply = live.apply(event);
+        right(rt, runs::same(0, &reply, &want));
+    }
 }
 
 /// Asserts which marks were there, and that these take their place.
@@ -26,36 +32,29 @@ fn marked(rt: &impl Abort, live: &mut Live) {
         Some(before) => before.sending_ecn && before.challenge == None,
         None => false,
     };
-    holds(rt, is_fresh, 3);
+    holds(rt, is_fresh, 1);
 }
 
-/// A packet of 1-RTT keys is to be called lost then.
-fn timed(live: &mut Live) {
-    live.set_loss_time(SpaceId::Data, Some(at(9)));
-}
-
-fn loss_time(left: &Reno, space: SpaceId) -> Option<Instant> {
-    left.space(space)?.loss_time
-}
-
-fn leaves_marks(left: &Reno) -> bool {
+/// A packet of 1-RTT keys is to be called lost at 9.
+fn leaves_marks(rt: &impl Abort, left: &Reno) {
+    let data = kept(rt, left, SpaceId::Data);
+    holds(rt, data.loss_time == Some(at(9)), 2);
+    let initial = kept(rt, left, SpaceId::Initial);
+    holds(rt, initial.loss_time == None, 3);
     let path = left.current();
-    loss_time(left, SpaceId::Data) == Some(at(9))
-        && loss_time(left, SpaceId::Initial) == None
-        && path.in_flight().bytes == 500
+    let is_marked = path.in_flight().bytes == 500
         && !path.sending_ecn
         && path.challenge == Some(7)
         && path.challenge_pending
-        && path.first_packet_after_rtt_sample == Some((SpaceId::Data, 0))
+        && path.first_packet_after_rtt_sample == Some((SpaceId::Data, 0));
+    holds(rt, is_marked, 4);
 }
 
 fn play(rt: &impl Abort, live: &mut Live) {
-    told(rt, live, 0, received(SpaceId::Data, 0, true), new(true));
-    told(rt, live, 1, received(SpaceId::Data, 0, true), DUPLICATE);
-    told(rt, live, 2, send(SpaceId::Data, 500, true), sent(0, None));
+    apply(rt, live);
     marked(rt, live);
-    timed(live);
-    holds(rt, leaves_marks(live.recovery()), 4);
+    live.set_loss_time(SpaceId::Data, Some(at(9)));
+    leaves_marks(rt, live.recovery());
 }
 
 #[test]
