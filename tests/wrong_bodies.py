@@ -106,7 +106,7 @@ def try_round(crate, number, edits):
     except (OSError, ValueError) as why:
         return [(it, [], str(why)) for it in edits.values()]
     found = refused(crate, said)
-    others = sorted(set(found) - set(edits))
+    others = sorted(name for name, goals in found.items() if goals and name not in edits)
     if others:
         return [(it, [], f"refused is what none of the edits turns: {', '.join(others)}") for it in edits.values()]
     ends = said.rstrip().splitlines()[-1:]
