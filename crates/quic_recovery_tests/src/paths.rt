@@ -75,6 +75,18 @@ const FIRST: Path = Path {
     marks: FRESH,
 };
 
+/// The first path with other marks.
+const MARKED: Path = Path {
+    port: 4433,
+    rtt: 333,
+    validated: false,
+    total_sent: 0,
+    total_recvd: 0,
+    generation: 0,
+    mtu: 1200,
+    marks: SET,
+};
+
 /// The first path, sampled and used, its MTU found.
 const USED: Path = Path {
     port: 4433,
@@ -186,18 +198,20 @@ fn move_to(port: u16, fresh: bool) -> Event {
     }
 }
 
-/// A first path whose marks are set, and which is used then.
-fn used(rt: &impl Abort, alloc: Global) -> Reno {
+/// A first path whose marks are set.
+fn marked(rt: &impl Abort, alloc: Global) -> Reno {
     let mut recovery = fresh(rt, alloc);
     left(rt, &recovery, 0, FIRST, None);
     replaced(rt, &mut recovery, PathName::Previous, None);
     left(rt, &recovery, 1, FIRST, None);
     replaced(rt, &mut recovery, PathName::Current, Some(FRESH));
-    let marked = Path {
-        marks: SET,
-        ..FIRST
-    };
-    left(rt, &recovery, 2, marked, None);
+    left(rt, &recovery, 2, MARKED, None);
+    recovery
+}
+
+/// The same, and it is used then.
+fn used(rt: &impl Abort, alloc: Global) -> Reno {
+    let mut recovery = marked(rt, alloc);
     let path = PathName::Current;
     let sample = Event::Sample {
         delay: Duration::from_nanos(0),
@@ -212,7 +226,7 @@ fn used(rt: &impl Abort, alloc: Global) -> Reno {
         number: 0,
         size: 1326,
     });
-    let sampled = Path { rtt: 400, ..marked };
+    let sampled = Path { rtt: 400, ..MARKED };
     let validated = Path {
         validated: true,
         ..sampled
