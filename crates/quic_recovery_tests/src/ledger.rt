@@ -50,13 +50,18 @@ fn frames_back(alloc: Global, frames: u64, as_first: bool) -> Option<u64>
     let mut space = PacketSpace::<Tally>::new(alloc, at(0));
     let mut sent = packet(0, 9);
     sent.stream_frames = frames;
-    space.sent_packets.insert(0, sent).ok()?;
-    if as_first {
-        let (_, packet) = space.take_first()?;
-        Some(packet.stream_frames)
+    if space.sent_packets.insert(0, sent).is_err() {
+        None
+    } else if as_first {
+        match space.take_first() {
+            Some((_, packet)) => Some(packet.stream_frames),
+            None => None,
+        }
     } else {
-        let packet = space.take(0)?;
-        Some(packet.stream_frames)
+        match space.take(0) {
+            Some(packet) => Some(packet.stream_frames),
+            None => None,
+        }
     }
 }
 
