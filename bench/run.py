@@ -330,6 +330,8 @@ def all_events():
         yield "in-flight current"
         yield f"reset-path {moment(i)}"
         yield "drop-previous"
+        yield f"new-path {moment(i)} 4434 0"
+        yield "revert-path"
         yield f"set-timer idle {moment(i)}"
         yield "next-timeout"
         yield "stop-timer idle"

@@ -42,6 +42,7 @@ LISTS = [
     ("rust/quic-recovery/tests/common/mod.rs", r'format!\(\s*"{line} |"{line}( \w+)?"\.into\(\)', "an arm of the random lines"),
     ("tests/careful/lines.rs", r'^        b"{line}" =>', "the arm that reads its line, the variant, and the arm that answers it"),
     ("tests/alike.py", r'(return|lambda it:) f?"{line}[ "]', "its random line, an item of EVENTS"),
+    ("bench/run.py", r'yield f?"{line}[ "]', "its line among those of all_events"),
     ("docs/PROGRAMS.md", r"^\| `{line}{row}( ITEM\.\.)?` ", "the row of its line, a word for each field of its form (Lines.antt), and all that it is answered"),
     ("docs/EMBEDDING.md", r"^\|[^|]*\|[^|]*`{name}`[^|]*\|[^|]*\|$", "its row: when it is handed in, and what the answer asks for"),
 ]
