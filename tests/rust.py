@@ -474,44 +474,11 @@ def declarations():
 # ---- the library
 
 
-def sources(name):
-    files = (it for room in ("src", "specs", "proofs") for it in (ROOT / "crates" / name / room).rglob("*"))
-    return [it for it in files if it.is_file()]
-
-
-def is_newer(built, name):
-    return built.exists() and built.stat().st_mtime > max(it.stat().st_mtime for it in sources(name))
-
-
-def kit():
-    """The toolchain's folder."""
-    found = shutil.which("rt")
-    folder = os.environ.get("RATTLE_KIT") or (pathlib.Path(found).resolve().parent if found else "")
-    for at in [pathlib.Path(folder), *pathlib.Path(folder).parents]:
-        if (at / "c" / "liblibc_c.a").is_file():
-            return at
-    sys.exit("rust: there is no liblibc_c.a beside the toolchain's rt")
-
-
-def below(name):
-    """The repository's crates that one stands on, the lowest first."""
-    return [it for it in tree.made_of(name) if it != name]
-
-
-def rlib(name):
-    return ROOT / "crates" / name / "out" / "rlib" / f"{name}.rlib"
-
-
 def compiled():
-    """Builds the library over what the crates below it were built as, which proves it; the gate leaves those. One job: a further one reads
-    all that stands below once more, which takes longer than the proofs of exports."""
-    uses = dict(tree.listed())
-    named = {it: rlib(it) if it in uses else kit() / "rlibs" / f"{it}.rlib" for it in ("std", *uses[CRATE.name])}
-    words = [kit() / "bin" / "rattle", "build", "--crate-name", CRATE.name, "src/lib.rt", "--crate-type", "staticlib", "--links", f"{CRATE.name}="]
-    words += [word for name, at in named.items() for word in ("--extern", f"{name}={at}")]
-    words += [word for at in (kit() / "rlibs", *(rlib(it).parent for it in below(CRATE.name))) for word in ("-L", f"dependency={at}")]
-    words += ["--antt-project", kit() / "rattle" / "logic" / "antt-project.json", "--logic-built", kit() / "logic_built"]
-    words += ["--toolchain", kit() / "toolchain", "--backend", "llvm", "--jobs", "1", "-o", LIBRARY]
+    """Builds the library over what the crates below it were built as, which proves it; the gate leaves those."""
+    at = tree.kit()
+    words = [at / "bin" / "rattle", "build", *tree.words_of(CRATE.name, "--crate-type", "staticlib")]
+    words += ["--toolchain", at / "toolchain", "--backend", "llvm", "-o", LIBRARY]
     LIBRARY.parent.mkdir(exist_ok=True)
     build = subprocess.run(words, cwd=CRATE, stdin=subprocess.DEVNULL, stdout=subprocess.PIPE, stderr=subprocess.STDOUT, text=True)
     if build.returncode:
@@ -543,10 +510,10 @@ def noted():
 def built():
     """The library is there, with what it was proved with; it is proved and built where it is not, with all that it stands on where that is not
     there either."""
-    stands_on = below(CRATE.name)
-    if noted() == toolchain() and all(is_newer(LIBRARY, it) for it in (CRATE.name, *stands_on)):
+    stands_on = tree.below(CRATE.name)
+    if noted() == toolchain() and all(tree.is_newer(LIBRARY, it) for it in (CRATE.name, *stands_on)):
         return True
-    if all(is_newer(rlib(it), it) for it in stands_on):
+    if all(tree.is_newer(tree.rlib(it), it) for it in stands_on):
         is_built = compiled()
     else:
         is_built = subprocess.run([ROOT / "prove", CRATE.name], stdin=subprocess.DEVNULL).returncode == 0
@@ -682,7 +649,7 @@ def main():
         with tempfile.TemporaryDirectory() as libraries, tempfile.TemporaryDirectory() as programs:
             folder, made = pathlib.Path(libraries), pathlib.Path(programs)
             shutil.copy(LIBRARY, folder)
-            shutil.copy(kit() / "c" / "liblibc_c.a", folder)
+            shutil.copy(tree.kit() / "c" / "liblibc_c.a", folder)
             frames(folder)
             cargo(folder)
             programs_in_c(folder, made)
@@ -690,4 +657,7 @@ def main():
     tests.end()
 
 
-sys.exit(main())
+try:
+    sys.exit(main())
+except tree.Unfit as why:
+    sys.exit(f"rust: {why}")

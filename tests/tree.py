@@ -65,24 +65,46 @@ def lanes(memory_each):
     return max(1, min(len(os.sched_getaffinity(0)), free // memory_each))
 
 
-def lend(room, name):
-    """Makes a tree that has a crate and those that it stands on alone, as they are built, and gives the crate's folder there."""
-    crates, names = room / "crates", made_of(name)
-    for it in names:
-        for part in "src", "specs", "proofs":
-            if (ROOT / "crates" / it / part).is_dir():
-                shutil.copytree(ROOT / "crates" / it / part, crates / it / part)
-        if it != name:
-            shutil.copytree(ROOT / "crates" / it / "out" / "rlib", crates / it / "out" / "rlib", copy_function=link)
-    (room / "crates.txt").write_text(list_of(names))
-    return crates / name
+def kit():
+    """The toolchain's folder."""
+    found = shutil.which("rt")
+    folder = os.environ.get("RATTLE_KIT") or (pathlib.Path(found).resolve().parent if found else "")
+    for at in [pathlib.Path(folder), *pathlib.Path(folder).parents]:
+        if (at / "c" / "liblibc_c.a").is_file():
+            return at
+    raise Unfit("there is no liblibc_c.a beside the toolchain's rt")
 
 
-def link(old, new):
-    try:
-        os.link(old, new)
-    except OSError:
-        shutil.copy2(old, new)
+def rlib(name):
+    return ROOT / "crates" / name / "out" / "rlib" / f"{name}.rlib"
+
+
+def sources(name):
+    """What is read to prove a crate."""
+    files = (it for room in ("src", "specs", "proofs") for it in (ROOT / "crates" / name / room).rglob("*"))
+    return [it for it in files if it.is_file()]
+
+
+def is_newer(built, name):
+    """Whether what was built is newer than the sources of a crate."""
+    return built.exists() and built.stat().st_mtime > max(it.stat().st_mtime for it in sources(name))
+
+
+def below(name):
+    """The crates that one stands on, the lowest first."""
+    return [it for it in made_of(name) if it != name]
+
+
+def words_of(name, *more):
+    """How the compiler is asked for a crate, over what those below it were built as, by the gate or by a check. One job: a further one reads all that
+    stands below once more."""
+    uses, at = dict(listed()), kit()
+    named = {it: rlib(it) if it in uses else at / "rlibs" / f"{it}.rlib" for it in ("std", *uses[name])}
+    root = next(it for it in ("src/lib.rt", "src/main.rt") if (ROOT / "crates" / name / it).is_file())
+    words = ["--crate-name", name, root, "--links", f"{name}=", *more]
+    words += [word for it, built in named.items() for word in ("--extern", f"{it}={built}")]
+    words += [word for it in (at / "rlibs", *(rlib(it).parent for it in below(name))) for word in ("-L", f"dependency={it}")]
+    return [*words, "--antt-project", at / "rattle" / "logic" / "antt-project.json", "--logic-built", at / "logic_built", "--jobs", "1"]
 
 
 def version():

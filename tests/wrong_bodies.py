@@ -10,16 +10,17 @@ one check of the functions that they turn and of what these call, since a proof 
 Such a file is written as those of must-fail/, behind a line 'fn: queue::CidQueue::next' with the function's name as a check prints it. What the crate
 stands on has to be built (./prove NAME)."""
 import argparse
+import pathlib
 import re
 import shutil
 import subprocess
 import sys
+import tempfile
 from concurrent.futures import ThreadPoolExecutor
 
 import tree
 from tree import ROOT
 
-TREES = ROOT / "out" / "wrong"
 MEMORY_EACH = 3_000_000  # kB, of one check
 
 VERDICT = re.compile(r"fn (\S+): (proved|not proved|no proof|could not tell)(.*)")
@@ -64,19 +65,18 @@ def rounds(edits):
     return found
 
 
-def checked(crate, number, edits):
+def checked(crate, edits):
     """What a check says of a copy of the crate with these edits."""
-    room = TREES / f"{crate}-{number}"
-    shutil.rmtree(room, ignore_errors=True)
-    try:
-        folder = tree.lend(room, crate)
+    with tempfile.TemporaryDirectory() as folder:
+        for room in "src", "specs", "proofs":
+            if (ROOT / "crates" / crate / room).is_dir():
+                shutil.copytree(ROOT / "crates" / crate / room, pathlib.Path(folder, room))
         for it in edits.values():
-            it.turn(folder)
+            it.turn(pathlib.Path(folder))
         only = [word for it in edits for word in ("--only", f"{crate}::{it}")]
+        words = [tree.kit() / "bin" / "rattle", "check", *tree.words_of(crate), *only]
         how = {"cwd": folder, "stdin": subprocess.DEVNULL, "stdout": subprocess.PIPE, "stderr": subprocess.STDOUT}
-        return subprocess.run(["rt", "check", "--jobs", "1", *only], text=True, errors="replace", **how).stdout
-    finally:
-        shutil.rmtree(room, ignore_errors=True)
+        return subprocess.run(words, text=True, errors="replace", **how).stdout
 
 
 def refused(crate, said):
@@ -99,10 +99,10 @@ def refused(crate, said):
     return found
 
 
-def try_round(crate, number, edits):
+def try_round(crate, edits):
     """Each edit with the goals that refuse it, and what is wrong where none does."""
     try:
-        said = checked(crate, number, edits)
+        said = checked(crate, edits)
     except (OSError, ValueError) as why:
         return [(it, [], str(why)) for it in edits.values()]
     found = refused(crate, said)
@@ -122,10 +122,13 @@ def try_all(crates, prefix, says_goals, tests):
     work = []
     for crate in crates:
         edits = map(Edit, sorted((ROOT / "crates" / crate / "wrong").glob(f"{prefix}*.edit")))
-        work += [(crate, number, it) for number, it in enumerate(rounds(edits))]
-    work.sort(key=lambda it: -len(it[2]))
+        work += [(crate, it) for it in rounds(edits)]
+    work.sort(key=lambda it: -len(it[1]))
+    missing = {it for crate, _ in work for it in tree.below(crate) if not tree.is_newer(tree.rlib(it), it)}
+    if missing:
+        raise tree.Unfit(f"{', '.join(sorted(missing))} must be built first: ./prove CRATE")
     with ThreadPoolExecutor(tree.lanes(MEMORY_EACH)) as pool:
-        for (crate, _, _), found in zip(work, pool.map(lambda it: try_round(*it), work)):
+        for (crate, _), found in zip(work, pool.map(lambda it: try_round(*it), work)):
             for edit, goals, why in found:
                 tests.holds(f"{crate}: {edit.name}", goals, why)
                 if says_goals:
