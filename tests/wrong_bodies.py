@@ -93,7 +93,7 @@ def refused(crate, said):
             name, verdict, why = of_function.groups()
             left = [goal for goals in UNANSWERED.findall(why) for goal in re.findall(r"`([^`]+)`", goals)]
             if left or verdict == "not proved":
-                name = name.removeprefix(f"{crate}::")
+                name = name[len(f"{crate}::"):]
                 found[name] = list(dict.fromkeys(answered.get(name, []) + left + noted))
             noted = []
     return found
