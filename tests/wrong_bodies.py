@@ -1,6 +1,6 @@
 #!/usr/bin/env python3
 """Tries the wrong bodies crates/NAME/wrong/*.edit: the prover must refuse each, by a goal of the function that it turns. Those of a crate are tried in
-one check of the functions that they turn and of what these call, since a proof rests on no other's body; two of one function take two checks.
+one check of the functions that they turn, without the proofs of the others, since a proof rests on no other's body; two of one function take two checks.
 
     tests/wrong_bodies.py                         all
     tests/wrong_bodies.py recovery_ids            a crate's
@@ -27,6 +27,9 @@ VERDICT = re.compile(r"fn (\S+): (proved|not proved|no proof|could not tell)(.*)
 UNANSWERED = re.compile(r"`search` did not prove ((?:`[^`]+`(?:, | and |,? )?)+)")
 NOTED = re.compile(r"note: src/\S+: it is not proved that .*\(`([^`]+)`\)")  # a goal of the function whose verdict comes next
 ANSWERED = re.compile(r"\./proofs/(\S+)/\w+\.antt:\d+:\d+: error: `([^`]+)`: (.*)")
+TYPE = re.compile(r"(?:pub(?:\(\w+\))? )?(?:struct|enum) (\w+)")
+METHODS = re.compile(r"impl(?:<.*?>)? (\w+)(?!.* for )")
+FUNCTION = re.compile(r"( {4})?(?:pub(?:\(\w+\))? )?(?:const )?fn (\w+)")
 GONE = re.compile(r"has no (field )?`|is not in scope|was not admitted")  # what an answer says of a name that is gone: no goal refuses that
 
 
@@ -65,12 +68,44 @@ def rounds(edits):
     return found
 
 
+def functions(src):
+    """The functions of a crate by the parts of their names, as a check prints them; none of traits, macros and tests."""
+    texts = {it.relative_to(src).with_suffix("").parts: it.read_text().splitlines() for it in sorted(src.rglob("*.rt"))}
+    texts = {() if at in (("lib",), ("main",)) else at: lines for at, lines in texts.items()}
+    types = {found[1]: at for at, lines in texts.items() for found in map(TYPE.match, lines) if found}
+    for at, lines in texts.items():
+        owner, before = None, ""
+        for line in lines:
+            if line.startswith(("impl", "trait ", "pub trait ")):
+                found = METHODS.match(line)
+                owner = found and found[1]
+            elif (found := FUNCTION.match(line)) and "#[test]" not in before:
+                if not found[1]:
+                    yield *at, found[2]
+                elif owner in types:
+                    yield *types[owner], owner, found[2]
+            before = line
+
+
+def set_aside(crate, folder, kept):
+    """Puts a name that is nowhere in place of the proofs of all functions but those that are kept."""
+    for parts in {*functions(folder / "src")} - {tuple(it.split("::")) for it in kept}:
+        room = folder / "proofs" / pathlib.Path(*parts)
+        room.mkdir(parents=True, exist_ok=True)
+        for it in "Answers.antt", "Invariants.antt":
+            (room / it).unlink(missing_ok=True)
+        use = f"use Rattle.{crate}.proofs.{'.'.join(parts)}.Statement.{{statement}}"
+        name = f"{parts[-1]}_spec"
+        (room / "Proof.antt").write_text(f"{use}\n\npub {name} : {{M : Type 1}} → statement M\n{name} = set_aside\n")
+
+
 def checked(crate, edits):
     """What a check says of a copy of the crate with these edits."""
     with tempfile.TemporaryDirectory() as folder:
         for room in "src", "specs", "proofs":
             if (ROOT / "crates" / crate / room).is_dir():
                 shutil.copytree(ROOT / "crates" / crate / room, pathlib.Path(folder, room))
+        set_aside(crate, pathlib.Path(folder), edits)
         for it in edits.values():
             it.turn(pathlib.Path(folder))
         only = [word for it in edits for word in ("--only", f"{crate}::{it}")]

@@ -83,7 +83,10 @@ where
     match Recovery::run(alloc, config, rng, at(0), events) {
         Ok((recovery, replies)) => match compare(replies.as_slice(), wanted.as_slice()) {
             Ok(()) => Ok(recovery),
-            Err(wrong) => Err(wrong),
+            Err(wrong) => {
+                drop(recovery);
+                Err(wrong)
+            }
         },
         Err(_) => Err(Wrong::NoMemory),
     }

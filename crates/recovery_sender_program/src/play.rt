@@ -130,7 +130,8 @@ where
         output,
         broken: None,
     };
-    let (_, answers) = run_over(sender, &mut calls, answers);
+    let (sender, answers) = run_over(sender, &mut calls, answers);
+    drop(sender);
     Ok(answers.broken.unwrap_or(calls.outcome))
 }
 

@@ -1,12 +1,14 @@
 //! A run of a sender over a list of calls.
 use quic_recovery::Event;
+use quic_recovery::congestion::NewRenoConfig;
 use quic_recovery_rows::config::{settings, words};
 use quic_recovery_rows::events::at;
 use quic_recovery_rows::tally::Tally;
+use rand_pcg::Pcg32;
 use recovery_base::below::SpaceId;
 use recovery_base::time::Duration;
 use recovery_calls::{Call, Frame, Reply, Said, run};
-use recovery_sender::{Ack, Side};
+use recovery_sender::{Ack, Sender, Side};
 use std::alloc::Global;
 
 /// A packet of 1-RTT keys goes out.
@@ -52,6 +54,15 @@ fn is_said(said: &[Said<Tally>], place: usize, wanted: Option<u64>, acked: usize
     }
 }
 
+/// What is said to each call, and that no timer is left.
+fn is_right(sender: &Sender<NewRenoConfig, Tally, Pcg32>, said: &[Said<Tally>]) -> bool {
+    said.len() == 4
+        && is_said(said, 1, None, 0)
+        && is_said(said, 2, Some(1_024_000_000), 0)
+        && is_said(said, 3, None, 1)
+        && sender.loss_detection_timer().is_none()
+}
+
 /// A server whose handshake is confirmed sends a packet: the timer is a probe timeout behind it, 333 ms, four times
 /// half of that, and the peer's 25 ms (RFC 9002, 6.2.1 and 6.2.2). It is acknowledged, and no timer is left.
 #[test]
@@ -65,11 +76,9 @@ fn calls_one_after_another(rt: HostRuntime) {
     let ran = run(alloc, Side::Server, settings(8), words(), at(0), calls);
     let is_right = match ran {
         Ok((sender, said)) => {
-            said.len() == 4
-                && is_said(&said, 1, None, 0)
-                && is_said(&said, 2, Some(1_024_000_000), 0)
-                && is_said(&said, 3, None, 1)
-                && sender.loss_detection_timer().is_none()
+            let is_right = is_right(&sender, &said);
+            drop((sender, said));
+            is_right
         }
         Err(_) => false,
     };

@@ -1,5 +1,5 @@
 //! What C holds of a stack.
-ghost use Rattle.std.specs.Prelude.{◌≡◌, ◌≤◌, Some, None, is_some, MatchOption};
+ghost use Rattle.std.specs.Prelude.{◌≡◌, ◌≤◌, Some, None, is_some, IfSome, MatchOption};
 ghost use Rattle.std.specs.List.{All};
 ghost use Rattle.recovery_stack.specs.Answers.{Answers, IsBad, IssuesOr};
 ghost use Rattle.recovery_stack.specs.Held.{Holds};
@@ -99,12 +99,12 @@ impl Handle {
         requires { self.old.slot.held ≡ None }
         ensures { Holds result stack self.new.slot.held }
     {
-        match Box::new(alloc, stack) {
-            Ok(stack) => {
+        match boxed(alloc, stack) {
+            Some(stack) => {
                 self.put(stack);
                 true
             }
-            Err(_) => false,
+            None => false,
         }
     }
 
@@ -129,4 +129,11 @@ impl Handle {
             Err(_) => Reply::no_memory(),
         }
     }
+}
+
+/// A value in a box; nothing where there is no memory.
+fn boxed<T: Drop>(alloc: Global, value: T) -> Option<Box<T>>
+    ensures { IfSome result (λ held. held.value ≡ value) }
+{
+    Box::new(alloc, value).ok()
 }

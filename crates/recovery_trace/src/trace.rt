@@ -94,7 +94,11 @@ where
     let config = config(factory, peer_at(FIRST_PORT), skips(choice.seed));
     let rng = Pcg32::seed_from_u64(choice.seed.unwrap_or(0));
     match LiveRecovery::new(alloc, config, rng, Instant::from_nanos(0)) {
-        Ok(mut live) => run(alloc, &mut live, choice, input, output, errors),
+        Ok(mut live) => {
+            let outcome = run(alloc, &mut live, choice, input, output, errors);
+            drop(live);
+            outcome
+        }
         Err(_) => Outcome::OutOfMemory,
     }
 }

@@ -15,7 +15,7 @@ returns-in-Ok g c =
       c.peer_at.result,
       c.peer_at.ensures,
       rw (is_config, c.from_nanos.ensures, is_random) at
-          (c.run.ensures _ _ _ c.in-Ok.ensures.came),
+          (c.run-outcome.ensures _ _ _ c.in-Ok.ensures.came),
     )
 
 pub returns-in-Err : goal.returns-in-Err
