@@ -18,7 +18,7 @@ ROOT = pathlib.Path(__file__).resolve().parent.parent
 # what has to be hit in each of the two ways in which the script of the library is played
 EVENTS = ["received", "send", "send with a queue", "send that forgets", "lost with a queue", "poll-mtu", "issue-ids",
           "queue-probe", "new-path that goes on"]
-LIBRARY_REQUESTS = 128  # more than the script makes
+LIBRARY_REQUESTS = 88  # more than the script makes
 
 # each line of the program's script, and whether its event is refused where memory is
 SCRIPT = [("poll-mtu 0", True), ("send data 0 100 1 - 5 6 7 8", False), ("send data 0 100 1 - 9", False), ("received data 0 0 1", True),

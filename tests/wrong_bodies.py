@@ -28,6 +28,7 @@ UNANSWERED = re.compile(r"`search` did not prove ((?:`[^`]+`(?:, | and |,? )?)+)
 NOTED = re.compile(r"note: src/\S+: it is not proved that .*\(`([^`]+)`\)")  # a goal of the function whose verdict comes next
 ANSWERED = re.compile(r"\./proofs/(\S+)/\w+\.antt:\d+:\d+: error: `([^`]+)`: (.*)")
 TYPE = re.compile(r"(?:pub(?:\(\w+\))? )?(?:struct|enum) (\w+)")
+BLOCK = re.compile(r"(?:pub(?:\(\w+\))? |unsafe )*(?:impl|trait)\b")
 METHODS = re.compile(r"impl(?:<.*?>)? (\w+)(?!.* for )")
 FUNCTION = re.compile(r"( {4})?(?:pub(?:\(\w+\))? )?(?:const )?fn (\w+)")
 GONE = re.compile(r"has no (field )?`|is not in scope|was not admitted")  # what an answer says of a name that is gone: no goal refuses that
@@ -76,7 +77,7 @@ def functions(src):
     for at, lines in texts.items():
         owner, before = None, ""
         for line in lines:
-            if line.startswith(("impl", "trait ", "pub trait ")):
+            if BLOCK.match(line):
                 found = METHODS.match(line)
                 owner = found and found[1]
             elif (found := FUNCTION.match(line)) and "#[test]" not in before:
