@@ -81,7 +81,7 @@ def library(jobs):
         elif status or output not in ("none of the script was refused memory\n", "nothing was refused memory\n"):
             raise Failed(f"{name}: status {status}\n{output}{errors}")
     if runs["b000"][1] != "nothing was refused memory\n":
-        raise Failed("the script asks for memory more often than is tried")
+        raise Failed("the script asks for memory more often than is tried: raise LIBRARY_REQUESTS, which costs a second and a half each")
     wanted = {(how, it) for how in ("one by one", "run") for it in EVENTS}
     wanted |= {("one by one", "a recovery"), ("run", "a run as a whole"), ("run", "a list of events")}
     missing = wanted - hit.keys()
