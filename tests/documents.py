@@ -30,7 +30,6 @@ OTHERS = {
     "EMBEDDING.md": "rand_chacha Retransmits max_data handshake_done reset_stream max_stream_data Meta::default",
     "PROGRAMS.md": "rttvar",
     "PROVING.md": "same-self- plant",
-    "RUST.md": "malloc",
 }
 TYPES = {"Box", "Pcg32"}  # declared elsewhere, and named with what they have
 

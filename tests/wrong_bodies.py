@@ -69,35 +69,58 @@ def rounds(edits):
     return found
 
 
-def functions(src):
-    """The functions of a crate by the parts of their names, as a check prints them; none of traits, macros and tests."""
-    texts = {it.relative_to(src).with_suffix("").parts: it.read_text().splitlines() for it in sorted(src.rglob("*.rt"))}
-    texts = {() if at in (("lib",), ("main",)) else at: lines for at, lines in texts.items()}
-    types = {found[1]: at for at, lines in texts.items() for found in map(TYPE.match, lines) if found}
-    for at, lines in texts.items():
-        owner, before = None, ""
-        for line in lines:
-            if BLOCK.match(line):
-                found = METHODS.match(line)
-                owner = found and found[1]
-            elif (found := FUNCTION.match(line)) and "#[test]" not in before:
-                if not found[1]:
-                    yield *at, found[2]
-                elif owner in types:
-                    yield *types[owner], owner, found[2]
-            before = line
+def texts(src):
+    """The lines of each file of a crate, with the parts of its module's name."""
+    for it in sorted(src.rglob("*.rt")):
+        at = it.relative_to(src).with_suffix("").parts
+        yield it, () if at in (("lib",), ("main",)) else at, it.read_text().splitlines()
+
+
+def functions(lines, at, types):
+    """The functions of a file: the parts of each one's name, as a check prints it, and where its signature begins; none of traits, macros and tests."""
+    owner, before = None, ""
+    for number, line in enumerate(lines):
+        if BLOCK.match(line):
+            found = METHODS.match(line)
+            owner = found and found[1]
+        elif (found := FUNCTION.match(line)) and "#[test]" not in before:
+            if not found[1]:
+                yield (*at, found[2]), number
+            elif owner in types:
+                yield (*types[owner], owner, found[2]), number
+        before = line
+
+
+def body(lines, start):
+    """Which lines stand in the braces of the function whose signature begins there; nothing where it ends on the line that they open on."""
+    room = re.match(" *", lines[start])[0]
+    ends = lambda at: (at == start or lines[at].startswith((f"{room}{{", f"{room})"))) and lines[at].endswith(("{", "}"))
+    opens = next(filter(ends, range(start, len(lines))))
+    return slice(opens + 1, lines.index(f"{room}}}", opens)) if lines[opens].endswith("{") else None
 
 
 def set_aside(crate, folder, kept):
-    """Puts a name that is nowhere in place of the proofs of all functions but those that are kept."""
-    for parts in {*functions(folder / "src")} - {tuple(it.split("::")) for it in kept}:
-        room = folder / "proofs" / pathlib.Path(*parts)
-        room.mkdir(parents=True, exist_ok=True)
-        for it in "Answers.antt", "Invariants.antt":
-            (room / it).unlink(missing_ok=True)
-        use = f"use Rattle.{crate}.proofs.{'.'.join(parts)}.Statement.{{statement}}"
-        name = f"{parts[-1]}_spec"
-        (room / "Proof.antt").write_text(f"{use}\n\npub {name} : {{M : Type 1}} → statement M\n{name} = set_aside\n")
+    """Leaves all functions but those that are kept no more than their contracts: a body that never ends, and for its proof a name that is nowhere."""
+    files = [*texts(folder / "src")]
+    types = {found[1]: at for _, at, lines in files for found in map(TYPE.match, lines) if found}
+    for file, at, lines in files:
+        for parts, start in [*functions(lines, at, types)][::-1]:
+            if "::".join(parts) not in kept:
+                if room := body(lines, start):
+                    lines[room] = ["loop {}"]
+                refuse(crate, folder, parts)
+        file.write_text("\n".join([*lines, ""]))
+
+
+def refuse(crate, folder, parts):
+    """Puts a name that is nowhere in place of a function's proof."""
+    room = folder / "proofs" / pathlib.Path(*parts)
+    room.mkdir(parents=True, exist_ok=True)
+    for it in "Answers.antt", "Invariants.antt":
+        (room / it).unlink(missing_ok=True)
+    use = f"use Rattle.{crate}.proofs.{'.'.join(parts)}.Statement.{{statement}}"
+    name = f"{parts[-1]}_spec"
+    (room / "Proof.antt").write_text(f"{use}\n\npub {name} : {{M : Type 1}} → statement M\n{name} = set_aside\n")
 
 
 def checked(crate, edits):
@@ -106,11 +129,11 @@ def checked(crate, edits):
         for room in "src", "specs", "proofs":
             if (ROOT / "crates" / crate / room).is_dir():
                 shutil.copytree(ROOT / "crates" / crate / room, pathlib.Path(folder, room))
-        set_aside(crate, pathlib.Path(folder), edits)
         for it in edits.values():
             it.turn(pathlib.Path(folder))
+        set_aside(crate, pathlib.Path(folder), edits)
         only = [word for it in edits for word in ("--only", f"{crate}::{it}")]
-        words = [tree.kit() / "bin" / "rattle", "check", *tree.words_of(crate), *only]
+        words = [tree.kit() / "bin" / "rattle", "check", "--short-goals", *tree.words_of(crate), *only]
         how = {"cwd": folder, "stdin": subprocess.DEVNULL, "stdout": subprocess.PIPE, "stderr": subprocess.STDOUT}
         return subprocess.run(words, text=True, errors="replace", **how).stdout
 

@@ -14,7 +14,7 @@ use std::alloc::Global;
 use std::marker::Model;
 
 /// Asks for some memory, which is given back.
-pub fn is_refused(alloc: Global) -> bool {
+fn is_refused(alloc: Global) -> bool {
     let mut asked = Vec::new(alloc);
     asked.push(0u64).is_err()
 }
