@@ -32,20 +32,13 @@ class Failed(Exception):
     """What is wrong."""
 
 
-def program_of(crate):
-    """The program that a crate was proved and built as."""
-    built = ROOT / "crates" / crate / "out" / crate
-    if not tree.is_newer(built, crate):
-        raise tree.Unfit(f"{crate} must be built first: ./prove {crate}")
-    return built
-
-
 def ran(crate, given, shim=None, number=0):
-    """Status, output and errors of a program, with the request of that number refused, from 1 on."""
-    how = {"stdout": subprocess.PIPE, "stderr": subprocess.PIPE, "text": True, "input": given}
+    """Status, output and errors of the program that a crate was built as, with the request of that number refused, from 1 on."""
+    program = ROOT / "crates" / crate / "out" / crate
+    if not tree.is_newer(program, crate):
+        raise tree.Unfit(f"{crate} must be built first: ./prove {crate}")
     refuses = {"LD_PRELOAD": str(shim), "REFUSED_REQUEST": str(number)} if shim else {}
-    call = subprocess.run([program_of(crate)], env={**os.environ, **refuses}, **how)
-    return call.returncode, call.stdout, call.stderr
+    return tree.ran([program], given, text=True, env={**os.environ, **refuses})
 
 
 def library(shim):
