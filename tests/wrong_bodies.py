@@ -1,6 +1,7 @@
 #!/usr/bin/env python3
 """Tries the wrong bodies crates/NAME/wrong/*.edit: the prover must refuse each, by a goal of the function that it turns. Those of a crate are tried in
-one check of the functions that they turn, without the proofs of the others, since a proof rests on no other's body; two of one function take two checks.
+one check of the functions that they turn. Each other function keeps its contract alone there, since a proof rests on no other function's body; two
+of one function take two checks.
 
     tests/wrong_bodies.py                         all
     tests/wrong_bodies.py recovery_ids            a crate's
