@@ -41,18 +41,27 @@ def ran(crate, given, shim=None, number=0):
     return tree.ran([program], given, text=True, env={**os.environ, **refuses})
 
 
+def in_turn(told):
+    """How often each was hit, by what each request came to that was refused, the first one first."""
+    made = sum(it is not None for it in told)
+    if told[-1] is not None:
+        raise Failed("a script asks for memory more often than is tried: raise REQUESTS")
+    if None in told[:made]:
+        raise Failed(f"request {told.index(None) + 1} was refused, and nothing tells of it")
+    return collections.Counter(told[:made])
+
+
 def library(shim):
     """The script of the library: each request is refused once."""
-    hit, last = collections.Counter(), None
-    for number in range(1, REQUESTS + 1):
-        status, last, errors = ran("quic_recovery_refused_memory", "", shim, number)
-        found = re.fullmatch(r"(one by one|run): (?:step \d+, (.*), was refused memory, and that left no trace|(.*) was refused memory)\n", last)
-        if status == 0 and found:
-            hit[found[1], found[2] or found[3]] += 1
-        elif status or last != "nothing was refused memory\n":
-            raise Failed(f"request {number}: status {status}\n{last}{errors}")
-    if last != "nothing was refused memory\n":
-        raise Failed("the script of the library asks for memory more often than is tried: raise REQUESTS")
+
+    def told(number):
+        status, output, errors = ran("quic_recovery_refused_memory", "", shim, number)
+        found = re.fullmatch(r"(one by one|run): (?:step \d+, (.*), was refused memory, and that left no trace|(.*) was refused memory)\n", output)
+        if status or not found and output != "nothing was refused memory\n":
+            raise Failed(f"request {number}: status {status}\n{output}{errors}")
+        return found and (found[1], found[2] or found[3])
+
+    hit = in_turn([told(number) for number in range(1, REQUESTS + 1)])
     wanted = {(how, it) for how in ("one by one", "run") for it in EVENTS}
     wanted |= {("one by one", "a recovery"), ("run", "a run as a whole"), ("run", "a list of events")}
     missing = wanted - hit.keys()
@@ -73,27 +82,23 @@ def program(shim):
     answers = ran("recovery_program", text_of(lines))[1].splitlines()
     if REFUSED in answers:
         raise Failed("memory was refused that was at hand")
-    wanted = {text_of(answers): "nothing"}
+    wanted = {(0, text_of(answers), ""): None, (1, "", "replay: out of memory\n"): "the run as a whole"}
     for at, (line, is_refused) in enumerate(SCRIPT):
         if is_refused:
             left = ran("recovery_program", text_of([*lines[:at], *lines[at + 1 :]]))[1].splitlines()
-            wanted[text_of([*left[:at], REFUSED, *left[at:]])] = line
-    hit, last = collections.Counter(), None
-    for number in range(1, REQUESTS + 1):
-        status, output, errors = ran("recovery_program", text_of(lines), shim, number)
-        if (status, output, errors) == (1, "", "replay: out of memory\n"):
-            last = "the run as a whole"
-        elif status == 0 and not errors and output in wanted:
-            last = wanted[output]
-        else:
-            raise Failed(f"request {number}: status {status}\n{output}{errors}")
-        hit[last] += 1
-    if last != "nothing":
-        raise Failed("the script of the program asks for memory more often than is tried: raise REQUESTS")
-    missing = {"the run as a whole", *(line for line, is_refused in SCRIPT if is_refused)} - hit.keys()
+            wanted[0, text_of([*left[:at], REFUSED, *left[at:]]), ""] = line
+
+    def told(number):
+        came = ran("recovery_program", text_of(lines), shim, number)
+        if came not in wanted:
+            raise Failed(f"request {number}: {came}")
+        return wanted[came]
+
+    hit = in_turn([told(number) for number in range(1, REQUESTS + 1)])
+    missing = {*wanted.values()} - {None} - hit.keys()
     if missing:
         raise Failed(f"no request was refused of: {missing}")
-    return sum(hit.values()) - hit["nothing"]
+    return sum(hit.values())
 
 
 def main():

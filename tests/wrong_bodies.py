@@ -93,11 +93,11 @@ def functions(lines, at, types):
 
 
 def body(lines, start):
-    """Which lines stand in the braces of the function whose signature begins there; nothing where it ends on the line that they open on."""
-    room = re.match(" *", lines[start])[0]
-    ends = lambda at: (at == start or lines[at].startswith((f"{room}{{", f"{room})"))) and lines[at].endswith(("{", "}"))
-    opens = next(filter(ends, range(start, len(lines))))
-    return slice(opens + 1, lines.index(f"{room}}}", opens)) if lines[opens].endswith("{") else None
+    """Which lines stand in the braces of the function whose signature begins there; nothing where these close on the line on which they open."""
+    indent = re.match(" *", lines[start])[0]
+    signs = lambda at: at == start or lines[at].startswith((f"{indent}{{", f"{indent})"))
+    opens = next(at for at in range(start, len(lines)) if signs(at) and lines[at].endswith(("{", "}")))
+    return slice(opens + 1, lines.index(f"{indent}}}", opens)) if lines[opens].endswith("{") else None
 
 
 def set_aside(crate, folder, kept):
@@ -107,8 +107,8 @@ def set_aside(crate, folder, kept):
     for file, at, lines in files:
         for parts, start in [*functions(lines, at, types)][::-1]:
             if "::".join(parts) not in kept:
-                if room := body(lines, start):
-                    lines[room] = ["loop {}"]
+                if inside := body(lines, start):
+                    lines[inside] = ["loop {}"]
                 refuse(crate, folder, parts)
         file.write_text("\n".join([*lines, ""]))
 
