@@ -13,7 +13,7 @@ import sys
 
 ROOT = pathlib.Path(__file__).resolve().parent.parent
 DRIVER = ROOT / "crates" / "quic_recovery" / "src" / "driver.rt"
-PAST = ROOT / "crates" / "recovery_history" / "specs" / "Past.antt"
+PAST = ROOT / "crates" / "recovery_history" / "specs" / "Reachability.antt"
 PROMISES = ROOT / "crates" / "recovery_history" / "specs" / "Promises"
 PAGE = ROOT / "docs" / "DEFINITIONS.md"
 BEGINS, ENDS = "<!-- this table is written by tests/definitions.py --write -->\n", "<!-- its end -->\n"
@@ -83,7 +83,7 @@ def promises():
     """The words of each field of Keeps, which are what run ensures at each event."""
     text = PAST.read_text()
     names = imports(text.split("\n"))
-    fields = re.search(r"^  pub record Keeps .*?\n\n", text, re.M | re.S).group(0)
+    fields = re.search(r"^  pub record StepGuarantees .*?\n\n", text, re.M | re.S).group(0)
     for name, said in re.findall(r"^    pub (\w+) : (.*(?:\n      .*)*)", fields, re.M):
         yield name, [names[word] for word in WORD.findall(said) if word in names]
 
@@ -96,7 +96,7 @@ def clauses():
     contract = text[text.index("    pub fn run("):]
     contract = contract[:contract.index("\n    {\n")]
     for clause in re.split(r"\n\s+ensures ", contract)[1:]:
-        yield clause.split()[0], [names[word] for word in WORD.findall(clause) if word in names and word != "Keeps"]
+        yield clause.split()[0], [names[word] for word in WORD.findall(clause) if word in names and word != "StepGuarantees"]
 
 
 def head(path):
@@ -135,7 +135,7 @@ def main():
     for clause, words in clauses():
         told[clause] = rests_on(words, every)
         print(f"definitions: {clause}: {size(told[clause])} lines")
-    live = rests_on([("Rattle.quic_recovery.specs.Live", "Extended")], every)
+    live = rests_on([("Rattle.quic_recovery.specs.Live", "LiveStepFromSome")], every)
     direct = {path.stem: len(path.read_text().split("\n")) - 1 for path in sorted(PROMISES.glob("*.antt"))}
     for name, lines in direct.items():
         if lines > LONGEST:

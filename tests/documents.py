@@ -120,7 +120,7 @@ def clauses_of_run():
     """The promises, which are the fields of Keeps, and the clauses that are of the run as a whole."""
     text = (ROOT / "crates" / "quic_recovery" / "src" / "driver.rt").read_text()
     contract = text[text.index("    pub fn run("):]
-    keeps = re.search(r"^  pub record Keeps .*?\n\n", (ROOT / "crates" / "recovery_history" / "specs" / "Past.antt").read_text(), re.M | re.S).group(0)
+    keeps = re.search(r"^  pub record StepGuarantees .*?\n\n", (ROOT / "crates" / "recovery_history" / "specs" / "Reachability.antt").read_text(), re.M | re.S).group(0)
     promises = re.findall(r"^    pub (\w+) :", keeps, re.M)
     return promises + re.findall(r"\n\s+ensures (\w+)", contract[:contract.index("\n    {\n")])
 

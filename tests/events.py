@@ -28,9 +28,9 @@ DO = ("what is the same for many events is a last line of a table (specs/Table.a
 # and what is to be written there
 WRITTEN = "it by tests/rust.py --write, once the library has its export"
 LISTS = [
-    ("crates/recovery_lines/specs/Lines.antt", r'codes "{line}"', "the form of its line, its place in forms_without_items, and its line of saying"),
-    ("crates/recovery_lines/src/forms.rt", r"ghost form = \{{ {export} \}}|\(reading {export}\)", "the LineForm of its line"),
-    ("crates/recovery_lines/src/lines.rt", r'is_name\(name, "{line}"\)', "an arm of put_behind, at the arm of its name's length"),
+    ("crates/recovery_script_syntax/specs/Lines.antt", r'codes "{line}"', "the form of its line, its place in forms_without_items, and its line of saying"),
+    ("crates/recovery_script_syntax/src/forms.rt", r"ghost form = \{{ {export} \}}|\(reading {export}\)", "the LineForm of its line"),
+    ("crates/recovery_script_syntax/src/lines.rt", r'is_name\(name, "{line}"\)', "an arm of put_behind, at the arm of its name's length"),
     ("crates/recovery_trace/src/faults.rt", r'"{line}{example}"', "an example of its line, a word for each field of its form (Lines.antt)"),
     ("crates/recovery_ffi/src/*.rt", r"fn recovery_ffi_{export}\(", "its export, with the clause `Answers`"),
     ("crates/recovery_embedding/src/*.rt crates/recovery_sender/src/sender/*.rt", r"\bEvent::{name}\b|\.recovery\(\)\.{export}\(",
@@ -66,7 +66,7 @@ LINES = {"AckFrequencyIn": "ack-frequency", "DiscardSpace": "discard"}  # whose 
 
 def fields():
     """The kinds of the fields of each line."""
-    found = FORM.findall((ROOT / "crates" / "recovery_lines" / "specs" / "Lines.antt").read_text())
+    found = FORM.findall((ROOT / "crates" / "recovery_script_syntax" / "specs" / "Lines.antt").read_text())
     return {name or other: re.findall(r"\ba_\w+", some + more) for name, some, other, more in found}
 
 

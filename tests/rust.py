@@ -26,7 +26,7 @@ from tree import ROOT
 
 CRATE = ROOT / "crates" / "recovery_ffi"
 STACK = ROOT / "crates" / "recovery_stack"  # what stands behind the exports
-KEPT = ROOT / "crates" / "recovery_kept"
+KEPT = ROOT / "crates" / "recovery_engine"
 LIBRARY = CRATE / "out" / "librecovery_ffi.a"
 RUST = ROOT / "rust" / "quic-recovery"
 DECLARED = {"library": CRATE / "src" / "layout.rt", "rust": RUST / "src" / "ffi.rs", "events": RUST / "src" / "event.rs",
@@ -55,7 +55,7 @@ BESIDE = {
     "Event::TakePending": [
         "",
         "Refused by `NoMemory` too, where this crate finds none for the answer: the items can then still be read by",
-        "[`Recovery::taken`](crate::Recovery::taken).",
+        "[`Recovery::last_items`](crate::Recovery::last_items).",
     ],
     "Answer::Retire": ["", "The token is read by [`Recovery::reset_token`](crate::Recovery::reset_token)."],
     "Answer::Flag": [

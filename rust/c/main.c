@@ -27,7 +27,7 @@ int main(void) {
     printf("lost again: refused %d, by number %u\n", again.kind == RECOVERY_ANSWER_REFUSED, again.refusal);
     if (recovery_ffi_take_pending(&recovery, RECOVERY_SPACE_DATA).kind == RECOVERY_ANSWER_QUEUE) {
         uint64_t taken[8];
-        size_t count = recovery_ffi_taken(&recovery, taken, 8);
+        size_t count = recovery_ffi_last_items(&recovery, taken, 8);
         printf("%zu items to be sent again: %" PRIu64 " and %" PRIu64 "\n", count, taken[0], taken[1]);
     }
     tell(&recovery);

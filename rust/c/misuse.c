@@ -25,7 +25,7 @@ static unsigned made(struct recovery_handle *handle, struct recovery_settings se
 
 // Spaces, timers, numbers, spans and ids that there are not.
 static void arguments(struct recovery_handle *recovery) {
-    const unsigned bad = RECOVERY_REFUSAL_BAD_ARGUMENT;
+    const unsigned bad = RECOVERY_ERROR_BAD_ARGUMENT;
     refused("a packet goes out in space 7", recovery_ffi_send(recovery, 7, 0, 100, true, false, 0, NULL, 0), bad);
     refused("a packet comes in space 3", recovery_ffi_received(recovery, 3, 0, 0, true), bad);
     refused("space 255 is discarded", recovery_ffi_discard(recovery, 255), bad);
@@ -72,15 +72,15 @@ static void settings(void) {
 
 // A handle that holds no recovery: none was made, or it was freed.
 static void nothing(struct recovery_handle *none) {
-    refused("an event", recovery_ffi_congestion(none, 2, 1, false, 1), RECOVERY_REFUSAL_NO_RECOVERY);
-    refused("a question", recovery_ffi_next_timeout(none), RECOVERY_REFUSAL_NO_RECOVERY);
+    refused("an event", recovery_ffi_congestion(none, 2, 1, false, 1), RECOVERY_ERROR_NO_RECOVERY);
+    refused("a question", recovery_ffi_next_timeout(none), RECOVERY_ERROR_NO_RECOVERY);
     uint64_t item = 7, out[1] = {9};
-    refused("items", recovery_ffi_send(none, 2, 0, 1, true, false, 0, &item, 1), RECOVERY_REFUSAL_NO_RECOVERY);
+    refused("items", recovery_ffi_send(none, 2, 0, 1, true, false, 0, &item, 1), RECOVERY_ERROR_NO_RECOVERY);
     expect("no path", !recovery_ffi_path(none, false).lives && !recovery_ffi_marks(none, false).lives);
     expect("no space", !recovery_ffi_space(none, RECOVERY_SPACE_DATA).lives);
     expect("no timer", !recovery_ffi_timer(none, 0).some && !recovery_ffi_next_id_timeout(none).some);
     expect("no ids", recovery_ffi_ids(none).issued == 0);
-    expect("nothing was taken", recovery_ffi_taken(none, out, 1) == 0 && out[0] == 9);
+    expect("nothing was taken", recovery_ffi_last_items(none, out, 1) == 0 && out[0] == 9);
     uint8_t token[16] = {1}, zeros[16] = {0};
     expect("no token", !recovery_ffi_is_token(none, zeros));
     recovery_ffi_token(none, token);
@@ -90,7 +90,7 @@ static void nothing(struct recovery_handle *none) {
 
 // Calls of a sender where a recovery stands alone, and events that a sender decides itself.
 static void senders(struct recovery_handle *alone) {
-    const unsigned none = RECOVERY_REFUSAL_NO_SENDER, bad = RECOVERY_REFUSAL_BAD_ARGUMENT;
+    const unsigned none = RECOVERY_ERROR_NO_SENDER, bad = RECOVERY_ERROR_BAD_ARGUMENT;
     const struct recovery_ackframe frame = {0}, slow = {.delay_nanos = 1000000000};
     const struct recovery_ackrange range = {.first = 0, .last = 0};
     refused("a datagram", recovery_ffi_sender_transmit(alone, 0, 1200, 2, true), none);
@@ -101,15 +101,15 @@ static void senders(struct recovery_handle *alone) {
     refused("keys", recovery_ffi_sender_handshake_keys(alone), none);
     refused("a delay", recovery_ffi_sender_peer_delay(alone, 1, 0), none);
     expect("no probe timeout", recovery_ffi_pto_count(alone) == 0);
-    expect("nothing was told", recovery_ffi_told(alone).acked == 0 && recovery_ffi_told_numbers(alone, true, NULL, 0) == 0);
+    expect("nothing was told", recovery_ffi_last_outcome(alone).acked == 0 && recovery_ffi_told_numbers(alone, true, NULL, 0) == 0);
     struct recovery_handle sender = {0};
     struct recovery_settings settings = recovery_ffi_default_settings();
     expect("a sender is made", recovery_ffi_sender_new(&sender, true, &settings, &remote, id, 8, 0) == RECOVERY_NEW_MADE);
     expect("none is made over it", recovery_ffi_sender_new(&sender, true, &settings, &remote, id, 8, 0) == RECOVERY_NEW_HELD);
-    refused("an event around it", recovery_ffi_lost(&sender, 2, 0), RECOVERY_REFUSAL_DECIDED);
-    refused("its timer", recovery_ffi_set_timer(&sender, RECOVERY_TIMER_LOSS_DETECTION, 5), RECOVERY_REFUSAL_DECIDED);
-    refused("a number that was not sent", recovery_ffi_sender_ack(&sender, 2, 0, &frame, &range, 1), RECOVERY_REFUSAL_UNSENT);
-    refused("no range", recovery_ffi_sender_ack(&sender, 2, 0, &frame, NULL, 0), RECOVERY_REFUSAL_BAD_RANGE);
+    refused("an event around it", recovery_ffi_lost(&sender, 2, 0), RECOVERY_ERROR_DECIDED);
+    refused("its timer", recovery_ffi_set_timer(&sender, RECOVERY_TIMER_LOSS_DETECTION, 5), RECOVERY_ERROR_DECIDED);
+    refused("a number that was not sent", recovery_ffi_sender_ack(&sender, 2, 0, &frame, &range, 1), RECOVERY_ERROR_UNSENT);
+    refused("no range", recovery_ffi_sender_ack(&sender, 2, 0, &frame, NULL, 0), RECOVERY_ERROR_BAD_RANGE);
     refused("a delay of 10^9 nanoseconds", recovery_ffi_sender_ack(&sender, 2, 0, &slow, &range, 1), bad);
     refused("such a delay of the peer", recovery_ffi_sender_peer_delay(&sender, 0, 1000000000), bad);
     refused("an ACK in space 3", recovery_ffi_sender_ack(&sender, 3, 0, &frame, &range, 1), bad);
@@ -118,7 +118,7 @@ static void senders(struct recovery_handle *alone) {
     expect("no marks around it", !recovery_ffi_set_marks(&sender, false, &marks));
     expect("the marks stay", recovery_ffi_marks(&sender, false).sending_ecn);
     recovery_ffi_drop(&sender);
-    refused("a datagram of none", recovery_ffi_sender_transmit(&sender, 0, 1200, 2, true), RECOVERY_REFUSAL_NO_RECOVERY);
+    refused("a datagram of none", recovery_ffi_sender_transmit(&sender, 0, 1200, 2, true), RECOVERY_ERROR_NO_RECOVERY);
 }
 
 int main(void) {

@@ -69,57 +69,57 @@ enum recovery_answer {
 // Why it is refused: `refusal` of a reply.
 enum recovery_refusal {
     // A growth was refused by the allocator.
-    RECOVERY_REFUSAL_NO_MEMORY = 1,
+    RECOVERY_ERROR_NO_MEMORY = 1,
     // A packet number is 2^62 or more (RFC 9000, 12.3).
-    RECOVERY_REFUSAL_NUMBER_TOO_LARGE = 2,
+    RECOVERY_ERROR_NUMBER_TOO_LARGE = 2,
     // The space has given out all packet numbers below 2^62 (RFC 9000, 12.3).
-    RECOVERY_REFUSAL_NUMBERS_EXHAUSTED = 3,
+    RECOVERY_ERROR_NUMBERS_EXHAUSTED = 3,
     // The packet is not tracked: it was not sent, or it was acknowledged, lost or forgotten.
-    RECOVERY_REFUSAL_NOT_TRACKED = 4,
+    RECOVERY_ERROR_NOT_TRACKED = 4,
     // The keys of the space were dropped (RFC 9001, 4.9).
-    RECOVERY_REFUSAL_SPACE_DISCARDED = 5,
+    RECOVERY_ERROR_SPACE_DISCARDED = 5,
     // There is no such path.
-    RECOVERY_REFUSAL_NO_SUCH_PATH = 6,
+    RECOVERY_ERROR_NO_SUCH_PATH = 6,
     // The MTU of the current path is searched for (RFC 8899, 5).
-    RECOVERY_REFUSAL_SEARCHING = 7,
+    RECOVERY_ERROR_SEARCHING = 7,
     // A size of no bytes is none that a path carries.
-    RECOVERY_REFUSAL_ZERO_MTU = 8,
+    RECOVERY_ERROR_ZERO_MTU = 8,
     // A counter would pass the end of its type.
-    RECOVERY_REFUSAL_OVERFLOW = 9,
+    RECOVERY_ERROR_OVERFLOW = 9,
     // The number of the peer's id lies below the active one (RFC 9000, 19.15).
-    RECOVERY_REFUSAL_RETIRED = 10,
+    RECOVERY_ERROR_RETIRED = 10,
     // The number of the peer's id lies past the ids that are held (RFC 9000, 5.1.1).
-    RECOVERY_REFUSAL_EXCEEDS_LIMIT = 11,
+    RECOVERY_ERROR_EXCEEDS_LIMIT = 11,
     // The frame retires numbers past its own (RFC 9000, 19.15).
-    RECOVERY_REFUSAL_BAD_RETIRE_PRIOR_TO = 12,
+    RECOVERY_ERROR_BAD_RETIRE_PRIOR_TO = 12,
     // This end uses ids of no bytes, of which none can be retired (RFC 9000, 19.16).
-    RECOVERY_REFUSAL_CIDS_NOT_IN_USE = 13,
+    RECOVERY_ERROR_CIDS_NOT_IN_USE = 13,
     // The number was not issued (RFC 9000, 19.16).
-    RECOVERY_REFUSAL_UNISSUED_CID = 14,
+    RECOVERY_ERROR_UNISSUED_CID = 14,
     // An ACK_FREQUENCY frame asks for a delay below 1 ms (draft-ietf-quic-ack-frequency-04, section 4). The number of
     // the frame is kept.
-    RECOVERY_REFUSAL_DELAY_TOO_SMALL = 15,
+    RECOVERY_ERROR_DELAY_TOO_SMALL = 15,
     // A number was acknowledged that was skipped, and never sent (RFC 9000, 21.4).
-    RECOVERY_REFUSAL_SKIPPED_ACKED = 16,
+    RECOVERY_ERROR_SKIPPED_ACKED = 16,
     // The peer's counts of ECN cannot be right (RFC 9000, 13.4.2.1), in these words.
-    RECOVERY_REFUSAL_ECN = 17,
+    RECOVERY_ERROR_ECN = 17,
     // The initial id is no longer the active one (RFC 9000, 7.2).
-    RECOVERY_REFUSAL_NOT_INITIAL_ID = 18,
+    RECOVERY_ERROR_NOT_INITIAL_ID = 18,
     // Numbers do not go on where they should, or a range ends before it begins.
-    RECOVERY_REFUSAL_BAD_RANGE = 19,
+    RECOVERY_ERROR_BAD_RANGE = 19,
     // The number of the peer's id is held with another id, or with a token that is not the frame's (RFC 9000, 19.15).
-    RECOVERY_REFUSAL_CONFLICT = 20,
+    RECOVERY_ERROR_CONFLICT = 20,
     // A number was acknowledged that was never sent (RFC 9000, 13.1): of a sender alone.
-    RECOVERY_REFUSAL_UNSENT = 21,
+    RECOVERY_ERROR_UNSENT = 21,
     // The event is one that the sender decides itself: it is not handed in around it.
-    RECOVERY_REFUSAL_DECIDED = 252,
+    RECOVERY_ERROR_DECIDED = 252,
     // The handle holds a recovery that stands alone, without a sender.
-    RECOVERY_REFUSAL_NO_SENDER = 253,
+    RECOVERY_ERROR_NO_SENDER = 253,
     // The handle holds no recovery.
-    RECOVERY_REFUSAL_NO_RECOVERY = 254,
+    RECOVERY_ERROR_NO_RECOVERY = 254,
     // An argument lies out of its range: a space or a timer that there is not, an id of more than 20 bytes, a number of a
     // frame of 2^62 or more, nanoseconds of a second or more.
-    RECOVERY_REFUSAL_BAD_ARGUMENT = 255,
+    RECOVERY_ERROR_BAD_ARGUMENT = 255,
 };
 
 // What is wrong with the peer's counts of ECN (RFC 9000, 13.4.2.1): `first` of a reply that is refused by ECN.
@@ -671,7 +671,7 @@ struct recovery_reply recovery_ffi_discard(struct recovery_handle *handle, uint8
 
 // How many items the queue that was taken last has; they are written where there is room for all. None, before one was
 // taken.
-size_t recovery_ffi_taken(struct recovery_handle *handle, uint64_t *out, size_t out_len);
+size_t recovery_ffi_last_items(struct recovery_handle *handle, uint64_t *out, size_t out_len);
 
 // What is in flight on a path? The event `InFlight`.
 struct recovery_reply recovery_ffi_in_flight(struct recovery_handle *handle, bool previous);
@@ -718,7 +718,7 @@ struct recovery_reply recovery_ffi_check_ack(struct recovery_handle *handle, uin
 // A probe packet is to be sent (RFC 9002, 6.2.4): the event `QueueProbe`.
 struct recovery_reply recovery_ffi_queue_probe(struct recovery_handle *handle, uint8_t space, bool immediate_ack);
 
-// What waits to be sent again is handed out, to be read by `recovery_ffi_taken`: the event `TakePending`.
+// What waits to be sent again is handed out, to be read by `recovery_ffi_last_items`: the event `TakePending`.
 struct recovery_reply recovery_ffi_take_pending(struct recovery_handle *handle, uint8_t space);
 
 // What is kept for a path.
@@ -753,30 +753,30 @@ uint8_t recovery_ffi_sender_new(struct recovery_handle *handle, bool client, con
 // `RECOVERY_ANSWER_BLOCKED` by the limit against amplification (RFC 9000, 8.1); `RECOVERY_ANSWER_FULL` where the window has no room (RFC
 // 9002, 7); `RECOVERY_ANSWER_DELAYED` by the pacer, until `first` (RFC 9002, 7.7). Where nothing in it counts in flight, or a
 // probe is due in the space, the limit alone is asked. The packets in it are told by `recovery_ffi_send` before the
-// next datagram is asked for. Refused by `RECOVERY_REFUSAL_SPACE_DISCARDED`, then by `RECOVERY_REFUSAL_OVERFLOW`.
+// next datagram is asked for. Refused by `RECOVERY_ERROR_SPACE_DISCARDED`, then by `RECOVERY_ERROR_OVERFLOW`.
 struct recovery_reply recovery_ffi_sender_transmit(struct recovery_handle *handle, uint64_t now, uint16_t bytes, uint8_t space, bool in_flight);
 
 // An ACK frame came in (RFC 9002, A.7), with its ranges, the highest first, as on the wire: `RECOVERY_ANSWER_ACKNOWLEDGED`,
 // with how many numbers it newly acknowledges in `first`, how many are found lost in `second`, and in `flag` whether
-// `recovery_ffi_told` says more than that; `recovery_ffi_told_numbers` says which they are. Refused, and nothing
-// changes, by `RECOVERY_REFUSAL_SPACE_DISCARDED`, by `RECOVERY_REFUSAL_BAD_RANGE` where there is no range, one ends before it begins, or
-// two have no number between them (RFC 9000, 19.3.1), by `RECOVERY_REFUSAL_UNSENT`, by `RECOVERY_REFUSAL_SKIPPED_ACKED` (RFC 9000,
-// 21.4), or by `RECOVERY_REFUSAL_NO_MEMORY`.
+// `recovery_ffi_last_outcome` says more than that; `recovery_ffi_told_numbers` says which they are. Refused, and nothing
+// changes, by `RECOVERY_ERROR_SPACE_DISCARDED`, by `RECOVERY_ERROR_BAD_RANGE` where there is no range, one ends before it begins, or
+// two have no number between them (RFC 9000, 19.3.1), by `RECOVERY_ERROR_UNSENT`, by `RECOVERY_ERROR_SKIPPED_ACKED` (RFC 9000,
+// 21.4), or by `RECOVERY_ERROR_NO_MEMORY`.
 struct recovery_reply recovery_ffi_sender_ack(struct recovery_handle *handle, uint8_t space, uint64_t now, const struct recovery_ackframe *frame, const struct recovery_ackrange *ranges, size_t ranges_len);
 
 // The timer for losses may be due (RFC 9002, A.9): `RECOVERY_ANSWER_NOTHING` where it is not; `RECOVERY_ANSWER_LOSSES` where packets
-// were looked for that are lost, which `recovery_ffi_told` and `recovery_ffi_told_numbers` say; or `RECOVERY_ANSWER_PROBES`,
+// were looked for that are lost, which `recovery_ffi_last_outcome` and `recovery_ffi_told_numbers` say; or `RECOVERY_ANSWER_PROBES`,
 // with the space in `first` and in `second` how many are to be sent, 1 or 2. `immediate_ack` asks for an IMMEDIATE_ACK
-// frame in a probe. Refused by `RECOVERY_REFUSAL_NO_MEMORY` where the first probe finds none; then nothing changed.
+// frame in a probe. Refused by `RECOVERY_ERROR_NO_MEMORY` where the first probe finds none; then nothing changed.
 struct recovery_reply recovery_ffi_sender_timeout(struct recovery_handle *handle, uint64_t now, bool immediate_ack);
 
 // The keys of a space are dropped, and with them all that it tracks; probe timeouts are counted anew (RFC 9002, 6.2.2,
-// 6.4 and A.11): `RECOVERY_ANSWER_DONE`. Refused by `RECOVERY_REFUSAL_SPACE_DISCARDED`.
+// 6.4 and A.11): `RECOVERY_ANSWER_DONE`. Refused by `RECOVERY_ERROR_SPACE_DISCARDED`.
 struct recovery_reply recovery_ffi_sender_discard(struct recovery_handle *handle, uint8_t space, uint64_t now);
 
 // What a space tracks was sent in vain, behind a Retry or where 0-RTT is refused (RFC 9002, 6.3 and 6.4): each packet
 // is lost, which is no congestion, and probe timeouts are counted anew: `RECOVERY_ANSWER_LOSSES`, and
-// `recovery_ffi_told_numbers` says which. Refused by `RECOVERY_REFUSAL_SPACE_DISCARDED`; by `RECOVERY_REFUSAL_NO_MEMORY`, where the same
+// `recovery_ffi_told_numbers` says which. Refused by `RECOVERY_ERROR_SPACE_DISCARDED`; by `RECOVERY_ERROR_NO_MEMORY`, where the same
 // call goes on with what is tracked still.
 struct recovery_reply recovery_ffi_sender_abandon(struct recovery_handle *handle, uint8_t space, uint64_t now);
 
@@ -802,7 +802,7 @@ uint32_t recovery_ffi_pto_count(struct recovery_handle *handle);
 
 // What was told last: by an ACK frame that was not refused, by a timeout that looked for losses, or by an abandoned
 // space. Nothing before it, and where there is no sender.
-struct recovery_toldview recovery_ffi_told(struct recovery_handle *handle);
+struct recovery_toldview recovery_ffi_last_outcome(struct recovery_handle *handle);
 
 // How many numbers were newly acknowledged as something was told last, or, with `lost`, how many were found lost,
 // without that of the MTU's probe; they are written, rising, where there is room for all.

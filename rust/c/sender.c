@@ -39,7 +39,7 @@ static void timer(struct recovery_handle *sender) {
 static void tell(struct recovery_handle *sender, struct recovery_reply reply) {
     printf("%u:", reply.kind);
     if (reply.kind == RECOVERY_ANSWER_ACKNOWLEDGED || reply.kind == RECOVERY_ANSWER_LOSSES) {
-        struct recovery_toldview told = recovery_ffi_told(sender);
+        struct recovery_toldview told = recovery_ffi_last_outcome(sender);
         numbers(sender, "acked", false);
         packets(sender);
         numbers(sender, "lost", true);
@@ -71,7 +71,7 @@ int main(void) {
     tell(&sender, recovery_ffi_sender_timeout(&sender, 114500000, false));
     if (recovery_ffi_take_pending(&sender, space).kind == RECOVERY_ANSWER_QUEUE) {
         uint64_t taken[8];
-        size_t count = recovery_ffi_taken(&sender, taken, 8);
+        size_t count = recovery_ffi_last_items(&sender, taken, 8);
         printf("%zu items to be sent again: %" PRIu64 ", %" PRIu64 " and %" PRIu64 "\n", count, taken[0], taken[1], taken[2]);
     }
     uint64_t item = 5;

@@ -3,33 +3,34 @@ use Rattle.std.specs.Prelude.{List}
 use Rattle.quic_recovery.specs.declared.driver.Recovery.{Recovery}
 use Rattle.recovery_events.specs.declared.event.Event.{Event}
 use Rattle.recovery_history.specs.History.{Beginning, Reply, history, Throughout}
-use Rattle.recovery_history.specs.Parts.{Parts}
+use Rattle.recovery_history.specs.RecoveryState.{RecoveryState}
 use Rattle.recovery_paths.specs.PathLog.{paths_marks}
-use Rattle.recovery_history.specs.Above.{AreFresh, HasNoLossTime}
-use Rattle.recovery_history.specs.Past.{Reached, Keeps}
-use Rattle.quic_recovery.specs.Live.{Extends}
+use Rattle.recovery_history.specs.CallerState.{AreMarksFresh, HasNoLossTime}
+use Rattle.recovery_history.specs.Reachability.{ReachedBy, StepGuarantees}
+use Rattle.quic_recovery.specs.Live.{LiveStep}
 use Rattle.quic_recovery.specs.State.{Transition}
 
 -- an event was done, and its one reply was put into the sink
-pub record PassesOn {F Q R C K S M P T : Type 0} {f : _} {c : _} {q : _} {m : _} {r : _}
+pub record StepIntoSink {F Q R C K S M P T : Type 0} {f : _} {c : _} {q : _} {m : _} {r : _}
     (takes : T → Reply Q → T → Type 0) (old : Recovery F Q R C K S M P f c q m r) (before : T) (event : Event Q S M P)
     (new : Recovery F Q R C K S M P f c q m r) (behind : T) : Type 0 where
   pub reply : Reply Q
   pub changes : Transition event old reply new
-  pub extends : Extends old event reply new
+  pub extends : LiveStep old event reply new
   pub taken : takes before reply behind
 
 -- these events were given and these replies taken, one each: all that is promised of an event and its reply holds at
 -- each, and the recovery came here by them
-pub record RunsFrom {F K Q S M P : Type 0} (beginning : Beginning F K Q S M P)
-    (AreGiven : List (Event Q S M P) → Type 0) (AreTaken : List (Reply Q) → Type 0) (recovery : Parts K P M) : Type 0
+pub record RunOverSource {F K Q S M P : Type 0} (beginning : Beginning F K Q S M P)
+    (AreGiven : List (Event Q S M P) → Type 0) (AreTaken : List (Reply Q) → Type 0)
+        (recovery : RecoveryState K P M) : Type 0
   where
     pub events : List (Event Q S M P)
     pub replies : List (Reply Q)
     pub given : AreGiven events
     pub taken : AreTaken replies
-    pub keeps : Throughout (Keeps beginning) events replies
-    pub came : Reached beginning (history events replies) recovery
+    pub keeps : Throughout (StepGuarantees beginning) events replies
+    pub came : ReachedBy beginning (history events replies) recovery
     -- what the layer above keeps with each path and each space is as it was made
-    pub marks : AreFresh (paths_marks recovery.paths)
+    pub marks : AreMarksFresh (paths_marks recovery.paths)
     pub loss_times : HasNoLossTime recovery.spaces

@@ -1,13 +1,13 @@
 //! The recovery of a connection that lives: its events come one at a time, and each finds the past behind it.
 ghost use Rattle.std.specs.Prelude.{◌≡◌, ◌<◌, ◌≤◌, ◌^◌, IfOk, OnErr, []};
-ghost use Rattle.recovery_skips.specs.Skips.{IsSkips};
+ghost use Rattle.recovery_packet_numbers.specs.Skips.{IsSkips};
 ghost use Rattle.recovery_paths.specs.PathLog.{paths_marks};
-ghost use Rattle.recovery_history.specs.Above.{AreFresh, HasNoLossTime, marks_at, with_marks_at, with_loss_time_at};
-ghost use Rattle.recovery_history.specs.Past.{Reached};
-ghost use Rattle.quic_recovery.specs.Live.{Extends, IsReachable, KeepsPasts, Extended};
-ghost use Rattle.quic_recovery.specs.State.{parts_of, begun, Transition};
-ghost use Rattle.recovery_history.specs.Changes.{known_to};
-ghost use Rattle.recovery_history.specs.Left.{InFlightLeft};
+ghost use Rattle.recovery_history.specs.CallerState.{AreMarksFresh, HasNoLossTime, marks_at, with_marks_at, with_loss_time_at};
+ghost use Rattle.recovery_history.specs.Reachability.{ReachedBy};
+ghost use Rattle.quic_recovery.specs.Live.{LiveStep, IsReachable, PreservesPasts, LiveStepFromSome};
+ghost use Rattle.quic_recovery.specs.State.{state_of, begun, Transition};
+ghost use Rattle.recovery_history.specs.Transitions.{inputs_of};
+ghost use Rattle.recovery_history.specs.StateAfter.{InFlightAfter};
 
 use crate::driver::Recovery;
 use rand_core::Rng;
@@ -50,11 +50,11 @@ where
     ) -> Result<Self, NoMemory>
         requires issued { config.issued ≤ 2 ^ 62 }
         requires skips { IsSkips config.skips }
-        ensures came { IfOk result (λ live. Reached (begun live.recovery config now rng)
-            [] (parts_of live.recovery)) }
+        ensures came { IfOk result (λ live. ReachedBy (begun live.recovery config now rng)
+            [] (state_of live.recovery)) }
         ensures marks { IfOk result (λ live.
-            AreFresh (paths_marks (parts_of live.recovery).paths)) }
-        ensures loss_times { IfOk result (λ live. HasNoLossTime (parts_of live.recovery).spaces) }
+            AreMarksFresh (paths_marks (state_of live.recovery).paths)) }
+        ensures loss_times { IfOk result (λ live. HasNoLossTime (state_of live.recovery).spaces) }
         ensures memory { OnErr result (0 < config.issued) }
     {
         let recovery = Recovery::new(alloc, config, rng, now)?;
@@ -77,24 +77,24 @@ where
         ensures changes { Transition event self.old.recovery result self.new.recovery }
 
         // Then the bytes in flight on each path are sums over the packets tracked (RFC 9002, B.2).
-        ensures in_flight { let new = parts_of self.new.recovery in
-            InFlightLeft (known_to new) new.paths }
+        ensures in_flight { let new = state_of self.new.recovery in
+            InFlightAfter (inputs_of new) new.paths }
 
         // Whatever the beginning and the past by which the recovery came here, it goes on from them,
-        ensures extends { Extends self.old.recovery event result self.new.recovery }
+        ensures extends { LiveStep self.old.recovery event result self.new.recovery }
 
         // and there are such.
-        ensures extended { ∥ Extended self.old.recovery event result self.new.recovery ∥₁ }
+        ensures extended { ∥ LiveStepFromSome self.old.recovery event result self.new.recovery ∥₁ }
     {
         self.recovery.apply(event)
     }
 
     /// The layer above keeps this with a path from now on, as [`Recovery::set_marks`] says. No event is told of it.
     pub fn set_marks(&mut self, path: PathName, marks: PathMarks) -> Option<PathMarks>
-        ensures before { result ≡ marks_at path (parts_of self.old.recovery) }
-        ensures after { parts_of self.new.recovery
-            ≡ with_marks_at path marks (parts_of self.old.recovery) }
-        ensures came { KeepsPasts self.old.recovery self.new.recovery }
+        ensures before { result ≡ marks_at path (state_of self.old.recovery) }
+        ensures after { state_of self.new.recovery
+            ≡ with_marks_at path marks (state_of self.old.recovery) }
+        ensures came { PreservesPasts self.old.recovery self.new.recovery }
     {
         self.recovery.set_marks(path, marks)
     }
@@ -102,9 +102,9 @@ where
     /// The layer above keeps this with a space from now on, as [`Recovery::set_loss_time`] says. No event is told of
     /// it.
     pub fn set_loss_time(&mut self, space: SpaceId, time: Option<Instant>)
-        ensures after { parts_of self.new.recovery
-            ≡ with_loss_time_at space time (parts_of self.old.recovery) }
-        ensures came { KeepsPasts self.old.recovery self.new.recovery }
+        ensures after { state_of self.new.recovery
+            ≡ with_loss_time_at space time (state_of self.old.recovery) }
+        ensures came { PreservesPasts self.old.recovery self.new.recovery }
     {
         self.recovery.set_loss_time(space, time);
     }

@@ -1,9 +1,9 @@
 //! A run over events that come, with replies that go.
 ghost use Rattle.std.specs.Prelude.{◌≤◌, ◌<◌, ◌^◌, IfOk, OnErr};
-ghost use Rattle.recovery_skips.specs.Skips.{IsSkips};
-ghost use Rattle.quic_recovery.specs.State.{begun, parts_of};
+ghost use Rattle.recovery_packet_numbers.specs.Skips.{IsSkips};
+ghost use Rattle.quic_recovery.specs.State.{begun, state_of};
 ghost use Rattle.recovery_events.specs.Feeding.{TakesAll};
-ghost use Rattle.quic_recovery.specs.Over.{PassesOn, RunsFrom};
+ghost use Rattle.quic_recovery.specs.Over.{StepIntoSink, RunOverSource};
 
 use crate::driver::Recovery;
 use rand_core::Rng;
@@ -33,7 +33,8 @@ where
     R: Rng + Drop,
     S: Sink<Result<Answer<Q>, Refusal>>,
 {
-    ghost takes = { λ old event new. PassesOn S.takes old.recovery old.replies event new.recovery new.replies };
+    ghost takes = { λ old event new. StepIntoSink S.takes old.recovery old.replies event
+        new.recovery new.replies };
 
     #[inline(always)]
     fn put(&mut self, event: Event<Q>) -> bool {
@@ -71,10 +72,10 @@ where
         requires skips { IsSkips config.skips }
 
         // The events that were given and the replies that were taken are those of a run, and each promise holds at each
-        // event (`Keeps`).
-        ensures runs { IfOk result (λ run. RunsFrom (begun run.0 config start rng)
+        // event (`StepGuarantees`).
+        ensures runs { IfOk result (λ run. RunOverSource (begun run.0 config start rng)
             (λ all. E.gives events.old all events.new) (λ all. TakesAll S.takes replies all run.1)
-            (parts_of run.0)) }
+            (state_of run.0)) }
         ensures memory { OnErr result (0 < config.issued) }
     {
         let recovery = Recovery::new(alloc, config, rng, start)?;

@@ -1,6 +1,6 @@
 //! The script is played, where one request for memory may be refused.
 ghost use Rattle.std.specs.Prelude.{◌≡◌};
-ghost use Rattle.recovery_skips.specs.Skips.{IsSkips};
+ghost use Rattle.recovery_packet_numbers.specs.Skips.{IsSkips};
 
 use crate::readings::{Readings, readings_of};
 use crate::scarce::ScarceConfig;
@@ -11,7 +11,7 @@ use quic_recovery::time::Instant;
 use quic_recovery::{Recovery, RecoveryConfig};
 use quic_recovery_rows::config::{settings_with, words};
 use recovery_parts_tests::halving::HalvingConfig;
-use recovery_skips::Skips;
+use recovery_packet_numbers::Skips;
 use std::alloc::Global;
 use thiserror::Error;
 

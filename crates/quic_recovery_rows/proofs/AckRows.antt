@@ -2,21 +2,21 @@
 -- Nothing rests on them.
 use Rattle.std.proofs.Common.{◌≡◌, ℕ, zero, suc, ◌+◌, ◌<◌, ◌≤◌, ◌⊎◌, Bool, true, false, List, [], ◌∷◌, Option, None, Some, Ok, inl, inr, refl, arith}
 use Rattle.std.proofs.lemmas.Bool.Decides.{nat_tests}
-use Rattle.recovery_acks.specs.Acks.{AsksAtOnce, fresh, most_ranges}
+use Rattle.recovery_acks.specs.Acks.{RequiresImmediateAck, fresh, most_ranges}
 use Rattle.std.specs.Option.{unwrap_or}
 use Rattle.recovery_acks.specs.Runs.{Ascend, AtMost, EndsRun, LiesBelow}
 use Rattle.recovery_base.specs.declared.below.SpaceId.TheVariants.{Initial, Handshake, Data}
-use Rattle.recovery_base.specs.Numbers.{With}
-use Rattle.recovery_ledger.specs.Acks.{IsRequired}
+use Rattle.recovery_base.specs.Numbers.{InsertNumber}
+use Rattle.recovery_spaces.specs.Acks.{IsRequired}
 use Rattle.recovery_events.specs.declared.event.Event.{Event}
 use Rattle.recovery_events.specs.declared.event.Event.TheVariants as event
 use Rattle.recovery_events.specs.declared.event.Answer.TheVariants as answer
-use Rattle.recovery_history.specs.Told.{logs_of}
+use Rattle.recovery_history.specs.RepliesAfter.{logs_of}
 use Rattle.recovery_history.specs.History.{Beginning, History, Reply}
-use Rattle.recovery_history.specs.Promises.Acknowledged.{HasCome, WasDropped, largest_in}
-use Rattle.recovery_history.specs.Promises.Duty.{AcknowledgesInTime, timer_runs, waits}
-use Rattle.recovery_history.specs.Promises.Sendable.{StaysFull, FindsToSend}
-use Rattle.recovery_history.specs.Promises.Starts.{StartsTimer}
+use Rattle.recovery_history.specs.Promises.Acknowledged.{WasReceived, WasDropped, largest_in}
+use Rattle.recovery_history.specs.Promises.AckDuty.{AcknowledgesInTime, timer_runs, waits}
+use Rattle.recovery_history.specs.Promises.Sendable.{JoinStaysNonempty, ReportsSendable}
+use Rattle.recovery_history.specs.Promises.AckTimer.{StartsAckDelayTimer}
 
 -- ---- ranges
 
@@ -76,25 +76,25 @@ module _ (Q S M P : Type 0) (queue : Q) (frames : M) where
   three_is_dropped : WasDropped Handshake 3 told
   three_is_dropped = inl (refl, omega arith)
 
-  three_to_acknowledge_is_wrong : ¬ (HasCome Handshake 3 told × ¬ WasDropped Handshake 3 told)
+  three_to_acknowledge_is_wrong : ¬ (WasReceived Handshake 3 told × ¬ WasDropped Handshake 3 told)
   three_to_acknowledge_is_wrong = λ e. e.1 three_is_dropped
 
-  six_never_came : ¬ HasCome Handshake 6 told
+  six_never_came : ¬ WasReceived Handshake 6 told
   six_never_came = λ e. elim e [ inl is ↦ cc | inr before ↦ elim before [ inl is ↦ cc | inr none ↦ none ] ]
 
-  not_in_another_space : ¬ HasCome Initial 7 told
+  not_in_another_space : ¬ WasReceived Initial 7 told
   not_in_another_space = λ e. elim e [ inl is ↦ cc | inr before ↦ elim before [ inl is ↦ cc | inr none ↦ none ] ]
 
   -- 7 is above 3, and its range is the highest
   none_above : (n : ℕ) → 7 < n
-      → ¬ With 7 (λ k. HasCome Handshake k (came 3 ∷ []) × ¬ WasDropped Handshake k (came 3 ∷ [])) n
+      → ¬ InsertNumber 7 (λ k. WasReceived Handshake k (came 3 ∷ []) × ¬ WasDropped Handshake k (came 3 ∷ [])) n
   none_above n above (inl is) = omega (arith, above, is)
   none_above n above (inr there) = elim there.0 [
     | inl is ↦ (let same : 3 ≡ n = grind (arith, nat_tests, is) in omega (arith, above, same))
     | inr none ↦ none
   ]
 
-  seven_stays : HasCome Handshake 7 told × ¬ WasDropped Handshake 7 told
+  seven_stays : WasReceived Handshake 7 told × ¬ WasDropped Handshake 7 told
   seven_stays = (
     inl refl,
     λ drops. elim drops [
@@ -108,7 +108,8 @@ module _ (Q S M P : Type 0) (queue : Q) (frames : M) where
 
   -- what comes once the packet was acknowledged is not dropped by it
   none_but_three : (n : ℕ) → 3 < n
-      → ¬ With 3 (λ k. HasCome Handshake k (sent_and_acked []) × ¬ WasDropped Handshake k (sent_and_acked [])) n
+      → ¬ InsertNumber 3 (λ k. WasReceived Handshake k (sent_and_acked []) × ¬ WasDropped Handshake k
+          (sent_and_acked [])) n
   none_but_three n above (inl is) = omega (arith, above, is)
   none_but_three n above (inr there) = there.0
 
@@ -123,7 +124,7 @@ module _ (Q S M P : Type 0) (queue : Q) (frames : M) where
 -- the first one since an ACK asks for none at once, where it is next behind the greatest
 asks_nothing : (Numbers : ℕ → Type 0) (greatest acknowledged : Option ℕ) (number : ℕ)
     → unwrap_or greatest 0 ≤ number → number ≤ unwrap_or greatest 0 + 1 → (silent : ℕ) (largest : Option (ℕ × ℕ))
-    → ¬ AsksAtOnce Numbers (record fresh {
+    → ¬ RequiresImmediateAck Numbers (record fresh {
       silent = silent;
       largest = largest;
       greatest = greatest;
@@ -196,11 +197,11 @@ module _ {F K Q S M P : Type 0} (beginning : Beginning F K Q S M P) where
     )),
   )))
     where
-      one_missing : ¬ With 5 (λ n. (n ≡ 0) ⊎ ⊥) 1
+      one_missing : ¬ InsertNumber 5 (λ n. (n ≡ 0) ⊎ ⊥) 1
       one_missing (inl is) = omega (arith, is)
       one_missing (inr there) = elim there [ inl is ↦ omega (arith, is) | inr none ↦ none ]
 
-      window : (m : ℕ) → With 5 (λ n. (n ≡ 0) ⊎ ⊥) m → m ≤ 1 + 128
+      window : (m : ℕ) → InsertNumber 5 (λ n. (n ≡ 0) ⊎ ⊥) m → m ≤ 1 + 128
       window m (inl is) = omega (arith, is)
       window m (inr there) = elim there [ inl is ↦ omega (arith, is) | inr none ↦ absurd none ]
 
@@ -227,7 +228,7 @@ module _ {F K Q S M P : Type 0} (beginning : Beginning F K Q S M P) where
 
   -- ---- the timer: it starts at the first one that waits, and not again
 
-  first_starts : StartsTimer beginning acked (event.Received Data 6 1 true) (Ok (answer.New true))
+  first_starts : StartsAckDelayTimer beginning acked (event.Received Data 6 1 true) (Ok (answer.New true))
   first_starts = (
     λ on. (
       refl,
@@ -240,7 +241,7 @@ module _ {F K Q S M P : Type 0} (beginning : Beginning F K Q S M P) where
     λ all. refl,
   )
 
-  first_without_is_wrong : ¬ StartsTimer beginning acked (event.Received Data 6 1 true) (Ok (answer.New false))
+  first_without_is_wrong : ¬ StartsAckDelayTimer beginning acked (event.Received Data 6 1 true) (Ok (answer.New false))
   first_without_is_wrong starts = let on = starts.1 (
     refl,
     refl,
@@ -250,24 +251,24 @@ module _ {F K Q S M P : Type 0} (beginning : Beginning F K Q S M P) where
     ],
   ) in cc
 
-  again_is_wrong : ¬ StartsTimer beginning (elicits 1 true ∷ acked) (event.Received Data 6 2 true)
+  again_is_wrong : ¬ StartsAckDelayTimer beginning (elicits 1 true ∷ acked) (event.Received Data 6 2 true)
       (Ok (answer.New true))
   again_is_wrong starts = let stopped = (starts.0 refl).1 in cc
 
-  silent_is_wrong : ¬ StartsTimer beginning acked (event.Received Data 6 1 false) (Ok (answer.New true))
+  silent_is_wrong : ¬ StartsAckDelayTimer beginning acked (event.Received Data 6 1 false) (Ok (answer.New true))
   silent_is_wrong starts = let eliciting = (starts.0 refl).0 in cc
 
   -- ---- what a probe finds: nothing came, so that there is no ACK, but a PING
 
-  an_ack_is_wrong : (streams : S) (other : Bool) → ¬ FindsToSend beginning [] (event.QueueProbe Data false streams)
+  an_ack_is_wrong : (streams : S) (other : Bool) → ¬ ReportsSendable beginning [] (event.QueueProbe Data false streams)
       (Ok (answer.Sendable (record { acks = true; other = other })))
   an_ack_is_wrong streams other finds = (finds.0.0 refl).0
 
-  nothing_is_wrong : (streams : S) (acks : Bool) → StaysFull beginning.queue.words streams
-      → ¬ FindsToSend beginning [] (event.QueueProbe Data false streams)
+  nothing_is_wrong : (streams : S) (acks : Bool) → JoinStaysNonempty beginning.queue.words streams
+      → ¬ ReportsSendable beginning [] (event.QueueProbe Data false streams)
       (Ok (answer.Sendable (record { acks = acks; other = false })))
   nothing_is_wrong streams acks full finds = let is = finds.1 full in cc
 
-  a_ping : (streams : S) → FindsToSend beginning [] (event.QueueProbe Data false streams)
+  a_ping : (streams : S) → ReportsSendable beginning [] (event.QueueProbe Data false streams)
       (Ok (answer.Sendable (record { acks = false; other = true })))
   a_ping streams = ((λ on. cc, λ due. absurd due.0), λ full. refl)

@@ -11,9 +11,9 @@ use Rattle.recovery_events.specs.declared.event.Answer.TheVariants as answer
 use Rattle.recovery_events.specs.declared.event.Refusal.TheVariants as refusal
 use Rattle.recovery_history.specs.History.{History}
 use Rattle.recovery_history.specs.Promises.Ecn.{ChecksEcn}
-use Rattle.recovery_history.specs.Promises.Frequency.{TakesNewest}
-use Rattle.recovery_history.specs.Promises.Full.{OverflowsFull}
-use Rattle.recovery_history.specs.Promises.Spares.{SparesMemory}
+use Rattle.recovery_history.specs.Promises.Frequency.{AppliesNewestFrequency}
+use Rattle.recovery_history.specs.Promises.Overflow.{OverflowsExactly}
+use Rattle.recovery_history.specs.Promises.Memory.{AllocatesOnlyToGrow}
 use Rattle.quic_recovery_rows.proofs.RowStart.{ack_frame}
 
 module _ (Q S M P : Type 0) (remote : SocketAddr) where
@@ -57,22 +57,24 @@ module _ (Q S M P : Type 0) (remote : SocketAddr) where
       ∷ (event.AckFrequencyIn (ack_frame 5 1000), Ok (answer.Flag true))
       ∷ []
 
-  newer : TakesNewest asked (event.AckFrequencyIn (ack_frame 8 1000)) (Ok (answer.Flag true))
+  newer : AppliesNewestFrequency asked (event.AckFrequencyIn (ack_frame 8 1000)) (Ok (answer.Flag true))
   newer = refl
 
-  too_small : TakesNewest asked (event.AckFrequencyIn (ack_frame 8 999)) (Err refusal.DelayTooSmall)
+  too_small : AppliesNewestFrequency asked (event.AckFrequencyIn (ack_frame 8 999)) (Err refusal.DelayTooSmall)
   too_small = refl
 
-  refused_counts : TakesNewest asked (event.AckFrequencyIn (ack_frame 6 1000)) (Ok (answer.Flag false))
+  refused_counts : AppliesNewestFrequency asked (event.AckFrequencyIn (ack_frame 6 1000)) (Ok (answer.Flag false))
   refused_counts = refl
 
-  older_is_not_refused : ¬ TakesNewest asked (event.AckFrequencyIn (ack_frame 7 1)) (Err refusal.DelayTooSmall)
+  older_is_not_refused : ¬ AppliesNewestFrequency asked (event.AckFrequencyIn (ack_frame 7 1))
+      (Err refusal.DelayTooSmall)
   older_is_not_refused = λ told. cc
 
-  older_is_not_taken : ¬ TakesNewest asked (event.AckFrequencyIn (ack_frame 7 1000)) (Ok (answer.Flag true))
+  older_is_not_taken : ¬ AppliesNewestFrequency asked (event.AckFrequencyIn (ack_frame 7 1000)) (Ok (answer.Flag true))
   older_is_not_taken = λ told. cc
 
-  discarded : TakesNewest ((event.DiscardSpace Data, Ok answer.Done) ∷ asked) (event.AckFrequencyIn (ack_frame 9 1))
+  discarded : AppliesNewestFrequency ((event.DiscardSpace Data, Ok answer.Done) ∷ asked)
+      (event.AckFrequencyIn (ack_frame 9 1))
       (Err refusal.SpaceDiscarded)
   discarded = refl
 
@@ -81,26 +83,26 @@ module _ (Q S M P : Type 0) (remote : SocketAddr) where
   abbrev moved : History Q S M P
   moved = (event.NewPath 5 remote true, Ok answer.Done) ∷ (event.DatagramIn Current 10, Ok answer.Done) ∷ []
 
-  full : OverflowsFull moved (event.DatagramIn Previous (2 ^ 64 - 10)) (Err refusal.Overflow)
+  full : OverflowsExactly moved (event.DatagramIn Previous (2 ^ 64 - 10)) (Err refusal.Overflow)
   full = omega arith
 
-  has_room : OverflowsFull moved (event.DatagramIn Current (2 ^ 64 - 10)) (Ok answer.Done)
+  has_room : OverflowsExactly moved (event.DatagramIn Current (2 ^ 64 - 10)) (Ok answer.Done)
   has_room = omega arith
 
-  room_is_not_refused : ¬ OverflowsFull moved (event.DatagramIn Previous 1200) (Err refusal.Overflow)
+  room_is_not_refused : ¬ OverflowsExactly moved (event.DatagramIn Previous 1200) (Err refusal.Overflow)
   room_is_not_refused = λ many. omega (arith, many)
 
-  full_is_not_taken : ¬ OverflowsFull moved (event.DatagramIn Previous (2 ^ 64 - 10)) (Ok answer.Done)
+  full_is_not_taken : ¬ OverflowsExactly moved (event.DatagramIn Previous (2 ^ 64 - 10)) (Ok answer.Done)
   full_is_not_taken = λ few. omega (arith, few)
 
-  two_paths_are_few : ¬ OverflowsFull moved (event.NewPath 6 remote true) (Err refusal.Overflow)
+  two_paths_are_few : ¬ OverflowsExactly moved (event.NewPath 6 remote true) (Err refusal.Overflow)
   two_paths_are_few = λ many. omega (arith, many)
 
 -- ---- memory: to lose a packet may take some, for what waits grows; to hand that out takes none
 
 module _ (Q S M P : Type 0) (remote : SocketAddr) where
   abbrev Spares : Event Q S M P → Type 0
-  Spares event = SparesMemory event (Err refusal.NoMemory)
+  Spares event = AllocatesOnlyToGrow event (Err refusal.NoMemory)
 
   lost_may_grow : Spares (event.Lost Data 1)
   lost_may_grow = refl

@@ -4,21 +4,21 @@ use Rattle.std.proofs.Common.{◌≡◌, ℕ, ◌+◌, ◌==◌, max, true, fals
 use Rattle.std.specs.declared.net.socket_addr.SocketAddr.{SocketAddr}
 use Rattle.rand_core.specs.Stream.{Stream}
 use Rattle.recovery_base.specs.declared.below.SpaceId.TheVariants.{Initial, Handshake}
-use Rattle.recovery_congestion.specs.Controllers.{ControllerWords}
-use Rattle.recovery_queue.specs.Queues.{QueueWords}
-use Rattle.recovery_skips.specs.declared.filter.Skips.TheVariants.{Disabled}
+use Rattle.recovery_congestion.specs.Controllers.{ControllerSemantics}
+use Rattle.recovery_queue.specs.Queues.{QueueSemantics}
+use Rattle.recovery_packet_numbers.specs.declared.filter.Skips.TheVariants.{Disabled}
 use Rattle.recovery_history.specs.declared.config.RecoveryConfig.{RecoveryConfig}
 use Rattle.recovery_events.specs.declared.event.Event.TheVariants as event
 use Rattle.recovery_events.specs.declared.event.Answer.TheVariants as answer
 use Rattle.recovery_events.specs.declared.event.Refusal.TheVariants as refusal
-use Rattle.recovery_history.specs.History.{Beginning, History, begins, queue_meaning}
-use Rattle.recovery_history.specs.Promises.Contents.{LosesNothing, outgoing, held, gone}
+use Rattle.recovery_history.specs.History.{Beginning, History, begins, queue_model}
+use Rattle.recovery_history.specs.Promises.Contents.{ConservesData, outgoing, held, gone}
 use Rattle.recovery_history.specs.Promises.Measures.{AddsUp, Totals}
 use Rattle.recovery_history.specs.Promises.Pending.{HandsOutInOrder}
 use Rattle.quic_recovery_rows.proofs.RowStart.{RowHistory, row_start}
 
 -- contents that are numbers of bytes, which are joined by adding them
-abbrev words : QueueWords ℕ (Unit {0})
+abbrev words : QueueSemantics ℕ (Unit {0})
 words = record { empty = 0; joined = λ p r. p + r; is_empty = λ p streams. p == 0 }
 
 abbrev bytes : ℕ → ℕ
@@ -37,7 +37,7 @@ adds : AddsUp words sums bytes
 adds = record { empty = refl; joined = λ p r. refl }
 
 -- contents that are a flag, which stays where it joins itself
-abbrev flag_words : QueueWords ℕ (Unit {0})
+abbrev flag_words : QueueSemantics ℕ (Unit {0})
 flag_words = record { empty = 0; joined = λ p r. max p r; is_empty = λ p streams. p == 0 }
 
 abbrev flags : Totals ℕ
@@ -52,10 +52,10 @@ flags = record {
 joins : AddsUp flag_words flags bytes
 joins = record { empty = refl; joined = λ p r. refl }
 
-module _ (F K M : Type 0) (built : F → ℕ → ℕ → K) (controller : ControllerWords K) (config : RecoveryConfig F)
+module _ (F K M : Type 0) (built : F → ℕ → ℕ → K) (controller : ControllerSemantics K) (config : RecoveryConfig F)
     (random : Stream) (frames : M) where
   abbrev start : Beginning F K ℕ (Unit {0}) M ℕ
-  start = begins built controller (queue_meaning (λ n. n) words frames) config 0 random
+  start = begins built controller (queue_model (λ n. n) words frames) config 0 random
 
   -- 5 bytes went out under 0 and 3 under 1; a probe moved the 5, and the 3 were lost
   abbrev waiting : History ℕ (Unit {0}) M ℕ
@@ -99,15 +99,15 @@ module _ (F K M : Type 0) (built : F → ℕ → ℕ → K) (controller : Contro
   none_held = refl
 
   -- what is handed out is what waits, no less and no more
-  less_is_wrong : ¬ LosesNothing start ((event.TakePending Initial, Ok (answer.Queue 5)) ∷ waiting)
+  less_is_wrong : ¬ ConservesData start ((event.TakePending Initial, Ok (answer.Queue 5)) ∷ waiting)
   less_is_wrong = λ e. let lost = e sums bytes adds Initial in omega (arith, lost)
 
-  twice_is_wrong : ¬ LosesNothing start
+  twice_is_wrong : ¬ ConservesData start
       ((event.TakePending Initial, Ok (answer.Queue 8)) ∷ (event.TakePending Initial, Ok (answer.Queue 8)) ∷ waiting)
   twice_is_wrong = λ e. let doubled = e sums bytes adds Initial in omega (arith, doubled)
 
   -- and none is forgotten before there are 1001 that elicit no ACK
-  early_is_wrong : ¬ LosesNothing start
+  early_is_wrong : ¬ ConservesData start
       ((event.Send Initial 5 100 false None 3 frames, Ok (answer.Sent 1 (Some 0)))
       ∷ (event.Send Initial 4 100 false None 5 frames, Ok (answer.Sent 0 None))
       ∷ [])
@@ -115,7 +115,7 @@ module _ (F K M : Type 0) (built : F → ℕ → ℕ → K) (controller : Contro
 
   -- a flag went out twice; once it was acknowledged, once lost
   abbrev flagged : Beginning F K ℕ (Unit {0}) M ℕ
-  flagged = begins built controller (queue_meaning (λ n. n) flag_words frames) config 0 random
+  flagged = begins built controller (queue_model (λ n. n) flag_words frames) config 0 random
 
   abbrev sent_twice : History ℕ (Unit {0}) M ℕ
   sent_twice =
@@ -129,7 +129,7 @@ module _ (F K M : Type 0) (built : F → ℕ → ℕ → K) (controller : Contro
   still_held = refl
 
   -- one that was lost is handed out
-  lost_is_wrong : ¬ LosesNothing flagged
+  lost_is_wrong : ¬ ConservesData flagged
       ((event.TakePending Initial, Ok (answer.Queue 0))
       ∷ (event.Lost Initial 0, Ok (answer.Lost false))
       ∷ (event.Send Initial 4 1200 true None 1 frames, Ok (answer.Sent 0 None))

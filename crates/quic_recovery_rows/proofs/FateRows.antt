@@ -7,8 +7,8 @@ use Rattle.recovery_events.specs.declared.event.Event.TheVariants as event
 use Rattle.recovery_events.specs.declared.event.Answer.TheVariants as answer
 use Rattle.recovery_events.specs.declared.event.Refusal.TheVariants as refusal
 use Rattle.recovery_history.specs.History.{History}
-use Rattle.recovery_history.specs.Promises.Fates.{times, fates, is_given, HaveOneFate}
-use Rattle.recovery_history.specs.Promises.Rising.{GivesRising}
+use Rattle.recovery_history.specs.Promises.Fates.{times, fates, is_given, HaveOneOutcome}
+use Rattle.recovery_history.specs.Promises.Increasing.{NumbersIncrease}
 
 module _ (Q S M P : Type 0) (queue : Q) (frames : M) where
   -- of 1-RTT packets 0 was forgotten, 1 lost, 2 is a probe of the MTU; 0 of Initial ones was discarded with its space
@@ -46,22 +46,23 @@ module _ (Q S M P : Type 0) (queue : Q) (frames : M) where
   not_given_yet = refl
 
   -- no number twice, and no fate besides
-  given_again : ¬ HaveOneFate ((event.PollMtu 10, Ok (answer.Probe 3 1400)) ∷ past)
+  given_again : ¬ HaveOneOutcome ((event.PollMtu 10, Ok (answer.Probe 3 1400)) ∷ past)
   given_again = λ e. let twice = (e Data 3).0 in omega (arith, twice)
 
-  lost_and_acked : ¬ HaveOneFate ((event.Acked Data 10 1 false, Ok (answer.Acked false)) ∷ past)
+  lost_and_acked : ¬ HaveOneOutcome ((event.Acked Data 10 1 false, Ok (answer.Acked false)) ∷ past)
   lost_and_acked = λ e. let two = (e Data 1).1 in omega (arith, two)
 
-  forgotten_and_lost : ¬ HaveOneFate ((event.Lost Data 0, Ok (answer.Lost false)) ∷ past)
+  forgotten_and_lost : ¬ HaveOneOutcome ((event.Lost Data 0, Ok (answer.Lost false)) ∷ past)
   forgotten_and_lost = λ e. let two = (e Data 0).1 in omega (arith, two)
 
-  never_given : ¬ HaveOneFate ((event.Lost Data 4, Ok (answer.Lost false)) ∷ past)
+  never_given : ¬ HaveOneOutcome ((event.Lost Data 4, Ok (answer.Lost false)) ∷ past)
   never_given = λ e. let one = (e Data 4).1 in omega (arith, one)
 
-  discarded_and_lost : ¬ HaveOneFate ((event.Lost Initial 0, Ok (answer.Lost false)) ∷ past)
+  discarded_and_lost : ¬ HaveOneOutcome ((event.Lost Initial 0, Ok (answer.Lost false)) ∷ past)
   discarded_and_lost = λ e. let two = (e Initial 0).1 in omega (arith, two)
 
-  forgets_itself : ¬ HaveOneFate ((event.Send Data 10 100 false None queue frames, Ok (answer.Sent 4 (Some 4))) ∷ past)
+  forgets_itself : ¬ HaveOneOutcome ((event.Send Data 10 100 false None queue frames, Ok (answer.Sent 4 (Some 4))) ∷
+      past)
   forgets_itself = λ e. let two = (e Data 4).1 in omega (arith, two)
 
   -- ---- numbers rise: 0 to 3 were given out, of Initial ones 0 alone
@@ -72,15 +73,15 @@ module _ (Q S M P : Type 0) (queue : Q) (frames : M) where
   behind_the_last : (n : ℕ) → 4 ≤ n → times (is_given Data n) past ≡ 0
   behind_the_last = λ n above. grind (arith, nat_tests, above)
 
-  the_last_again : ¬ GivesRising past (event.PollMtu 10) (Ok (answer.Probe 3 1400))
+  the_last_again : ¬ NumbersIncrease past (event.PollMtu 10) (Ok (answer.Probe 3 1400))
   the_last_again = λ rises. let none = (rises Data 3 refl).1 3 (omega arith) in omega (arith, none)
 
-  falling : ¬ GivesRising past (event.Send Data 10 9 true None queue frames) (Ok (answer.Sent 2 None))
+  falling : ¬ NumbersIncrease past (event.Send Data 10 9 true None queue frames) (Ok (answer.Sent 2 None))
   falling = λ rises. let none = (rises Data 2 refl).1 3 (omega arith) in omega (arith, none)
 
-  too_large : ¬ GivesRising past (event.PollMtu 10) (Ok (answer.Probe (2 ^ 62) 1400))
+  too_large : ¬ NumbersIncrease past (event.PollMtu 10) (Ok (answer.Probe (2 ^ 62) 1400))
   too_large = λ rises. let small = (rises Data (2 ^ 62) refl).0 in omega (arith, small)
 
   -- a refused packet has no number
-  refused_one : GivesRising past (event.PollMtu 10) (Err refusal.NumbersExhausted)
+  refused_one : NumbersIncrease past (event.PollMtu 10) (Err refusal.NumbersExhausted)
   refused_one = λ space number goes. cc

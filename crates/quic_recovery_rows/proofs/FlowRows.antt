@@ -9,7 +9,7 @@ use Rattle.recovery_events.specs.declared.event.Answer.TheVariants as answer
 use Rattle.recovery_history.specs.History.{History}
 use Rattle.recovery_history.specs.Promises.Blocked.{BlocksExactly}
 use Rattle.recovery_history.specs.Promises.Counted.{CountsInFlight}
-use Rattle.recovery_history.specs.Promises.Threefold.{SendsThreefold}
+use Rattle.recovery_history.specs.Promises.Amplification.{IsWithinAmplificationLimit}
 
 module _ (Q S M P : Type 0) (remote : SocketAddr) where
   -- ---- amplification: 10 bytes came in, and 25 went out
@@ -17,20 +17,20 @@ module _ (Q S M P : Type 0) (remote : SocketAddr) where
   abbrev little : History Q S M P
   little = (event.Transmit 6 25 true, Ok answer.Transmitted) ∷ (event.DatagramIn Current 10, Ok answer.Done) ∷ []
 
-  within : SendsThreefold false little
+  within : IsWithinAmplificationLimit false little
   within Current = λ unproved checked. omega arith
   within Previous = λ unproved checked. omega arith
 
   -- 30 bytes are three times 10: 6 more than 25 pass that
-  too_much : ¬ SendsThreefold false ((event.Transmit 7 6 true, Ok answer.Transmitted) ∷ little)
+  too_much : ¬ IsWithinAmplificationLimit false ((event.Transmit 7 6 true, Ok answer.Transmitted) ∷ little)
   too_much = λ e. let over = e Current refl refl in omega (arith, over)
 
   -- but not what goes to a validated address, nor what was not checked
-  proved_address : SendsThreefold true ((event.Transmit 7 6 true, Ok answer.Transmitted) ∷ little)
+  proved_address : IsWithinAmplificationLimit true ((event.Transmit 7 6 true, Ok answer.Transmitted) ∷ little)
   proved_address Current = λ unproved. cc
   proved_address Previous = λ unproved checked. omega arith
 
-  unchecked : SendsThreefold false ((event.Transmit 7 6 false, Ok answer.Transmitted) ∷ little)
+  unchecked : IsWithinAmplificationLimit false ((event.Transmit 7 6 false, Ok answer.Transmitted) ∷ little)
   unchecked Current = λ unproved checked. cc
   unchecked Previous = λ unproved checked. omega arith
 

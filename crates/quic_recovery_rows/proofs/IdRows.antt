@@ -11,10 +11,10 @@ use Rattle.recovery_events.specs.declared.event.Event.TheVariants as event
 use Rattle.recovery_events.specs.declared.event.Answer.TheVariants as answer
 use Rattle.recovery_events.specs.declared.event.Refusal.TheVariants as refusal
 use Rattle.recovery_history.specs.History.{History, Reply}
-use Rattle.recovery_history.specs.Promises.OwnIds.{IsIssue, IssuesIds}
+use Rattle.recovery_history.specs.Promises.OwnIds.{IsIssue, IssuesIdsInOrder}
 use Rattle.recovery_history.specs.Promises.Paths.{generation_by}
 use Rattle.recovery_history.specs.Promises.PeerIds.{AcceptsIds}
-use Rattle.recovery_history.specs.Promises.Refused.{RefusesRightly}
+use Rattle.recovery_history.specs.Promises.Rejections.{RejectsExactly}
 use Rattle.recovery_history.specs.Promises.Tracked.{is_tracked}
 
 -- the end of the range that a reply retires
@@ -106,19 +106,19 @@ module _ (Q S M P : Type 0) (queue : Q) (frames : M) (remote : SocketAddr) where
   abbrev own : History Q S M P
   own = (event.PeerRetired 0 2, Ok (answer.Flag true)) ∷ []
 
-  unissued : IssuesIds 2 8 own (event.PeerRetired 2 2) (Err refusal.UnissuedCid)
+  unissued : IssuesIdsInOrder 2 8 own (event.PeerRetired 2 2) (Err refusal.UnissuedCid)
   unissued = refl
 
-  not_in_use : IssuesIds 2 0 own (event.PeerRetired 2 2) (Err refusal.CidsNotInUse)
+  not_in_use : IssuesIdsInOrder 2 0 own (event.PeerRetired 2 2) (Err refusal.CidsNotInUse)
   not_in_use = refl
 
-  room : IssuesIds 2 8 own (event.PeerRetired 1 1) (Ok (answer.Flag true))
+  room : IssuesIdsInOrder 2 8 own (event.PeerRetired 1 1) (Ok (answer.Flag true))
   room = refl
 
-  no_room : IssuesIds 2 8 own (event.PeerRetired 0 1) (Ok (answer.Flag false))
+  no_room : IssuesIdsInOrder 2 8 own (event.PeerRetired 0 1) (Ok (answer.Flag false))
   no_room = refl
 
-  no_room_is_wrong : ¬ IssuesIds 2 8 own (event.PeerRetired 0 2) (Ok (answer.Flag false))
+  no_room_is_wrong : ¬ IssuesIdsInOrder 2 8 own (event.PeerRetired 0 2) (Ok (answer.Flag false))
   no_room_is_wrong = λ e. cc
 
   abbrev own_id : ℕ → IssuedCid
@@ -199,46 +199,46 @@ module _ (Q S M P : Type 0) (queue : Q) (frames : M) (remote : SocketAddr) where
 
   -- ---- refusals
 
-  acked_twice : RefusesRightly flight (event.Acked Data 9 0 false) (Err refusal.NotTracked)
+  acked_twice : RejectsExactly flight (event.Acked Data 9 0 false) (Err refusal.NotTracked)
   acked_twice = refl
 
-  tracked_is_not_refused : ¬ RefusesRightly flight (event.Acked Data 9 1 false) (Err refusal.NotTracked)
+  tracked_is_not_refused : ¬ RejectsExactly flight (event.Acked Data 9 1 false) (Err refusal.NotTracked)
   tracked_is_not_refused = λ e. cc
 
-  acked_twice_is_wrong : ¬ RefusesRightly flight (event.Acked Data 9 0 false) (Ok (answer.Acked false))
+  acked_twice_is_wrong : ¬ RejectsExactly flight (event.Acked Data 9 0 false) (Ok (answer.Acked false))
   acked_twice_is_wrong = λ e. cc
 
-  closed_first : RefusesRightly ((event.DiscardSpace Data, Ok answer.Done) ∷ flight) (event.Lost Data 1)
+  closed_first : RejectsExactly ((event.DiscardSpace Data, Ok answer.Done) ∷ flight) (event.Lost Data 1)
       (Err refusal.SpaceDiscarded)
   closed_first = refl
 
-  used_again_twice : RefusesRightly used_again event.RevertPath (Err refusal.NoSuchPath)
+  used_again_twice : RejectsExactly used_again event.RevertPath (Err refusal.NoSuchPath)
   used_again_twice = refl
 
-  used_again_twice_is_wrong : ¬ RefusesRightly used_again event.RevertPath (Ok answer.Done)
+  used_again_twice_is_wrong : ¬ RejectsExactly used_again event.RevertPath (Ok answer.Done)
   used_again_twice_is_wrong = λ e. cc
 
-  lives_is_not_refused : ¬ RefusesRightly flight event.RevertPath (Err refusal.NoSuchPath)
+  lives_is_not_refused : ¬ RejectsExactly flight event.RevertPath (Err refusal.NoSuchPath)
   lives_is_not_refused = λ e. cc
 
-  closed_twice : ¬ RefusesRightly ((event.DiscardSpace Data, Ok answer.Done) ∷ flight) (event.DiscardSpace Data)
+  closed_twice : ¬ RejectsExactly ((event.DiscardSpace Data, Ok answer.Done) ∷ flight) (event.DiscardSpace Data)
       (Ok answer.Done)
   closed_twice = λ e. cc
 
-  other_refusals_pass : RefusesRightly flight (event.Received Data 9 (2 ^ 62) true) (Err refusal.NumberTooLarge)
+  other_refusals_pass : RejectsExactly flight (event.Received Data 9 (2 ^ 62) true) (Err refusal.NumberTooLarge)
   other_refusals_pass = refl
 
-  no_path : RefusesRightly ids (event.Validated Previous) (Err refusal.NoSuchPath)
+  no_path : RejectsExactly ids (event.Validated Previous) (Err refusal.NoSuchPath)
   no_path = refl
 
-  a_path : ¬ RefusesRightly flight (event.Validated Previous) (Err refusal.NoSuchPath)
+  a_path : ¬ RejectsExactly flight (event.Validated Previous) (Err refusal.NoSuchPath)
   a_path = λ e. cc
 
-  first_id : RefusesRightly ids (event.InitialId (1 ∷ [])) (Ok answer.Done)
+  first_id : RejectsExactly ids (event.InitialId (1 ∷ [])) (Ok answer.Done)
   first_id = refl
 
-  late_id : RefusesRightly later (event.InitialId (1 ∷ [])) (Err refusal.NotInitialId)
+  late_id : RejectsExactly later (event.InitialId (1 ∷ [])) (Err refusal.NotInitialId)
   late_id = refl
 
-  late_id_is_wrong : ¬ RefusesRightly later (event.InitialId (1 ∷ [])) (Ok answer.Done)
+  late_id_is_wrong : ¬ RejectsExactly later (event.InitialId (1 ∷ [])) (Ok answer.Done)
   late_id_is_wrong = λ e. cc

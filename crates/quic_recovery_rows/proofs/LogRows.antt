@@ -2,12 +2,12 @@
 use Rattle.std.proofs.Common.{◌≡◌, ◌^◌, true, [], ◌∷◌, None, Some, Ok, Err, refl}
 use Rattle.recovery_base.specs.declared.below.SpaceId.TheVariants.{Initial, Handshake, Data}
 use Rattle.recovery_base.specs.declared.timer.Timer.TheVariants.{Idle, Pacing}
-use Rattle.recovery_ledger.specs.Acks.{counts_by}
-use Rattle.recovery_ledger.specs.Tracked.{packet_sent, sent_by}
+use Rattle.recovery_spaces.specs.Acks.{counts_by}
+use Rattle.recovery_spaces.specs.Tracked.{packet_sent, sent_by}
 use Rattle.recovery_events.specs.declared.event.Event.TheVariants.{Received, Send, SetTimer, StopTimer}
 use Rattle.recovery_events.specs.declared.event.Answer.TheVariants as answer
 use Rattle.recovery_events.specs.declared.event.Refusal.TheVariants.{NumberTooLarge}
-use Rattle.recovery_history.specs.Told.{known_by, logs_of}
+use Rattle.recovery_history.specs.RepliesAfter.{inputs_after, logs_of}
 use Rattle.recovery_history.specs.History.{Beginning, History}
 
 module _ {F K Q S M P : Type 0} (beginning : Beginning F K Q S M P) (queue : Q) (frames : M) where
@@ -22,10 +22,10 @@ module _ {F K Q S M P : Type 0} (beginning : Beginning F K Q S M P) (queue : Q) 
       ∷ (Received Data 5 0 true, Ok (answer.New true))
       ∷ []
 
-  idle_is_set : (known_by beginning row).moment_of Idle ≡ Some 50
+  idle_is_set : (inputs_after beginning row).moment_of Idle ≡ Some 50
   idle_is_set = refl
 
-  pacing_is_stopped : (known_by beginning row).moment_of Pacing ≡ None
+  pacing_is_stopped : (inputs_after beginning row).moment_of Pacing ≡ None
   pacing_is_stopped = refl
 
   one_is_tracked : (sent_by beginning.queue.words ((logs_of beginning row).spaces Initial)).tracked

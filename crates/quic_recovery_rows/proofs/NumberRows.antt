@@ -4,17 +4,17 @@ use Rattle.std.proofs.lemmas.Bool.Decides.{nat_tests}
 use Rattle.std.proofs.lemmas.List.{length-append}
 use Rattle.std.proofs.Common.{◌≡◌, ◌≤◌, ◌+◌, ◌-◌, ◌^◌, ℕ, zero, suc, Bool, true, false, List, [], ◌∷◌, ◌++◌, length, None, Some, Ok, Err, inl, inr, refl, ap, ◌∙◌, arith, add-one}
 use Rattle.recovery_base.specs.declared.below.SpaceId.TheVariants.{Initial, Data}
-use Rattle.recovery_skips.specs.declared.filter.Skips.TheVariants.{Disabled}
+use Rattle.recovery_packet_numbers.specs.declared.filter.Skips.TheVariants.{Disabled}
 use Rattle.recovery_events.specs.declared.event.Event.{Event}
 use Rattle.recovery_events.specs.declared.event.Event.TheVariants as event
 use Rattle.recovery_events.specs.declared.event.Answer.TheVariants as answer
 use Rattle.recovery_events.specs.declared.event.Refusal.TheVariants as refusal
 use Rattle.recovery_history.specs.History.{Beginning, History, Reply}
 use Rattle.recovery_history.specs.Promises.Fates.{times, is_given}
-use Rattle.recovery_history.specs.Promises.Forgotten.{oldest, silent_since, ForgetsOldest}
-use Rattle.recovery_history.specs.Promises.Sends.{SendsUnless}
-use Rattle.recovery_history.specs.Promises.Skipped.{IsNext, WasSkipped, ChecksAcks}
-use Rattle.recovery_history.specs.Promises.Unskipped.{SkipsNone}
+use Rattle.recovery_history.specs.Promises.Forgotten.{oldest, silent_since, ForgetsOldestNonEliciting}
+use Rattle.recovery_history.specs.Promises.Sends.{SendsOrRejects}
+use Rattle.recovery_history.specs.Promises.Skipped.{IsNextNumber, WasSkipped, RejectsSkippedAcks}
+use Rattle.recovery_history.specs.Promises.Unskipped.{SkipsNoNumbers}
 
 module _ (Q S M P : Type 0) (queue : Q) (frames : M) where
   abbrev send : ℕ → Bool → Event Q S M P
@@ -45,14 +45,14 @@ module _ (Q S M P : Type 0) (queue : Q) (frames : M) where
       let some = was.1.2 in
       grind (arith, none, below, some)
 
-  it_is_refused : ChecksAcks past (event.CheckAck Data 3 5) (Err refusal.SkippedAcked)
+  it_is_refused : RejectsSkippedAcks past (event.CheckAck Data 3 5) (Err refusal.SkippedAcked)
   it_is_refused = (omega arith, (4, four_skipped, four_is_last, omega arith, omega arith))
 
-  it_is_not_taken : ¬ ChecksAcks past (event.CheckAck Data 3 5) (Ok answer.Done)
+  it_is_not_taken : ¬ RejectsSkippedAcks past (event.CheckAck Data 3 5) (Ok answer.Done)
   it_is_not_taken = λ told. told.3 (4, four_skipped, four_is_last, omega arith, omega arith)
 
   -- 1 lies before the last one
-  one_is_taken : ChecksAcks past (event.CheckAck Data 0 3) (Ok answer.Done)
+  one_is_taken : RejectsSkippedAcks past (event.CheckAck Data 0 3) (Ok answer.Done)
   one_is_taken = (
     refl,
     omega arith,
@@ -60,17 +60,18 @@ module _ (Q S M P : Type 0) (queue : Q) (frames : M) where
     λ holds. (let up = holds.2 4 four_skipped in let to = holds.4 in omega (arith, up, to)),
   )
 
-  behind_it_is_not_refused : ¬ ChecksAcks past (event.CheckAck Data 5 9) (Err refusal.SkippedAcked)
+  behind_it_is_not_refused : ¬ RejectsSkippedAcks past (event.CheckAck Data 5 9) (Err refusal.SkippedAcked)
   behind_it_is_not_refused = λ told.
       let down = four_is_last told.1.0 told.1.1 in let from = told.1.3 in omega (arith, down, from)
 
-  no_other_space_is_refused : ¬ ChecksAcks past (event.CheckAck Initial 0 9) (Err refusal.SkippedAcked)
+  no_other_space_is_refused : ¬ RejectsSkippedAcks past (event.CheckAck Initial 0 9) (Err refusal.SkippedAcked)
   no_other_space_is_refused = λ told. let was = told.1.1 in let some = was.1.2 in omega (arith, some)
 
-  no_range : ChecksAcks past (event.CheckAck Data 5 4) (Err refusal.BadRange)
+  no_range : RejectsSkippedAcks past (event.CheckAck Data 5 4) (Err refusal.BadRange)
   no_range = (omega arith, omega arith)
 
-  large_is_not_a_bad_range : ¬ ChecksAcks past (event.CheckAck Data (2 ^ 62 + 1) (2 ^ 62)) (Err refusal.BadRange)
+  large_is_not_a_bad_range : ¬ RejectsSkippedAcks past (event.CheckAck Data (2 ^ 62 + 1) (2 ^ 62))
+      (Err refusal.BadRange)
   large_is_not_a_bad_range = λ told. let small = told.0 in omega (arith, small)
 
   -- ---- 6 goes out next, or 7, and then 6 is skipped
@@ -78,50 +79,50 @@ module _ (Q S M P : Type 0) (queue : Q) (frames : M) where
   not_five : (m : ℕ) → ((n : ℕ) → m ≤ n → times (is_given Data n) past ≡ 0) → 6 ≤ m
   not_five m above = let five = above 5 in grind (arith, nat_tests, five)
 
-  six_is_next : IsNext Data 6 past
+  six_is_next : IsNextNumber Data 6 past
   six_is_next = (none_behind, λ m above less. (let up = not_five m above in absurd (omega (arith, up, less))))
 
-  seven_skips_six : IsNext Data 7 past
+  seven_skips_six : IsNextNumber Data 7 past
   seven_skips_six = (
     λ n above. none_behind n (omega (arith, above)),
     λ m above less. (let up = not_five m above in (refl, omega (arith, up, less))),
   )
 
-  eight_skips_two : ¬ IsNext Data 8 past
+  eight_skips_two : ¬ IsNextNumber Data 8 past
   eight_skips_two = λ next. let is = (next.1 6 none_behind (omega arith)).1 in omega (arith, is)
 
-  five_again : ¬ IsNext Data 5 past
+  five_again : ¬ IsNextNumber Data 5 past
   five_again = λ next. let none = next.0 5 (omega arith) in omega (arith, none)
 
-  none_skipped_elsewhere : ¬ IsNext Initial 1 past
+  none_skipped_elsewhere : ¬ IsNextNumber Initial 1 past
   none_skipped_elsewhere = λ next. let is = (next.1 0 (λ m above. refl) (omega arith)).0 in cc
 
   -- ---- packets that are refused: 1200, 1400, 1200 and 1200 bytes are in flight, and four packets that elicit an ACK
 
-  numbers_are_left : ¬ SendsUnless past (send 1200 true) (Err refusal.NumbersExhausted)
+  numbers_are_left : ¬ SendsOrRejects past (send 1200 true) (Err refusal.NumbersExhausted)
   numbers_are_left = λ told.
       let none = told.1 in
       let many = none.2 in
       let is = (none.1.1 6 none_behind (omega (arith, many))).1 in omega (arith, is, many)
 
-  polls_too : ¬ SendsUnless past (event.PollMtu 9) (Err refusal.NumbersExhausted)
+  polls_too : ¬ SendsOrRejects past (event.PollMtu 9) (Err refusal.NumbersExhausted)
   polls_too = λ none.
       let many = none.2 in
       let is = (none.1.1 6 none_behind (omega (arith, many))).1 in omega (arith, is, many)
 
-  it_overflows : SendsUnless past (send (2 ^ 64 - 5000) true) (Err refusal.Overflow)
+  it_overflows : SendsOrRejects past (send (2 ^ 64 - 5000) true) (Err refusal.Overflow)
   it_overflows = (λ large. large, inl (omega arith))
 
-  it_fits : SendsUnless past (send (2 ^ 64 - 5001) true) (Ok (answer.Sent 6 None))
+  it_fits : SendsOrRejects past (send (2 ^ 64 - 5001) true) (Ok (answer.Sent 6 None))
   it_fits = (λ large. large, λ over. elim over [ inl many ↦ omega (arith, many) | inr often ↦ omega (arith, often) ])
 
-  it_does_not_overflow : ¬ SendsUnless past (send 1200 true) (Err refusal.Overflow)
+  it_does_not_overflow : ¬ SendsOrRejects past (send 1200 true) (Err refusal.Overflow)
   it_does_not_overflow = λ told. elim told.1 [ inl many ↦ omega (arith, many) | inr often ↦ omega (arith, often) ]
 
-  too_large : SendsUnless past (event.Send Data 4 9 true (Some (2 ^ 62)) queue frames) (Err refusal.NumberTooLarge)
+  too_large : SendsOrRejects past (event.Send Data 4 9 true (Some (2 ^ 62)) queue frames) (Err refusal.NumberTooLarge)
   too_large = omega arith
 
-  no_other_cause : ¬ SendsUnless past (send 1200 true) (Err refusal.NotTracked)
+  no_other_cause : ¬ SendsOrRejects past (send 1200 true) (Err refusal.NotTracked)
   no_other_cause = λ told. told
 
   -- ---- silent packets: the first so many; no abbreviation, so that 1001 of them are not written out
@@ -147,20 +148,20 @@ module _ (Q S M P : Type 0) (queue : Q) (frames : M) where
   zero_first zero = refl
   zero_first (suc n) = behind_one (suc n) (since (suc n)) (zero_first n)
 
-  zero_is_forgotten : ForgetsOldest (silents 1001) (send 40 false) (Ok (answer.Sent 1001 (Some 0)))
+  zero_is_forgotten : ForgetsOldestNonEliciting (silents 1001) (send 40 false) (Ok (answer.Sent 1001 (Some 0)))
   zero_is_forgotten = rw (as_many 1001, zero_first 1000) refl
 
-  one_is_not_forgotten : ¬ ForgetsOldest (silents 1001) (send 40 false) (Ok (answer.Sent 1001 (Some 1)))
+  one_is_not_forgotten : ¬ ForgetsOldestNonEliciting (silents 1001) (send 40 false) (Ok (answer.Sent 1001 (Some 1)))
   one_is_not_forgotten = λ told. let is = rw (as_many 1001, zero_first 1000) at told in cc
 
-  none_of_a_thousand : ForgetsOldest (silents 1000) (send 40 false) (Ok (answer.Sent 1000 None))
+  none_of_a_thousand : ForgetsOldestNonEliciting (silents 1000) (send 40 false) (Ok (answer.Sent 1000 None))
   none_of_a_thousand = rw (as_many 1000) refl
 
   -- for a packet that elicits an ACK none is forgotten, nor is one that does
-  none_for_it : ForgetsOldest (silents 1001) (send 40 true) (Ok (answer.Sent 1001 None))
+  none_for_it : ForgetsOldestNonEliciting (silents 1001) (send 40 true) (Ok (answer.Sent 1001 None))
   none_for_it = refl
 
-  eliciting_is_not_forgotten : ¬ ForgetsOldest (sent 0 ∷ []) (send 40 false) (Ok (answer.Sent 1 (Some 0)))
+  eliciting_is_not_forgotten : ¬ ForgetsOldestNonEliciting (sent 0 ∷ []) (send 40 false) (Ok (answer.Sent 1 (Some 0)))
   eliciting_is_not_forgotten = λ told. cc
 
 -- ---- where no numbers are to be skipped: 0 went out
@@ -172,9 +173,9 @@ module _ {F K Q S M P : Type 0} (beginning : Beginning F K Q S M P) (queue : Q) 
   above_zero : (n : ℕ) → 1 ≤ n → times (is_given Data n) zero_sent ≡ 0
   above_zero = λ n above. grind (arith, nat_tests, above)
 
-  one_goes : SkipsNone beginning zero_sent (send Q S M P queue frames 1200 true) (Ok (answer.Sent 1 None))
+  one_goes : SkipsNoNumbers beginning zero_sent (send Q S M P queue frames 1200 true) (Ok (answer.Sent 1 None))
   one_goes = λ none space number goes m above. (let zero = above 0 in grind (arith, nat_tests, goes, zero))
 
   two_skips_one : beginning.config.skips ≡ Disabled
-      → ¬ SkipsNone beginning zero_sent (send Q S M P queue frames 1200 true) (Ok (answer.Sent 2 None))
+      → ¬ SkipsNoNumbers beginning zero_sent (send Q S M P queue frames 1200 true) (Ok (answer.Sent 2 None))
   two_skips_one = λ none skips. let small = skips none Data 2 refl 1 above_zero in omega (arith, small)

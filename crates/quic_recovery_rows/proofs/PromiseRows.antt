@@ -8,9 +8,9 @@ use Rattle.recovery_events.specs.declared.event.Event.TheVariants as event
 use Rattle.recovery_events.specs.declared.event.Answer.TheVariants as answer
 use Rattle.recovery_events.specs.declared.event.Refusal.TheVariants as refusal
 use Rattle.recovery_history.specs.History.{History, Reply}
-use Rattle.recovery_history.specs.Promises.NewNumbers.{CallsNew}
-use Rattle.recovery_history.specs.Promises.Once.{departures_of}
-use Rattle.recovery_history.specs.Promises.Timeouts.{TellsTimers}
+use Rattle.recovery_history.specs.Promises.NewNumbers.{DetectsDuplicates}
+use Rattle.recovery_history.specs.Promises.ResolvedOnce.{departures_of}
+use Rattle.recovery_history.specs.Promises.Timeouts.{ReportsNextTimeout}
 
 module _ (Q S M P : Type 0) where
   abbrev came : ℕ → Event Q S M P × Reply Q
@@ -21,22 +21,22 @@ module _ (Q S M P : Type 0) where
   abbrev numbers : History Q S M P
   numbers = (event.DiscardSpace Initial, Ok answer.Done) ∷ came 100 ∷ came 200 ∷ []
 
-  window_end : CallsNew numbers (event.Received Data 7 72 true) (Ok (answer.New false))
+  window_end : DetectsDuplicates numbers (event.Received Data 7 72 true) (Ok (answer.New false))
   window_end = refl
 
-  too_old : CallsNew numbers (event.Received Data 7 71 true) (Ok answer.Duplicate)
+  too_old : DetectsDuplicates numbers (event.Received Data 7 71 true) (Ok answer.Duplicate)
   too_old = refl
 
-  too_old_is_not_new : ¬ CallsNew numbers (event.Received Data 7 71 true) (Ok (answer.New true))
+  too_old_is_not_new : ¬ DetectsDuplicates numbers (event.Received Data 7 71 true) (Ok (answer.New true))
   too_old_is_not_new = λ e. cc
 
-  again_is_not_new : ¬ CallsNew numbers (event.Received Data 7 100 true) (Ok (answer.New true))
+  again_is_not_new : ¬ DetectsDuplicates numbers (event.Received Data 7 100 true) (Ok (answer.New true))
   again_is_not_new = λ e. cc
 
-  discarded : CallsNew numbers (event.Received Initial 7 0 true) (Err refusal.SpaceDiscarded)
+  discarded : DetectsDuplicates numbers (event.Received Initial 7 0 true) (Err refusal.SpaceDiscarded)
   discarded = refl
 
-  large : CallsNew numbers (event.Received Data 7 (2 ^ 62) true) (Err refusal.NumberTooLarge)
+  large : DetectsDuplicates numbers (event.Received Data 7 (2 ^ 62) true) (Err refusal.NumberTooLarge)
   large = refl
 
   -- ---- timers: Idle was set to 50 and Pacing to 20, and then Pacing was stopped
@@ -48,13 +48,13 @@ module _ (Q S M P : Type 0) where
       ∷ (event.SetTimer Idle 50, Ok answer.Done)
       ∷ []
 
-  least_is_told : TellsTimers timers event.NextTimeout (Ok (answer.Timeout (Some 50)))
+  least_is_told : ReportsNextTimeout timers event.NextTimeout (Ok (answer.Timeout (Some 50)))
   least_is_told = refl
 
-  first_set_is_wrong : ¬ TellsTimers timers event.NextTimeout (Ok (answer.Timeout (Some 20)))
+  first_set_is_wrong : ¬ ReportsNextTimeout timers event.NextTimeout (Ok (answer.Timeout (Some 20)))
   first_set_is_wrong = λ e. cc
 
-  both_set : TellsTimers ((event.SetTimer Pacing 30, Ok answer.Done) ∷ timers) event.NextTimeout
+  both_set : ReportsNextTimeout ((event.SetTimer Pacing 30, Ok answer.Done) ∷ timers) event.NextTimeout
       (Ok (answer.Timeout (Some 30)))
   both_set = refl
 

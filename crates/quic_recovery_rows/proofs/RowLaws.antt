@@ -4,8 +4,8 @@ use Rattle.std.proofs.Common.{◌≡◌, ◌∙◌, ℕ, Bool, not, true≢false
 use Rattle.std.proofs.lemmas.Bool.{eqb-false}
 use Rattle.recovery_acks.specs.Acks.{IsOutOfOrder}
 use Rattle.recovery_acks.specs.Runs.{Ascend, AtMost}
-use Rattle.recovery_base.specs.Numbers.{IsNew}
-use Rattle.recovery_ids.specs.RemoteIds.{Table, IsLeastHeld}
+use Rattle.recovery_base.specs.Numbers.{IsNewNumber}
+use Rattle.recovery_ids.specs.RemoteIds.{IdTable, IsLeastHeld}
 use Rattle.recovery_events.specs.declared.event.Answer.{Answer}
 use Rattle.recovery_events.specs.declared.event.Answer.TheVariants as answer
 
@@ -106,11 +106,11 @@ not_far {Numbers} two (inr (inr (more, (enough, (m, missing, far))))) =
     let is : m ≡ 2 = omega (arith, missing.0, far) in missing.2.0 (subst Numbers (sym is) two)
 
 -- a number that came before is not new, nor is one that lies too far below it
-pub came_again : {Numbers : ℕ → Type 0} (n : ℕ) → Numbers n → ¬ IsNew Numbers n
+pub came_again : {Numbers : ℕ → Type 0} (n : ℕ) → Numbers n → ¬ IsNewNumber Numbers n
 came_again n came (inl above) = lt_irrefl n (above n came)
 came_again n came (inr missing) = missing.0 came
 
-pub too_old : {Numbers : ℕ → Type 0} {n : ℕ} (m : ℕ) → Numbers m → n + 128 < m → ¬ IsNew Numbers n
+pub too_old : {Numbers : ℕ → Type 0} {n : ℕ} (m : ℕ) → Numbers m → n + 128 < m → ¬ IsNewNumber Numbers n
 too_old m came far (inl above) = let below = above m came in omega (arith, far, below)
 too_old m came far (inr missing) = let within = missing.1 m came in omega (arith, far, within)
 
@@ -131,7 +131,7 @@ pub taken : {a b c d limit low least most : ℕ} {Told : Type 0} → nat_lt a li
 taken first second third fourth told = (small first, (small second, (small third, (small fourth, told))))
 
 -- a frame moves the active number to the least one that is held
-pub moves : {held : Table} {active low start end : ℕ} {token : List ℕ} (next : ℕ) (id : List ℕ)
+pub moves : {held : IdTable} {active low start end : ℕ} {token : List ℕ} (next : ℕ) (id : List ℕ)
     → nat_lt active low ≡ true
     → start ≡ active → end ≡ min next (active + 8) → held next ≡ Some (id, Some token)
     → ((m : ℕ) → m < next → held m ≡ None)

@@ -8,16 +8,16 @@ use Rattle.recovery_config.specs.Settings.{settings_with}
 use Rattle.recovery_congestion.specs.declared.congestion.new_reno.NewReno.{NewReno}
 use Rattle.recovery_congestion.specs.NewReno.{reno_made, reno_words}
 use Rattle.recovery_congestion.specs.RenoSettings.{RenoSettings, default_reno}
-use Rattle.recovery_queue.specs.Queues.{QueueWords}
-use Rattle.recovery_skips.specs.declared.filter.Skips.{Skips}
+use Rattle.recovery_queue.specs.Queues.{QueueSemantics}
+use Rattle.recovery_packet_numbers.specs.declared.filter.Skips.{Skips}
 use Rattle.recovery_history.specs.declared.config.RecoveryConfig.{RecoveryConfig}
 use Rattle.recovery_events.specs.declared.event.Event.{Event}
 use Rattle.recovery_history.specs.Config.{config_with}
-use Rattle.recovery_history.specs.History.{Beginning, History, QueueMeaning, Reply, begins, queue_meaning}
-use Rattle.recovery_history.specs.Told.{Told}
+use Rattle.recovery_history.specs.History.{Beginning, History, QueueModel, Reply, begins, queue_model}
+use Rattle.recovery_history.specs.RepliesAfter.{RepliesAfter}
 
 -- numbered items; those that come are put behind those that were there
-abbrev pub item_words : QueueWords (List ℕ) (Unit {0})
+abbrev pub item_words : QueueSemantics (List ℕ) (Unit {0})
 item_words = record {
   empty = [];
   joined = λ items others. items ++ others;
@@ -25,8 +25,8 @@ item_words = record {
       length items == 0;
 }
 
-abbrev pub items : QueueMeaning (List ℕ) (Unit {0}) (Unit {0}) (List ℕ)
-items = queue_meaning (λ queue. queue) item_words tt
+abbrev pub items : QueueModel (List ℕ) (Unit {0}) (Unit {0}) (List ℕ)
+items = queue_model (λ queue. queue) item_words tt
 
 abbrev pub RowEvent : Type 0
 RowEvent = Event (List ℕ) (Unit {0}) (Unit {0}) (List ℕ)
@@ -63,7 +63,7 @@ row_start remote random cid_len skips = begins reno_made reno_words items (row_c
 -- each event of a history was told what those before it say
 abbrev pub AllTold : RowStart → RowHistory → Type 0
 AllTold start [] = Unit {0}
-AllTold start (happened ∷ earlier) = AllTold start earlier × Told start earlier happened.0 happened.1
+AllTold start (happened ∷ earlier) = AllTold start earlier × RepliesAfter start earlier happened.0 happened.1
 
 -- what came before, and behind it what comes next
 infixl 5 ◌⊳◌

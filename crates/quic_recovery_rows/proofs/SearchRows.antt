@@ -8,22 +8,22 @@ use Rattle.std.specs.declared.net.socket_addr.SocketAddr.{SocketAddr}
 use Rattle.rand_core.specs.Stream.{Stream}
 use Rattle.recovery_base.specs.declared.below.SpaceId.TheVariants.{Data, Handshake}
 use Rattle.recovery_mtud.specs.declared.config.MtuDiscoveryConfig.{MtuDiscoveryConfig}
-use Rattle.recovery_skips.specs.declared.filter.Skips.TheVariants.{Disabled}
+use Rattle.recovery_packet_numbers.specs.declared.filter.Skips.TheVariants.{Disabled}
 use Rattle.recovery_events.specs.declared.event.Event.{Event}
 use Rattle.recovery_events.specs.declared.event.Event.TheVariants as event
 use Rattle.recovery_events.specs.declared.event.Answer.TheVariants as answer
 use Rattle.recovery_events.specs.declared.event.Refusal.TheVariants as refusal
 use Rattle.recovery_history.specs.History.{Beginning, History, Reply}
 use Rattle.recovery_history.specs.Promises.Bursts.{open_run, size_of}
-use Rattle.recovery_history.specs.Promises.Few.{ProbesFew, is_in_flight, sizes_probed}
+use Rattle.recovery_history.specs.Promises.ProbeCount.{BoundsProbeCount, is_in_flight, sizes_probed}
 use Rattle.recovery_history.specs.Promises.Halving.{HalvesSizes, next_size}
-use Rattle.recovery_history.specs.Promises.Holes.{ReportsAtFour}
+use Rattle.recovery_history.specs.Promises.BlackHoles.{ReportsBlackHoleAtFour}
 use Rattle.recovery_history.specs.Promises.Mtu.{mtu}
-use Rattle.recovery_history.specs.Promises.Near.{IsNear, next, start}
+use Rattle.recovery_history.specs.Promises.Convergence.{IsNear, next, start}
 use Rattle.recovery_history.specs.Promises.Probes.{acked_probes, lost_probes}
-use Rattle.recovery_history.specs.Promises.Sizes.{ProbesWithin}
-use Rattle.recovery_history.specs.Promises.Tries.{TriesThrice}
-use Rattle.recovery_history.specs.Promises.Turns.{SearchesInTurn}
+use Rattle.recovery_history.specs.Promises.ProbeSizes.{BoundsProbeSize}
+use Rattle.recovery_history.specs.Promises.ProbesPerSize.{ProbesSizeAtMostThrice}
+use Rattle.recovery_history.specs.Promises.OneProbe.{OneProbeAtATime}
 use Rattle.recovery_history.specs.Search.{discovery_settings}
 use Rattle.quic_recovery_rows.proofs.RowStart.{RowHistory, row_start}
 
@@ -37,25 +37,26 @@ module _ {F K Q S M P : Type 0} (beginning : Beginning F K Q S M P) (settings : 
   polls (suc n) size = (event.Lost Data n, Ok (answer.Lost true)) ∷
       (event.PollMtu n, Ok (answer.Probe n (size n))) ∷ polls n size
 
-  one_more_fits : ProbesFew beginning (polls 47 (λ n. 1300)) (event.PollMtu 60) (Ok (answer.Probe 60 1301))
+  one_more_fits : BoundsProbeCount beginning (polls 47 (λ n. 1300)) (event.PollMtu 60) (Ok (answer.Probe 60 1301))
   one_more_fits = λ own same wide. (omega arith, omega arith)
 
-  probe_49 : ¬ ProbesFew beginning (polls 48 (λ n. 1300)) (event.PollMtu 60) (Ok (answer.Probe 60 1301))
+  probe_49 : ¬ BoundsProbeCount beginning (polls 48 (λ n. 1300)) (event.PollMtu 60) (Ok (answer.Probe 60 1301))
   probe_49 = λ few. let many = (few settings is change).0 in omega (arith, many)
 
-  size_17 : ¬ ProbesFew beginning (polls 16 (λ n. n)) (event.PollMtu 60) (Ok (answer.Probe 60 1301))
+  size_17 : ¬ BoundsProbeCount beginning (polls 16 (λ n. n)) (event.PollMtu 60) (Ok (answer.Probe 60 1301))
   size_17 = λ few. let many = (few settings is change).1 in omega (arith, many)
 
   -- a search that ended counts no more
-  after_its_end : ProbesFew beginning ((event.PollMtu 50, Ok answer.NoProbe) ∷ polls 48 (λ n. 1300)) (event.PollMtu 60)
+  after_its_end : BoundsProbeCount beginning ((event.PollMtu 50, Ok answer.NoProbe) ∷ polls 48 (λ n. 1300))
+      (event.PollMtu 60)
       (Ok (answer.Probe 60 1301))
   after_its_end = λ own same wide. (omega arith, omega arith)
 
   -- a third try of a size, and a fourth one
-  third_try : TriesThrice beginning (polls 2 (λ n. 1300)) (event.PollMtu 60) (Ok (answer.Probe 60 1300))
+  third_try : ProbesSizeAtMostThrice beginning (polls 2 (λ n. 1300)) (event.PollMtu 60) (Ok (answer.Probe 60 1300))
   third_try = λ own same wide size. grind (arith, nat_tests)
 
-  fourth_try : ¬ TriesThrice beginning (polls 3 (λ n. 1300)) (event.PollMtu 60) (Ok (answer.Probe 60 1300))
+  fourth_try : ¬ ProbesSizeAtMostThrice beginning (polls 3 (λ n. 1300)) (event.PollMtu 60) (Ok (answer.Probe 60 1300))
   fourth_try = λ thrice. let many = thrice settings is change 1300 in omega (arith, many)
 
 one_all : (Holds : ℕ → Type 0) (n : ℕ) → Holds n → All Holds (n ∷ [])
@@ -136,7 +137,7 @@ module _ (Q S M P : Type 0) where
 module _ (remote : SocketAddr) (random : Stream) where
   abbrev Fits : RowHistory → ℕ → Type 0
   Fits history size =
-      ProbesWithin (row_start remote random 8 Disabled) history (event.PollMtu 9) (Ok (answer.Probe 9 size))
+      BoundsProbeSize (row_start remote random 8 Disabled) history (event.PollMtu 9) (Ok (answer.Probe 9 size))
 
   up_to_the_bound : Fits [] 1452
   up_to_the_bound = (omega arith, omega arith, λ settings is wide. grind arith)
@@ -144,7 +145,8 @@ module _ (remote : SocketAddr) (random : Stream) where
   above_the_bound : ¬ Fits [] 1453
   above_the_bound = λ fits. let within = fits.1 in omega (arith, within)
 
-  it_does_not_overflow : ¬ ProbesWithin (row_start remote random 8 Disabled) [] (event.PollMtu 9) (Err refusal.Overflow)
+  it_does_not_overflow : ¬ BoundsProbeSize (row_start remote random 8 Disabled) [] (event.PollMtu 9)
+      (Err refusal.Overflow)
   it_does_not_overflow = λ over. let small = over.1 in elim over.2 [
     | inl many ↦ omega (arith, small, many)
     | inr often ↦ omega (arith, often)
@@ -244,38 +246,38 @@ module _ {F K Q S M P : Type 0} (beginning : Beginning F K Q S M P) where
   abbrev one_out : History Q S M P
   one_out = (event.PollMtu 2, Ok (answer.Probe 7 1389)) ∷ []
 
-  its_own_number : SearchesInTurn beginning one_out (event.Acked Data 5 7 false) (Ok (answer.Acked true))
+  its_own_number : OneProbeAtATime beginning one_out (event.Acked Data 5 7 false) (Ok (answer.Acked true))
   its_own_number = refl
 
-  another_number : SearchesInTurn beginning one_out (event.Lost Data 6) (Ok (answer.Lost false))
+  another_number : OneProbeAtATime beginning one_out (event.Lost Data 6) (Ok (answer.Lost false))
   another_number = refl
 
-  not_another_number : ¬ SearchesInTurn beginning one_out (event.Lost Data 6) (Ok (answer.Lost true))
+  not_another_number : ¬ OneProbeAtATime beginning one_out (event.Lost Data 6) (Ok (answer.Lost true))
   not_another_number = λ told. cc
 
-  not_in_another_space : ¬ SearchesInTurn beginning one_out (event.Acked Handshake 5 7 false) (Ok (answer.Acked true))
+  not_in_another_space : ¬ OneProbeAtATime beginning one_out (event.Acked Handshake 5 7 false) (Ok (answer.Acked true))
   not_in_another_space = λ told. cc
 
-  no_second : ¬ SearchesInTurn beginning one_out (event.PollMtu 3) (Ok (answer.Probe 8 1400))
+  no_second : ¬ OneProbeAtATime beginning one_out (event.PollMtu 3) (Ok (answer.Probe 8 1400))
   no_second = λ told. let quiet : true ≡ false = told.0 in cc
 
-  no_limit_now : SearchesInTurn beginning one_out (event.PeerLimit 1300) (Err refusal.Searching)
+  no_limit_now : OneProbeAtATime beginning one_out (event.PeerLimit 1300) (Err refusal.Searching)
   no_limit_now = refl
 
-  not_taken : ¬ SearchesInTurn beginning one_out (event.PeerLimit 1300) (Ok answer.Done)
+  not_taken : ¬ OneProbeAtATime beginning one_out (event.PeerLimit 1300) (Ok answer.Done)
   not_taken = λ told. cc
 
-  taken_before : SearchesInTurn beginning [] (event.PeerLimit 1300) (Ok answer.Done)
+  taken_before : OneProbeAtATime beginning [] (event.PeerLimit 1300) (Ok answer.Done)
   taken_before = refl
 
-  not_refused_before : ¬ SearchesInTurn beginning [] (event.PeerLimit 1300) (Err refusal.Searching)
+  not_refused_before : ¬ OneProbeAtATime beginning [] (event.PeerLimit 1300) (Err refusal.Searching)
   not_refused_before = λ told. cc
 
   -- a limit of nothing is no limit, and no other one is refused so
-  none_at_all : SearchesInTurn beginning one_out (event.PeerLimit 0) (Err refusal.ZeroMtu)
+  none_at_all : OneProbeAtATime beginning one_out (event.PeerLimit 0) (Err refusal.ZeroMtu)
   none_at_all = refl
 
-  not_for_nothing : ¬ SearchesInTurn beginning [] (event.PeerLimit 1300) (Err refusal.ZeroMtu)
+  not_for_nothing : ¬ OneProbeAtATime beginning [] (event.PeerLimit 1300) (Err refusal.ZeroMtu)
   not_for_nothing = λ told. cc
 
 module _ (Q S M P : Type 0) (queue : Q) (frames : M) where
@@ -330,29 +332,32 @@ module _ (Q S M P : Type 0) (queue : Q) (frames : M) where
       ≡ record { number = 5; bytes = 1400 } ∷ record { number = 4; bytes = 1400 } ∷ []
   one_run = refl
 
-  reported : ReportsAtFour 1200 four_lost (event.LossesDone 9) (Ok (answer.BlackHole true))
+  reported : ReportsBlackHoleAtFour 1200 four_lost (event.LossesDone 9) (Ok (answer.BlackHole true))
   reported = (λ is. omega arith, λ four. refl)
 
-  never_is_wrong : ¬ ReportsAtFour 1200 four_lost (event.LossesDone 9) (Ok (answer.BlackHole false))
+  never_is_wrong : ¬ ReportsBlackHoleAtFour 1200 four_lost (event.LossesDone 9) (Ok (answer.BlackHole false))
   never_is_wrong = λ e. let is = e.1 refl in cc
 
-  three_are_none : ReportsAtFour 1200 three_lost (event.LossesDone 9) (Ok (answer.BlackHole false))
+  three_are_none : ReportsBlackHoleAtFour 1200 three_lost (event.LossesDone 9) (Ok (answer.BlackHole false))
   three_are_none = (λ is. cc, λ four. absurd (cc))
 
-  three_is_wrong : ¬ ReportsAtFour 1200 three_lost (event.LossesDone 9) (Ok (answer.BlackHole true))
+  three_is_wrong : ¬ ReportsBlackHoleAtFour 1200 three_lost (event.LossesDone 9) (Ok (answer.BlackHole true))
   three_is_wrong = λ e. let four = e.0 refl in omega (arith, four)
 
   -- numbers that follow on one another are one burst
-  joined_is_wrong : ¬ ReportsAtFour 1200 (lost 5 ∷ three_lost) (event.LossesDone 9) (Ok (answer.BlackHole true))
+  joined_is_wrong : ¬ ReportsBlackHoleAtFour 1200 (lost 5 ∷ three_lost) (event.LossesDone 9)
+      (Ok (answer.BlackHole true))
   joined_is_wrong = λ e. let four = e.0 refl in omega (arith, four)
 
   -- a packet no smaller that was acknowledged refutes those before it
-  refuted_is_wrong : ¬ ReportsAtFour 1200 (lost 6 ∷ (event.Acked Data 8 5 false, Ok (answer.Acked false)) ∷ three_lost)
+  refuted_is_wrong : ¬ ReportsBlackHoleAtFour 1200 (lost 6 ∷ (event.Acked Data 8 5 false, Ok (answer.Acked false)) ∷
+      three_lost)
       (event.LossesDone 9) (Ok (answer.BlackHole true))
   refuted_is_wrong = λ e. let four = e.0 refl in omega (arith, four)
 
   -- a refused acknowledgement refutes none
-  refused_is_none : ¬ ReportsAtFour 1200 (lost 6 ∷ (event.Acked Data 8 9 false, Err refusal.NotTracked) ∷ three_lost)
+  refused_is_none : ¬ ReportsBlackHoleAtFour 1200 (lost 6 ∷ (event.Acked Data 8 9 false, Err refusal.NotTracked) ∷
+      three_lost)
       (event.LossesDone 9) (Ok (answer.BlackHole false))
   refused_is_none = λ e. let is = e.1 refl in cc
 
@@ -367,9 +372,10 @@ module _ (Q S M P : Type 0) (queue : Q) (frames : M) where
   abbrev small_between : History Q S M P
   small_between = lost 6 ∷ acked 3 ∷ lost 4 ∷ acked 1 ∷ lost 2 ∷ lost 0 ∷ small 3 ∷ small 1 ∷ all_sent
 
-  found_is_told : ¬ ReportsAtFour 1200 small_between (event.LossesDone 9) (Ok (answer.BlackHole false))
+  found_is_told : ¬ ReportsBlackHoleAtFour 1200 small_between (event.LossesDone 9) (Ok (answer.BlackHole false))
   found_is_told = λ e. let is = e.1 refl in cc
 
   -- a large one in between leaves nothing to report
-  large_between : ReportsAtFour 1200 (lost 6 ∷ acked 5 ∷ three_lost) (event.LossesDone 9) (Ok (answer.BlackHole false))
+  large_between : ReportsBlackHoleAtFour 1200 (lost 6 ∷ acked 5 ∷ three_lost) (event.LossesDone 9)
+      (Ok (answer.BlackHole false))
   large_between = (λ is. cc, λ four. absurd (cc))

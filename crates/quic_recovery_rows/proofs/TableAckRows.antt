@@ -4,19 +4,19 @@ use Rattle.std.proofs.Common.{ltb-true, ◌≡◌, ℕ, ◌≤◌, ◌^◌, true
 use Rattle.std.specs.declared.net.socket_addr.SocketAddr.{SocketAddr}
 use Rattle.rand_core.specs.Stream.{Stream}
 use Rattle.recovery_base.specs.declared.below.SpaceId.TheVariants.{Initial, Data}
-use Rattle.recovery_skips.specs.declared.filter.Skips.TheVariants.{Disabled, Starting}
-use Rattle.recovery_skips.specs.Skips.{skip_before}
-use Rattle.recovery_skips.proofs.SkipLaws.{behind_not_skipped}
+use Rattle.recovery_packet_numbers.specs.declared.filter.Skips.TheVariants.{Disabled, Starting}
+use Rattle.recovery_packet_numbers.specs.Skips.{skip_before}
+use Rattle.recovery_packet_numbers.proofs.SkipLaws.{behind_not_skipped}
 use Rattle.recovery_events.specs.declared.event.Event.TheVariants as event
 use Rattle.recovery_events.specs.declared.event.Answer.TheVariants as answer
 use Rattle.recovery_events.specs.declared.event.Refusal.TheVariants as refusal
-use Rattle.recovery_history.specs.Told.{Told}
+use Rattle.recovery_history.specs.RepliesAfter.{RepliesAfter}
 use Rattle.quic_recovery_rows.proofs.RowStart.{ack_frame, RowEvent, RowReply, RowHistory, row_start, AllTold, ◌⊳◌}
 use Rattle.quic_recovery_rows.proofs.RowLaws.{unrefused, small, fits, calm, at_first, starts, stays, in_turn, one_run, unlike, uneven, some_is_none}
 
 module _ (remote : SocketAddr) (random : Stream) where
   abbrev RowTold : RowHistory → RowEvent → RowReply → Type 0
-  RowTold = Told (row_start remote random 8 Disabled)
+  RowTold = RepliesAfter (row_start remote random 8 Disabled)
 
   abbrev TellsAll : RowHistory → Type 0
   TellsAll = AllTold (row_start remote random 8 Disabled)
@@ -253,7 +253,7 @@ module _ (remote : SocketAddr) (random : Stream) where
   -- the first number is skipped: that shows once the number behind it was given out
 
   abbrev SkipsTells : RowHistory → RowEvent → RowReply → Type 0
-  SkipsTells = Told (row_start remote random 8 (Starting 0))
+  SkipsTells = RepliesAfter (row_start remote random 8 (Starting 0))
 
   zero_was_skipped : skip_before (Starting 0) random 2 ≡ Some 0
   zero_was_skipped = ap (λ b. if b then Some 1 else Some 0) (behind_not_skipped (Starting 0) random 0 refl)

@@ -5,18 +5,18 @@ use Rattle.std.specs.Global.{Vec}
 use Rattle.rand_core.specs.Stream.{Stream}
 use Rattle.recovery_base.specs.declared.below.ids.IssuedCid.{IssuedCid}
 use Rattle.recovery_base.specs.declared.timer.Timer.TheVariants.{Idle, Pacing}
-use Rattle.recovery_skips.specs.declared.filter.Skips.TheVariants.{Disabled}
+use Rattle.recovery_packet_numbers.specs.declared.filter.Skips.TheVariants.{Disabled}
 use Rattle.recovery_events.specs.declared.event.Event.TheVariants as event
 use Rattle.recovery_events.specs.declared.event.Answer.TheVariants as answer
 use Rattle.recovery_events.specs.declared.event.Refusal.TheVariants as refusal
 use Rattle.recovery_history.specs.Promises.Lifetimes.{AsksToRetire}
-use Rattle.recovery_history.specs.Told.{Told}
+use Rattle.recovery_history.specs.RepliesAfter.{RepliesAfter}
 use Rattle.quic_recovery_rows.proofs.RowStart.{RowEvent, RowReply, RowHistory, row_start, AllTold, ◌⊳◌}
 use Rattle.quic_recovery_rows.proofs.RowLaws.{small, starts, stays, differ, unlike}
 
 module _ (remote : SocketAddr) (random : Stream) (given : Vec IssuedCid) where
   abbrev RowTold : RowHistory → RowEvent → RowReply → Type 0
-  RowTold = Told (row_start remote random 8 Disabled)
+  RowTold = RepliesAfter (row_start remote random 8 Disabled)
 
   abbrev TellsAll : RowHistory → Type 0
   TellsAll = AllTold (row_start remote random 8 Disabled)
@@ -83,7 +83,7 @@ module _ (remote : SocketAddr) (random : Stream) (given : Vec IssuedCid) where
   no_ids_are_issued = (small refl, (λ other. other refl, refl))
 
   -- where ids have no bytes none is retired
-  none_in_use : Told (row_start remote random 0 Disabled) [] (event.PeerRetired 9 5) (Err refusal.CidsNotInUse)
+  none_in_use : RepliesAfter (row_start remote random 0 Disabled) [] (event.PeerRetired 9 5) (Err refusal.CidsNotInUse)
   none_in_use = refl
 
   -- ---- ids of one moment have one deadline

@@ -9,20 +9,20 @@ use Rattle.recovery_congestion.specs.NewReno.{reno_words}
 use Rattle.recovery_congestion.specs.PacerLog.{balance_in}
 use Rattle.recovery_congestion.specs.Pacing.{PacerCall}
 use Rattle.recovery_congestion.proofs.PaidLogLaws.{delays_uncovered, pays_in_full, pays_rate}
-use Rattle.recovery_paths.specs.PathLog.{PathPast, state_of}
+use Rattle.recovery_paths.specs.PathLog.{PathHistory, path_state_of}
 use Rattle.recovery_paths.specs.PathStates.{pacer_call}
 use Rattle.recovery_paths.specs.declared.path_pair.PathName.TheVariants.{Current, Previous}
-use Rattle.recovery_skips.specs.declared.filter.Skips.TheVariants.{Disabled}
+use Rattle.recovery_packet_numbers.specs.declared.filter.Skips.TheVariants.{Disabled}
 use Rattle.recovery_events.specs.declared.event.Event.TheVariants as event
 use Rattle.recovery_events.specs.declared.event.Answer.TheVariants as answer
-use Rattle.recovery_history.specs.Pacing.{DelaysExactly, PaysAtRate}
-use Rattle.recovery_history.specs.Told.{Told, pasts_of}
+use Rattle.recovery_history.specs.Pacing.{DelaysExactly, BoundsPaidRate}
+use Rattle.recovery_history.specs.RepliesAfter.{RepliesAfter, pasts_of}
 use Rattle.quic_recovery_rows.proofs.RowStart.{RowEvent, RowReply, RowHistory, row_start, AllTold, ◌⊳◌}
 use Rattle.quic_recovery_rows.proofs.RowLaws.{unrefused, small, unlike, uneven}
 
 module _ (remote : SocketAddr) (random : Stream) where
   abbrev RowTold : RowHistory → RowEvent → RowReply → Type 0
-  RowTold = Told (row_start remote random 8 Disabled)
+  RowTold = RepliesAfter (row_start remote random 8 Disabled)
 
   abbrev TellsAll : RowHistory → Type 0
   TellsAll = AllTold (row_start remote random 8 Disabled)
@@ -219,11 +219,11 @@ module _ (remote : SocketAddr) (random : Stream) where
   debt_is_wrong = λ told. uneven told.1 refl
 
   -- the promises say the same of the path in use and its pacer's call
-  abbrev path : RowHistory → PathPast NewReno
+  abbrev path : RowHistory → PathHistory NewReno
   path history = (pasts_of (row_start remote random 8 Disabled) history).current
 
   abbrev asks : RowHistory → ℕ → PacerCall
-  asks history now = pacer_call reno_words (state_of (path history)) now 1200
+  asks history now = pacer_call reno_words (path_state_of (path history)) now 1200
 
   abbrev probed : RowHistory
   probed = drop 2 overdrawn
@@ -235,7 +235,7 @@ module _ (remote : SocketAddr) (random : Stream) where
   RowDelays = DelaysExactly (row_start remote random 8 Disabled)
 
   abbrev RowPays : RowHistory → RowEvent → RowReply → Type 0
-  RowPays = PaysAtRate (row_start remote random 8 Disabled)
+  RowPays = BoundsPaidRate (row_start remote random 8 Disabled)
 
   waits : RowDelays probed (event.Transmit 0 1200 true) (Ok (answer.Delayed 266400000))
   waits = delays_uncovered _ (path probed).pacing (asks probed 0) refl

@@ -10,19 +10,19 @@ use Rattle.rand_core.specs.Stream.{Stream}
 use Rattle.recovery_base.specs.declared.below.SpaceId.TheVariants.{Initial, Handshake, Data}
 use Rattle.recovery_congestion.specs.declared.congestion.new_reno.NewReno.{NewReno}
 use Rattle.recovery_history.specs.Promises.NewNumbers.{is_discarded}
-use Rattle.recovery_ledger.specs.InFlight.{size_in, eliciting_in}
-use Rattle.recovery_ledger.specs.declared.paths.InFlight.{InFlight}
-use Rattle.recovery_ledger.specs.SpaceLog.{SpaceEntry}
-use Rattle.recovery_ledger.specs.Packets.{Packet, Packets, is_silent_above, silent_above, least_number, forgotten_number, without_some}
-use Rattle.recovery_ledger.specs.Tracked.{Sent, packet_sent, sent_by, sent_more}
+use Rattle.recovery_spaces.specs.InFlight.{size_in, eliciting_in}
+use Rattle.recovery_spaces.specs.declared.paths.InFlight.{InFlight}
+use Rattle.recovery_spaces.specs.SpaceLog.{SpaceEntry}
+use Rattle.recovery_spaces.specs.Packets.{Packet, Packets, is_silent_above, silent_above, least_number, forgotten_number, without_some}
+use Rattle.recovery_spaces.specs.Tracked.{SentState, packet_sent, sent_by, sent_more}
 use Rattle.recovery_paths.specs.declared.path_pair.PathName.TheVariants.{Current}
-use Rattle.recovery_skips.specs.Skips.{is_at, next_skip, skip_at, skips_below, number_from}
-use Rattle.recovery_skips.specs.declared.filter.Skips.TheVariants.{Disabled}
+use Rattle.recovery_packet_numbers.specs.Skips.{is_at, next_skip, skip_at, skips_below, number_from}
+use Rattle.recovery_packet_numbers.specs.declared.filter.Skips.TheVariants.{Disabled}
 use Rattle.recovery_events.specs.declared.event.Event.TheVariants as event
 use Rattle.recovery_events.specs.declared.event.Answer.{Answer}
 use Rattle.recovery_events.specs.declared.event.Answer.TheVariants as answer
-use Rattle.recovery_history.specs.Told.{logs_of, known_by, Logs, Told}
-use Rattle.recovery_history.specs.Known.{Known, current_in_flight}
+use Rattle.recovery_history.specs.RepliesAfter.{logs_of, inputs_after, Logs, RepliesAfter}
+use Rattle.recovery_history.specs.ReplyInputs.{ReplyInputs, current_in_flight}
 use Rattle.quic_recovery_rows.proofs.RowStart.{RowEvent, RowReply, RowHistory, item_words, row_start}
 use Rattle.quic_recovery_rows.proofs.RowLaws.{unrefused, some_is_none, said}
 
@@ -100,7 +100,7 @@ none_behind (suc n) = sum_by-append (eliciting_in 0) (behind n) ((suc n, silent)
 
 module _ (remote : SocketAddr) (random : Stream) where
   abbrev RowTold : RowHistory → RowEvent → RowReply → Type 0
-  RowTold = Told (row_start remote random 8 Disabled)
+  RowTold = RepliesAfter (row_start remote random 8 Disabled)
 
   abbrev send : RowEvent
   send = event.Send Data 0 40 false None [] tt
@@ -113,7 +113,7 @@ module _ (remote : SocketAddr) (random : Stream) where
   logs n = logs_of (row_start remote random 8 Disabled) (silents n)
 
   abbrev generation : ℕ → ℕ
-  generation n = (known_by (row_start remote random 8 Disabled) (silents n)).paths.current.generation
+  generation n = (inputs_after (row_start remote random 8 Disabled) (silents n)).paths.current.generation
 
   none_skipped : (k : ℕ) → (skip_at Disabled random k).0 ≡ None
   none_skipped zero = refl
@@ -162,8 +162,8 @@ module _ (remote : SocketAddr) (random : Stream) where
   abbrev Entry : Type 0
   Entry = SpaceEntry (List ℕ) (Unit {0})
 
-  abbrev known : ℕ → Known NewReno (List ℕ) (Unit {0})
-  known n = known_by (row_start remote random 8 Disabled) (silents n)
+  abbrev known : ℕ → ReplyInputs NewReno (List ℕ) (Unit {0})
+  known n = inputs_after (row_start remote random 8 Disabled) (silents n)
 
   -- the counters, with these packets in the space of 1-RTT packets and none in the others
   abbrev counters : ℕ → List Entry → List Entry → Packets (List ℕ) (Unit {0}) → InFlight
@@ -252,7 +252,7 @@ module _ (remote : SocketAddr) (random : Stream) where
   abbrev flight : InFlight → Answer (List ℕ)
   flight counters = answer.InFlight counters.bytes counters.ack_eliciting
 
-  abbrev flight_then : ℕ → List Entry → List Entry → Sent (List ℕ) (Unit {0}) → Answer (List ℕ)
+  abbrev flight_then : ℕ → List Entry → List Entry → SentState (List ℕ) (Unit {0}) → Answer (List ℕ)
   flight_then first initial handshake sent =
       flight (counters first initial handshake
       (sent_more (number_from Disabled random sent.next) (packet_sent first 0 40 false None [] tt) sent).tracked)

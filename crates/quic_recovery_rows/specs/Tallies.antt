@@ -1,9 +1,9 @@
 -- The contents of a tally: how many bytes wait to be sent again (RFC 9000, 13.3).
 use Rattle.std.specs.Prelude.{ℕ, ◌+◌, ◌==◌, ◌||◌, not, Bool}
-use Rattle.recovery_queue.specs.Queues.{QueueWords}
+use Rattle.recovery_queue.specs.Queues.{QueueSemantics}
 
 -- bytes are added up; where their stream is closed nothing is to be sent
-abbrev pub tally_words : QueueWords ℕ Bool
+abbrev pub tally_words : QueueSemantics ℕ Bool
 tally_words = record {
   empty = 0;
   joined = λ bytes others. bytes + others;

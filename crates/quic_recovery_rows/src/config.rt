@@ -1,6 +1,6 @@
 //! The settings of runs.
 ghost use Rattle.std.specs.Prelude.{◌≡◌};
-ghost use Rattle.recovery_skips.specs.Skips.{IsSkips};
+ghost use Rattle.recovery_packet_numbers.specs.Skips.{IsSkips};
 
 use quic_recovery::RecoveryConfig;
 use quic_recovery::config::TransportConfig;
@@ -8,7 +8,7 @@ use quic_recovery::congestion::NewRenoConfig;
 use rand_core::SeedableRng;
 use rand_pcg::Pcg32;
 use recovery_base::below::ConnectionId;
-use recovery_skips::Skips;
+use recovery_packet_numbers::Skips;
 use std::net::{IpAddr, Ipv4Addr, SocketAddr};
 
 /// The settings of the replay program, but for the bytes of this end's ids, and that no number is skipped.

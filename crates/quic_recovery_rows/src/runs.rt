@@ -1,6 +1,6 @@
 //! Runs of rows, and what is wrong with them.
 ghost use Rattle.std.specs.Prelude.{◌≡◌, ◌<◌};
-ghost use Rattle.recovery_skips.specs.Skips.{IsSkips};
+ghost use Rattle.recovery_packet_numbers.specs.Skips.{IsSkips};
 
 use crate::events::{Event, Given, Reply, at};
 use crate::refusals::is;

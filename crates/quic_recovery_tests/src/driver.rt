@@ -1,7 +1,7 @@
 //! What events leave of a connection, and what they are replied where no line of a script shows it: its packets, ids
 //! and timers.
 ghost use Rattle.std.specs.Prelude.{◌≡◌, ◌<◌};
-ghost use Rattle.recovery_skips.specs.Skips.{IsSkips};
+ghost use Rattle.recovery_packet_numbers.specs.Skips.{IsSkips};
 
 use quic_recovery::config::TransportConfig;
 use quic_recovery::congestion::{ControllerFactory, NewRenoConfig};
@@ -16,7 +16,7 @@ use rand_core::Rng;
 use recovery_base::below::{AckFrequency, EcnCounts, SpaceId, VarInt};
 use recovery_base::time::Duration;
 use recovery_base::timer::Timer;
-use recovery_skips::Skips;
+use recovery_packet_numbers::Skips;
 use std::alloc::Global;
 use std::process::Abort;
 

@@ -7,11 +7,11 @@ use Rattle.std.proofs.lemmas.Bool.Decides.{nat_tests}
 use Rattle.recovery_base.specs.Numbers.{IsMissing}
 use Rattle.recovery_base.proofs.MissingLaws.{least_missing_by}
 use Rattle.recovery_base.specs.Ranges.{InRanges}
-use Rattle.recovery_acks.specs.Acks.{Acks, HasReached, IsOutOfOrder, Receives, ReceivesEliciting, counted}
+use Rattle.recovery_acks.specs.Acks.{Acks, IsAtLeastSome, IsOutOfOrder, ReceivesPacket, ReceivesEliciting, counted}
 
 -- the greatest number has been reached where both have
-pub reaches : (Known : ℕ → Type 0) (before : Option ℕ) (number : ℕ) → HasReached Known number
-    → IfSome before (HasReached Known) → HasReached Known (max (unwrap_or before 0) number)
+pub reaches : (Known : ℕ → Type 0) (before : Option ℕ) (number : ℕ) → IsAtLeastSome Known number
+    → IfSome before (IsAtLeastSome Known) → IsAtLeastSome Known (max (unwrap_or before 0) number)
 reaches Known None number reached earlier = (reached.0, reached.1, omega arith)
 reaches Known (Some k) number reached earlier = elim (cases_lt k number) [
   | inl below ↦ (reached.0, reached.1, omega arith)
@@ -20,7 +20,7 @@ reaches Known (Some k) number reached earlier = elim (cases_lt k number) [
 
 pub eliciting_receives : (Known : ℕ → Type 0) (old new : Acks) (now number : ℕ) (ack_eliciting arm : Bool)
     → ack_eliciting ≡ true → ReceivesEliciting Known old now number arm new
-    → Receives Known old now number ack_eliciting arm new
+    → ReceivesPacket Known old now number ack_eliciting arm new
 eliciting_receives Known old new now number true arm is received = received
 eliciting_receives Known old new now number false arm is received = absurd (false≢true is)
 

@@ -4,7 +4,7 @@ use Rattle.std.specs.declared.ops.Range.{Range}
 use Rattle.std.proofs.lemmas.Bool.{cases_lt}
 use Rattle.std.specs.Prelude.{Bool, IfNone}
 use Rattle.std.specs.Option.{option_to_list}
-use Rattle.recovery_base.specs.Numbers.{With}
+use Rattle.recovery_base.specs.Numbers.{InsertNumber}
 use Rattle.recovery_base.specs.Ranges.{InRanges, AreApart, InsertsOne}
 use Rattle.recovery_base.proofs.WindowLaws.{iff_trans}
 use Rattle.recovery_base.proofs.RangeLaws.{Ranges, in_above, apart_rest}
@@ -111,18 +111,20 @@ highest_alike alike count n =
 -- ---- a number more
 
 module _ {old mid : Ranges} {number : ℕ} {is_new : Bool} (inserted : InsertsOne old number is_new mid) where
-  pub inserted_kept : length mid ≤ 64 → (n : ℕ) → InRanges mid n ↔ IsInHighest 64 (With number (InRanges old)) n
+  pub inserted_kept : length mid ≤ 64 → (n : ℕ) → InRanges mid n ↔ IsInHighest 64 (InsertNumber number (InRanges old)) n
   inserted_kept few n = iff_trans (highest_all mid inserted.apart few n) (highest_alike inserted.numbers 64 n)
 
   pub inserted_cut : length old ≤ 64 → 64 < length mid → (popped : Option (Range ℕ)) (new : Ranges)
       → mid ≡ option_to_list popped ++ new → IfNone popped (mid ≡ [])
-      → ((n : ℕ) → InRanges new n ↔ IsInHighest 64 (With number (InRanges old)) n) × (length new ≤ 64) × AreApart 0 new
+      → ((n : ℕ) → InRanges new n ↔ IsInHighest 64 (InsertNumber number (InRanges old)) n) × (length new ≤ 64)
+          × AreApart 0 new
   inserted_cut few many None new is none = absurd (let h : length mid ≡ 0 = ap length none in omega arith)
   inserted_cut few many (Some range) new is none =
       let apart : AreApart 0 (range ∷ new) = rw is at inserted.apart in
       let size : length mid ≡ suc (length new) = ap length is in
       let sixty_four : length new ≡ 64 = omega (arith, inserted.count) in
-      let numbers : (n : ℕ) → InRanges (range ∷ new) n ↔ With number (InRanges old) n = rw is at inserted.numbers in (
+      let numbers : (n : ℕ) → InRanges (range ∷ new) n ↔ InsertNumber number
+          (InRanges old) n = rw is at inserted.numbers in (
         λ n. iff_trans (highest_rest range new apart sixty_four n) (highest_alike numbers 64 n),
         omega arith,
         apart_rest 0 range new apart,

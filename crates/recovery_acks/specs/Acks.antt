@@ -2,7 +2,7 @@
 use Rattle.std.specs.Prelude.{ℕ, ◌≡◌, ◌+◌, ◌-◌, ◌<◌, ◌≤◌, ◌^◌, ◌⊎◌, ◌↔◌, min, max, List, length, Bool, true, false, cond, nat_lt, IsTrue, Option, None, Some, IsSome, ⊤}
 use Rattle.std.specs.Option.{unwrap_or}
 use Rattle.std.specs.declared.ops.Range.{Range}
-use Rattle.recovery_base.specs.Numbers.{IsLeastMissing, With}
+use Rattle.recovery_base.specs.Numbers.{IsLeastMissing, InsertNumber}
 use Rattle.recovery_base.specs.Ranges.{InRanges, AreApart}
 use Rattle.recovery_acks.specs.Runs.{IsInHighest}
 
@@ -118,27 +118,27 @@ IsOutOfOrder Known threshold acknowledged before greatest number =
 
 -- an ack-eliciting packet asks for an ACK at once: with it more came since the last ACK than may, or it is out of
 -- order; these are the counts before it, and the numbers known with it
-abbrev pub AsksAtOnce : (ℕ → Type 0) → AckCounts → ℕ → Type 0
-AsksAtOnce Known counts number = let before = unwrap_or counts.greatest 0 in
+abbrev pub RequiresImmediateAck : (ℕ → Type 0) → AckCounts → ℕ → Type 0
+RequiresImmediateAck Known counts number = let before = unwrap_or counts.greatest 0 in
     (counts.thresholds.0 < counted counts.eliciting)
     ⊎ IsOutOfOrder Known counts.thresholds.1 counts.acknowledged before (max before number) number
 
 -- an ack-eliciting packet came
 pub record ReceivesEliciting (Known : ℕ → Type 0) (old : Acks) (now number : ℕ) (arm : Bool) (new : Acks) : Type 0 where
   pub counts : new.counts ≡ counts_received true number old.counts
-  pub required : IsTrue new.required ↔ (IsTrue old.required ⊎ AsksAtOnce Known old.counts number)
+  pub required : IsTrue new.required ↔ (IsTrue old.required ⊎ RequiresImmediateAck Known old.counts number)
   pub armed : IsTrue arm ↔ ((old.base ≡ None) × ¬ CanSend new)
   pub base : new.base ≡ cond arm (Some now) old.base
   pub ranges : new.ranges ≡ old.ranges
 
 -- a packet came: whether it asks for an ACK, and whether the delay timer is to be armed
-abbrev pub Receives : (ℕ → Type 0) → Acks → ℕ → ℕ → Bool → Bool → Acks → Type 0
-Receives Known old now number true arm new = ReceivesEliciting Known old now number arm new
-Receives Known old now number false arm new = (arm ≡ false) × (new ≡ silent_received old)
+abbrev pub ReceivesPacket : (ℕ → Type 0) → Acks → ℕ → ℕ → Bool → Bool → Acks → Type 0
+ReceivesPacket Known old now number true arm new = ReceivesEliciting Known old now number arm new
+ReceivesPacket Known old now number false arm new = (arm ≡ false) × (new ≡ silent_received old)
 
 -- a number is to be acknowledged; the highest runs stay, as many as are kept
 pub record AddsPending (old : Acks) (number now : ℕ) (new : Acks) : Type 0 where
-  pub pending : (n : ℕ) → IsPending new n ↔ IsInHighest most_ranges (With number (IsPending old)) n
+  pub pending : (n : ℕ) → IsPending new n ↔ IsInHighest most_ranges (InsertNumber number (IsPending old)) n
   pub some : (n : ℕ) × IsPending new n
   pub counts : new.counts ≡ counts_inserted now number old.counts
   pub others : (new.required ≡ old.required) × (new.base ≡ old.base)
@@ -159,5 +159,5 @@ timeout_at delay None = None
 timeout_at delay (Some base) = Some (min (base + delay) (2 ^ 64 - 1))
 
 -- some number known is at least this one
-abbrev pub HasReached : (ℕ → Type 0) → ℕ → Type 0
-HasReached Known n = (m : ℕ) × Known m × (n ≤ m)
+abbrev pub IsAtLeastSome : (ℕ → Type 0) → ℕ → Type 0
+IsAtLeastSome Known n = (m : ℕ) × Known m × (n ≤ m)

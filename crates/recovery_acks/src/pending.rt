@@ -1,9 +1,9 @@
 //! The packets of one space that are to be acknowledged.
 ghost use Rattle.std.specs.Prelude.{◌≡◌, ◌≢◌, ℕ, ◌<◌, ◌≤◌, ◌^◌, ◌⊎◌, IsTrue, IsSome, IfSome, OnOk, OnErr, IsErr, Decides, MatchBool, nat_lt, true, false, length, [], ◌↔◌, None, Some};
-ghost use Rattle.recovery_base.specs.Numbers.{With};
-ghost use Rattle.recovery_base.specs.Received.{Has};
+ghost use Rattle.recovery_base.specs.Numbers.{InsertNumber};
+ghost use Rattle.recovery_base.specs.Received.{HasReceived};
 ghost use Rattle.recovery_base.specs.Ranges.{InRanges, AreApart};
-ghost use Rattle.recovery_acks.specs.Acks.{IsPending, CanSend, new_acks, with_thresholds, with_required, acks_sent, Receives, AddsPending, SubtractsBelow, delay_at, timeout_at, HasReached, IsOutOfOrder, IsReported, IsNotAbove, AreAcksSound, largest_with, most_ranges};
+ghost use Rattle.recovery_acks.specs.Acks.{IsPending, CanSend, new_acks, with_thresholds, with_required, acks_sent, ReceivesPacket, AddsPending, SubtractsBelow, delay_at, timeout_at, IsAtLeastSome, IsOutOfOrder, IsReported, IsNotAbove, AreAcksSound, largest_with, most_ranges};
 ghost use Rattle.recovery_acks.specs.Runs.{IsInHighest};
 
 use recovery_base::below::{AckFrequency, ArrayRangeSet, NoMemory};
@@ -148,9 +148,10 @@ impl PendingAcks {
         ack_eliciting: bool,
         dedup: &Dedup,
     ) -> bool
-        requires number { HasReached (Has dedup.now) packet_number }
-        requires earlier { IfSome self.old.counts.greatest (HasReached (Has dedup.now)) }
-        ensures receives { Receives (Has dedup.now) self.old now packet_number ack_eliciting
+        requires number { IsAtLeastSome (HasReceived dedup.now) packet_number }
+        requires earlier { IfSome self.old.counts.greatest (IsAtLeastSome (HasReceived dedup.now)) }
+        ensures receives { ReceivesPacket (HasReceived dedup.now) self.old now packet_number
+            ack_eliciting
             result self.new }
         ensures noticed { IsTrue ack_eliciting → IsSome self.new.base ⊎ IsTrue self.new.required }
         ensures within_threshold { IsTrue ack_eliciting → ¬ IsTrue self.new.required
@@ -282,7 +283,7 @@ fn insert(ranges: &mut ArrayRangeSet, packet: u64) -> Result<(), NoMemory>
     requires small { packet < 2 ^ 62 }
     requires count { length ranges.old ≤ most_ranges }
     ensures pending { OnOk result ((n : ℕ) → InRanges ranges.new n
-        ↔ IsInHighest most_ranges (With packet (InRanges ranges.old)) n) }
+        ↔ IsInHighest most_ranges (InsertNumber packet (InRanges ranges.old)) n) }
     ensures some { OnOk result ((n : ℕ) × InRanges ranges.new n) }
     ensures kept { OnOk result ((length ranges.new ≤ most_ranges) × AreApart 0 ranges.new) }
     ensures only_new_takes_memory { IsErr result → ¬ InRanges ranges.old packet }
@@ -304,11 +305,11 @@ fn is_out_of_order(
     number: u64,
     dedup: &Dedup,
 ) -> bool
-    requires reached { HasReached (Has dedup.now) greatest }
+    requires reached { IsAtLeastSome (HasReceived dedup.now) greatest }
     requires above { number ≤ greatest }
     requires order { IsNotAbove acknowledged (Some greatest) }
     ensures { Decides result
-        (IsOutOfOrder (Has dedup.now) threshold acknowledged before greatest number) }
+        (IsOutOfOrder (HasReceived dedup.now) threshold acknowledged before greatest number) }
 {
     if threshold == 0 {
         return false;
@@ -322,9 +323,9 @@ fn is_out_of_order(
 /// Whether the peer would call a packet lost, if it knew what came.
 fn is_reported(threshold: u64, greatest: u64, acknowledged: Option<u64>, dedup: &Dedup) -> bool
     requires some { 1 < threshold }
-    requires reached { HasReached (Has dedup.now) greatest }
+    requires reached { IsAtLeastSome (HasReceived dedup.now) greatest }
     requires order { IsNotAbove acknowledged (Some greatest) }
-    ensures { Decides result (IsReported (Has dedup.now) threshold greatest acknowledged) }
+    ensures { Decides result (IsReported (HasReceived dedup.now) threshold greatest acknowledged) }
 {
     let acknowledged = match acknowledged {
         Some(acknowledged) => acknowledged,

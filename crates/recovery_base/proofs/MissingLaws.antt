@@ -3,8 +3,8 @@
 use Rattle.std.proofs.Common.{ℕ, ◌-◌, ◌≤◌, inl, inr, ◌↔◌, Option, None, Some, arith}
 use Rattle.std.proofs.lemmas.Bool.{cases_lt}
 use Rattle.recovery_base.specs.declared.dedup.Dedup.{Dedup}
-use Rattle.recovery_base.specs.Numbers.{IsMissing, IsLeastMissing, Recent, With, Exceeds}
-use Rattle.recovery_base.specs.Received.{Has}
+use Rattle.recovery_base.specs.Numbers.{IsMissing, IsLeastMissing, RecentNumbers, InsertNumber, Exceeds}
+use Rattle.recovery_base.specs.Received.{HasReceived}
 use Rattle.recovery_base.proofs.WindowLaws.{HasGreatest, greatest_with, window_known}
 
 -- sets from which the same numbers are missing
@@ -15,7 +15,7 @@ least_missing_by A B same low high (Some n) least =
     (least.0, least.1, (same n).0 least.2, λ m above below missing. least.3 m above below ((same m).1 missing))
 
 -- from what is left of a set the same are
-pub missing_left : (Numbers Known : ℕ → Type 0) → HasGreatest Numbers → ((q : ℕ) → Known q ↔ Recent Numbers q)
+pub missing_left : (Numbers Known : ℕ → Type 0) → HasGreatest Numbers → ((q : ℕ) → Known q ↔ RecentNumbers Numbers q)
     → (m : ℕ) → IsMissing Known m ↔ IsMissing Numbers m
 missing_left Numbers Known has_greatest left m =
     grind (arith, left m, window_known Numbers Known has_greatest left m)
@@ -23,8 +23,8 @@ missing_left Numbers Known has_greatest left m =
 -- ---- numbers that were reached
 
 -- what a `Dedup` knows has a greatest number, or there is none
-pub has_greatest : (dedup : Dedup) → HasGreatest (Has dedup)
-unfolding Has
+pub has_greatest : (dedup : Dedup) → HasGreatest (HasReceived dedup)
+unfolding HasReceived
 has_greatest dedup = elim (cases_lt 0 dedup.next) [
   | inl some ↦ inr (dedup.next - 1, inl (omega arith), λ m here. grind (arith, here))
   | inr none ↦ inl (λ m here. grind (arith, here))
@@ -41,7 +41,7 @@ reached Numbers (inr g) n within = elim (cases_lt g.0 n) [
 
 -- what was reached is reached when one number more came
 pub stays_reached : (Old New : ℕ → Type 0) (number : ℕ) → HasGreatest Old
-    → ((n : ℕ) → New n ↔ Recent (With number Old) n) → (n : ℕ) → ¬ Exceeds Old n → ¬ Exceeds New n
+    → ((n : ℕ) → New n ↔ RecentNumbers (InsertNumber number Old) n) → (n : ℕ) → ¬ Exceeds Old n → ¬ Exceeds New n
 stays_reached Old New number greatest step n within exceeds = elim (greatest_with Old number greatest) [
   | inl none ↦ within (λ m here. absurd (none m (inr here)))
   | inr g ↦ within (λ m here.

@@ -12,7 +12,7 @@ use Rattle.std.proofs.lemmas.Nat.Bits.{bit_at_cat_low, bit_at_cat_high, bit_at_a
 use Rattle.std.proofs.lemmas.Nat.Bits.{bit_at_and, bit_at_not, bit_at_ones, bit_at_ones_above, bit_at-lt}
 use Rattle.std.proofs.lemmas.Nat.Bits.{bit_at-pow_other, ones_shr, and_pow, bit_at_set_same, bit_at_set_other}
 use Rattle.std.proofs.lemmas.List.{get_or_past, get_or-set_same, get_or-set_other}
-use Rattle.recovery_base.specs.Received.{IsOne, IsSet, MovesBy, Sets, AreSet, IsHighestClear}
+use Rattle.recovery_base.specs.Received.{IsBitOne, IsBitSetAt, ShiftsBy, SetsBit, AreBitsSet, IsHighestClear}
 use Rattle.recovery_base.proofs.KnownLaws.{AreWithin}
 
 -- the bit at a place
@@ -28,7 +28,7 @@ place_is words place word bit within is =
     (let e : place % 32 ≡ bit = omega arith in e)
 
 -- the places of four words lie below 128
-pub places_within : (words : List ℕ) → length words ≡ 4 → AreWithin (IsSet words)
+pub places_within : (words : List ℕ) → length words ≡ 4 → AreWithin (IsBitSetAt words)
 places_within words four place set =
     grind (arith, get_or_past words (place / 32) 0)
 
@@ -140,8 +140,8 @@ module _ (words : List ℕ) (bits : ℕ) (short : bits < 32) where
               (place % 32 - bits) (omega arith) (omega (arith, above)))
         ]
 
-    pub moved_words : MovesBy by (IsSet words) (IsSet (a ∷ b ∷ c ∷ d ∷ []))
-    moved_words place = moves_by (IsSet (a ∷ b ∷ c ∷ d ∷ []) place) (IsSet words (place - by)) place by
+    pub moved_words : ShiftsBy by (IsBitSetAt words) (IsBitSetAt (a ∷ b ∷ c ∷ d ∷ []))
+    moved_words place = moves_by (IsBitSetAt (a ∷ b ∷ c ∷ d ∷ []) place) (IsBitSetAt words (place - by)) place by
         (places_within (a ∷ b ∷ c ∷ d ∷ []) refl place)
         (λ within same. let e : 160 + place - by ≡ 159 = omega arith in (rw e at (moved_place place within)))
         (λ within less set. let e = moved_place place within in
@@ -165,13 +165,13 @@ module _ (words : List ℕ) (one : ℕ) (four : length words ≡ 4) (inside : on
   tested : bit_and word mask ≡ bit_of words one * 2 ^ (one % 32)
   tested = ap (λ m. bit_and word m) (one_shl (one % 32) 32 (omega arith)) ∙ and_pow word (one % 32)
 
-  pub set_by_bit : ¬ (bit_and word mask ≡ 0) → IsSet words one
+  pub set_by_bit : ¬ (bit_and word mask ≡ 0) → IsBitSetAt words one
   set_by_bit some = grind (arith, tested)
 
-  pub clear_by_bit : bit_and word mask ≡ 0 → ¬ IsSet words one
+  pub clear_by_bit : bit_and word mask ≡ 0 → ¬ IsBitSetAt words one
   clear_by_bit none set = grind (arith, none, set, tested, pow_pos (one % 32))
 
-  pub sets_one : Sets one (IsSet words) (IsSet with_one)
+  pub sets_one : SetsBit one (IsBitSetAt words) (IsBitSetAt with_one)
   sets_one place = grind (
     arith,
     get_or-set_same words (one / 32) (bit_or word mask) 0,
@@ -180,7 +180,7 @@ module _ (words : List ℕ) (one : ℕ) (four : length words ≡ 4) (inside : on
     get_or-set_other words (one / 32) (place / 32) (bit_or word mask) 0,
   )
 
-pub sets_again : (Places : ℕ → Type 0) (one : ℕ) → Places one → Sets one Places Places
+pub sets_again : (Places : ℕ → Type 0) (one : ℕ) → Places one → SetsBit one Places Places
 sets_again Places _ here _ = grind arith
 
 -- ---- the highest that is clear
@@ -208,7 +208,7 @@ module _ (word bits : ℕ) (fits : word < 2 ^ 32) (some : 0 < bits) (few : bits 
   zeros_fit = let below : bit_not w32 word < 2 ^ 32 = omega arith in
       lt_of_le_of_lt (and_le_l (bit_not w32 word) ((2 ^ 32 - 1) / 2 ^ (32 - bits))) below
 
-  pub all_ones : zeros ≡ 0 → AreSet (IsOne word) 0 bits
+  pub all_ones : zeros ≡ 0 → AreBitsSet (IsBitOne word) 0 bits
   all_ones none i from below = grind (arith, none, turned i, bit_at-zero i, bit_at-lt word i)
 
   top : (j : ℕ) → 2 ^ j ≤ zeros → zeros < 2 ^ suc j → bit_at zeros j ≡ 1
@@ -219,7 +219,7 @@ module _ (word bits : ℕ) (fits : word < 2 ^ 32) (some : 0 < bits) (few : bits 
       split : zeros ≡ 1 * 2 ^ j + (zeros - 2 ^ j)
       split = omega arith
 
-  pub highest_zero_is : ¬ (zeros ≡ 0) → IsHighestClear (IsOne word) bits (31 - leading_zeros w32 zeros)
+  pub highest_zero_is : ¬ (zeros ≡ 0) → IsHighestClear (IsBitOne word) bits (31 - leading_zeros w32 zeros)
   highest_zero_is positive =
       let t = leading_top 32 zeros (omega (arith, positive)) zeros_fit in
       let e : leading_zeros w32 zeros + suc t.0 ≡ 32 = t.1 in

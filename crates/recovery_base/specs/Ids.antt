@@ -8,7 +8,7 @@ abbrev pub bytes_of : Inside → List ℕ
 bytes_of id = take id.len id.bytes
 
 -- there are at most twenty bytes, and zeros behind them
-pub record IsPadded (id : Inside) : Type 0 where
+pub record IsPaddedId (id : Inside) : Type 0 where
   pub small : id.len ≤ 20
   pub room : length id.bytes ≡ 20
   pub zeros : id.bytes ≡ take id.len id.bytes ++ replicate (20 - id.len) 0
@@ -18,7 +18,7 @@ abbrev pub padded : List ℕ → Inside
 padded bytes = record { len = length bytes; bytes = bytes ++ replicate (20 - length bytes) 0 }
 
 -- an id is told by its bytes alone
-pub padded-bytes_of : (id : Inside) → IsPadded id → padded (bytes_of id) ≡ id
+pub padded-bytes_of : (id : Inside) → IsPaddedId id → padded (bytes_of id) ≡ id
 padded-bytes_of id sound =
     let len : length (take id.len id.bytes) ≡ id.len =
     omega (arith, length-take id.len id.bytes, sound.small, sound.room) in

@@ -2,7 +2,7 @@
 use Rattle.std.specs.Prelude.{ℕ, ◌≡◌, ◌+◌, ◌<◌, ◌≤◌, ◌⊎◌, ◌↔◌, List, [], ◌∷◌, length, take, drop, map, min, max, cond, nat_lt, ⊤, Bool, MatchBool, Any}
 use Rattle.std.specs.List.{filter}
 use Rattle.std.specs.declared.ops.Range.{Range}
-use Rattle.recovery_base.specs.Numbers.{With}
+use Rattle.recovery_base.specs.Numbers.{InsertNumber}
 
 -- n lies in one of the ranges
 unfoldable pub InRanges : List (Range ℕ) → ℕ → Type 0
@@ -17,7 +17,7 @@ AreApart low (range ∷ others) = (low ≤ range.start) × (range.start < range.
 -- a number is put into the ranges: whether it is new, and what they hold then
 pub record InsertsOne (old : List (Range ℕ)) (number : ℕ) (is_new : Bool) (new : List (Range ℕ)) : Type 0 where
   pub answer : MatchBool is_new (¬ InRanges old number) (InRanges old number)
-  pub numbers : (n : ℕ) → InRanges new n ↔ With number (InRanges old) n
+  pub numbers : (n : ℕ) → InRanges new n ↔ InsertNumber number (InRanges old) n
   pub apart : AreApart 0 new
   pub count : length new ≤ length old + 1
 

@@ -4,7 +4,7 @@ use Rattle.std.proofs.Common.{◌≡◌, ℕ, suc, ◌<◌, ◌≤◌, List, [],
 use Rattle.std.proofs.Math.Nat.{mul-le-mul_left}
 use Rattle.std.proofs.lemmas.Bool.{cases_lt}
 use Rattle.std.specs.List.{AllByRecursion}
-use Rattle.recovery_congestion.specs.NamedMoment.{HasRoom, PassesAtMoment}
+use Rattle.recovery_congestion.specs.ReportedTime.{HasRoom, PassesAtMoment}
 use Rattle.recovery_congestion.specs.Progress.{IsInReach}
 use Rattle.recovery_congestion.specs.PacerLog.{PacerEntry, asked, bucket_by}
 use Rattle.recovery_congestion.specs.Pacing.{Bucket, PacerCall, resized, refilled, may_send, paced, pacer_delay}

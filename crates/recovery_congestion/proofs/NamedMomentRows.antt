@@ -1,6 +1,6 @@
 -- Worked rows: the room that the named moment wants, met and missed by one byte, computed. Nothing rests on them.
 use Rattle.std.proofs.Common.{◌≡◌, ℕ, true, List, [], ◌∷◌, None, Some, refl, arith}
-use Rattle.recovery_congestion.specs.NamedMoment.{HasRoom}
+use Rattle.recovery_congestion.specs.ReportedTime.{HasRoom}
 use Rattle.recovery_congestion.specs.PacerLog.{PacerEntry, asked, took, bucket_by}
 use Rattle.recovery_congestion.specs.Pacing.{Bucket, PacerCall, bucket_made, paced, pacer_delay}
 

@@ -5,7 +5,7 @@ use Rattle.std.specs.Prelude.{if◌then◌else◌}
 use Rattle.recovery_congestion.specs.declared.congestion.new_reno.NewReno.{NewReno}
 use Rattle.recovery_congestion.specs.Calls.{ControllerCall, acks, congests, ends_acks, sends, takes_mtu}
 use Rattle.recovery_congestion.specs.NewReno.{most, sum_to_most, is_ignored, slow_started, avoided, reno_acked, reno_grown, reno_recovering}
-use Rattle.recovery_congestion.specs.Rounds.{AreInOrder, FallsOnce, FellBefore, IsBehind, reno_by}
+use Rattle.recovery_congestion.specs.Rounds.{AreInOrder, RenoReducesOncePerRound, RenoReducedBefore, IsBehind, reno_by}
 
 -- ---- an acknowledgement: recovery begins at no other moment, and the window does not fall
 
@@ -41,8 +41,8 @@ grows_acked sent bytes limited reno =
 -- ---- lists of calls
 
 module _ (made : NewReno) where
-  before_later : (moment later : ℕ) (calls : List ControllerCall) → moment ≤ later → FellBefore made moment calls
-      → FellBefore made later calls
+  before_later : (moment later : ℕ) (calls : List ControllerCall) → moment ≤ later → RenoReducedBefore made moment calls
+      → RenoReducedBefore made later calls
   before_later moment later [] less fell = tt
   before_later moment later (congests now sent persistent lost ∷ earlier) less fell =
       (λ lowers. let here = fell.0 lowers in omega (arith, here, less), before_later moment later earlier less fell.1)
@@ -54,7 +54,7 @@ module _ (made : NewReno) where
   before_later moment later (takes_mtu mtu ∷ earlier) less fell = before_later moment later earlier less fell
 
   -- in the order of time
-  behind_all : (now : ℕ) (calls : List ControllerCall) → IsBehind now calls → FellBefore made (now + 1) calls
+  behind_all : (now : ℕ) (calls : List ControllerCall) → IsBehind now calls → RenoReducedBefore made (now + 1) calls
   behind_all now [] behind = tt
   behind_all now (congests before sent persistent lost ∷ earlier) behind =
       (λ lowers. let here = behind.0 in omega (arith, here), behind_all now earlier behind.1)
@@ -65,7 +65,7 @@ module _ (made : NewReno) where
 
   -- each fall came up to the beginning of the recovery
   fell_by : (calls : List ControllerCall) → AreInOrder calls
-      → FellBefore made ((reno_by made calls).recovery_start_time + 1) calls
+      → RenoReducedBefore made ((reno_by made calls).recovery_start_time + 1) calls
   fell_by [] order = tt
   fell_by (congests now sent persistent lost ∷ earlier) order =
       go (fell_by earlier order.1) (nat_le sent (reno_by made earlier).recovery_start_time)
@@ -73,20 +73,21 @@ module _ (made : NewReno) where
       old : NewReno
       old = reno_by made earlier
 
-      go : FellBefore made (old.recovery_start_time + 1) earlier → (test : Bool)
+      go : RenoReducedBefore made (old.recovery_start_time + 1) earlier → (test : Bool)
           → let new = (if test then old else reno_recovering now persistent old) in
           (new.window < old.window → now < new.recovery_start_time + 1)
-          × FellBefore made (new.recovery_start_time + 1) earlier
+          × RenoReducedBefore made (new.recovery_start_time + 1) earlier
       go fell true = (λ lowers. absurd (omega (arith, lowers)), fell)
       go fell false = (λ lowers. omega arith, behind_all now earlier order.0)
   fell_by (sends now bytes number ∷ earlier) order = fell_by earlier order
   fell_by (acks now sent bytes limited rtt ∷ earlier) order =
-      subst (λ (start : ℕ). FellBefore made (start + 1) earlier)
+      subst (λ (start : ℕ). RenoReducedBefore made (start + 1) earlier)
       (sym (grows_acked sent bytes limited (reno_by made earlier)).start) (fell_by earlier order)
   fell_by (ends_acks now bytes limited largest ∷ earlier) order = fell_by earlier order
   fell_by (takes_mtu mtu ∷ earlier) order = fell_by earlier order
 
-  pub falls_once : (call : ControllerCall) (calls : List ControllerCall) → AreInOrder calls → FallsOnce made call calls
+  pub falls_once : (call : ControllerCall) (calls : List ControllerCall) → AreInOrder calls
+      → RenoReducesOncePerRound made call calls
   falls_once (congests now sent persistent lost) calls order =
       go (nat_le sent (reno_by made calls).recovery_start_time) refl
     where
@@ -94,7 +95,8 @@ module _ (made : NewReno) where
       old = reno_by made calls
 
       go : (test : Bool) → nat_le sent old.recovery_start_time ≡ test
-          → (if test then old else reno_recovering now persistent old).window < old.window → FellBefore made sent calls
+          → (if test then old else reno_recovering now persistent old).window < old.window
+              → RenoReducedBefore made sent calls
       go true is lowers = absurd (omega (arith, lowers))
       go false is lowers =
           let behind : old.recovery_start_time + 1 ≤ sent = grind (arith, nat_tests) in

@@ -1,7 +1,7 @@
 pub mod Calls
 pub mod Controllers
 pub mod EstimatorView
-pub mod NamedMoment
+pub mod ReportedTime
 pub mod NewReno
 pub mod PacerLog
 pub mod PacerView

@@ -5,7 +5,7 @@ use Rattle.recovery_congestion.specs.declared.congestion.ControllerMetrics.{Cont
 use Rattle.recovery_congestion.specs.declared.congestion.new_reno.NewReno.{NewReno}
 use Rattle.recovery_congestion.specs.RenoSettings.{RenoSettings}
 use Rattle.recovery_congestion.specs.Calls.{ControllerCall, acks, congests, takes_mtu}
-use Rattle.recovery_congestion.specs.Controllers.{ControllerWords}
+use Rattle.recovery_congestion.specs.Controllers.{ControllerSemantics}
 
 -- the greatest number of 64 bits
 abbrev pub most : ℕ
@@ -94,7 +94,7 @@ reno_after (congests now sent persistent lost) reno = reno_congested now sent pe
 reno_after (takes_mtu mtu) reno = reno_with_mtu mtu reno
 reno_after call reno = reno
 
-abbrev pub reno_words : ControllerWords NewReno
+abbrev pub reno_words : ControllerSemantics NewReno
 reno_words = record {
   after = reno_after;
   window = λ reno. reno.window;

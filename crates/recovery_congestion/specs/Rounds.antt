@@ -22,18 +22,18 @@ module _ (made : NewReno) where
   reno_by (call ∷ earlier) = reno_after call (reno_by earlier)
 
   -- the window falls by a call
-  abbrev pub Lowers : ControllerCall → List ControllerCall → Type 0
-  Lowers call earlier = (reno_by (call ∷ earlier)).window < (reno_by earlier).window
+  abbrev pub LowersRenoWindow : ControllerCall → List ControllerCall → Type 0
+  LowersRenoWindow call earlier = (reno_by (call ∷ earlier)).window < (reno_by earlier).window
 
   -- each congestion by which it fell came before this moment
-  abbrev pub FellBefore : ℕ → List ControllerCall → Type 0
-  FellBefore moment [] = Unit {0}
-  FellBefore moment (congests now sent persistent lost ∷ earlier) =
-      (Lowers (congests now sent persistent lost) earlier → now < moment) × FellBefore moment earlier
-  FellBefore moment (call ∷ earlier) = FellBefore moment earlier
+  abbrev pub RenoReducedBefore : ℕ → List ControllerCall → Type 0
+  RenoReducedBefore moment [] = Unit {0}
+  RenoReducedBefore moment (congests now sent persistent lost ∷ earlier) =
+      (LowersRenoWindow (congests now sent persistent lost) earlier → now < moment) × RenoReducedBefore moment earlier
+  RenoReducedBefore moment (call ∷ earlier) = RenoReducedBefore moment earlier
 
   -- it falls by congestion alone, and for a packet that was sent behind each moment at which it fell before
-  abbrev pub FallsOnce : ControllerCall → List ControllerCall → Type 0
-  FallsOnce (congests now sent persistent lost) earlier =
-      Lowers (congests now sent persistent lost) earlier → FellBefore sent earlier
-  FallsOnce call earlier = (reno_by earlier).window ≤ most → Lowers call earlier → ⊥
+  abbrev pub RenoReducesOncePerRound : ControllerCall → List ControllerCall → Type 0
+  RenoReducesOncePerRound (congests now sent persistent lost) earlier =
+      LowersRenoWindow (congests now sent persistent lost) earlier → RenoReducedBefore sent earlier
+  RenoReducesOncePerRound call earlier = (reno_by earlier).window ≤ most → LowersRenoWindow call earlier → ⊥

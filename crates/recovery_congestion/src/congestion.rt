@@ -1,7 +1,7 @@
 //! Congestion controllers and their factories, with their laws (RFC 9002, 7).
 ghost use Rattle.std.specs.Prelude.{◌≡◌, ℕ, ◌<◌, IfOk};
 ghost use Rattle.recovery_congestion.specs.Calls.{sends, acks, ends_acks, congests, takes_mtu};
-ghost use Rattle.recovery_congestion.specs.Controllers.{ControllerWords, ControllerLaws};
+ghost use Rattle.recovery_congestion.specs.Controllers.{ControllerSemantics, ControllerLaws};
 
 use crate::rtt::RttEstimator;
 use recovery_base::below::NoMemory;
@@ -34,7 +34,7 @@ pub trait Controller: Sized {
     ghost content: { Self → Self.Content };
 
     /// What each call does to the content.
-    ghost words: { ControllerWords Self.Content };
+    ghost words: { ControllerSemantics Self.Content };
 
     /// Holds of every content that was built with an MTU above zero.
     ghost is_sound: { Self.Content → Type 0 };

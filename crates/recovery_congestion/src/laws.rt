@@ -1,7 +1,7 @@
 //! Laws of congestion control that no call states.
 ghost use Rattle.std.specs.Prelude.{◌≤◌, ℕ, List};
 ghost use Rattle.recovery_congestion.specs.Calls.{ControllerCall};
-ghost use Rattle.recovery_congestion.specs.Rounds.{AreInOrder, FallsOnce};
+ghost use Rattle.recovery_congestion.specs.Rounds.{AreInOrder, RenoReducesOncePerRound};
 ghost use Rattle.recovery_congestion.specs.declared.congestion.new_reno.NewReno.{NewReno};
 
 /// Whatever a NewReno is told, congestion in the order of time: its window falls by congestion alone, and for a packet
@@ -9,5 +9,5 @@ ghost use Rattle.recovery_congestion.specs.declared.congestion.new_reno.NewReno.
 #[tactic(auto, using(crate::proofs::RoundLaws::falls_once))]
 pub fn new_reno_falls_once()
     ensures { (made : NewReno) (call : ControllerCall) (calls : List ControllerCall)
-        → AreInOrder calls → FallsOnce made call calls }
+        → AreInOrder calls → RenoReducesOncePerRound made call calls }
 {}

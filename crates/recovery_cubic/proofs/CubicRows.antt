@@ -6,7 +6,7 @@ use Rattle.recovery_congestion.specs.Rtt.{Rtt}
 use Rattle.recovery_cubic.specs.Curve.{micros, IsGreatestK}
 use Rattle.recovery_cubic.specs.History.{window_by}
 use Rattle.recovery_cubic.specs.RealCurve.{IsNearReal}
-use Rattle.recovery_cubic.specs.Following.{Begins, time_by, curve_of, curve_then}
+use Rattle.recovery_cubic.specs.Epochs.{BeginsEpoch, time_by, curve_of, curve_then}
 use Rattle.recovery_cubic.proofs.FollowingLaws.{goes_to_curve, real_curve}
 
 abbrev rtt : Rtt
@@ -32,7 +32,7 @@ k_above_is_wrong k = let fits = k.fits in omega (arith, fits)
 falls : window_by 120_000 0 1_200 (loss ∷ []) ≡ 84_000
 falls = refl
 
-begins : Begins 120_000 0 1_200 loss [] 4_217_163
+begins : BeginsEpoch 120_000 0 1_200 loss [] 4_217_163
 begins = record {
   moment = 1_000_000_000;
   reduced = refl;

@@ -9,7 +9,7 @@ use Rattle.recovery_cubic.specs.declared.cubic.Cubic.{Cubic}
 use Rattle.recovery_cubic.specs.Stage.{uncounted}
 use Rattle.recovery_cubic.specs.Cubic.{slow_started, avoided, cubic_acked, cubic_recovering}
 use Rattle.recovery_cubic.specs.History.{cubic_by}
-use Rattle.recovery_cubic.specs.Falls.{FallsOnce, FellBefore}
+use Rattle.recovery_cubic.specs.Reductions.{CubicReducesOncePerRound, CubicReducedBefore}
 
 -- ---- an acknowledgement: recovery begins at no other moment, and the window does not fall
 
@@ -38,7 +38,7 @@ grows_acked now sent bytes limited cubic =
 
 module _ (window made mtu : ℕ) where
   before_later : (moment later : ℕ) (calls : List ControllerCall) → moment ≤ later
-      → FellBefore window made mtu moment calls → FellBefore window made mtu later calls
+      → CubicReducedBefore window made mtu moment calls → CubicReducedBefore window made mtu later calls
   before_later moment later [] less fell = tt
   before_later moment later (congests now sent persistent lost ∷ earlier) less fell =
       (λ lowers. let here = fell.0 lowers in omega (arith, here, less), before_later moment later earlier less fell.1)
@@ -51,7 +51,7 @@ module _ (window made mtu : ℕ) where
 
   -- in the order of time
   behind_all : (now : ℕ) (calls : List ControllerCall) → IsBehind now calls
-      → FellBefore window made mtu (now + 1) calls
+      → CubicReducedBefore window made mtu (now + 1) calls
   behind_all now [] behind = tt
   behind_all now (congests before sent persistent lost ∷ earlier) behind =
       (λ lowers. let here = behind.0 in omega (arith, here), behind_all now earlier behind.1)
@@ -62,7 +62,7 @@ module _ (window made mtu : ℕ) where
 
   -- each fall came up to the beginning of the recovery
   fell_by : (calls : List ControllerCall) → AreInOrder calls
-      → FellBefore window made mtu ((cubic_by window made mtu calls).recovery_start_time + 1) calls
+      → CubicReducedBefore window made mtu ((cubic_by window made mtu calls).recovery_start_time + 1) calls
   fell_by [] order = tt
   fell_by (congests now sent persistent lost ∷ earlier) order =
       go (fell_by earlier order.1) (nat_le sent (cubic_by window made mtu earlier).recovery_start_time)
@@ -70,21 +70,21 @@ module _ (window made mtu : ℕ) where
       old : Cubic
       old = cubic_by window made mtu earlier
 
-      go : FellBefore window made mtu (old.recovery_start_time + 1) earlier → (test : Bool)
+      go : CubicReducedBefore window made mtu (old.recovery_start_time + 1) earlier → (test : Bool)
           → let new = (if test then old else cubic_recovering now persistent old) in
           (new.window < old.window → now < new.recovery_start_time + 1)
-          × FellBefore window made mtu (new.recovery_start_time + 1) earlier
+          × CubicReducedBefore window made mtu (new.recovery_start_time + 1) earlier
       go fell true = (λ lowers. absurd (omega (arith, lowers)), fell)
       go fell false = (λ lowers. omega arith, behind_all now earlier order.0)
   fell_by (sends now bytes number ∷ earlier) order = fell_by earlier order
   fell_by (acks now sent bytes limited rtt ∷ earlier) order =
-      subst (λ (start : ℕ). FellBefore window made mtu (start + 1) earlier)
+      subst (λ (start : ℕ). CubicReducedBefore window made mtu (start + 1) earlier)
       (sym (grows_acked now sent bytes limited (cubic_by window made mtu earlier)).start) (fell_by earlier order)
   fell_by (ends_acks now bytes limited largest ∷ earlier) order = fell_by earlier order
   fell_by (takes_mtu to ∷ earlier) order = fell_by earlier order
 
   pub falls_once : (call : ControllerCall) (calls : List ControllerCall) → AreInOrder calls
-      → FallsOnce window made mtu call calls
+      → CubicReducesOncePerRound window made mtu call calls
   falls_once (congests now sent persistent lost) calls order =
       go (nat_le sent (cubic_by window made mtu calls).recovery_start_time) refl
     where
@@ -93,7 +93,7 @@ module _ (window made mtu : ℕ) where
 
       go : (test : Bool) → nat_le sent old.recovery_start_time ≡ test
           → (if test then old else cubic_recovering now persistent old).window < old.window
-          → FellBefore window made mtu sent calls
+          → CubicReducedBefore window made mtu sent calls
       go true is lowers = absurd (omega (arith, lowers))
       go false is lowers =
           let behind : old.recovery_start_time + 1 ≤ sent = grind (arith, nat_tests) in

@@ -10,10 +10,10 @@ use Rattle.recovery_cubic.specs.declared.curve.Curve.{Curve}
 use Rattle.recovery_cubic.specs.Curve.{micros, rise, curve_from, curve_at, k_of, IsGreatestK}
 use Rattle.recovery_cubic.specs.Stage.{parts, quotient_up, curve_window}
 use Rattle.recovery_cubic.specs.Cubic.{avoided, cubic_after, cubic_recovering, datagram_of, reduced_window, next_w_max}
-use Rattle.recovery_cubic.specs.History.{Turn, grows, reduces, turn_of, turn_at, cubic_by, window_by}
-use Rattle.recovery_cubic.specs.Growth.{GoesOn, GoOn, bytes_of}
+use Rattle.recovery_cubic.specs.History.{CubicEntry, grows, reduces, turn_of, turn_at, cubic_by, window_by}
+use Rattle.recovery_cubic.specs.Growth.{ContinuesEpoch, ContinuesEpochThrough, bytes_of}
 use Rattle.recovery_cubic.specs.Reno.{mtu_by}
-use Rattle.recovery_cubic.specs.Following.{last_next, time_next, plateau_next, last_by, time_by, plateau_by, Begins, curve_of, curve_then, IsBelowCurve, IsReal, GoesToCurve, halves_in, IsBackBy, IsReachedAtK}
+use Rattle.recovery_cubic.specs.Epochs.{last_next, time_next, plateau_next, last_by, time_by, plateau_by, BeginsEpoch, curve_of, curve_then, IsBelowCurve, IsReal, MovesTowardCurve, halves_in, HasReturnedToWmax, IsReachedAtK}
 use Rattle.recovery_cubic.proofs.CurveLaws.{cube-le, greatest_k, one_k}
 use Rattle.recovery_cubic.proofs.GrowthLaws.{holds}
 use Rattle.recovery_cubic.proofs.RealLaws.{near_real}
@@ -69,7 +69,7 @@ record Times (window now mtu : ℕ) (calls : List ControllerCall) (cubic : Cubic
   within : cubic.stage.elapsed ≤ most
 
 module _ (window now mtu : ℕ) where
-  record NextTimes (earlier : List ControllerCall) (turn : Turn) (new : Cubic) : Type 0 where
+  record NextTimes (earlier : List ControllerCall) (turn : CubicEntry) (new : Cubic) : Type 0 where
     last : new.stage.last ≡ last_next turn (last_by window now mtu earlier)
     time : new.stage.elapsed ≡ time_next turn (last_by window now mtu earlier) (time_by window now mtu earlier)
     plateau : new.stage.curve.w_max
@@ -121,7 +121,7 @@ module _ (window now mtu : ℕ) where
       }) call
 
   module _ (reduction : ControllerCall) (earlier : List ControllerCall) (k : ℕ)
-      (b : Begins window now mtu reduction earlier k) where
+      (b : BeginsEpoch window now mtu reduction earlier k) where
     old : Cubic
     old = cubic_by window now mtu earlier
 
@@ -171,7 +171,7 @@ module _ (window now mtu : ℕ) where
   below-more window reduced before curve half estimate more is up rises = omega arith
 
   below_next : (curve : Curve) (reduced : ℕ) → curve.w_max ≤ most → (cubic : Cubic) → Below curve reduced cubic
-      → Turns cubic (λ turn new. GoesOn turn → Below curve reduced new)
+      → Turns cubic (λ turn new. ContinuesEpoch turn → Below curve reduced new)
   below_next curve reduced fits cubic h = record {
     growing = λ at bytes goes.
         let new = avoided at bytes cubic in
@@ -207,8 +207,8 @@ module _ (window now mtu : ℕ) where
   }
 
   module _ (reduction : ControllerCall) (earlier : List ControllerCall) (k : ℕ)
-      (b : Begins window now mtu reduction earlier k) where
-    below_by : (later : List ControllerCall) → GoOn window now mtu later (reduction ∷ earlier)
+      (b : BeginsEpoch window now mtu reduction earlier k) where
+    below_by : (later : List ControllerCall) → ContinuesEpochThrough window now mtu later (reduction ∷ earlier)
         → Below (curve_of window now mtu reduction earlier k) (window_by window now mtu (reduction ∷ earlier))
         (cubic_by window now mtu (later ++ reduction ∷ earlier))
     below_by [] goes =
@@ -229,10 +229,10 @@ module _ (window now mtu : ℕ) where
         let curve = curve_of window now mtu reduction earlier k in
         let reduced = window_by window now mtu (reduction ∷ earlier) in
         let cubic = cubic_by window now mtu (later ++ reduction ∷ earlier) in
-        by_turn cubic (λ turn new. GoesOn turn → Below curve reduced new)
+        by_turn cubic (λ turn new. ContinuesEpoch turn → Below curve reduced new)
         (below_next curve reduced (plateau_fits reduction earlier k b) cubic (below_by later goes.1)) call goes.0
 
-    pub below_curve : (later : List ControllerCall) → GoOn window now mtu later (reduction ∷ earlier)
+    pub below_curve : (later : List ControllerCall) → ContinuesEpochThrough window now mtu later (reduction ∷ earlier)
         → IsBelowCurve window now mtu later reduction earlier k
     below_curve later goes =
         let h = below_by later goes in
@@ -241,7 +241,7 @@ module _ (window now mtu : ℕ) where
         rw (← time, ← estimate) h.window_is
 
     -- the curve of the state is the one that the history says
-    window_then : (later : List ControllerCall) → GoOn window now mtu later (reduction ∷ earlier)
+    window_then : (later : List ControllerCall) → ContinuesEpochThrough window now mtu later (reduction ∷ earlier)
         → curve_window (cubic_by window now mtu (later ++ reduction ∷ earlier)).stage
         ≡ curve_then window now mtu later reduction earlier k
     window_then later goes =
@@ -274,13 +274,13 @@ module _ (window now mtu : ℕ) where
 
     -- it goes on
     goes_on : (call : ControllerCall) (calls : List ControllerCall) (at bytes : ℕ)
-        → turn_at window now mtu call calls ≡ grows at bytes → GoesOn (turn_at window now mtu call calls)
-    goes_on call calls at bytes is = subst (λ (turn : Turn). GoesOn turn) (sym is) tt
+        → turn_at window now mtu call calls ≡ grows at bytes → ContinuesEpoch (turn_at window now mtu call calls)
+    goes_on call calls at bytes is = subst (λ (turn : CubicEntry). ContinuesEpoch turn) (sym is) tt
 
     pub goes_to_curve : (call : ControllerCall) (later : List ControllerCall) (at bytes : ℕ)
-        → GoOn window now mtu later (reduction ∷ earlier)
+        → ContinuesEpochThrough window now mtu later (reduction ∷ earlier)
         → turn_at window now mtu call (later ++ reduction ∷ earlier) ≡ grows at bytes
-        → GoesToCurve window now mtu call later reduction earlier k bytes
+        → MovesTowardCurve window now mtu call later reduction earlier k bytes
     goes_to_curve call later at bytes goes is =
         let on = goes_on call (later ++ reduction ∷ earlier) at bytes is in
         let there = window_then (call ∷ later) (on, goes) in
@@ -304,7 +304,7 @@ module _ (window now mtu : ℕ) where
   back-more window plateau goal curve half more is fits up = omega arith
 
   back_next : (curve : Curve) (goal : ℕ) → curve.w_max ≤ most → (cubic : Cubic) → Back curve goal cubic
-      → Turns cubic (λ turn new. GoesOn turn → Back curve (bytes_of turn / 2 + goal) new)
+      → Turns cubic (λ turn new. ContinuesEpoch turn → Back curve (bytes_of turn / 2 + goal) new)
   back_next curve goal fits cubic h = record {
     growing = λ at bytes goes.
         let new = avoided at bytes cubic in
@@ -338,9 +338,10 @@ module _ (window now mtu : ℕ) where
   }
 
   module _ (until : List ControllerCall) (reduction : ControllerCall) (earlier : List ControllerCall) (k : ℕ)
-      (b : Begins window now mtu reduction earlier k) (gone : GoOn window now mtu until (reduction ∷ earlier))
+      (b : BeginsEpoch window now mtu reduction earlier k) (gone : ContinuesEpochThrough window now mtu until
+          (reduction ∷ earlier))
       (past : k ≤ time_by window now mtu (until ++ reduction ∷ earlier) / 1000) where
-    back_by : (later : List ControllerCall) → GoOn window now mtu later (until ++ reduction ∷ earlier)
+    back_by : (later : List ControllerCall) → ContinuesEpochThrough window now mtu later (until ++ reduction ∷ earlier)
         → Back (curve_of window now mtu reduction earlier k)
         (halves_in window now mtu later (until ++ reduction ∷ earlier)
         + window_by window now mtu (until ++ reduction ∷ earlier))
@@ -354,7 +355,7 @@ module _ (window now mtu : ℕ) where
         let goal = halves_in window now mtu later (until ++ reduction ∷ earlier)
         + window_by window now mtu (until ++ reduction ∷ earlier) in
         let cubic = cubic_by window now mtu (later ++ (until ++ reduction ∷ earlier)) in
-        let here = by_turn cubic (λ turn new. GoesOn turn → Back curve (bytes_of turn / 2 + goal) new)
+        let here = by_turn cubic (λ turn new. ContinuesEpoch turn → Back curve (bytes_of turn / 2 + goal) new)
         (back_next curve goal (plateau_fits reduction earlier k b) cubic (back_by later goes.1)) call goes.0 in
         record {
           curve_is = here.curve_is;
@@ -363,18 +364,20 @@ module _ (window now mtu : ℕ) where
           past = here.past;
         }
 
-    pub comes_back : (later : List ControllerCall) → GoOn window now mtu later (until ++ reduction ∷ earlier)
-        → IsBackBy window now mtu later until reduction earlier
+    pub comes_back : (later : List ControllerCall) → ContinuesEpochThrough window now mtu later
+        (until ++ reduction ∷ earlier)
+        → HasReturnedToWmax window now mtu later until reduction earlier
     comes_back later goes = let h = back_by later goes in omega (arith, h.window_is)
 
   pub reached_at_k : (later until : List ControllerCall) (reduction : ControllerCall) (earlier : List ControllerCall)
-      (k : ℕ) → Begins window now mtu reduction earlier k → GoOn window now mtu until (reduction ∷ earlier)
-      → GoOn window now mtu later (until ++ reduction ∷ earlier)
+      (k : ℕ) → BeginsEpoch window now mtu reduction earlier k → ContinuesEpochThrough window now mtu until
+          (reduction ∷ earlier)
+      → ContinuesEpochThrough window now mtu later (until ++ reduction ∷ earlier)
       → IsReachedAtK window now mtu later until reduction earlier k
   unfolding old
   reached_at_k later until reduction earlier k b gone goes = record {
     plateau = λ past.
-        subst (λ (turn : Turn). plateau_next turn (window_by window now mtu earlier)
+        subst (λ (turn : CubicEntry). plateau_next turn (window_by window now mtu earlier)
         (window_by window now mtu (reduction ∷ earlier)) (plateau_by window now mtu earlier)
         ≡ window_by window now mtu earlier) (sym b.reduced) (grind (arith, nat_tests, past));
     lacking =

@@ -8,8 +8,8 @@ use Rattle.recovery_congestion.specs.Calls.{ControllerCall}
 use Rattle.recovery_cubic.specs.declared.cubic.Cubic.{Cubic}
 use Rattle.recovery_cubic.specs.Stage.{parts, quotient_up}
 use Rattle.recovery_cubic.specs.Cubic.{datagram_of}
-use Rattle.recovery_cubic.specs.History.{Turn, cubic_by, window_by}
-use Rattle.recovery_cubic.specs.Growth.{GoesOn, GoOn, bytes_of, acked_in, GrowsByHalf}
+use Rattle.recovery_cubic.specs.History.{CubicEntry, cubic_by, window_by}
+use Rattle.recovery_cubic.specs.Growth.{ContinuesEpoch, ContinuesEpochThrough, bytes_of, acked_in, GrowsByHalf}
 use Rattle.recovery_cubic.specs.Reno.{reno_growth, prior_next, mtu_next, reno_next, prior_by, mtu_by, reno_by, NeverBelowReno}
 use Rattle.recovery_cubic.proofs.TurnLaws.{Turns, by_turn}
 
@@ -49,7 +49,7 @@ pub record Holds (window now mtu : ℕ) (calls : List ControllerCall) (cubic : C
 
 module _ (window now mtu : ℕ) where
   -- what a turn leaves, over what held before it
-  record Next (earlier : List ControllerCall) (turn : Turn) (new : Cubic) : Type 0 where
+  record Next (earlier : List ControllerCall) (turn : CubicEntry) (new : Cubic) : Type 0 where
     estimate : new.stage.estimate
         ≡ reno_next turn (window_by window now mtu earlier) new.window (datagram_of (mtu_by window now mtu earlier))
         (prior_by window now mtu earlier) (reno_by window now mtu earlier)
@@ -95,7 +95,7 @@ module _ (window now mtu : ℕ) where
     estimate : 2 * cubic.stage.estimate ≤ parts * (2 * before + bytes)
 
   within : (cubic : Cubic) (acked before : ℕ) → Within acked before cubic
-      → Turns cubic (λ turn new. GoesOn turn → Within (bytes_of turn + acked) before new)
+      → Turns cubic (λ turn new. ContinuesEpoch turn → Within (bytes_of turn + acked) before new)
   within cubic acked before w = record {
     growing = λ at bytes goes.
         let half = growth_half bytes cubic.window (datagram_of cubic.current_mtu) cubic.prior_window
@@ -109,7 +109,7 @@ module _ (window now mtu : ℕ) where
     passing = λ goes. record { window_is = omega (arith, w.window_is); estimate = omega (arith, w.estimate) };
   }
 
-  within_by : (later earlier : List ControllerCall) → GoOn window now mtu later earlier
+  within_by : (later earlier : List ControllerCall) → ContinuesEpochThrough window now mtu later earlier
       → Within (acked_in window now mtu later earlier) (window_by window now mtu earlier)
       (cubic_by window now mtu (later ++ earlier))
   within_by [] earlier goes =
@@ -118,10 +118,10 @@ module _ (window now mtu : ℕ) where
       let before = window_by window now mtu earlier in
       let acked = acked_in window now mtu later earlier in
       let cubic = cubic_by window now mtu (later ++ earlier) in
-      by_turn cubic (λ turn new. GoesOn turn → Within (bytes_of turn + acked) before new)
+      by_turn cubic (λ turn new. ContinuesEpoch turn → Within (bytes_of turn + acked) before new)
       (within cubic acked before (within_by later earlier goes.1)) call goes.0
 
-  pub grows_by_half : (later earlier : List ControllerCall) → GoOn window now mtu later earlier
+  pub grows_by_half : (later earlier : List ControllerCall) → ContinuesEpochThrough window now mtu later earlier
       → GrowsByHalf window now mtu later earlier
   grows_by_half later earlier goes =
       let w = within_by later earlier goes in

@@ -5,10 +5,10 @@ use Rattle.recovery_congestion.specs.Calls.{ControllerCall, acks, congests, ends
 use Rattle.recovery_cubic.specs.declared.cubic.Cubic.{Cubic}
 use Rattle.recovery_cubic.specs.Stage.{uncounted}
 use Rattle.recovery_cubic.specs.Cubic.{slow_started, avoided, cubic_after, cubic_recovering, cubic_with_mtu}
-use Rattle.recovery_cubic.specs.History.{Turn, grows, waits, reduces, persists, starts, resizes, passes, turn_of}
+use Rattle.recovery_cubic.specs.History.{CubicEntry, grows, waits, reduces, persists, starts, resizes, passes, turn_of}
 
 -- what a property of a turn and of what it leaves needs, over a CUBIC
-pub record Turns (cubic : Cubic) (P : Turn → Cubic → Type 0) : Type 0 where
+pub record Turns (cubic : Cubic) (P : CubicEntry → Cubic → Type 0) : Type 0 where
   pub growing : (now bytes : ℕ) → P (grows now bytes) (avoided now bytes cubic)
   pub waiting : (now : ℕ) → P (waits now) (record cubic { stage = uncounted now cubic.stage })
   pub reducing : (now : ℕ) → P (reduces now) (cubic_recovering now false cubic)
@@ -17,7 +17,7 @@ pub record Turns (cubic : Cubic) (P : Turn → Cubic → Type 0) : Type 0 where
   pub resizing : (mtu : ℕ) → P (resizes mtu) (cubic_with_mtu mtu cubic)
   pub passing : P passes cubic
 
-module _ (cubic : Cubic) (P : Turn → Cubic → Type 0) (turns : Turns cubic P) where
+module _ (cubic : Cubic) (P : CubicEntry → Cubic → Type 0) (turns : Turns cubic P) where
   acked-open : (now bytes : ℕ) (limited slow : Bool)
       → P (if limited then waits now else if slow then starts now bytes else grows now bytes)
       (if limited then record cubic { stage = uncounted now cubic.stage } else if slow then slow_started now bytes cubic

@@ -2,7 +2,7 @@
 use Rattle.std.specs.Prelude.{ℕ, ◌*◌, ◌/◌, ◌<◌, min, max, Bool, Some, None, nat_le, nat_lt, if◌then◌else◌}
 use Rattle.recovery_congestion.specs.declared.congestion.ControllerMetrics.{ControllerMetrics}
 use Rattle.recovery_congestion.specs.Calls.{ControllerCall, acks, congests, takes_mtu}
-use Rattle.recovery_congestion.specs.Controllers.{ControllerWords}
+use Rattle.recovery_congestion.specs.Controllers.{ControllerSemantics}
 use Rattle.recovery_congestion.specs.NewReno.{most, sum_to_most}
 use Rattle.recovery_cubic.specs.declared.cubic.Cubic.{Cubic}
 use Rattle.recovery_cubic.specs.declared.stage.Stage.{Stage}
@@ -120,7 +120,7 @@ cubic_after (congests now sent persistent lost) cubic = cubic_congested now sent
 cubic_after (takes_mtu mtu) cubic = cubic_with_mtu mtu cubic
 cubic_after call cubic = cubic
 
-abbrev pub cubic_words : ControllerWords Cubic
+abbrev pub cubic_words : ControllerSemantics Cubic
 cubic_words = record {
   after = cubic_after;
   window = λ cubic. cubic.window;

@@ -2,25 +2,26 @@
 -- newest first.
 use Rattle.std.specs.Prelude.{ℕ, ◌+◌, ◌*◌, ◌≤◌, List, [], ◌∷◌, ◌++◌}
 use Rattle.recovery_congestion.specs.Calls.{ControllerCall}
-use Rattle.recovery_cubic.specs.History.{Turn, grows, waits, passes, turn_at, window_by}
+use Rattle.recovery_cubic.specs.History.{CubicEntry, grows, waits, passes, turn_at, window_by}
 
 -- congestion avoidance goes on: no slow start, no reduction, no other MTU
-abbrev pub GoesOn : Turn → Type 0
-GoesOn (grows now bytes) = Unit {0}
-GoesOn (waits now) = Unit {0}
-GoesOn passes = Unit {0}
-GoesOn turn = ⊥
+abbrev pub ContinuesEpoch : CubicEntry → Type 0
+ContinuesEpoch (grows now bytes) = Unit {0}
+ContinuesEpoch (waits now) = Unit {0}
+ContinuesEpoch passes = Unit {0}
+ContinuesEpoch turn = ⊥
 
 -- the bytes of an acknowledgement that counts
-abbrev pub bytes_of : Turn → ℕ
+abbrev pub bytes_of : CubicEntry → ℕ
 bytes_of (grows now bytes) = bytes
 bytes_of turn = 0
 
 module _ (window now mtu : ℕ) where
   -- it goes on at each call behind earlier ones
-  abbrev pub GoOn : List ControllerCall → List ControllerCall → Type 0
-  GoOn [] earlier = Unit {0}
-  GoOn (call ∷ later) earlier = GoesOn (turn_at window now mtu call (later ++ earlier)) × GoOn later earlier
+  abbrev pub ContinuesEpochThrough : List ControllerCall → List ControllerCall → Type 0
+  ContinuesEpochThrough [] earlier = Unit {0}
+  ContinuesEpochThrough (call ∷ later) earlier = ContinuesEpoch (turn_at window now mtu call (later ++ earlier))
+      × ContinuesEpochThrough later earlier
 
   -- the bytes acknowledged behind earlier calls, as far as they count
   abbrev pub acked_in : List ControllerCall → List ControllerCall → ℕ

@@ -4,23 +4,23 @@ use Rattle.recovery_congestion.specs.Calls.{ControllerCall, acks, congests, take
 use Rattle.recovery_cubic.specs.declared.cubic.Cubic.{Cubic}
 use Rattle.recovery_cubic.specs.Cubic.{cubic_after, cubic_made}
 
-pub data Turn : Type 0 where
+pub data CubicEntry : Type 0 where
   -- an acknowledgement in congestion avoidance, while the application does not limit: the window may grow
-  grows : (now bytes : ℕ) → Turn
+  grows : (now bytes : ℕ) → CubicEntry
   -- an acknowledgement while the application limits (RFC 9438, 5.8)
-  waits : (now : ℕ) → Turn
+  waits : (now : ℕ) → CubicEntry
   -- a reduction (RFC 9438, 4.6): a stage of congestion avoidance begins
-  reduces : (now : ℕ) → Turn
+  reduces : (now : ℕ) → CubicEntry
   -- persistent congestion (RFC 9002, 7.6.2): slow start begins, on a plateau (RFC 9438, 4.8)
-  persists : (now : ℕ) → Turn
+  persists : (now : ℕ) → CubicEntry
   -- an acknowledgement in slow start (RFC 9438, 4.10): the plateau is where the window then is
-  starts : (now bytes : ℕ) → Turn
+  starts : (now bytes : ℕ) → CubicEntry
   -- the MTU changes
-  resizes : (mtu : ℕ) → Turn
+  resizes : (mtu : ℕ) → CubicEntry
   -- nothing, as all that concerns packets that were sent before the last recovery began (RFC 9002, 7.3.2)
-  passes : Turn
+  passes : CubicEntry
 
-abbrev pub turn_of : ControllerCall → Cubic → Turn
+abbrev pub turn_of : ControllerCall → Cubic → CubicEntry
 turn_of (acks now sent bytes limited rtt) cubic =
     if nat_le sent cubic.recovery_start_time then passes else if limited then waits now
     else if nat_lt cubic.window cubic.ssthresh then starts now bytes else grows now bytes
@@ -39,5 +39,5 @@ module _ (window now mtu : ℕ) where
   abbrev pub window_by : List ControllerCall → ℕ
   window_by calls = (cubic_by calls).window
 
-  abbrev pub turn_at : ControllerCall → List ControllerCall → Turn
+  abbrev pub turn_at : ControllerCall → List ControllerCall → CubicEntry
   turn_at call earlier = turn_of call (cubic_by earlier)

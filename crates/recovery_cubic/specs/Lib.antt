@@ -2,8 +2,8 @@ pub mod ConfigView
 pub mod Cubic
 pub mod CubicLaws
 pub mod Curve
-pub mod Falls
-pub mod Following
+pub mod Reductions
+pub mod Epochs
 pub mod Growth
 pub mod History
 pub mod RealCurve

@@ -4,7 +4,7 @@ use Rattle.recovery_congestion.specs.Calls.{ControllerCall}
 use Rattle.recovery_congestion.specs.NewReno.{most}
 use Rattle.recovery_cubic.specs.Stage.{parts, quotient_up}
 use Rattle.recovery_cubic.specs.Cubic.{datagram_of}
-use Rattle.recovery_cubic.specs.History.{Turn, grows, reduces, persists, starts, resizes, turn_at, window_by}
+use Rattle.recovery_cubic.specs.History.{CubicEntry, grows, reduces, persists, starts, resizes, turn_at, window_by}
 
 -- the growth by bytes acknowledged, where the window is at least two datagrams: alpha datagrams for a window of them,
 -- rounded up; alpha is 9/17, and 1 once the estimate is at the window before the reduction
@@ -14,17 +14,17 @@ reno_growth bytes window datagram prior estimate =
     quotient_up (parts * alpha * datagram * bytes) (17 * max window (2 * datagram))
 
 -- the window before a reduction
-abbrev pub prior_next : Turn → ℕ → ℕ → ℕ
+abbrev pub prior_next : CubicEntry → ℕ → ℕ → ℕ
 prior_next (reduces now) before prior = before
 prior_next (persists now) before prior = before
 prior_next turn before prior = prior
 
-abbrev pub mtu_next : Turn → ℕ → ℕ
+abbrev pub mtu_next : CubicEntry → ℕ → ℕ
 mtu_next (resizes mtu) before = mtu
 mtu_next turn before = before
 
 -- a stage begins with the window that a turn leaves; it stops at the end of 64 bits
-abbrev pub reno_next : Turn → ℕ → ℕ → ℕ → ℕ → ℕ → ℕ
+abbrev pub reno_next : CubicEntry → ℕ → ℕ → ℕ → ℕ → ℕ → ℕ
 reno_next (grows now bytes) before after datagram prior estimate =
     min (estimate + reno_growth bytes before datagram prior estimate) (parts * most)
 reno_next (reduces now) before after datagram prior estimate = parts * after

@@ -3,9 +3,9 @@
 ghost use Rattle.std.specs.Prelude.{◌≡◌, ℕ, List, ◌∷◌, ◌++◌};
 ghost use Rattle.recovery_congestion.specs.Calls.{ControllerCall};
 ghost use Rattle.recovery_congestion.specs.Rounds.{AreInOrder};
-ghost use Rattle.recovery_cubic.specs.Falls.{FallsOnce};
-ghost use Rattle.recovery_cubic.specs.Following.{Begins, IsBelowCurve, IsReal, GoesToCurve, IsReachedAtK};
-ghost use Rattle.recovery_cubic.specs.Growth.{GoOn, GrowsByHalf};
+ghost use Rattle.recovery_cubic.specs.Reductions.{CubicReducesOncePerRound};
+ghost use Rattle.recovery_cubic.specs.Epochs.{BeginsEpoch, IsBelowCurve, IsReal, MovesTowardCurve, IsReachedAtK};
+ghost use Rattle.recovery_cubic.specs.Growth.{ContinuesEpochThrough, GrowsByHalf};
 ghost use Rattle.recovery_cubic.specs.History.{grows, turn_at};
 ghost use Rattle.recovery_cubic.specs.Reno.{NeverBelowReno};
 
@@ -14,7 +14,7 @@ ghost use Rattle.recovery_cubic.specs.Reno.{NeverBelowReno};
 #[tactic(auto, using(crate::proofs::FallLaws::falls_once))]
 pub fn cubic_falls_once()
     ensures { (window made mtu : ℕ) (call : ControllerCall) (calls : List ControllerCall)
-        → AreInOrder calls → FallsOnce window made mtu call calls }
+        → AreInOrder calls → CubicReducesOncePerRound window made mtu call calls }
 {}
 
 /// As long as congestion avoidance goes on, the window is at most half of the bytes acknowledged above what it was, so
@@ -22,7 +22,8 @@ pub fn cubic_falls_once()
 #[tactic(auto, using(crate::proofs::GrowthLaws::grows_by_half))]
 pub fn cubic_grows_by_half()
     ensures { (window made mtu : ℕ) (later earlier : List ControllerCall)
-        → GoOn window made mtu later earlier → GrowsByHalf window made mtu later earlier }
+        → ContinuesEpochThrough window made mtu later earlier
+        → GrowsByHalf window made mtu later earlier }
 {}
 
 /// The window is never below what Reno's would be (RFC 9438, 4.3).
@@ -39,12 +40,12 @@ pub fn cubic_is_never_below_reno()
 pub fn cubic_stays_below_the_curve()
     ensures below { (window made mtu : ℕ) (later : List ControllerCall) (reduction : ControllerCall)
         (earlier : List ControllerCall) (k : ℕ)
-        → Begins window made mtu reduction earlier k
-        → GoOn window made mtu later (reduction ∷ earlier)
+        → BeginsEpoch window made mtu reduction earlier k
+        → ContinuesEpochThrough window made mtu later (reduction ∷ earlier)
         → IsBelowCurve window made mtu later reduction earlier k }
     ensures real { (window made mtu : ℕ) (later : List ControllerCall) (reduction : ControllerCall)
         (earlier : List ControllerCall) (k : ℕ)
-        → Begins window made mtu reduction earlier k
+        → BeginsEpoch window made mtu reduction earlier k
         → IsReal window made mtu later reduction earlier k }
 {}
 
@@ -53,10 +54,10 @@ pub fn cubic_stays_below_the_curve()
 pub fn cubic_goes_to_the_curve()
     ensures { (window made mtu : ℕ) (call : ControllerCall) (later : List ControllerCall)
         (reduction : ControllerCall) (earlier : List ControllerCall) (k at bytes : ℕ)
-        → Begins window made mtu reduction earlier k
-        → GoOn window made mtu later (reduction ∷ earlier)
+        → BeginsEpoch window made mtu reduction earlier k
+        → ContinuesEpochThrough window made mtu later (reduction ∷ earlier)
         → turn_at window made mtu call (later ++ reduction ∷ earlier) ≡ grows at bytes
-        → GoesToCurve window made mtu call later reduction earlier k bytes }
+        → MovesTowardCurve window made mtu call later reduction earlier k bytes }
 {}
 
 /// The window before a reduction is reached again at K, the greatest whole microsecond with `C · K^3` at most the
@@ -65,8 +66,8 @@ pub fn cubic_goes_to_the_curve()
 pub fn cubic_is_back_at_k()
     ensures { (window made mtu : ℕ) (later until : List ControllerCall)
         (reduction : ControllerCall) (earlier : List ControllerCall) (k : ℕ)
-        → Begins window made mtu reduction earlier k
-        → GoOn window made mtu until (reduction ∷ earlier)
-        → GoOn window made mtu later (until ++ reduction ∷ earlier)
+        → BeginsEpoch window made mtu reduction earlier k
+        → ContinuesEpochThrough window made mtu until (reduction ∷ earlier)
+        → ContinuesEpochThrough window made mtu later (until ++ reduction ∷ earlier)
         → IsReachedAtK window made mtu later until reduction earlier k }
 {}

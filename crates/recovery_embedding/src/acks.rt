@@ -5,7 +5,7 @@ use quic_recovery::time::Instant;
 use quic_recovery::timer::Timer;
 use quic_recovery::{Answer, Event};
 use recovery_queue::items::ItemQueue;
-use recovery_sender::Refused;
+use recovery_sender::SenderError;
 use std::alloc::Global;
 
 /// What a packet that came in asks for.
@@ -23,7 +23,7 @@ pub enum Heard {
 
 impl Connection {
     /// An ack-eliciting packet comes in, before its frames are looked at.
-    pub fn hear(&mut self, space: SpaceId, now: Instant, number: u64) -> Result<Heard, Refused> {
+    pub fn hear(&mut self, space: SpaceId, now: Instant, number: u64) -> Result<Heard, SenderError> {
         let packet = Event::Received {
             space,
             now,
@@ -39,7 +39,7 @@ impl Connection {
 
     /// The timer for a late ACK is to start: of 1-RTT packets as late as the peer asked last, while one of Initial and
     /// Handshake packets goes out at once (RFC 9000, 13.2.1).
-    fn plan_ack(&mut self, space: SpaceId, now: Instant, arm: bool) -> Result<Heard, Refused> {
+    fn plan_ack(&mut self, space: SpaceId, now: Instant, arm: bool) -> Result<Heard, SenderError> {
         if arm && space == SpaceId::Data {
             let delay = self.state().ack_frequency().max_ack_delay;
             self.set_timer(Timer::MaxAckDelay, now + delay)?;
@@ -64,7 +64,7 @@ impl Connection {
     }
 
     /// The timer for a late ACK expired: whether one is to be sent.
-    pub fn ack_timer_expired(&mut self) -> Result<bool, Refused> {
+    pub fn ack_timer_expired(&mut self) -> Result<bool, SenderError> {
         self.stop_timer(Timer::MaxAckDelay)?;
         self.tell(Event::AckDelayTimeout {
             space: SpaceId::Data,
@@ -79,7 +79,7 @@ impl Connection {
         alloc: Global,
         space: SpaceId,
         now: Instant,
-    ) -> Result<Option<u64>, Refused> {
+    ) -> Result<Option<u64>, SenderError> {
         let largest = self.largest_heard(space);
         let empty = ItemQueue::from_items(Vec::new(alloc));
         if let Err(refused) = self.sender.send(space, now, 0, false, largest, empty, ()) {
@@ -103,7 +103,7 @@ impl Connection {
     }
 
     /// The peer asks for fewer ACKs: whether its frame is newer than the last one, and taken.
-    pub fn ask_fewer_acks(&mut self, frame: AckFrequency) -> Result<bool, Refused> {
+    pub fn ask_fewer_acks(&mut self, frame: AckFrequency) -> Result<bool, SenderError> {
         match self.sender.on_event(Event::AckFrequencyIn(frame)) {
             Ok(Answer::Flag(is_newer)) => Ok(is_newer),
             Ok(_) => unreachable!(),

@@ -2,7 +2,7 @@
 use crate::connection::Connection;
 use quic_recovery::below::{EcnCounts, SpaceId};
 use quic_recovery::time::{Duration, Instant};
-use recovery_sender::{Ack, Acknowledged, Refused, Timeout};
+use recovery_sender::{Ack, Acknowledged, SenderError, Timeout};
 
 impl Connection {
     /// An ACK frame comes in: its ranges, the largest first (RFC 9000, 19.3), how long the peer says that it waited,
@@ -15,7 +15,7 @@ impl Connection {
         ranges: &[(u64, u64)],
         delay: Duration,
         ecn: Option<EcnCounts>,
-    ) -> Result<Acknowledged, Refused> {
+    ) -> Result<Acknowledged, SenderError> {
         let ack = Ack {
             delay,
             ecn,
@@ -26,7 +26,7 @@ impl Connection {
 
     /// The timer for losses expired: the space in which probes are to go out, and how many. If none, packets were
     /// found lost, and wait to be sent again.
-    pub fn loss_timer_expired(&mut self, now: Instant) -> Result<Option<(SpaceId, u8)>, Refused> {
+    pub fn loss_timer_expired(&mut self, now: Instant) -> Result<Option<(SpaceId, u8)>, SenderError> {
         match self.sender.on_timeout(now, false, (), ()) {
             Ok(Timeout::Probe { space, count }) => Ok(Some((space, count))),
             Ok(_) => Ok(None),
@@ -36,7 +36,7 @@ impl Connection {
 
     /// What went out in a space was sent in vain, as a Retry came, or the server refuses 0-RTT (RFC 9002, 6.3 and 6.4):
     /// how many packets. What was in them waits to be sent again.
-    pub fn sent_in_vain(&mut self, space: SpaceId, now: Instant) -> Result<usize, Refused> {
+    pub fn sent_in_vain(&mut self, space: SpaceId, now: Instant) -> Result<usize, SenderError> {
         match self.sender.abandon(space, now) {
             Ok(numbers) => Ok(numbers.len()),
             Err(refused) => Err(refused),
@@ -44,7 +44,7 @@ impl Connection {
     }
 
     /// The handshake is confirmed, and with it the keys of Handshake packets go (RFC 9001, 4.9.2).
-    pub fn confirm(&mut self, now: Instant) -> Result<(), Refused> {
+    pub fn confirm(&mut self, now: Instant) -> Result<(), SenderError> {
         self.sender.on_handshake_confirmed();
         self.sender.discard(SpaceId::Handshake, now)
     }

@@ -12,20 +12,20 @@ use quic_recovery::event::PathName;
 use quic_recovery::time::Duration;
 use quic_recovery::timer::Timer;
 use recovery_queue::items::ItemQueue;
-use recovery_sender::{Acknowledged, EcnEnd, Refused};
+use recovery_sender::{Acknowledged, EcnOutcome, SenderError};
 use std::alloc::Global;
 
 /// A queue of one item.
-fn item(alloc: Global, number: u64) -> Result<ItemQueue, Refused> {
+fn item(alloc: Global, number: u64) -> Result<ItemQueue, SenderError> {
     let mut items = Vec::new(alloc);
     match items.push(number) {
         Ok(()) => Ok(ItemQueue::from_items(items)),
-        Err(_) => Err(Refused::Event(Refusal::NoMemory)),
+        Err(_) => Err(SenderError::Event(Refusal::NoMemory)),
     }
 }
 
 /// All acts, in order.
-pub fn live(report: &mut Report, client: &mut Connection) -> Result<(), Refused> {
+pub fn live(report: &mut Report, client: &mut Connection) -> Result<(), SenderError> {
     handshake(report, client)?;
     end_handshake(report, client)?;
     peer_ids(report, client)?;
@@ -44,7 +44,7 @@ pub fn live(report: &mut Report, client: &mut Connection) -> Result<(), Refused>
 }
 
 /// The first packet goes out, and the server answers.
-fn handshake(report: &mut Report, client: &mut Connection) -> Result<(), Refused> {
+fn handshake(report: &mut Report, client: &mut Connection) -> Result<(), SenderError> {
     let hello = say_hello(report, client)?;
     report.wake(client)?;
     let heard = hear_server(client)?;
@@ -55,7 +55,7 @@ fn handshake(report: &mut Report, client: &mut Connection) -> Result<(), Refused
 }
 
 /// The first packet goes out: its number.
-fn say_hello(report: &mut Report, client: &mut Connection) -> Result<u64, Refused> {
+fn say_hello(report: &mut Report, client: &mut Connection) -> Result<u64, SenderError> {
     let gone = client.transmit(at(0), 1200, SpaceId::Initial)?;
     let hello = client.send(SpaceId::Initial, at(0), 1200, item(report.alloc(), 1)?)?;
     report.packet("Initial", hello, "goes out", &gone);
@@ -63,7 +63,7 @@ fn say_hello(report: &mut Report, client: &mut Connection) -> Result<u64, Refuse
 }
 
 /// Another connection: the first packet goes out, and a Retry comes (RFC 9000, 8.1.2).
-pub fn try_again(report: &mut Report, client: &mut Connection) -> Result<(), Refused> {
+pub fn try_again(report: &mut Report, client: &mut Connection) -> Result<(), SenderError> {
     say_hello(report, client)?;
     let packets = client.sent_in_vain(SpaceId::Initial, at(40))?;
     let items = client.pending(SpaceId::Initial)?;
@@ -78,7 +78,7 @@ pub fn try_again(report: &mut Report, client: &mut Connection) -> Result<(), Ref
 }
 
 /// The server's first datagram comes in, with its id and the keys of Handshake packets.
-fn hear_server(client: &mut Connection) -> Result<Heard, Refused> {
+fn hear_server(client: &mut Connection) -> Result<Heard, SenderError> {
     client.datagram_in(PathName::Current, 1200)?;
     client.server_id(ConnectionId::new(&[7; 8]))?;
     client.sender.on_handshake_keys();
@@ -92,7 +92,7 @@ fn ack(
     millis: u64,
     range: (u64, u64),
     ecn: Option<EcnCounts>,
-) -> Result<Acknowledged, Refused> {
+) -> Result<Acknowledged, SenderError> {
     client.hear_ack(at(millis), space, &[range], Duration::ZERO, ecn)
 }
 
@@ -102,7 +102,7 @@ fn counts(ect0: u64, ce: u64) -> Option<EcnCounts> {
 }
 
 /// Handshake packets, the end of the Initial and Handshake keys, and the peer's transport parameters.
-fn end_handshake(report: &mut Report, client: &mut Connection) -> Result<(), Refused> {
+fn end_handshake(report: &mut Report, client: &mut Connection) -> Result<(), SenderError> {
     confirm(client, item(report.alloc(), 2)?)?;
     if let Err(refused) = client.hear(SpaceId::Handshake, at(82), 1) {
         report.refusal("Handshake 1 comes late", refused);
@@ -111,7 +111,7 @@ fn end_handshake(report: &mut Report, client: &mut Connection) -> Result<(), Ref
 }
 
 /// The handshake comes to its end.
-fn confirm(client: &mut Connection, items: ItemQueue) -> Result<(), Refused> {
+fn confirm(client: &mut Connection, items: ItemQueue) -> Result<(), SenderError> {
     client.hear(SpaceId::Handshake, at(41), 0)?;
     client.peer_parameters(1400, Duration::from_millis(25))?;
     let finished = client.send(SpaceId::Handshake, at(41), 300, items)?;
@@ -137,7 +137,7 @@ fn new_id(sequence: u64) -> NewConnectionId {
 }
 
 /// The server issues an id, and the client uses it.
-fn peer_ids(report: &mut Report, client: &mut Connection) -> Result<(), Refused> {
+fn peer_ids(report: &mut Report, client: &mut Connection) -> Result<(), SenderError> {
     if client.new_id(new_id(1))?.is_none() {
         report.line("the server's id 1 is held");
     }
@@ -152,7 +152,7 @@ fn peer_ids(report: &mut Report, client: &mut Connection) -> Result<(), Refused>
 }
 
 /// The client issues an id; its first one lasts for ten seconds, and the server retires it.
-fn own_ids(report: &mut Report, client: &mut Connection) -> Result<(), Refused> {
+fn own_ids(report: &mut Report, client: &mut Connection) -> Result<(), SenderError> {
     let number = client.issue_id(report.alloc(), at(9_000), 9)?;
     report.between("id ", &number, " is issued");
     report.wake(client)?;
@@ -166,7 +166,7 @@ fn own_ids(report: &mut Report, client: &mut Connection) -> Result<(), Refused> 
 }
 
 /// Packets come in: ACKs at once, and late ones.
-fn acknowledge(report: &mut Report, client: &mut Connection) -> Result<(), Refused> {
+fn acknowledge(report: &mut Report, client: &mut Connection) -> Result<(), SenderError> {
     for number in 0..3 {
         let heard = client.hear(SpaceId::Data, at(11_000), number / 2 * 2)?;
         report.packet("packet", number / 2 * 2, "comes in", &heard);
@@ -188,7 +188,7 @@ fn acknowledge(report: &mut Report, client: &mut Connection) -> Result<(), Refus
 }
 
 /// The timer for a late ACK runs for 40 ms.
-fn wait_for_ack(report: &mut Report, client: &mut Connection) -> Result<(), Refused> {
+fn wait_for_ack(report: &mut Report, client: &mut Connection) -> Result<(), SenderError> {
     let is_due = client.has_expired(Timer::MaxAckDelay, at(11_049));
     report.value("an ACK after 39 ms", &is_due);
     let is_sent = client.ack_timer_expired()?;
@@ -208,7 +208,7 @@ fn fewer_acks() -> AckFrequency {
 
 /// Packets go out, marked with ECT(0), until the window is full: the number of the first. Then the pacer has no tokens
 /// left.
-fn fill_window(report: &mut Report, client: &mut Connection) -> Result<Option<u64>, Refused> {
+fn fill_window(report: &mut Report, client: &mut Connection) -> Result<Option<u64>, SenderError> {
     client.app_limited = false;
     let burst = client.may_burst(at(11_100), 12_000)?;
     report.value("ten packets in a burst", &burst);
@@ -228,7 +228,7 @@ fn fill_window(report: &mut Report, client: &mut Connection) -> Result<Option<u6
 }
 
 /// What the window has room for goes out: the number of the first packet.
-fn send_all(alloc: Global, client: &mut Connection) -> Result<Option<u64>, Refused> {
+fn send_all(alloc: Global, client: &mut Connection) -> Result<Option<u64>, SenderError> {
     let mut first = None;
     for number in 100..120 {
         match client.transmit(at(11_100), 1200, SpaceId::Data)? {
@@ -242,7 +242,7 @@ fn send_all(alloc: Global, client: &mut Connection) -> Result<Option<u64>, Refus
 }
 
 /// One ACK comes in, of nine packets behind the first one, which is held for lost (RFC 9002, 6.1.1).
-fn lose(report: &mut Report, client: &mut Connection, first: u64) -> Result<(), Refused> {
+fn lose(report: &mut Report, client: &mut Connection, first: u64) -> Result<(), SenderError> {
     let range = (first.saturating_add(1), first.saturating_add(9));
     let heard = ack(client, SpaceId::Data, 11_140, range, counts(9, 0))?;
     report.between("", &heard.numbers.len(), " of ten packets arrive");
@@ -251,7 +251,7 @@ fn lose(report: &mut Report, client: &mut Connection, first: u64) -> Result<(), 
 }
 
 /// What was lost goes out again, and arrives with a mark.
-fn send_again(report: &mut Report, client: &mut Connection) -> Result<(), Refused> {
+fn send_again(report: &mut Report, client: &mut Connection) -> Result<(), SenderError> {
     let items = client.pending(SpaceId::Data)?;
     report.between("the items ", &items.items(), " wait to be sent again");
     let again = client.send(SpaceId::Data, at(11_150), 1200, items)?;
@@ -271,13 +271,13 @@ fn send_again(report: &mut Report, client: &mut Connection) -> Result<(), Refuse
 /// More packets were marked.
 fn is_marked(heard: &Acknowledged) -> bool {
     match heard.ecn {
-        EcnEnd::Marked => true,
+        EcnOutcome::Marked => true,
         _ => false,
     }
 }
 
 /// A packet arrives, and the server counts fewer than before.
-fn count_less(report: &mut Report, client: &mut Connection) -> Result<(), Refused> {
+fn count_less(report: &mut Report, client: &mut Connection) -> Result<(), SenderError> {
     let sent = client.send(SpaceId::Data, at(11_156), 1200, item(report.alloc(), 101)?)?;
     ack(client, SpaceId::Data, 11_196, (sent, sent), counts(8, 1))?;
     let sending_ecn = client.state().current().sending_ecn;
@@ -289,7 +289,7 @@ fn count_less(report: &mut Report, client: &mut Connection) -> Result<(), Refuse
 }
 
 /// An ACK of a packet that was not sent: a stack closes the connection (RFC 9000, 13.1).
-fn mistrust(report: &mut Report, client: &mut Connection) -> Result<(), Refused> {
+fn mistrust(report: &mut Report, client: &mut Connection) -> Result<(), SenderError> {
     if let Err(refused) = ack(client, SpaceId::Data, 11_198, (1_000, 1_000), None) {
         report.refusal("an ACK of number 1000: refused", refused);
     }
@@ -298,7 +298,7 @@ fn mistrust(report: &mut Report, client: &mut Connection) -> Result<(), Refused>
 
 /// No ACK comes for a packet: probes go out, the first with what is to be sent again. Their ACK shows that the packet
 /// is lost.
-fn probe(report: &mut Report, client: &mut Connection) -> Result<(), Refused> {
+fn probe(report: &mut Report, client: &mut Connection) -> Result<(), SenderError> {
     client.send(SpaceId::Data, at(11_200), 600, item(report.alloc(), 200)?)?;
     report.wake(client)?;
     let is_over = client.has_expired(Timer::LossDetection, at(12_000));
@@ -318,7 +318,7 @@ fn send_probes(
     client: &mut Connection,
     space: SpaceId,
     count: u8,
-) -> Result<(), Refused> {
+) -> Result<(), SenderError> {
     let first = send_probe(report, client, space)?;
     let mut last = first;
     for _ in 1..count {
@@ -335,7 +335,7 @@ fn send_probe(
     report: &mut Report,
     client: &mut Connection,
     space: SpaceId,
-) -> Result<u64, Refused> {
+) -> Result<u64, SenderError> {
     client.transmit(at(12_000), 600, space)?;
     let items = client.pending(space)?;
     report.between("a probe goes out with the items ", &items.items(), "");
@@ -349,7 +349,7 @@ fn show_mtu(report: &mut Report, client: &Connection, text: &str) {
 }
 
 /// A larger MTU is found; the probe of the next size is lost, which is no sign of congestion.
-fn grow(report: &mut Report, client: &mut Connection) -> Result<(), Refused> {
+fn grow(report: &mut Report, client: &mut Connection) -> Result<(), SenderError> {
     if let Some(size) = arrive_large(client)? {
         report.between("a probe of ", &size, " bytes arrives");
     }
@@ -362,7 +362,7 @@ fn grow(report: &mut Report, client: &mut Connection) -> Result<(), Refused> {
 }
 
 /// A probe of the MTU goes out, and arrives: its size.
-fn arrive_large(client: &mut Connection) -> Result<Option<u16>, Refused> {
+fn arrive_large(client: &mut Connection) -> Result<Option<u16>, SenderError> {
     let Some((number, size)) = client.probe_mtu(at(13_000))? else {
         return Ok(None);
     };
@@ -371,7 +371,7 @@ fn arrive_large(client: &mut Connection) -> Result<Option<u16>, Refused> {
 }
 
 /// A probe of the MTU goes out and is lost, while a small packet behind it arrives: the size of the probe.
-fn lose_large(client: &mut Connection, items: ItemQueue) -> Result<Option<u16>, Refused> {
+fn lose_large(client: &mut Connection, items: ItemQueue) -> Result<Option<u16>, SenderError> {
     let Some((probe, size)) = client.probe_mtu(at(13_100))? else {
         return Ok(None);
     };
@@ -385,7 +385,7 @@ fn lose_large(client: &mut Connection, items: ItemQueue) -> Result<Option<u16>, 
 }
 
 /// Large packets vanish, and small ones arrive.
-fn vanish(report: &mut Report, client: &mut Connection) -> Result<(), Refused> {
+fn vanish(report: &mut Report, client: &mut Connection) -> Result<(), SenderError> {
     for round in 140..144 {
         let large = item(report.alloc(), round)?;
         let small = item(report.alloc(), round)?;
@@ -405,7 +405,7 @@ fn send_both(
     millis: u64,
     large: ItemQueue,
     small: ItemQueue,
-) -> Result<(), Refused> {
+) -> Result<(), SenderError> {
     client.send(SpaceId::Data, at(millis), 1300, large)?;
     let arrived = client.send(SpaceId::Data, at(millis), 1200, small)?;
     let back = millis.saturating_add(40);
@@ -415,7 +415,7 @@ fn send_both(
 }
 
 /// The end.
-fn close(report: &mut Report, client: &mut Connection) -> Result<(), Refused> {
+fn close(report: &mut Report, client: &mut Connection) -> Result<(), SenderError> {
     client.close(at(15_000))?;
     let ends = client.next_timeout()?;
     report.value("closing, until a timer expires", &ends.is_some());

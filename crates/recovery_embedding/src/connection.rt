@@ -1,7 +1,7 @@
 //! One end of a connection, as far as its loss recovery sees it.
 ghost use Rattle.std.specs.Prelude.{◌≡◌};
-ghost use Rattle.recovery_sender.specs.Calls.{Passes};
-ghost use Rattle.recovery_skips.specs.Skips.{IsSkips};
+ghost use Rattle.recovery_sender.specs.Calls.{IsPassedThrough};
+ghost use Rattle.recovery_packet_numbers.specs.Skips.{IsSkips};
 
 use quic_recovery::below::{ConnectionId, ResetToken};
 use quic_recovery::config::TransportConfig;
@@ -9,8 +9,8 @@ use quic_recovery::congestion::NewRenoConfig;
 use quic_recovery::{Event, Recovery, RecoveryConfig};
 use rand_pcg::Pcg32;
 use recovery_queue::items::ItemQueue;
-use recovery_sender::{Refused, Sender};
-use recovery_skips::Skips;
+use recovery_sender::{SenderError, Sender};
+use recovery_packet_numbers::Skips;
 use std::net::SocketAddr;
 
 /// What the recovery starts with: the defaults, with NewReno, but for packet numbers that are skipped here and there
@@ -58,8 +58,8 @@ impl Connection {
     }
 
     /// An event that passes, and whose answer asks for nothing.
-    pub fn tell(&mut self, event: Event<ItemQueue>) -> Result<(), Refused>
-        requires { Passes event }
+    pub fn tell(&mut self, event: Event<ItemQueue>) -> Result<(), SenderError>
+        requires { IsPassedThrough event }
     {
         match self.sender.on_event(event) {
             Ok(_) => Ok(()),

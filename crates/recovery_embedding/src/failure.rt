@@ -1,7 +1,7 @@
 //! Why the example ends early.
 use quic_recovery::Refusal;
 use quic_recovery::below::NoMemory;
-use recovery_sender::Refused;
+use recovery_sender::SenderError;
 use std::io;
 use thiserror::Error;
 
@@ -9,7 +9,7 @@ use thiserror::Error;
 #[derive(Clone, Copy, Debug, Error)]
 pub enum Failure {
     #[error("{0}")]
-    Refused(#[from] Refusal),
+    SenderError(#[from] Refusal),
     #[error("the number was never sent")]
     Unsent,
     #[error("cannot be written: {0}")]
@@ -18,11 +18,11 @@ pub enum Failure {
     NoMemory(#[from] NoMemory),
 }
 
-impl From<Refused> for Failure {
-    fn from(refused: Refused) -> Failure {
+impl From<SenderError> for Failure {
+    fn from(refused: SenderError) -> Failure {
         match refused {
-            Refused::Event(refusal) => Failure::Refused(refusal),
-            Refused::Unsent => Failure::Unsent,
+            SenderError::Event(refusal) => Failure::SenderError(refusal),
+            SenderError::Unsent => Failure::Unsent,
         }
     }
 }

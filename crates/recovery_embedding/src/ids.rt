@@ -1,5 +1,5 @@
 //! Connection ids of both ends (RFC 9000, 5.1).
-ghost use Rattle.recovery_sender.specs.Calls.{Passes};
+ghost use Rattle.recovery_sender.specs.Calls.{IsPassedThrough};
 
 use crate::connection::Connection;
 use quic_recovery::below::{ConnectionId, IssuedCid, NewConnectionId, ResetToken};
@@ -7,29 +7,29 @@ use quic_recovery::time::Instant;
 use quic_recovery::timer::Timer;
 use quic_recovery::{Answer, Event, Refusal};
 use recovery_queue::items::ItemQueue;
-use recovery_sender::Refused;
+use recovery_sender::SenderError;
 use std::alloc::Global;
 
 impl Connection {
     /// The server's first packet brings the id that it chose, to which all others go (RFC 9000, 7.2).
-    pub fn server_id(&mut self, id: ConnectionId) -> Result<(), Refused> {
+    pub fn server_id(&mut self, id: ConnectionId) -> Result<(), SenderError> {
         self.tell(Event::InitialId(id))
     }
 
     /// The peer issues an id, and may ask for the retirement of others: the numbers for which RETIRE_CONNECTION_ID is
     /// to be sent, from the first to below the second.
-    pub fn new_id(&mut self, frame: NewConnectionId) -> Result<Option<(u64, u64)>, Refused> {
+    pub fn new_id(&mut self, frame: NewConnectionId) -> Result<Option<(u64, u64)>, SenderError> {
         self.retire(Event::NewId(frame))
     }
 
     /// Another id of the peer is to be used, as on another path (RFC 9000, 9.5): none where no other is held.
-    pub fn next_id(&mut self) -> Result<Option<(u64, u64)>, Refused> {
+    pub fn next_id(&mut self) -> Result<Option<(u64, u64)>, SenderError> {
         self.retire(Event::NextId)
     }
 
     /// With another id comes the token by which the peer resets a connection (RFC 9000, 10.3).
-    fn retire(&mut self, event: Event<ItemQueue>) -> Result<Option<(u64, u64)>, Refused>
-        requires { Passes event }
+    fn retire(&mut self, event: Event<ItemQueue>) -> Result<Option<(u64, u64)>, SenderError>
+        requires { IsPassedThrough event }
     {
         match self.sender.on_event(event) {
             Ok(Answer::Retire(Some((numbers, token)))) => {
@@ -50,7 +50,7 @@ impl Connection {
     }
 
     /// This end issues one more id, by a NEW_CONNECTION_ID frame: its number.
-    pub fn issue_id(&mut self, alloc: Global, now: Instant, byte: u8) -> Result<u64, Refused> {
+    pub fn issue_id(&mut self, alloc: Global, now: Instant, byte: u8) -> Result<u64, SenderError> {
         let sequence = self.state().local_ids().issued();
         let mut ids = Vec::new(alloc);
         let issued = IssuedCid {
@@ -59,7 +59,7 @@ impl Connection {
             reset_token: ResetToken::from([byte; 16]),
         };
         if ids.push(issued).is_err() {
-            return Err(Refused::Event(Refusal::NoMemory));
+            return Err(SenderError::Event(Refusal::NoMemory));
         }
         self.tell(Event::IssueIds { now, ids })?;
         self.arm_id_timer()?;
@@ -67,7 +67,7 @@ impl Connection {
     }
 
     /// The timer for new ids is set to the oldest deadline, or stopped where there is none.
-    fn arm_id_timer(&mut self) -> Result<(), Refused> {
+    fn arm_id_timer(&mut self) -> Result<(), SenderError> {
         match self.state().local_ids().next_timeout() {
             Some(moment) => self.set_timer(Timer::PushNewCid, moment),
             None => self.stop_timer(Timer::PushNewCid),
@@ -75,7 +75,7 @@ impl Connection {
     }
 
     /// That timer expired: whether ids are to be issued with `retire_prior_to` in their frames.
-    pub fn id_timer_expired(&mut self) -> Result<bool, Refused> {
+    pub fn id_timer_expired(&mut self) -> Result<bool, SenderError> {
         let is_asked = match self.sender.on_event(Event::IdTimeout) {
             Ok(Answer::Flag(is_asked)) => is_asked,
             Ok(_) => unreachable!(),
@@ -86,7 +86,7 @@ impl Connection {
     }
 
     /// The peer retires an id of this end: whether it has room for one more (`limit`: its active_connection_id_limit).
-    pub fn peer_retired(&mut self, sequence: u64, limit: u64) -> Result<bool, Refused> {
+    pub fn peer_retired(&mut self, sequence: u64, limit: u64) -> Result<bool, SenderError> {
         match self.sender.on_event(Event::PeerRetired { sequence, limit }) {
             Ok(Answer::Flag(has_room)) => Ok(has_room),
             Ok(_) => unreachable!(),

@@ -22,7 +22,7 @@ use quic_recovery::below::NoMemory;
 use quic_recovery::time::{Duration, Instant};
 use rand_core::SeedableRng;
 use rand_pcg::Pcg32;
-use recovery_sender::{Refused, Sender, Side};
+use recovery_sender::{SenderError, Sender, Side};
 use report::Report;
 use std::alloc::Global;
 use std::net::{IpAddr, Ipv4Addr, SocketAddr};
@@ -38,24 +38,24 @@ fn address(host: u8, port: u16) -> SocketAddr {
 }
 
 /// One end of a connection to which nothing has happened yet.
-fn begin(alloc: Global, side: Side) -> Result<Connection, Refused> {
+fn begin(alloc: Global, side: Side) -> Result<Connection, SenderError> {
     let config = connection::config(address(1, 4433));
     // A program that prints the same each time: a stack seeds a generator that its peers cannot guess.
     let rng = Pcg32::seed_from_u64(0);
     match Sender::new(alloc, side, config, rng, at(0)) {
         Ok(sender) => Ok(Connection::new(sender)),
-        Err(NoMemory) => Err(Refused::Event(Refusal::NoMemory)),
+        Err(NoMemory) => Err(SenderError::Event(Refusal::NoMemory)),
     }
 }
 
-fn live_as_client(report: &mut Report) -> Result<(), Refused> {
+fn live_as_client(report: &mut Report) -> Result<(), SenderError> {
     let mut client = begin(report.alloc(), Side::Client)?;
     let lived = client::live(report, &mut client);
     drop(client);
     lived
 }
 
-fn live_as_server(report: &mut Report) -> Result<(), Refused> {
+fn live_as_server(report: &mut Report) -> Result<(), SenderError> {
     let mut server = begin(report.alloc(), Side::Server)?;
     let lived = server::live(report, &mut server);
     drop(server);
@@ -63,7 +63,7 @@ fn live_as_server(report: &mut Report) -> Result<(), Refused> {
 }
 
 /// A client whose server wants to see its address first.
-fn live_behind_retry(report: &mut Report) -> Result<(), Refused> {
+fn live_behind_retry(report: &mut Report) -> Result<(), SenderError> {
     let mut client = begin(report.alloc(), Side::Client)?;
     let lived = client::try_again(report, &mut client);
     drop(client);
@@ -71,7 +71,7 @@ fn live_behind_retry(report: &mut Report) -> Result<(), Refused> {
 }
 
 /// All of them: what they show, as far as they come.
-fn live(report: &mut Report) -> Result<(), Refused> {
+fn live(report: &mut Report) -> Result<(), SenderError> {
     live_as_client(report)?;
     live_as_server(report)?;
     live_behind_retry(report)

@@ -3,11 +3,11 @@ use crate::connection::Connection;
 use quic_recovery::below::SpaceId;
 use quic_recovery::time::{Duration, Instant};
 use quic_recovery::{Answer, Event};
-use recovery_sender::Refused;
+use recovery_sender::SenderError;
 
 impl Connection {
     /// The peer's transport parameters come in: max_udp_payload_size and max_ack_delay (RFC 9000, 18.2).
-    pub fn peer_parameters(&mut self, size: u16, max_ack_delay: Duration) -> Result<(), Refused> {
+    pub fn peer_parameters(&mut self, size: u16, max_ack_delay: Duration) -> Result<(), SenderError> {
         self.sender.set_peer_max_ack_delay(max_ack_delay);
         self.tell(Event::PeerLimit { size })
     }
@@ -15,7 +15,7 @@ impl Connection {
     /// A larger size may be looked for: number and size of the packet that goes out now, and fills its datagram, if
     /// any. It is tracked already, and acknowledged or lost as any other. Window and pacer are not asked for it (RFC
     /// 9000, 14.4).
-    pub fn probe_mtu(&mut self, now: Instant) -> Result<Option<(u64, u16)>, Refused> {
+    pub fn probe_mtu(&mut self, now: Instant) -> Result<Option<(u64, u16)>, SenderError> {
         let (number, size) = match self.sender.poll_mtu(now) {
             Ok(Answer::Probe { number, size }) => (number, size),
             Ok(_) => return Ok(None),

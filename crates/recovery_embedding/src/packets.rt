@@ -4,7 +4,7 @@ use quic_recovery::below::SpaceId;
 use quic_recovery::time::Instant;
 use quic_recovery::{Answer, Event};
 use recovery_queue::items::ItemQueue;
-use recovery_sender::Refused;
+use recovery_sender::SenderError;
 
 impl Connection {
     /// A packet that elicits an ACK goes out with these items, in a datagram that was asked for: its number. The table
@@ -15,7 +15,7 @@ impl Connection {
         now: Instant,
         size: u16,
         items: ItemQueue,
-    ) -> Result<u64, Refused> {
+    ) -> Result<u64, SenderError> {
         match self.sender.send(space, now, size, true, None, items, ()) {
             Ok(Answer::Sent { number, .. }) => Ok(number),
             Ok(_) => unreachable!(),
@@ -24,7 +24,7 @@ impl Connection {
     }
 
     /// The items that wait to be sent again.
-    pub fn pending(&mut self, space: SpaceId) -> Result<ItemQueue, Refused> {
+    pub fn pending(&mut self, space: SpaceId) -> Result<ItemQueue, SenderError> {
         match self.sender.on_event(Event::TakePending { space }) {
             Ok(Answer::Queue(items)) => Ok(items),
             Ok(_) => unreachable!(),

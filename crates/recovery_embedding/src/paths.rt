@@ -6,7 +6,7 @@ use quic_recovery::time::Instant;
 use quic_recovery::timer::Timer;
 use quic_recovery::{Answer, Event};
 use recovery_queue::items::ItemQueue;
-use recovery_sender::{Refused, Transmission};
+use recovery_sender::{SenderError, Transmission};
 use std::net::SocketAddr;
 
 /// What becomes of a datagram that is to go out.
@@ -50,7 +50,7 @@ fn bytes_by(answer: &Answer<ItemQueue>) -> u64 {
 
 impl Connection {
     /// A datagram of the peer comes in, before its packets are looked at.
-    pub fn datagram_in(&mut self, path: PathName, bytes: u64) -> Result<(), Refused> {
+    pub fn datagram_in(&mut self, path: PathName, bytes: u64) -> Result<(), SenderError> {
         match path {
             PathName::Current => self.sender.on_datagram(bytes),
             PathName::Previous => self.tell(Event::DatagramIn { path, bytes }),
@@ -64,7 +64,7 @@ impl Connection {
         now: Instant,
         bytes: u16,
         space: SpaceId,
-    ) -> Result<Departure, Refused> {
+    ) -> Result<Departure, SenderError> {
         let departure = match self.sender.transmit(now, bytes, space, true) {
             Ok(sent) => departure_of(&sent),
             Err(refused) => return Err(refused),
@@ -72,7 +72,7 @@ impl Connection {
         self.wait_for_pacer(departure)
     }
 
-    fn wait_for_pacer(&mut self, departure: Departure) -> Result<Departure, Refused> {
+    fn wait_for_pacer(&mut self, departure: Departure) -> Result<Departure, SenderError> {
         if let Departure::Later(nanos) = departure {
             self.set_timer(Timer::Pacing, Instant::from_nanos(nanos))?;
         }
@@ -80,7 +80,7 @@ impl Connection {
     }
 
     /// May a burst go out, as far as the pacer goes?
-    pub fn may_burst(&mut self, now: Instant, bytes: u64) -> Result<Departure, Refused> {
+    pub fn may_burst(&mut self, now: Instant, bytes: u64) -> Result<Departure, SenderError> {
         let departure = match self.sender.on_event(Event::PacerCheck { now, bytes }) {
             Ok(answer) => burst_by(&answer),
             Err(refused) => return Err(refused),
@@ -89,7 +89,7 @@ impl Connection {
     }
 
     /// What is in flight on a path, in bytes.
-    pub fn in_flight(&mut self, path: PathName) -> Result<u64, Refused> {
+    pub fn in_flight(&mut self, path: PathName) -> Result<u64, SenderError> {
         match self.sender.on_event(Event::InFlight { path }) {
             Ok(answer) => Ok(bytes_by(&answer)),
             Err(refused) => Err(refused),
@@ -104,7 +104,7 @@ impl Connection {
         now: Instant,
         remote: SocketAddr,
         challenge: u64,
-    ) -> Result<(), Refused> {
+    ) -> Result<(), SenderError> {
         let fresh = self.state().current().remote.ip() != remote.ip();
         self.tell(Event::NewPath { now, remote, fresh })?;
         self.challenge = Some(challenge);
@@ -114,7 +114,7 @@ impl Connection {
 
     /// A PATH_RESPONSE comes in: whether it answers the challenge, so that the peer is known to receive at the address
     /// of the current path. The previous one is then used no more.
-    pub fn path_response(&mut self, answered: u64) -> Result<bool, Refused> {
+    pub fn path_response(&mut self, answered: u64) -> Result<bool, SenderError> {
         if self.challenge != Some(answered) {
             return Ok(false);
         }
@@ -127,7 +127,7 @@ impl Connection {
 
     /// The timer of path validation expired: no answer came to the challenge, as where the address was a forged one.
     /// The path before it is used again as it was (RFC 9000, 9.3.2).
-    pub fn path_failed(&mut self) -> Result<(), Refused> {
+    pub fn path_failed(&mut self) -> Result<(), SenderError> {
         self.challenge = None;
         self.stop_timer(Timer::PathValidation)?;
         self.tell(Event::RevertPath)
@@ -135,7 +135,7 @@ impl Connection {
 
     /// The network under the current path is another one, though the addresses stay, as when this end changes from one
     /// network to another behind a tunnel.
-    pub fn network_changed(&mut self, now: Instant) -> Result<(), Refused> {
+    pub fn network_changed(&mut self, now: Instant) -> Result<(), SenderError> {
         self.tell(Event::ResetPath { now })
     }
 }

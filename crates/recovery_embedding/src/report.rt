@@ -3,7 +3,7 @@ use crate::connection::Connection;
 use crate::failure::Failure;
 use quic_recovery::below::NoMemory;
 use quic_recovery::congestion::Controller;
-use recovery_sender::Refused;
+use recovery_sender::SenderError;
 use std::alloc::{AllocError, Global};
 use std::fmt::Debug;
 
@@ -61,7 +61,7 @@ impl Report {
     }
 
     /// What is done, and why it fails.
-    pub fn refusal(&mut self, text: &str, refused: Refused) {
+    pub fn refusal(&mut self, text: &str, refused: SenderError) {
         let failure = Failure::from(refused);
         let written = writeln!(self.text, "{text}: {failure}");
         self.keep(written);
@@ -93,7 +93,7 @@ impl Report {
     }
 
     /// When the stack is to wake up.
-    pub fn wake(&mut self, client: &mut Connection) -> Result<(), Refused> {
+    pub fn wake(&mut self, client: &mut Connection) -> Result<(), SenderError> {
         match client.next_timeout()? {
             Some(nanos) => self.between("wake up at ", &(nanos / 1000), " us"),
             None => self.line("sleep on"),

@@ -6,16 +6,16 @@ use quic_recovery::below::SpaceId;
 use quic_recovery::event::PathName;
 use quic_recovery::time::Duration;
 use recovery_queue::items::ItemQueue;
-use recovery_sender::Refused;
+use recovery_sender::SenderError;
 
 /// All acts, in order.
-pub fn live(report: &mut Report, server: &mut Connection) -> Result<(), Refused> {
+pub fn live(report: &mut Report, server: &mut Connection) -> Result<(), SenderError> {
     validate(report, server)?;
     follow(report, server)
 }
 
 /// Until the client's address is validated, three times what came from it goes out at most (RFC 9000, 8.1).
-fn validate(report: &mut Report, server: &mut Connection) -> Result<(), Refused> {
+fn validate(report: &mut Report, server: &mut Connection) -> Result<(), SenderError> {
     server.datagram_in(PathName::Current, 1200)?;
     for _ in 0..4 {
         let departure = server.transmit(at(0), 1200, SpaceId::Initial)?;
@@ -28,7 +28,7 @@ fn validate(report: &mut Report, server: &mut Connection) -> Result<(), Refused>
 }
 
 /// The client's port changes, and then its address (RFC 9000, 9.3 and 9.4).
-fn follow(report: &mut Report, server: &mut Connection) -> Result<(), Refused> {
+fn follow(report: &mut Report, server: &mut Connection) -> Result<(), SenderError> {
     hear_client(report, server)?;
     change_port(report, server)?;
     server.datagram_in(PathName::Current, 100)?;
@@ -49,7 +49,7 @@ fn empty(report: &Report) -> ItemQueue {
 }
 
 /// A packet arrives within 40 ms.
-fn hear_client(report: &mut Report, server: &mut Connection) -> Result<(), Refused> {
+fn hear_client(report: &mut Report, server: &mut Connection) -> Result<(), SenderError> {
     let number = server.send(SpaceId::Data, at(800), 1000, empty(report))?;
     let ranges = [(number, number)];
     match server.hear_ack(at(840), SpaceId::Data, &ranges, Duration::ZERO, None) {
@@ -59,7 +59,7 @@ fn hear_client(report: &mut Report, server: &mut Connection) -> Result<(), Refus
 }
 
 /// A packet is in flight as the client's port changes: what is known of the way is kept.
-fn change_port(report: &mut Report, server: &mut Connection) -> Result<(), Refused> {
+fn change_port(report: &mut Report, server: &mut Connection) -> Result<(), SenderError> {
     server.send(SpaceId::Data, at(900), 1000, empty(report))?;
     server.peer_moved(at(1_000), address(1, 4434), 55)?;
     let before = server.in_flight(PathName::Previous)?;

@@ -4,11 +4,11 @@ use quic_recovery::below::SpaceId;
 use quic_recovery::time::Instant;
 use quic_recovery::timer::Timer;
 use quic_recovery::{Answer, Event};
-use recovery_sender::{Refused, passes};
+use recovery_sender::{SenderError, passes};
 
 impl Connection {
     /// Sets a timer of the stack's own. That for losses the sender sets: it stays.
-    pub fn set_timer(&mut self, timer: Timer, time: Instant) -> Result<(), Refused> {
+    pub fn set_timer(&mut self, timer: Timer, time: Instant) -> Result<(), SenderError> {
         let event = Event::SetTimer { timer, time };
         if !passes(&event) {
             return Ok(());
@@ -17,7 +17,7 @@ impl Connection {
     }
 
     /// Stops one.
-    pub fn stop_timer(&mut self, timer: Timer) -> Result<(), Refused> {
+    pub fn stop_timer(&mut self, timer: Timer) -> Result<(), SenderError> {
         let event = Event::StopTimer { timer };
         if !passes(&event) {
             return Ok(());
@@ -26,7 +26,7 @@ impl Connection {
     }
 
     /// When the stack is to wake up, in nanoseconds, if at all.
-    pub fn next_timeout(&mut self) -> Result<Option<u64>, Refused> {
+    pub fn next_timeout(&mut self) -> Result<Option<u64>, SenderError> {
         match self.sender.on_event(Event::NextTimeout) {
             Ok(Answer::Timeout(Some(moment))) => Ok(Some(moment.as_nanos())),
             Ok(Answer::Timeout(None)) => Ok(None),
@@ -41,7 +41,7 @@ impl Connection {
     }
 
     /// The connection is closed: only its end is waited for, for three probe timeouts (RFC 9000, 10.2).
-    pub fn close(&mut self, now: Instant) -> Result<(), Refused> {
+    pub fn close(&mut self, now: Instant) -> Result<(), SenderError> {
         for timer in Timer::VALUES {
             self.stop_timer(timer)?;
         }

@@ -7,7 +7,7 @@ use recovery_base::below::{
 };
 use recovery_base::time::{Duration, Instant};
 use recovery_base::timer::Timer;
-use recovery_ledger::spaces::SendableFrames;
+use recovery_spaces::spaces::SendableFrames;
 pub use recovery_paths::path_pair::PathName;
 use recovery_queue::queue::RetransmitQueue;
 use std::net::SocketAddr;

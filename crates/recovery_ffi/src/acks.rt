@@ -1,10 +1,10 @@
 //! How often and how late this end acknowledges (RFC 9000, 13.2): an export for each event.
-ghost use Rattle.recovery_stack.specs.Answers.{AnswersTo};
+ghost use Rattle.recovery_stack.specs.Answers.{HandleAppliesTo};
 ghost use Rattle.recovery_stack.specs.Codes.{request, space_coded};
 ghost use Rattle.recovery_events.specs.declared.event.Event.TheVariants.{AckDelayTimeout, AckFrequencyIn, AcksSent};
 
 use quic_recovery::Event;
-use recovery_kept::spelling::Reply;
+use recovery_engine::spelling::EncodedReply;
 use recovery_stack::codes::{request, space_coded};
 use recovery_stack::handle::Handle;
 use std::alloc::Global;
@@ -18,25 +18,25 @@ pub extern "C" fn recovery_ffi_ack_frequency(
     threshold: u64,
     micros: u64,
     reordering: u64,
-) -> Reply
-    ensures { AnswersTo (request sequence threshold micros reordering)
+) -> EncodedReply
+    ensures { HandleAppliesTo (request sequence threshold micros reordering)
         (λ frame. AckFrequencyIn frame) handle.old.slot.held result handle.new.slot.held }
 {
     match request(sequence, threshold, micros, reordering) {
         Some(frame) => handle.apply(alloc, Event::AckFrequencyIn(frame)),
-        None => Reply::bad_argument(),
+        None => EncodedReply::bad_argument(),
     }
 }
 
 /// An ACK frame was sent (RFC 9000, 13.2.1): the event `AcksSent`.
 #[unsafe(no_mangle)]
-pub extern "C" fn recovery_ffi_acks_sent(alloc: Global, handle: &mut Handle, space: u8) -> Reply
-    ensures { AnswersTo (space_coded space)
+pub extern "C" fn recovery_ffi_acks_sent(alloc: Global, handle: &mut Handle, space: u8) -> EncodedReply
+    ensures { HandleAppliesTo (space_coded space)
         (λ space. AcksSent space)
         handle.old.slot.held result handle.new.slot.held }
 {
     let Some(space) = space_coded(space) else {
-        return Reply::bad_argument();
+        return EncodedReply::bad_argument();
     };
     handle.apply(alloc, Event::AcksSent { space })
 }
@@ -47,13 +47,13 @@ pub extern "C" fn recovery_ffi_ack_delay_timeout(
     alloc: Global,
     handle: &mut Handle,
     space: u8,
-) -> Reply
-    ensures { AnswersTo (space_coded space)
+) -> EncodedReply
+    ensures { HandleAppliesTo (space_coded space)
         (λ space. AckDelayTimeout space)
         handle.old.slot.held result handle.new.slot.held }
 {
     let Some(space) = space_coded(space) else {
-        return Reply::bad_argument();
+        return EncodedReply::bad_argument();
     };
     handle.apply(alloc, Event::AckDelayTimeout { space })
 }

@@ -1,17 +1,17 @@
 //! The search for the MTU (RFC 9000, 14.3; RFC 8899): an export for each event.
-ghost use Rattle.recovery_stack.specs.Answers.{Answers};
+ghost use Rattle.recovery_stack.specs.Answers.{HandleApplies};
 ghost use Rattle.recovery_events.specs.declared.event.Event.TheVariants.{LossesDone, PeerLimit, PollMtu};
 
 use quic_recovery::Event;
 use quic_recovery::time::Instant;
-use recovery_kept::spelling::Reply;
+use recovery_engine::spelling::EncodedReply;
 use recovery_stack::handle::Handle;
 use std::alloc::Global;
 
 /// Is a probe of the MTU due (RFC 9000, 14.3)? The event `PollMtu`.
 #[unsafe(no_mangle)]
-pub extern "C" fn recovery_ffi_poll_mtu(alloc: Global, handle: &mut Handle, now: u64) -> Reply
-    ensures { Answers handle.old.slot.held (PollMtu now) result handle.new.slot.held }
+pub extern "C" fn recovery_ffi_poll_mtu(alloc: Global, handle: &mut Handle, now: u64) -> EncodedReply
+    ensures { HandleApplies handle.old.slot.held (PollMtu now) result handle.new.slot.held }
 {
     handle.apply(
         alloc,
@@ -23,16 +23,16 @@ pub extern "C" fn recovery_ffi_poll_mtu(alloc: Global, handle: &mut Handle, now:
 
 /// The peer takes datagrams of at most so many bytes (RFC 9000, 18.2): the event `PeerLimit`.
 #[unsafe(no_mangle)]
-pub extern "C" fn recovery_ffi_peer_limit(alloc: Global, handle: &mut Handle, size: u16) -> Reply
-    ensures { Answers handle.old.slot.held (PeerLimit size) result handle.new.slot.held }
+pub extern "C" fn recovery_ffi_peer_limit(alloc: Global, handle: &mut Handle, size: u16) -> EncodedReply
+    ensures { HandleApplies handle.old.slot.held (PeerLimit size) result handle.new.slot.held }
 {
     handle.apply(alloc, Event::PeerLimit { size })
 }
 
 /// All packets that were found lost together were told: the event `LossesDone`.
 #[unsafe(no_mangle)]
-pub extern "C" fn recovery_ffi_losses_done(alloc: Global, handle: &mut Handle, now: u64) -> Reply
-    ensures { Answers handle.old.slot.held (LossesDone now) result handle.new.slot.held }
+pub extern "C" fn recovery_ffi_losses_done(alloc: Global, handle: &mut Handle, now: u64) -> EncodedReply
+    ensures { HandleApplies handle.old.slot.held (LossesDone now) result handle.new.slot.held }
 {
     handle.apply(
         alloc,

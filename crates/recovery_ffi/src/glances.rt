@@ -2,10 +2,10 @@
 //! use, and of what a space has in flight.
 ghost use Rattle.std.specs.Prelude.{◌≡◌, false, Decides};
 ghost use Rattle.recovery_ids.specs.CidQueue.{active_of};
-ghost use Rattle.recovery_stack.specs.Answers.{Reads};
-ghost use Rattle.recovery_kept.specs.Kept.{parts_kept};
+ghost use Rattle.recovery_stack.specs.Answers.{ReadsHandle};
+ghost use Rattle.recovery_engine.specs.Kept.{parts_kept};
 ghost use Rattle.recovery_stack.specs.Views.{space_named};
-ghost use Rattle.recovery_stack.specs.Glances.{no_rtt, no_window, rtt_shown, window_shown, HasInFlight};
+ghost use Rattle.recovery_stack.specs.Stats.{no_rtt, no_window, rtt_shown, window_shown, HasInFlight};
 
 use recovery_stack::glances::{RttView, WindowView};
 use recovery_stack::handle::Handle;
@@ -14,7 +14,7 @@ use std::alloc::Global;
 /// Window and bytes in flight of the path in use.
 #[unsafe(no_mangle)]
 pub extern "C" fn recovery_ffi_window(alloc: Global, handle: &mut Handle) -> WindowView
-    ensures { Reads handle.old.slot.held handle.new.slot.held (λ stack.
+    ensures { ReadsHandle handle.old.slot.held handle.new.slot.held (λ stack.
         result ≡ window_shown (parts_kept stack.kept).paths.current) (result ≡ no_window) }
 {
     handle.window(alloc)
@@ -23,7 +23,7 @@ pub extern "C" fn recovery_ffi_window(alloc: Global, handle: &mut Handle) -> Win
 /// The round-trip time of the path in use.
 #[unsafe(no_mangle)]
 pub extern "C" fn recovery_ffi_rtt(alloc: Global, handle: &mut Handle) -> RttView
-    ensures { Reads handle.old.slot.held handle.new.slot.held (λ stack.
+    ensures { ReadsHandle handle.old.slot.held handle.new.slot.held (λ stack.
         result ≡ rtt_shown (parts_kept stack.kept).paths.current) (result ≡ no_rtt) }
 {
     handle.rtt(alloc)
@@ -32,7 +32,7 @@ pub extern "C" fn recovery_ffi_rtt(alloc: Global, handle: &mut Handle) -> RttVie
 /// The number of the peer's id in use (RFC 9000, 5.1.1); 0 where there is no recovery.
 #[unsafe(no_mangle)]
 pub extern "C" fn recovery_ffi_active_id(alloc: Global, handle: &mut Handle) -> u64
-    ensures { Reads handle.old.slot.held handle.new.slot.held (λ stack.
+    ensures { ReadsHandle handle.old.slot.held handle.new.slot.held (λ stack.
         result ≡ active_of (parts_kept stack.kept).remote_cids) (result ≡ 0) }
 {
     handle.active_id(alloc)
@@ -41,7 +41,7 @@ pub extern "C" fn recovery_ffi_active_id(alloc: Global, handle: &mut Handle) -> 
 /// Whether a packet that counts in flight is tracked in a space (RFC 9002, 2), by whichever path it went.
 #[unsafe(no_mangle)]
 pub extern "C" fn recovery_ffi_has_in_flight(alloc: Global, handle: &mut Handle, space: u8) -> bool
-    ensures { Reads handle.old.slot.held handle.new.slot.held (λ stack.
+    ensures { ReadsHandle handle.old.slot.held handle.new.slot.held (λ stack.
         Decides result (HasInFlight (space_named space (parts_kept stack.kept))))
         (result ≡ false) }
 {

@@ -1,14 +1,14 @@
 //! Connection ids of the peer and of this end (RFC 9000, 5.1): an export for each event, and what is read of tokens.
 ghost use Rattle.std.specs.Prelude.{◌≡◌, ◌≤◌, Decides, IsFalse, replicate};
 ghost use Rattle.std.specs.List.{All};
-ghost use Rattle.recovery_stack.specs.Answers.{Answers, AnswersTo, IsBad, IssuesOr, Reads};
+ghost use Rattle.recovery_stack.specs.Answers.{HandleApplies, HandleAppliesTo, IsBadArgument, IssuesIdsOrNoMemory, ReadsHandle};
 ghost use Rattle.recovery_stack.specs.Codes.{cid, frame};
 ghost use Rattle.recovery_events.specs.declared.event.Event.TheVariants.{IdTimeout, InitialId, NewId, NextId, PeerRetired};
 
 use quic_recovery::Event;
 use quic_recovery::time::Instant;
 use recovery_base::below::{NewConnectionId, ResetToken};
-use recovery_kept::spelling::Reply;
+use recovery_engine::spelling::EncodedReply;
 use recovery_stack::codes::{Id, are_ids, cid, ids_of};
 use recovery_stack::handle::Handle;
 use std::alloc::Global;
@@ -22,13 +22,13 @@ pub extern "C" fn recovery_ffi_new_id(
     retire_prior_to: u64,
     id: &[u8],
     token: &[u8; 16],
-) -> Reply
-    ensures { AnswersTo (cid id.now)
+) -> EncodedReply
+    ensures { HandleAppliesTo (cid id.now)
         (λ id. NewId (frame sequence retire_prior_to id token.now))
         handle.old.slot.held result handle.new.slot.held }
 {
     let Some(id) = cid(id) else {
-        return Reply::bad_argument();
+        return EncodedReply::bad_argument();
     };
     handle.apply(
         alloc,
@@ -43,21 +43,21 @@ pub extern "C" fn recovery_ffi_new_id(
 
 /// The next id of the peer is to be used: the event `NextId`.
 #[unsafe(no_mangle)]
-pub extern "C" fn recovery_ffi_next_id(alloc: Global, handle: &mut Handle) -> Reply
-    ensures { Answers handle.old.slot.held (NextId) result handle.new.slot.held }
+pub extern "C" fn recovery_ffi_next_id(alloc: Global, handle: &mut Handle) -> EncodedReply
+    ensures { HandleApplies handle.old.slot.held (NextId) result handle.new.slot.held }
 {
     handle.apply(alloc, Event::NextId)
 }
 
 /// The server chose another id (RFC 9000, 7.2): the event `InitialId`; an id has at most 20 bytes.
 #[unsafe(no_mangle)]
-pub extern "C" fn recovery_ffi_initial_id(alloc: Global, handle: &mut Handle, id: &[u8]) -> Reply
-    ensures { AnswersTo (cid id.now)
+pub extern "C" fn recovery_ffi_initial_id(alloc: Global, handle: &mut Handle, id: &[u8]) -> EncodedReply
+    ensures { HandleAppliesTo (cid id.now)
         (λ id. InitialId id) handle.old.slot.held result handle.new.slot.held }
 {
     match cid(id) {
         Some(id) => handle.apply(alloc, Event::InitialId(id)),
-        None => Reply::bad_argument(),
+        None => EncodedReply::bad_argument(),
     }
 }
 
@@ -68,19 +68,19 @@ pub extern "C" fn recovery_ffi_issue_ids(
     handle: &mut Handle,
     now: u64,
     given: &[Id],
-) -> Reply
+) -> EncodedReply
     ensures short { All (λ id. id.len ≤ 20) given.now
-        → IssuesOr handle.old.slot.held now given.now result handle.new.slot.held }
+        → IssuesIdsOrNoMemory handle.old.slot.held now given.now result handle.new.slot.held }
     ensures long { ¬ All (λ id. id.len ≤ 20) given.now
-        → IsBad handle.old.slot.held result handle.new.slot.held }
+        → IsBadArgument handle.old.slot.held result handle.new.slot.held }
 {
     handle.issue_ids(alloc, now, given)
 }
 
 /// The timer for new ids expired: the event `IdTimeout`.
 #[unsafe(no_mangle)]
-pub extern "C" fn recovery_ffi_id_timeout(alloc: Global, handle: &mut Handle) -> Reply
-    ensures { Answers handle.old.slot.held (IdTimeout) result handle.new.slot.held }
+pub extern "C" fn recovery_ffi_id_timeout(alloc: Global, handle: &mut Handle) -> EncodedReply
+    ensures { HandleApplies handle.old.slot.held (IdTimeout) result handle.new.slot.held }
 {
     handle.apply(alloc, Event::IdTimeout)
 }
@@ -92,8 +92,8 @@ pub extern "C" fn recovery_ffi_peer_retired(
     handle: &mut Handle,
     sequence: u64,
     limit: u64,
-) -> Reply
-    ensures { Answers handle.old.slot.held (PeerRetired sequence limit)
+) -> EncodedReply
+    ensures { HandleApplies handle.old.slot.held (PeerRetired sequence limit)
         result handle.new.slot.held }
 {
     handle.apply(alloc, Event::PeerRetired { sequence, limit })
@@ -102,7 +102,7 @@ pub extern "C" fn recovery_ffi_peer_retired(
 /// Writes the bytes of the token that was answered last; all zeros before there was one, and where no recovery is held.
 #[unsafe(no_mangle)]
 pub extern "C" fn recovery_ffi_token(alloc: Global, handle: &mut Handle, out: &mut [u8; 16])
-    ensures { Reads handle.old.slot.held handle.new.slot.held
+    ensures { ReadsHandle handle.old.slot.held handle.new.slot.held
         (λ stack. out.new ≡ stack.token) (out.new ≡ replicate 16 0) }
 {
     handle.token(alloc, out);
@@ -115,7 +115,7 @@ pub extern "C" fn recovery_ffi_is_token(
     handle: &mut Handle,
     token: &[u8; 16],
 ) -> bool
-    ensures { Reads handle.old.slot.held handle.new.slot.held
+    ensures { ReadsHandle handle.old.slot.held handle.new.slot.held
         (λ stack. Decides result (stack.token ≡ token.now)) (IsFalse result) }
 {
     handle.is_token(alloc, token)

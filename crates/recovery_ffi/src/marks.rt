@@ -1,10 +1,10 @@
 //! What the layer above keeps with a path (RFC 9000, 8.2 and 13.4; RFC 9002, 7.6): it is read and set, and no event
 //! changes it.
 ghost use Rattle.std.specs.Prelude.{◌≡◌, None};
-ghost use Rattle.recovery_history.specs.Above.{marks_at};
-ghost use Rattle.recovery_stack.specs.Answers.{Reads};
+ghost use Rattle.recovery_history.specs.CallerState.{marks_at};
+ghost use Rattle.recovery_stack.specs.Answers.{ReadsHandle};
 ghost use Rattle.recovery_stack.specs.Codes.{path_coded};
-ghost use Rattle.recovery_kept.specs.Kept.{parts_kept};
+ghost use Rattle.recovery_engine.specs.Kept.{parts_kept};
 ghost use Rattle.recovery_stack.specs.Marks.{marks_given, marks_shown, SetsMarks};
 
 use recovery_stack::handle::Handle;
@@ -14,7 +14,7 @@ use std::alloc::Global;
 /// What the layer above keeps with a path.
 #[unsafe(no_mangle)]
 pub extern "C" fn recovery_ffi_marks(alloc: Global, handle: &mut Handle, previous: bool) -> Marks
-    ensures { Reads handle.old.slot.held handle.new.slot.held (λ stack.
+    ensures { ReadsHandle handle.old.slot.held handle.new.slot.held (λ stack.
         let parts = parts_kept stack.kept in
         result ≡ marks_shown (marks_at (path_coded previous) parts)) (result ≡ marks_shown None) }
 {

@@ -1,12 +1,12 @@
 //! MTU discovery alone, without a recovery: for a tunnel, or another datagram protocol (RFC 8899). Packets are numbered
 //! by the caller, upward, probes among them.
 ghost use Rattle.std.specs.Prelude.{◌≡◌, None};
-ghost use Rattle.recovery_stack.specs.Answers.{Reads};
+ghost use Rattle.recovery_stack.specs.Answers.{ReadsHandle};
 ghost use Rattle.recovery_stack.specs.Discoveries.{DiscoveryAnswers, NewDiscovery, mtu_shown, no_mtu};
 ghost use Rattle.recovery_stack.specs.declared.mtu_handle.Call.TheVariants.{Poll, Limit, Acked, ProbeLost, Lost, LossesDone, Reset};
 
 use quic_recovery::time::Instant;
-use recovery_kept::spelling::Reply;
+use recovery_engine::spelling::EncodedReply;
 use recovery_stack::mtu::MtuView;
 use recovery_stack::mtu_handle::{Call, MtuHandle};
 use recovery_stack::settings::Settings;
@@ -38,7 +38,7 @@ pub extern "C" fn recovery_ffi_mtu_drop(alloc: Global, mtu: &mut MtuHandle)
 /// What is known.
 #[unsafe(no_mangle)]
 pub extern "C" fn recovery_ffi_mtu(alloc: Global, mtu: &mut MtuHandle) -> MtuView
-    ensures { Reads mtu.old.slot.held mtu.new.slot.held
+    ensures { ReadsHandle mtu.old.slot.held mtu.new.slot.held
         (λ discovery. result ≡ mtu_shown discovery) (result ≡ no_mtu) }
 {
     mtu.view(alloc)
@@ -52,7 +52,7 @@ pub extern "C" fn recovery_ffi_mtu_poll(
     mtu: &mut MtuHandle,
     now: u64,
     number: u64,
-) -> Reply
+) -> EncodedReply
     ensures { DiscoveryAnswers mtu.old.slot.held (Poll now number) result mtu.new.slot.held }
 {
     mtu.call(
@@ -67,7 +67,7 @@ pub extern "C" fn recovery_ffi_mtu_poll(
 /// The peer takes datagrams of at most so many bytes. Refused where they are none, and while a search runs: the limit
 /// is told before the first poll.
 #[unsafe(no_mangle)]
-pub extern "C" fn recovery_ffi_mtu_limit(alloc: Global, mtu: &mut MtuHandle, size: u16) -> Reply
+pub extern "C" fn recovery_ffi_mtu_limit(alloc: Global, mtu: &mut MtuHandle, size: u16) -> EncodedReply
     ensures { DiscoveryAnswers mtu.old.slot.held (Limit size) result mtu.new.slot.held }
 {
     mtu.call(alloc, Call::Limit { size })
@@ -81,7 +81,7 @@ pub extern "C" fn recovery_ffi_mtu_acked(
     mtu: &mut MtuHandle,
     number: u64,
     bytes: u16,
-) -> Reply
+) -> EncodedReply
     ensures { DiscoveryAnswers mtu.old.slot.held (Acked number bytes) result mtu.new.slot.held }
 {
     mtu.call(alloc, Call::Acked { number, bytes })
@@ -89,7 +89,7 @@ pub extern "C" fn recovery_ffi_mtu_acked(
 
 /// The probe in flight was lost. Where none is, nothing changes.
 #[unsafe(no_mangle)]
-pub extern "C" fn recovery_ffi_mtu_probe_lost(alloc: Global, mtu: &mut MtuHandle) -> Reply
+pub extern "C" fn recovery_ffi_mtu_probe_lost(alloc: Global, mtu: &mut MtuHandle) -> EncodedReply
     ensures { DiscoveryAnswers mtu.old.slot.held ProbeLost result mtu.new.slot.held }
 {
     mtu.call(alloc, Call::ProbeLost)
@@ -103,7 +103,7 @@ pub extern "C" fn recovery_ffi_mtu_lost(
     mtu: &mut MtuHandle,
     number: u64,
     bytes: u16,
-) -> Reply
+) -> EncodedReply
     ensures { DiscoveryAnswers mtu.old.slot.held (Lost number bytes) result mtu.new.slot.held }
 {
     mtu.call(alloc, Call::Lost { number, bytes })
@@ -115,7 +115,7 @@ pub extern "C" fn recovery_ffi_mtu_losses_done(
     alloc: Global,
     mtu: &mut MtuHandle,
     now: u64,
-) -> Reply
+) -> EncodedReply
     ensures { DiscoveryAnswers mtu.old.slot.held (LossesDone now) result mtu.new.slot.held }
 {
     mtu.call(
@@ -133,7 +133,7 @@ pub extern "C" fn recovery_ffi_mtu_reset(
     mtu: &mut MtuHandle,
     size: u16,
     least: u16,
-) -> Reply
+) -> EncodedReply
     ensures { DiscoveryAnswers mtu.old.slot.held (Reset size least) result mtu.new.slot.held }
 {
     mtu.call(

@@ -1,9 +1,9 @@
 //! Pacing alone, without a recovery: for a tunnel, or another datagram protocol (RFC 9002, 7.7). The bucket is the
 //! caller's, and takes no memory of the library.
 ghost use Rattle.std.specs.Prelude.{◌≡◌};
-ghost use Rattle.recovery_stack.specs.Buckets.{Delays, Transmits, bucket_first};
+ghost use Rattle.recovery_stack.specs.Buckets.{Delays, PacerTransmits, bucket_first};
 
-use recovery_kept::spelling::Reply;
+use recovery_engine::spelling::EncodedReply;
 use recovery_stack::pacer::Bucket;
 
 /// A full bucket at the moment `now`, by the RTT (nanoseconds), the congestion window and the MTU (bytes). Of a window
@@ -18,8 +18,8 @@ pub extern "C" fn recovery_ffi_pacer(rtt: u64, window: u64, mtu: u16, now: u64) 
 /// A packet of so many bytes was sent (`ANSWER_TRANSMITTED`): it takes tokens, as far as they go. Refused where the
 /// bucket is none.
 #[unsafe(no_mangle)]
-pub extern "C" fn recovery_ffi_pacer_transmit(bucket: &mut Bucket, bytes: u16) -> Reply
-    ensures { Transmits bytes bucket.old result bucket.new }
+pub extern "C" fn recovery_ffi_pacer_transmit(bucket: &mut Bucket, bytes: u16) -> EncodedReply
+    ensures { PacerTransmits bytes bucket.old result bucket.new }
 {
     bucket.transmit(bytes)
 }
@@ -35,7 +35,7 @@ pub extern "C" fn recovery_ffi_pacer_delay(
     mtu: u16,
     window: u64,
     now: u64,
-) -> Reply
+) -> EncodedReply
     ensures { Delays (record { bytes = bytes; rtt = rtt; mtu = mtu; window = window; now = now })
         bucket.old result bucket.new }
 {

@@ -1,13 +1,13 @@
 //! Packets that come in and go out (RFC 9000, 12; RFC 9002, A.5 and A.7): an export for each event.
 ghost use Rattle.std.specs.Prelude.{◌≡◌};
-ghost use Rattle.recovery_stack.specs.Answers.{AnswersTo, AnswersWith, Reads};
+ghost use Rattle.recovery_stack.specs.Answers.{HandleAppliesTo, AnswersWith, ReadsHandle};
 ghost use Rattle.recovery_stack.specs.Codes.{space_coded, maybe};
-ghost use Rattle.recovery_kept.specs.Replies.{IsWritten};
+ghost use Rattle.recovery_engine.specs.Replies.{IsWritten};
 ghost use Rattle.recovery_events.specs.declared.event.Event.TheVariants.{Acked, DiscardSpace, Lost, Received, Send};
 
 use quic_recovery::Event;
 use quic_recovery::time::Instant;
-use recovery_kept::spelling::Reply;
+use recovery_engine::spelling::EncodedReply;
 use recovery_stack::codes::{copy_items, maybe, queue_of, space_coded};
 use recovery_stack::handle::Handle;
 use std::alloc::Global;
@@ -21,13 +21,13 @@ pub extern "C" fn recovery_ffi_received(
     now: u64,
     number: u64,
     ack_eliciting: bool,
-) -> Reply
-    ensures { AnswersTo (space_coded space)
+) -> EncodedReply
+    ensures { HandleAppliesTo (space_coded space)
         (λ space. Received space now number ack_eliciting)
         handle.old.slot.held result handle.new.slot.held }
 {
     let Some(space) = space_coded(space) else {
-        return Reply::bad_argument();
+        return EncodedReply::bad_argument();
     };
     handle.apply(
         alloc,
@@ -52,13 +52,13 @@ pub extern "C" fn recovery_ffi_send(
     has_largest: bool,
     largest: u64,
     items: &[u64],
-) -> Reply
+) -> EncodedReply
     ensures { AnswersWith items.now (space_coded space)
         (λ space. Send space now size ack_eliciting (maybe has_largest largest) items.now tt)
         handle.old.slot.held result handle.new.slot.held }
 {
     let Some(space) = space_coded(space) else {
-        return Reply::bad_argument();
+        return EncodedReply::bad_argument();
     };
     match queue_of(alloc, items) {
         Ok(queue) => handle.apply(
@@ -73,7 +73,7 @@ pub extern "C" fn recovery_ffi_send(
                 stream_frames: (),
             },
         ),
-        Err(_) => Reply::no_memory(),
+        Err(_) => EncodedReply::no_memory(),
     }
 }
 
@@ -86,13 +86,13 @@ pub extern "C" fn recovery_ffi_acked(
     now: u64,
     number: u64,
     app_limited: bool,
-) -> Reply
-    ensures { AnswersTo (space_coded space)
+) -> EncodedReply
+    ensures { HandleAppliesTo (space_coded space)
         (λ space. Acked space now number app_limited)
         handle.old.slot.held result handle.new.slot.held }
 {
     let Some(space) = space_coded(space) else {
-        return Reply::bad_argument();
+        return EncodedReply::bad_argument();
     };
     handle.apply(
         alloc,
@@ -112,26 +112,26 @@ pub extern "C" fn recovery_ffi_lost(
     handle: &mut Handle,
     space: u8,
     number: u64,
-) -> Reply
-    ensures { AnswersTo (space_coded space)
+) -> EncodedReply
+    ensures { HandleAppliesTo (space_coded space)
         (λ space. Lost space number)
         handle.old.slot.held result handle.new.slot.held }
 {
     let Some(space) = space_coded(space) else {
-        return Reply::bad_argument();
+        return EncodedReply::bad_argument();
     };
     handle.apply(alloc, Event::Lost { space, number })
 }
 
 /// The keys of a space are dropped (RFC 9002, 6.4): the event `DiscardSpace`.
 #[unsafe(no_mangle)]
-pub extern "C" fn recovery_ffi_discard(alloc: Global, handle: &mut Handle, space: u8) -> Reply
-    ensures { AnswersTo (space_coded space)
+pub extern "C" fn recovery_ffi_discard(alloc: Global, handle: &mut Handle, space: u8) -> EncodedReply
+    ensures { HandleAppliesTo (space_coded space)
         (λ space. DiscardSpace space)
         handle.old.slot.held result handle.new.slot.held }
 {
     let Some(space) = space_coded(space) else {
-        return Reply::bad_argument();
+        return EncodedReply::bad_argument();
     };
     handle.apply(alloc, Event::DiscardSpace { space })
 }
@@ -139,8 +139,8 @@ pub extern "C" fn recovery_ffi_discard(alloc: Global, handle: &mut Handle, space
 /// How many items the queue that was taken last has; they are written where there is room for all. None, before one was
 /// taken.
 #[unsafe(no_mangle)]
-pub extern "C" fn recovery_ffi_taken(alloc: Global, handle: &mut Handle, out: &mut [u64]) -> usize
-    ensures { Reads handle.old.slot.held handle.new.slot.held
+pub extern "C" fn recovery_ffi_last_items(alloc: Global, handle: &mut Handle, out: &mut [u64]) -> usize
+    ensures { ReadsHandle handle.old.slot.held handle.new.slot.held
         (λ stack. IsWritten stack.taken out.old result out.new)
         ((result ≡ 0) × (out.new ≡ out.old)) }
 {

@@ -1,11 +1,11 @@
 //! Paths, congestion and pacing (RFC 9000, 8.1 and 9; RFC 9002, 5 and 7): an export for each event.
-ghost use Rattle.recovery_stack.specs.Answers.{Answers, AnswersTo, MovesTo};
+ghost use Rattle.recovery_stack.specs.Answers.{HandleApplies, HandleAppliesTo, MovesTo};
 ghost use Rattle.recovery_stack.specs.Codes.{path_coded, maybe, spans};
 ghost use Rattle.recovery_events.specs.declared.event.Event.TheVariants.{Congestion, DatagramIn, DropPrevious, EndAcks, InFlight, PacerCheck, ResetPath, RevertPath, Sample, Transmit, Validated};
 
 use quic_recovery::Event;
 use quic_recovery::time::Instant;
-use recovery_kept::spelling::Reply;
+use recovery_engine::spelling::EncodedReply;
 use recovery_stack::codes::{Address, maybe, path_coded, socket_of, spans};
 use recovery_stack::handle::Handle;
 use std::alloc::Global;
@@ -16,8 +16,8 @@ pub extern "C" fn recovery_ffi_in_flight(
     alloc: Global,
     handle: &mut Handle,
     previous: bool,
-) -> Reply
-    ensures { Answers handle.old.slot.held (InFlight (path_coded previous))
+) -> EncodedReply
+    ensures { HandleApplies handle.old.slot.held (InFlight (path_coded previous))
         result handle.new.slot.held }
 {
     handle.apply(
@@ -37,13 +37,13 @@ pub extern "C" fn recovery_ffi_sample(
     delay_nanos: u32,
     rtt_secs: u64,
     rtt_nanos: u32,
-) -> Reply
-    ensures { AnswersTo (spans delay_secs delay_nanos rtt_secs rtt_nanos)
+) -> EncodedReply
+    ensures { HandleAppliesTo (spans delay_secs delay_nanos rtt_secs rtt_nanos)
         (λ spans. Sample spans.0 spans.1) handle.old.slot.held result handle.new.slot.held }
 {
     match spans(delay_secs, delay_nanos, rtt_secs, rtt_nanos) {
         Some((delay, rtt)) => handle.apply(alloc, Event::Sample { delay, rtt }),
-        None => Reply::bad_argument(),
+        None => EncodedReply::bad_argument(),
     }
 }
 
@@ -54,8 +54,8 @@ pub extern "C" fn recovery_ffi_datagram_in(
     handle: &mut Handle,
     previous: bool,
     bytes: u64,
-) -> Reply
-    ensures { Answers handle.old.slot.held
+) -> EncodedReply
+    ensures { HandleApplies handle.old.slot.held
         (DatagramIn (path_coded previous) bytes) result handle.new.slot.held }
 {
     handle.apply(
@@ -73,8 +73,8 @@ pub extern "C" fn recovery_ffi_validated(
     alloc: Global,
     handle: &mut Handle,
     previous: bool,
-) -> Reply
-    ensures { Answers handle.old.slot.held (Validated (path_coded previous))
+) -> EncodedReply
+    ensures { HandleApplies handle.old.slot.held (Validated (path_coded previous))
         result handle.new.slot.held }
 {
     handle.apply(
@@ -93,8 +93,8 @@ pub extern "C" fn recovery_ffi_transmit(
     now: u64,
     bytes: u16,
     checked: bool,
-) -> Reply
-    ensures { Answers handle.old.slot.held (Transmit now bytes checked)
+) -> EncodedReply
+    ensures { HandleApplies handle.old.slot.held (Transmit now bytes checked)
         result handle.new.slot.held }
 {
     handle.apply(
@@ -114,8 +114,9 @@ pub extern "C" fn recovery_ffi_pacer_check(
     handle: &mut Handle,
     now: u64,
     bytes: u64,
-) -> Reply
-    ensures { Answers handle.old.slot.held (PacerCheck now bytes) result handle.new.slot.held }
+) -> EncodedReply
+    ensures { HandleApplies handle.old.slot.held (PacerCheck now bytes) result handle.new.slot.held
+        }
 {
     handle.apply(
         alloc,
@@ -135,8 +136,8 @@ pub extern "C" fn recovery_ffi_congestion(
     sent: u64,
     persistent: bool,
     bytes: u64,
-) -> Reply
-    ensures { Answers handle.old.slot.held
+) -> EncodedReply
+    ensures { HandleApplies handle.old.slot.held
         (Congestion now sent persistent bytes) result handle.new.slot.held }
 {
     handle.apply(
@@ -159,8 +160,8 @@ pub extern "C" fn recovery_ffi_end_acks(
     app_limited: bool,
     has_largest: bool,
     largest: u64,
-) -> Reply
-    ensures { Answers handle.old.slot.held
+) -> EncodedReply
+    ensures { HandleApplies handle.old.slot.held
         (EndAcks now app_limited (maybe has_largest largest)) result handle.new.slot.held }
 {
     handle.apply(
@@ -181,7 +182,7 @@ pub extern "C" fn recovery_ffi_new_path(
     now: u64,
     remote: &Address,
     fresh: bool,
-) -> Reply
+) -> EncodedReply
     ensures { MovesTo handle.old.slot.held now remote.now fresh result handle.new.slot.held }
 {
     handle.apply(
@@ -196,8 +197,8 @@ pub extern "C" fn recovery_ffi_new_path(
 
 /// The current path begins anew (RFC 9000, 9.4): the event `ResetPath`.
 #[unsafe(no_mangle)]
-pub extern "C" fn recovery_ffi_reset_path(alloc: Global, handle: &mut Handle, now: u64) -> Reply
-    ensures { Answers handle.old.slot.held (ResetPath now) result handle.new.slot.held }
+pub extern "C" fn recovery_ffi_reset_path(alloc: Global, handle: &mut Handle, now: u64) -> EncodedReply
+    ensures { HandleApplies handle.old.slot.held (ResetPath now) result handle.new.slot.held }
 {
     handle.apply(
         alloc,
@@ -209,16 +210,16 @@ pub extern "C" fn recovery_ffi_reset_path(alloc: Global, handle: &mut Handle, no
 
 /// The previous path is dropped (RFC 9000, 9.3.3): the event `DropPrevious`.
 #[unsafe(no_mangle)]
-pub extern "C" fn recovery_ffi_drop_previous(alloc: Global, handle: &mut Handle) -> Reply
-    ensures { Answers handle.old.slot.held (DropPrevious) result handle.new.slot.held }
+pub extern "C" fn recovery_ffi_drop_previous(alloc: Global, handle: &mut Handle) -> EncodedReply
+    ensures { HandleApplies handle.old.slot.held (DropPrevious) result handle.new.slot.held }
 {
     handle.apply(alloc, Event::DropPrevious)
 }
 
 /// The previous path is used again, and the current one is dropped (RFC 9000, 9.3.2): the event `RevertPath`.
 #[unsafe(no_mangle)]
-pub extern "C" fn recovery_ffi_revert_path(alloc: Global, handle: &mut Handle) -> Reply
-    ensures { Answers handle.old.slot.held (RevertPath) result handle.new.slot.held }
+pub extern "C" fn recovery_ffi_revert_path(alloc: Global, handle: &mut Handle) -> EncodedReply
+    ensures { HandleApplies handle.old.slot.held (RevertPath) result handle.new.slot.held }
 {
     handle.apply(alloc, Event::RevertPath)
 }

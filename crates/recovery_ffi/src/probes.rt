@@ -1,12 +1,12 @@
 //! Counts of ECN, ranges that are acknowledged, probes and what waits to be sent again (RFC 9000, 13.4; RFC 9002,
 //! 6.2.4).
-ghost use Rattle.recovery_stack.specs.Answers.{AnswersTo};
+ghost use Rattle.recovery_stack.specs.Answers.{HandleAppliesTo};
 ghost use Rattle.recovery_stack.specs.Codes.{counts, space_coded};
 ghost use Rattle.recovery_events.specs.declared.event.Event.TheVariants.{CheckAck, Ecn, QueueProbe, TakePending};
 
 use quic_recovery::Event;
 use recovery_base::below::EcnCounts;
-use recovery_kept::spelling::Reply;
+use recovery_engine::spelling::EncodedReply;
 use recovery_stack::codes::space_coded;
 use recovery_stack::handle::Handle;
 use std::alloc::Global;
@@ -21,13 +21,13 @@ pub extern "C" fn recovery_ffi_ecn(
     ect0: u64,
     ect1: u64,
     ce: u64,
-) -> Reply
-    ensures { AnswersTo (space_coded space)
+) -> EncodedReply
+    ensures { HandleAppliesTo (space_coded space)
         (λ space. Ecn space newly_acked (counts ect0 ect1 ce))
         handle.old.slot.held result handle.new.slot.held }
 {
     let Some(space) = space_coded(space) else {
-        return Reply::bad_argument();
+        return EncodedReply::bad_argument();
     };
     handle.apply(
         alloc,
@@ -47,13 +47,13 @@ pub extern "C" fn recovery_ffi_check_ack(
     space: u8,
     low: u64,
     high: u64,
-) -> Reply
-    ensures { AnswersTo (space_coded space)
+) -> EncodedReply
+    ensures { HandleAppliesTo (space_coded space)
         (λ space. CheckAck space low high)
         handle.old.slot.held result handle.new.slot.held }
 {
     let Some(space) = space_coded(space) else {
-        return Reply::bad_argument();
+        return EncodedReply::bad_argument();
     };
     handle.apply(alloc, Event::CheckAck { space, low, high })
 }
@@ -65,13 +65,13 @@ pub extern "C" fn recovery_ffi_queue_probe(
     handle: &mut Handle,
     space: u8,
     immediate_ack: bool,
-) -> Reply
-    ensures { AnswersTo (space_coded space)
+) -> EncodedReply
+    ensures { HandleAppliesTo (space_coded space)
         (λ space. QueueProbe space immediate_ack tt)
         handle.old.slot.held result handle.new.slot.held }
 {
     let Some(space) = space_coded(space) else {
-        return Reply::bad_argument();
+        return EncodedReply::bad_argument();
     };
     handle.apply(
         alloc,
@@ -83,15 +83,15 @@ pub extern "C" fn recovery_ffi_queue_probe(
     )
 }
 
-/// What waits to be sent again is handed out, to be read by `recovery_ffi_taken`: the event `TakePending`.
+/// What waits to be sent again is handed out, to be read by `recovery_ffi_last_items`: the event `TakePending`.
 #[unsafe(no_mangle)]
-pub extern "C" fn recovery_ffi_take_pending(alloc: Global, handle: &mut Handle, space: u8) -> Reply
-    ensures { AnswersTo (space_coded space)
+pub extern "C" fn recovery_ffi_take_pending(alloc: Global, handle: &mut Handle, space: u8) -> EncodedReply
+    ensures { HandleAppliesTo (space_coded space)
         (λ space. TakePending space)
         handle.old.slot.held result handle.new.slot.held }
 {
     let Some(space) = space_coded(space) else {
-        return Reply::bad_argument();
+        return EncodedReply::bad_argument();
     };
     handle.apply(alloc, Event::TakePending { space })
 }

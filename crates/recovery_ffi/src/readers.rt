@@ -3,20 +3,20 @@
 ghost use Rattle.std.specs.Prelude.{◌≡◌, slice_get, None};
 ghost use Rattle.recovery_ids.specs.LocalIds.{first_moment};
 ghost use Rattle.recovery_paths.specs.PathLog.{path_of};
-ghost use Rattle.recovery_stack.specs.Answers.{Reads};
+ghost use Rattle.recovery_stack.specs.Answers.{ReadsHandle};
 ghost use Rattle.recovery_stack.specs.Codes.{path_coded};
-ghost use Rattle.recovery_kept.specs.Kept.{parts_kept};
+ghost use Rattle.recovery_engine.specs.Kept.{parts_kept};
 ghost use Rattle.recovery_stack.specs.Views.{path_view, no_path, moment_shown, moment_named, ack_delay_named, ids_shown, no_ids, range_shown, ranges_in, no_space, space_named, IsSpaceShown};
 
 use quic_recovery::time::Instant;
 use recovery_stack::handle::Handle;
-use recovery_stack::views::{IdsView, MomentView, PathView, RangeView, SpaceView};
+use recovery_stack::views::{IdsView, TimeView, PathView, RangeView, SpaceView};
 use std::alloc::Global;
 
 /// What is kept for a path.
 #[unsafe(no_mangle)]
 pub extern "C" fn recovery_ffi_path(alloc: Global, handle: &mut Handle, previous: bool) -> PathView
-    ensures { Reads handle.old.slot.held handle.new.slot.held (λ stack.
+    ensures { ReadsHandle handle.old.slot.held handle.new.slot.held (λ stack.
         let paths = (parts_kept stack.kept).paths in
         result ≡ path_view (path_of (path_coded previous) paths)) (result ≡ no_path) }
 {
@@ -26,7 +26,7 @@ pub extern "C" fn recovery_ffi_path(alloc: Global, handle: &mut Handle, previous
 /// What a space has to send; of one that there is not what is said of a discarded one.
 #[unsafe(no_mangle)]
 pub extern "C" fn recovery_ffi_space(alloc: Global, handle: &mut Handle, space: u8) -> SpaceView
-    ensures { Reads handle.old.slot.held handle.new.slot.held (λ stack.
+    ensures { ReadsHandle handle.old.slot.held handle.new.slot.held (λ stack.
         IsSpaceShown (space_named space (parts_kept stack.kept)) result)
         (result ≡ no_space) }
 {
@@ -41,7 +41,7 @@ pub extern "C" fn recovery_ffi_range(
     space: u8,
     index: usize,
 ) -> RangeView
-    ensures { Reads handle.old.slot.held handle.new.slot.held (λ stack.
+    ensures { ReadsHandle handle.old.slot.held handle.new.slot.held (λ stack.
         let kept = space_named space (parts_kept stack.kept) in
         result ≡ range_shown (slice_get (ranges_in kept) index)) (result ≡ range_shown None) }
 {
@@ -56,8 +56,8 @@ pub extern "C" fn recovery_ffi_ack_delay(
     handle: &mut Handle,
     space: u8,
     now: u64,
-) -> MomentView
-    ensures { Reads handle.old.slot.held handle.new.slot.held (λ stack.
+) -> TimeView
+    ensures { ReadsHandle handle.old.slot.held handle.new.slot.held (λ stack.
         result ≡ ack_delay_named space now (parts_kept stack.kept))
         (result ≡ moment_shown None) }
 {
@@ -66,8 +66,8 @@ pub extern "C" fn recovery_ffi_ack_delay(
 
 /// When a timer expires.
 #[unsafe(no_mangle)]
-pub extern "C" fn recovery_ffi_timer(alloc: Global, handle: &mut Handle, timer: u8) -> MomentView
-    ensures { Reads handle.old.slot.held handle.new.slot.held (λ stack.
+pub extern "C" fn recovery_ffi_timer(alloc: Global, handle: &mut Handle, timer: u8) -> TimeView
+    ensures { ReadsHandle handle.old.slot.held handle.new.slot.held (λ stack.
         let timers = (parts_kept stack.kept).timers in
         result ≡ moment_named timer timers) (result ≡ moment_shown None) }
 {
@@ -77,7 +77,7 @@ pub extern "C" fn recovery_ffi_timer(alloc: Global, handle: &mut Handle, timer: 
 /// The ids of both ends, and how late ACKs may be.
 #[unsafe(no_mangle)]
 pub extern "C" fn recovery_ffi_ids(alloc: Global, handle: &mut Handle) -> IdsView
-    ensures { Reads handle.old.slot.held handle.new.slot.held (λ stack.
+    ensures { ReadsHandle handle.old.slot.held handle.new.slot.held (λ stack.
         result ≡ ids_shown (parts_kept stack.kept)) (result ≡ no_ids) }
 {
     handle.ids(alloc)
@@ -86,8 +86,8 @@ pub extern "C" fn recovery_ffi_ids(alloc: Global, handle: &mut Handle) -> IdsVie
 /// When the oldest of this end's ids is to be retired (RFC 9000, 5.1.2), where they end: what `TIMER_PUSH_NEW_CID` is
 /// set to.
 #[unsafe(no_mangle)]
-pub extern "C" fn recovery_ffi_next_id_timeout(alloc: Global, handle: &mut Handle) -> MomentView
-    ensures { Reads handle.old.slot.held handle.new.slot.held (λ stack.
+pub extern "C" fn recovery_ffi_next_id_timeout(alloc: Global, handle: &mut Handle) -> TimeView
+    ensures { ReadsHandle handle.old.slot.held handle.new.slot.held (λ stack.
         let ids = (parts_kept stack.kept).local_ids in
         result ≡ moment_shown (first_moment ids.deadlines)) (result ≡ moment_shown None) }
 {

@@ -1,18 +1,18 @@
 //! The sending half of a connection (RFC 9002, Appendices A and B): which packets are lost, when to probe, and whether
 //! a datagram may go out. An export for each call of it that is no event; events that pass it takes as a recovery does.
 ghost use Rattle.std.specs.Prelude.{◌≡◌, Some};
-ghost use Rattle.recovery_stack.specs.Answers.{Reads};
+ghost use Rattle.recovery_stack.specs.Answers.{ReadsHandle};
 ghost use Rattle.recovery_stack.specs.Codes.{maybe, side_coded, space_coded, span};
-ghost use Rattle.recovery_kept.specs.Kept.{numbers_told, packets_told, pto_count_of};
+ghost use Rattle.recovery_engine.specs.Kept.{numbers_told, packets_told, pto_count_of};
 ghost use Rattle.recovery_stack.specs.Made.{NewOr};
-ghost use Rattle.recovery_stack.specs.Asking.{frame_given, Asks, AsksAck, AsksTo};
-ghost use Rattle.recovery_kept.specs.Sending.{no_told, told_view};
-ghost use Rattle.recovery_kept.specs.Replies.{IsWritten};
-ghost use Rattle.recovery_kept.specs.declared.sending.Call.TheVariants.{Transmit, Expire, Discard, Abandon, HandshakeKeys, HandshakeConfirmed, PeerDelay, Challenge};
+ghost use Rattle.recovery_stack.specs.SenderCalls.{frame_given, CallsSender, AsksAck, CallsSenderTo};
+ghost use Rattle.recovery_engine.specs.Sending.{no_told, told_view};
+ghost use Rattle.recovery_engine.specs.Replies.{IsWritten};
+ghost use Rattle.recovery_engine.specs.declared.sending.Call.TheVariants.{Transmit, Expire, Discard, Abandon, HandshakeKeys, HandshakeConfirmed, PeerDelay, Challenge};
 
 use quic_recovery::time::Instant;
-use recovery_kept::sending::{AckRange, Call, ToldView};
-use recovery_kept::spelling::Reply;
+use recovery_engine::sending::{AckRange, Call, OutcomeView};
+use recovery_engine::spelling::EncodedReply;
 use recovery_stack::codes::{Address, maybe, space_coded, span};
 use recovery_stack::handle::Handle;
 use recovery_stack::making::begin;
@@ -60,14 +60,14 @@ pub extern "C" fn recovery_ffi_sender_transmit(
     bytes: u16,
     space: u8,
     in_flight: bool,
-) -> Reply
-    ensures { AsksTo (space_coded space) (λ space. Transmit now bytes space in_flight)
+) -> EncodedReply
+    ensures { CallsSenderTo (space_coded space) (λ space. Transmit now bytes space in_flight)
         handle.old.slot.held result handle.new.slot.held }
 {
     let Some(space) = space_coded(space) else {
-        return Reply::bad_argument();
+        return EncodedReply::bad_argument();
     };
-    handle.ask(
+    handle.call_sender(
         alloc,
         Call::Transmit {
             now: Instant::from_nanos(now),
@@ -80,7 +80,8 @@ pub extern "C" fn recovery_ffi_sender_transmit(
 
 /// An ACK frame came in (RFC 9002, A.7), with its ranges, the highest first, as on the wire: `ANSWER_ACKNOWLEDGED`,
 /// with how many numbers it newly acknowledges in `first`, how many are found lost in `second`, and in `flag` whether
-/// `recovery_ffi_told` says more than that; `recovery_ffi_told_numbers` says which they are. Refused, and nothing
+/// `recovery_ffi_last_outcome` says more than that; `recovery_ffi_told_numbers` says which they are. Refused, and
+/// nothing
 /// changes, by `REFUSAL_SPACE_DISCARDED`, by `REFUSAL_BAD_RANGE` where there is no range, one ends before it begins, or
 /// two have no number between them (RFC 9000, 19.3.1), by `REFUSAL_UNSENT`, by `REFUSAL_SKIPPED_ACKED` (RFC 9000,
 /// 21.4), or by `REFUSAL_NO_MEMORY`.
@@ -92,7 +93,7 @@ pub extern "C" fn recovery_ffi_sender_ack(
     now: u64,
     frame: &AckFrame,
     ranges: &[AckRange],
-) -> Reply
+) -> EncodedReply
     ensures { AsksAck (frame_given space frame.now) now ranges.now
         handle.old.slot.held result handle.new.slot.held }
 {
@@ -100,7 +101,8 @@ pub extern "C" fn recovery_ffi_sender_ack(
 }
 
 /// The timer for losses may be due (RFC 9002, A.9): `ANSWER_NOTHING` where it is not; `ANSWER_LOSSES` where packets
-/// were looked for that are lost, which `recovery_ffi_told` and `recovery_ffi_told_numbers` say; or `ANSWER_PROBES`,
+/// were looked for that are lost, which `recovery_ffi_last_outcome` and `recovery_ffi_told_numbers` say; or
+/// `ANSWER_PROBES`,
 /// with the space in `first` and in `second` how many are to be sent, 1 or 2. `immediate_ack` asks for an IMMEDIATE_ACK
 /// frame in a probe. Refused by `REFUSAL_NO_MEMORY` where the first probe finds none; then nothing changed.
 #[unsafe(no_mangle)]
@@ -109,10 +111,11 @@ pub extern "C" fn recovery_ffi_sender_timeout(
     handle: &mut Handle,
     now: u64,
     immediate_ack: bool,
-) -> Reply
-    ensures { Asks handle.old.slot.held (Expire now immediate_ack) result handle.new.slot.held }
+) -> EncodedReply
+    ensures { CallsSender handle.old.slot.held (Expire now immediate_ack) result
+        handle.new.slot.held }
 {
-    handle.ask(
+    handle.call_sender(
         alloc,
         Call::Expire {
             now: Instant::from_nanos(now),
@@ -129,14 +132,14 @@ pub extern "C" fn recovery_ffi_sender_discard(
     handle: &mut Handle,
     space: u8,
     now: u64,
-) -> Reply
-    ensures { AsksTo (space_coded space) (λ space. Discard space now)
+) -> EncodedReply
+    ensures { CallsSenderTo (space_coded space) (λ space. Discard space now)
         handle.old.slot.held result handle.new.slot.held }
 {
     let Some(space) = space_coded(space) else {
-        return Reply::bad_argument();
+        return EncodedReply::bad_argument();
     };
-    handle.ask(
+    handle.call_sender(
         alloc,
         Call::Discard {
             space,
@@ -155,14 +158,14 @@ pub extern "C" fn recovery_ffi_sender_abandon(
     handle: &mut Handle,
     space: u8,
     now: u64,
-) -> Reply
-    ensures { AsksTo (space_coded space) (λ space. Abandon space now)
+) -> EncodedReply
+    ensures { CallsSenderTo (space_coded space) (λ space. Abandon space now)
         handle.old.slot.held result handle.new.slot.held }
 {
     let Some(space) = space_coded(space) else {
-        return Reply::bad_argument();
+        return EncodedReply::bad_argument();
     };
-    handle.ask(
+    handle.call_sender(
         alloc,
         Call::Abandon {
             space,
@@ -173,10 +176,10 @@ pub extern "C" fn recovery_ffi_sender_abandon(
 
 /// There are keys of Handshake packets (RFC 9002, A.8): `ANSWER_DONE`.
 #[unsafe(no_mangle)]
-pub extern "C" fn recovery_ffi_sender_handshake_keys(alloc: Global, handle: &mut Handle) -> Reply
-    ensures { Asks handle.old.slot.held HandshakeKeys result handle.new.slot.held }
+pub extern "C" fn recovery_ffi_sender_handshake_keys(alloc: Global, handle: &mut Handle) -> EncodedReply
+    ensures { CallsSender handle.old.slot.held HandshakeKeys result handle.new.slot.held }
 {
-    handle.ask(alloc, Call::HandshakeKeys)
+    handle.call_sender(alloc, Call::HandshakeKeys)
 }
 
 /// The handshake is confirmed (RFC 9001, 4.1.2): packets of 1-RTT keys are probed for from now on, and a client knows
@@ -185,10 +188,10 @@ pub extern "C" fn recovery_ffi_sender_handshake_keys(alloc: Global, handle: &mut
 pub extern "C" fn recovery_ffi_sender_handshake_confirmed(
     alloc: Global,
     handle: &mut Handle,
-) -> Reply
-    ensures { Asks handle.old.slot.held HandshakeConfirmed result handle.new.slot.held }
+) -> EncodedReply
+    ensures { CallsSender handle.old.slot.held HandshakeConfirmed result handle.new.slot.held }
 {
-    handle.ask(alloc, Call::HandshakeConfirmed)
+    handle.call_sender(alloc, Call::HandshakeConfirmed)
 }
 
 /// The peer delays its ACKs of 1-RTT packets at most so long (RFC 9000, 18.2: max_ack_delay): `ANSWER_DONE`. There are
@@ -199,13 +202,13 @@ pub extern "C" fn recovery_ffi_sender_peer_delay(
     handle: &mut Handle,
     secs: u64,
     nanos: u32,
-) -> Reply
-    ensures { AsksTo (span secs nanos) (λ span. PeerDelay span)
+) -> EncodedReply
+    ensures { CallsSenderTo (span secs nanos) (λ span. PeerDelay span)
         handle.old.slot.held result handle.new.slot.held }
 {
     match span(secs, nanos) {
-        Some(span) => handle.ask(alloc, Call::PeerDelay(span)),
-        None => Reply::bad_argument(),
+        Some(span) => handle.call_sender(alloc, Call::PeerDelay(span)),
+        None => EncodedReply::bad_argument(),
     }
 }
 
@@ -219,19 +222,19 @@ pub extern "C" fn recovery_ffi_sender_challenge(
     content: u64,
     is_open: bool,
     pending: bool,
-) -> Reply
-    ensures { Asks handle.old.slot.held (Challenge (maybe is_open content) pending)
+) -> EncodedReply
+    ensures { CallsSender handle.old.slot.held (Challenge (maybe is_open content) pending)
         result handle.new.slot.held }
 {
     let challenge = maybe(is_open, content);
-    handle.ask(alloc, Call::Challenge { challenge, pending })
+    handle.call_sender(alloc, Call::Challenge { challenge, pending })
 }
 
 /// How many probe timeouts expired in a row, by which the next one is doubled (RFC 9002, 6.2.1); 0 where there is no
 /// sender.
 #[unsafe(no_mangle)]
 pub extern "C" fn recovery_ffi_pto_count(alloc: Global, handle: &mut Handle) -> u32
-    ensures { Reads handle.old.slot.held handle.new.slot.held (λ stack.
+    ensures { ReadsHandle handle.old.slot.held handle.new.slot.held (λ stack.
         result ≡ pto_count_of stack.kept) (result ≡ 0) }
 {
     handle.pto_count(alloc)
@@ -240,8 +243,8 @@ pub extern "C" fn recovery_ffi_pto_count(alloc: Global, handle: &mut Handle) -> 
 /// What was told last: by an ACK frame that was not refused, by a timeout that looked for losses, or by an abandoned
 /// space. Nothing before it, and where there is no sender.
 #[unsafe(no_mangle)]
-pub extern "C" fn recovery_ffi_told(alloc: Global, handle: &mut Handle) -> ToldView
-    ensures { Reads handle.old.slot.held handle.new.slot.held (λ stack.
+pub extern "C" fn recovery_ffi_last_outcome(alloc: Global, handle: &mut Handle) -> OutcomeView
+    ensures { ReadsHandle handle.old.slot.held handle.new.slot.held (λ stack.
         result ≡ told_view stack.kept) (result ≡ no_told) }
 {
     handle.told(alloc)
@@ -256,7 +259,7 @@ pub extern "C" fn recovery_ffi_told_numbers(
     lost: bool,
     out: &mut [u64],
 ) -> usize
-    ensures { Reads handle.old.slot.held handle.new.slot.held (λ stack.
+    ensures { ReadsHandle handle.old.slot.held handle.new.slot.held (λ stack.
         IsWritten (numbers_told lost stack.kept) out.old result out.new)
         ((result ≡ 0) × (out.new ≡ out.old)) }
 {
@@ -271,7 +274,7 @@ pub extern "C" fn recovery_ffi_told_packets(
     handle: &mut Handle,
     out: &mut [u64],
 ) -> usize
-    ensures { Reads handle.old.slot.held handle.new.slot.held (λ stack.
+    ensures { ReadsHandle handle.old.slot.held handle.new.slot.held (λ stack.
         IsWritten (packets_told stack.kept) out.old result out.new)
         ((result ≡ 0) × (out.new ≡ out.old)) }
 {

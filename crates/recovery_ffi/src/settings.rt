@@ -1,7 +1,7 @@
 //! What a recovery is made with.
 ghost use Rattle.std.specs.Prelude.{◌≡◌};
 ghost use Rattle.recovery_stack.specs.Settings.{default_settings, settings_fault};
-ghost use Rattle.recovery_kept.specs.declared.numbers.TheConstants.{NEW_MADE};
+ghost use Rattle.recovery_engine.specs.declared.numbers.TheConstants.{NEW_MADE};
 
 use recovery_stack::settings::Settings;
 

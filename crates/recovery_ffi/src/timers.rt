@@ -1,11 +1,11 @@
 //! Timers (RFC 9002, 6.2): an export for each event.
-ghost use Rattle.recovery_stack.specs.Answers.{Answers, AnswersTo};
+ghost use Rattle.recovery_stack.specs.Answers.{HandleApplies, HandleAppliesTo};
 ghost use Rattle.recovery_stack.specs.Codes.{timer_coded};
 ghost use Rattle.recovery_events.specs.declared.event.Event.TheVariants.{NextTimeout, SetTimer, StopTimer};
 
 use quic_recovery::Event;
 use quic_recovery::time::Instant;
-use recovery_kept::spelling::Reply;
+use recovery_engine::spelling::EncodedReply;
 use recovery_stack::codes::timer_coded;
 use recovery_stack::handle::Handle;
 use std::alloc::Global;
@@ -17,13 +17,13 @@ pub extern "C" fn recovery_ffi_set_timer(
     handle: &mut Handle,
     timer: u8,
     time: u64,
-) -> Reply
-    ensures { AnswersTo (timer_coded timer)
+) -> EncodedReply
+    ensures { HandleAppliesTo (timer_coded timer)
         (λ timer. SetTimer timer time)
         handle.old.slot.held result handle.new.slot.held }
 {
     let Some(timer) = timer_coded(timer) else {
-        return Reply::bad_argument();
+        return EncodedReply::bad_argument();
     };
     handle.apply(
         alloc,
@@ -36,21 +36,21 @@ pub extern "C" fn recovery_ffi_set_timer(
 
 /// A timer is stopped: the event `StopTimer`.
 #[unsafe(no_mangle)]
-pub extern "C" fn recovery_ffi_stop_timer(alloc: Global, handle: &mut Handle, timer: u8) -> Reply
-    ensures { AnswersTo (timer_coded timer)
+pub extern "C" fn recovery_ffi_stop_timer(alloc: Global, handle: &mut Handle, timer: u8) -> EncodedReply
+    ensures { HandleAppliesTo (timer_coded timer)
         (λ timer. StopTimer timer)
         handle.old.slot.held result handle.new.slot.held }
 {
     let Some(timer) = timer_coded(timer) else {
-        return Reply::bad_argument();
+        return EncodedReply::bad_argument();
     };
     handle.apply(alloc, Event::StopTimer { timer })
 }
 
 /// When does the next timer expire? The event `NextTimeout`.
 #[unsafe(no_mangle)]
-pub extern "C" fn recovery_ffi_next_timeout(alloc: Global, handle: &mut Handle) -> Reply
-    ensures { Answers handle.old.slot.held (NextTimeout) result handle.new.slot.held }
+pub extern "C" fn recovery_ffi_next_timeout(alloc: Global, handle: &mut Handle) -> EncodedReply
+    ensures { HandleApplies handle.old.slot.held (NextTimeout) result handle.new.slot.held }
 {
     handle.apply(alloc, Event::NextTimeout)
 }

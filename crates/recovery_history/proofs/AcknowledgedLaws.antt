@@ -8,22 +8,22 @@ use Rattle.recovery_acks.specs.Runs.{AtMost, EndsRun, IsInHighest, LiesBelow}
 use Rattle.recovery_base.proofs.WindowLaws.{iff_trans}
 use Rattle.recovery_acks.proofs.HighestRunLaws.{highest_alike}
 use Rattle.recovery_base.specs.declared.below.SpaceId.{SpaceId}
-use Rattle.recovery_base.specs.Numbers.{With}
+use Rattle.recovery_base.specs.Numbers.{InsertNumber}
 use Rattle.recovery_base.specs.Spaces.{same_space}
-use Rattle.recovery_ledger.specs.Acks.{ToAcknowledge}
-use Rattle.recovery_ledger.specs.Packets.{packet_at, is_above, largest_acked_by}
-use Rattle.recovery_ledger.specs.SpaceLog.{SpaceEntry, heard, heard_again, acknowledged}
-use Rattle.recovery_ledger.specs.Tracked.{sent_by}
-use Rattle.recovery_queue.specs.Queues.{QueueWords}
+use Rattle.recovery_spaces.specs.Acks.{ToAcknowledge}
+use Rattle.recovery_spaces.specs.Packets.{packet_at, is_above, largest_acked_by}
+use Rattle.recovery_spaces.specs.SpaceLog.{SpaceEntry, heard, heard_again, acknowledged}
+use Rattle.recovery_spaces.specs.Tracked.{sent_by}
+use Rattle.recovery_queue.specs.Queues.{QueueSemantics}
 use Rattle.recovery_events.specs.declared.event.Event.{Event}
 use Rattle.recovery_events.specs.declared.event.Event.TheVariants.{Received, Acked}
 use Rattle.recovery_events.specs.declared.event.Answer.TheVariants.{New}
 use Rattle.recovery_history.specs.Table.{entries_of}
-use Rattle.recovery_history.specs.Told.{logs_of, known_by, Told}
+use Rattle.recovery_history.specs.RepliesAfter.{logs_of, inputs_after, RepliesAfter}
 use Rattle.recovery_history.specs.History.{AtEach, Beginning, History, Reply, history}
-use Rattle.recovery_history.specs.Known.{Known}
+use Rattle.recovery_history.specs.ReplyInputs.{ReplyInputs}
 use Rattle.recovery_history.specs.Logs.{onto}
-use Rattle.recovery_history.specs.Promises.Acknowledged.{HasCome, KeepsToAcknowledge, WasDropped, largest_in}
+use Rattle.recovery_history.specs.Promises.Acknowledged.{WasReceived, TracksPendingAcks, WasDropped, largest_in}
 use Rattle.recovery_history.proofs.CarriedLaws.{AllCarry, carries_largest, keeps_carried, none_carry}
 use Rattle.recovery_history.proofs.Runs.{kept_after}
 use Rattle.recovery_history.proofs.EntryKinds.{SpaceKind, hearing, acknowledging, space_kind, space_kept}
@@ -35,7 +35,7 @@ many_or_few count Ends none numbers up = elim (cases_lt count (length numbers)) 
   | inr few ↦ few
 ]
 
-module _ {P M S : Type 0} (words : QueueWords P S) (log : List (SpaceEntry P M)) (Came Dropped : ℕ → Type 0)
+module _ {P M S : Type 0} (words : QueueSemantics P S) (log : List (SpaceEntry P M)) (Came Dropped : ℕ → Type 0)
     (kept : (n : ℕ) → ToAcknowledge words log n ↔ (Came n × ¬ Dropped n)) where
   abbrev Stands : ℕ → Type 0
   Stands n = Came n × ¬ Dropped n
@@ -57,19 +57,20 @@ module _ {P M S : Type 0} (words : QueueWords P S) (log : List (SpaceEntry P M))
   Comes b m n = ((b && m == n) ≡ true) ⊎ Came n
 
   abbrev Drops : Bool → ℕ → ℕ → Type 0
-  Drops b m n = ((b ≡ true) × LiesBelow most_ranges (With m Stands) n) ⊎ (((b && m == n) ≡ false) × Dropped n)
+  Drops b m n = ((b ≡ true) × LiesBelow most_ranges (InsertNumber m Stands) n) ⊎ (((b && m == n) ≡ false) × Dropped n)
 
   module _ (m n : ℕ) where
-    stands : IsInHighest most_ranges (With m Stands) n ↔ (Comes true m n × ¬ Drops true m n)
+    stands : IsInHighest most_ranges (InsertNumber m Stands) n ↔ (Comes true m n × ¬ Drops true m n)
     stands = (
       λ high. (grind (arith, nat_tests, high.0), λ drops. grind (arith, nat_tests, high.0, high.1, drops)),
       λ both. (
         grind (arith, nat_tests, both.0, both.1),
-        many_or_few most_ranges (λ end. (n ≤ end) × EndsRun (With m Stands) end) (λ low. both.1 (inl (refl, low))),
+        many_or_few most_ranges (λ end. (n ≤ end) × EndsRun (InsertNumber m Stands) end)
+            (λ low. both.1 (inl (refl, low))),
       ),
     )
 
-    alike : (k : ℕ) → With m Pending k ↔ With m Stands k
+    alike : (k : ℕ) → InsertNumber m Pending k ↔ InsertNumber m Stands k
     alike k = grind (arith, kept k)
 
     arrives : (b : Bool) (now : ℕ) (eliciting : Bool)
@@ -100,15 +101,15 @@ keeps_pending acknowledging = false
 keeps_pending kind = true
 
 module _ {F K Q S M P : Type 0} (beginning : Beginning F K Q S M P) (before : History Q S M P) (space : SpaceId) (n : ℕ)
-    (carried : AllCarry beginning before) (keeps : KeepsToAcknowledge beginning before) where
+    (carried : AllCarry beginning before) (keeps : TracksPendingAcks beginning before) where
   abbrev log : SpaceId → List (SpaceEntry P M)
   log = (logs_of beginning before).spaces
 
-  abbrev known : Known K P M
-  known = known_by beginning before
+  abbrev known : ReplyInputs K P M
+  known = inputs_after beginning before
 
   abbrev Came : ℕ → Type 0
-  Came n = HasCome space n before
+  Came n = WasReceived space n before
 
   abbrev Dropped : ℕ → Type 0
   Dropped n = WasDropped space n before
@@ -121,14 +122,14 @@ module _ {F K Q S M P : Type 0} (beginning : Beginning F K Q S M P) (before : Hi
 
   abbrev After : Option (SpaceEntry P M) → Event Q S M P → Reply Q → Type 0
   After entry event reply = Pending_then entry
-      ↔ (HasCome space n ((event, reply) ∷ before) × ¬ WasDropped space n ((event, reply) ∷ before))
+      ↔ (WasReceived space n ((event, reply) ∷ before) × ¬ WasDropped space n ((event, reply) ∷ before))
 
   -- an entry that leaves it
   unmoved : (entry : SpaceEntry P M) → keeps_pending (space_kind entry) ≡ true
       → Pending_then (Some entry) ↔ (Came n × ¬ Dropped n)
   unmoved entry keeps = grind (arith, keeps, kept)
 
-  reply_keeps : (event : Event Q S M P) (reply : Reply Q) → Told beginning before event reply
+  reply_keeps : (event : Event Q S M P) (reply : Reply Q) → RepliesAfter beginning before event reply
       → After ((entries_of beginning.queue known event reply).spaces space) event reply
   reply_keeps (Received there now number eliciting) (Ok (New arm)) told =
       arrives beginning.queue.words (log space) Came Dropped (keeps space) number n
@@ -152,17 +153,18 @@ module _ {F K Q S M P : Type 0} (beginning : Beginning F K Q S M P) where
   -- what tracked packets carry, and what is to be acknowledged, is what the history says
   record Tied (history : History Q S M P) : Type 0 where
     pub carried : AllCarry beginning history
-    pub keeps : KeepsToAcknowledge beginning history
+    pub keeps : TracksPendingAcks beginning history
 
-  keeps_after : (before : History Q S M P) (event : Event Q S M P) (reply : Reply Q) → Told beginning before event reply
-      → Tied before → KeepsToAcknowledge beginning ((event, reply) ∷ before)
+  keeps_after : (before : History Q S M P) (event : Event Q S M P) (reply : Reply Q)
+      → RepliesAfter beginning before event reply
+      → Tied before → TracksPendingAcks beginning ((event, reply) ∷ before)
   keeps_after before event reply told tied =
       λ space n. reply_keeps beginning before space n tied.carried tied.keeps event reply told
 
-  pub keeps_to_acknowledge : (history : History Q S M P) → AtEach (Told beginning) history
-      → KeepsToAcknowledge beginning history
+  pub keeps_to_acknowledge : (history : History Q S M P) → AtEach (RepliesAfter beginning) history
+      → TracksPendingAcks beginning history
   keeps_to_acknowledge history told =
-      (kept_after (Told beginning) Tied (λ before event reply here tied. record {
+      (kept_after (RepliesAfter beginning) Tied (λ before event reply here tied. record {
         carried = keeps_carried beginning before event reply here tied.carried;
         keeps = keeps_after before event reply here tied;
       }) (record { carried = none_carry beginning; keeps = λ space n. (λ set. absurd set, λ both. absurd both.0) })

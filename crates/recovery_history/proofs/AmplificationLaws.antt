@@ -2,26 +2,26 @@
 use Rattle.std.proofs.Common.{arith, ℕ, ◌≡◌, Bool, true, false, cond, Option, None, Ok, Err, refl}
 use Rattle.std.proofs.lemmas.Bool.{false_from_ne_true}
 use Rattle.recovery_base.specs.declared.below.SpaceId.{SpaceId}
-use Rattle.recovery_congestion.specs.Controllers.{ControllerWords}
-use Rattle.recovery_ledger.specs.Acks.{AckState}
+use Rattle.recovery_congestion.specs.Controllers.{ControllerSemantics}
+use Rattle.recovery_spaces.specs.Acks.{AckState}
 use Rattle.recovery_mtud.specs.Discovery.{is_searching_of}
 use Rattle.recovery_mtud.specs.DiscoveryLog.{is_limited}
 use Rattle.recovery_paths.specs.declared.path_pair.PathName.TheVariants.{Current, Previous}
-use Rattle.recovery_paths.specs.PathLog.{OfPaths, PathKnown, PathsEntry, paths_after, path_known_with, known_following, on, receives, searches}
+use Rattle.recovery_paths.specs.PathLog.{PerPath, PathReplyInputs, PathsEntry, paths_after, path_known_with, known_following, on, receives, searches}
 use Rattle.recovery_paths.specs.PathMaking.{PathSettings}
 use Rattle.recovery_paths.proofs.AllowedLaws.{AreAllowed, IsAllowedOn}
 use Rattle.recovery_events.specs.declared.event.Event.{Event}
 use Rattle.recovery_events.specs.declared.event.Event.TheVariants.{PeerLimit, Transmit}
 use Rattle.recovery_events.specs.declared.event.Answer.{Answer}
 use Rattle.recovery_events.specs.declared.event.Answer.TheVariants.{Transmitted, Delayed, Blocked}
-use Rattle.recovery_history.specs.Table.{answered, entries_of, ToldBy}
-use Rattle.recovery_history.specs.History.{QueueMeaning, Reply}
-use Rattle.recovery_history.specs.Known.{Known}
+use Rattle.recovery_history.specs.Table.{answered, entries_of, ReplyTable}
+use Rattle.recovery_history.specs.History.{QueueModel, Reply}
+use Rattle.recovery_history.specs.ReplyInputs.{ReplyInputs}
 use Rattle.recovery_history.specs.PartReplies.{delayed_or}
 use Rattle.recovery_history.proofs.EntryKinds.{PathKind, passing, limiting, elsewhere, path_kind, paths_kept}
 
 -- what was transmitted was neither blocked nor delayed
-pub sent_freely : {K Q : Type 0} (words : ControllerWords K) (blocked : Bool) (delay : Option ℕ)
+pub sent_freely : {K Q : Type 0} (words : ControllerSemantics K) (blocked : Bool) (delay : Option ℕ)
     → (let t : Answer Q = Transmitted in t ≡ cond blocked Blocked (delayed_or words t delay)) → (blocked ≡ false)
     × (delay ≡ None)
 sent_freely words blocked delay is = grind (arith, is)
@@ -34,15 +34,16 @@ is_free elsewhere = false
 is_free kind = true
 
 module _ {K : Type 0} (settings : PathSettings K) where
-  free_on : (entry : PathsEntry) → is_free (path_kind entry) ≡ true → (now : OfPaths (PathKnown K))
+  free_on : (entry : PathsEntry) → is_free (path_kind entry) ≡ true → (now : PerPath (PathReplyInputs K))
       → IsAllowedOn settings now entry
   free_on (on Current (searches (is_limited limit))) free now = absurd cc
   free_on (on Previous (receives bytes)) free now = tt
   free_on entry free now = grind (arith, free)
 
-module _ {K Q S M P : Type 0} (q : QueueMeaning Q S M P) (settings : PathSettings K) (heard : SpaceId
-    → AckState) (known : Known K P M) where
-  answer_allowed : (event : Event Q S M P) (answer : Answer Q) → ToldBy q settings.words heard known event (Ok answer)
+module _ {K Q S M P : Type 0} (q : QueueModel Q S M P) (settings : PathSettings K) (heard : SpaceId
+    → AckState) (known : ReplyInputs K P M) where
+  answer_allowed : (event : Event Q S M P) (answer : Answer Q) → ReplyTable q settings.words heard known event
+      (Ok answer)
       → AreAllowed settings known.paths (answered q known event answer).paths
   answer_allowed (Transmit now bytes true) Transmitted told =
       ((sent_freely settings.words _ _ told.1).1, tt)
@@ -61,7 +62,7 @@ module _ {K Q S M P : Type 0} (q : QueueMeaning Q S M P) (settings : PathSetting
       event (Ok answer) refl
 
   -- what an event is to the paths, where it was told so
-  pub is_allowed : (event : Event Q S M P) (reply : Reply Q) → ToldBy q settings.words heard known event reply
+  pub is_allowed : (event : Event Q S M P) (reply : Reply Q) → ReplyTable q settings.words heard known event reply
       → AreAllowed settings known.paths (entries_of q known event reply).paths
   is_allowed event (Ok answer) told = answer_allowed event answer told
   is_allowed event (Err refusal) told = tt

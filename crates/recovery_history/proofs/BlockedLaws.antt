@@ -1,40 +1,41 @@
 -- A datagram is blocked exactly where the events and answers before it say so: the clause `blocked` of `run`.
 use Rattle.std.proofs.Common.{arith, ℕ, ◌≡◌, ◌≤◌, ◌+◌, ◌^◌, Bool, true, false, Ok, Err, refl}
 use Rattle.std.proofs.lemmas.Bool.{leb-true, le-leb}
-use Rattle.recovery_congestion.specs.Controllers.{ControllerWords}
-use Rattle.recovery_paths.specs.PathLog.{state_of}
+use Rattle.recovery_congestion.specs.Controllers.{ControllerSemantics}
+use Rattle.recovery_paths.specs.PathLog.{path_state_of}
 use Rattle.recovery_paths.specs.PathStates.{PathState, is_blocked}
 use Rattle.recovery_events.specs.declared.event.Event.TheVariants.{Transmit}
 use Rattle.recovery_events.specs.declared.event.Answer.{Answer}
 use Rattle.recovery_events.specs.declared.event.Refusal.TheVariants.{Overflow}
-use Rattle.recovery_history.specs.Told.{pasts_of, Told}
+use Rattle.recovery_history.specs.RepliesAfter.{pasts_of, RepliesAfter}
 use Rattle.recovery_history.specs.History.{Beginning, Reply}
-use Rattle.recovery_history.specs.Replies.{Refuses, AlwaysAnswers}
-use Rattle.recovery_history.specs.PartReplies.{Is, transmit_answer}
-use Rattle.recovery_history.specs.Promises.Blocked.{IsPassage, BlocksExactly}
+use Rattle.recovery_history.specs.Replies.{RejectsWhen, AlwaysAnswers}
+use Rattle.recovery_history.specs.PartReplies.{EqualsAnswer, transmit_answer}
+use Rattle.recovery_history.specs.Promises.Blocked.{IsTransmitReply, BlocksExactly}
 use Rattle.recovery_history.proofs.Runs.{AllAlong, throughout_kept}
 use Rattle.recovery_history.proofs.DatagramLaws.{FlowsAgree, flows_at_first, flows_after}
 use Rattle.recovery_history.proofs.SearchSaid.{Follows}
 
 -- what the table answers is one of what the promise allows
-module _ {K : Type 0} (Q : Type 0) (words : ControllerWords K) where
+module _ {K : Type 0} (Q : Type 0) (words : ControllerSemantics K) where
   fits : (now bytes : ℕ) (checked : Bool) (path : PathState K)
-      → (let answer : Answer Q = transmit_answer words now bytes checked path in IsPassage false checked
+      → (let answer : Answer Q = transmit_answer words now bytes checked path in IsTransmitReply false checked
       (is_blocked path bytes) (Ok answer))
   fits now bytes false path = refl
   fits now bytes true path = grind arith
 
 module _ {Q : Type 0} (checked forbidden : Bool) (answer : Answer Q)
-    (fine : IsPassage false checked forbidden (Ok answer)) (TooLarge : Type 0) where
+    (fine : IsTransmitReply false checked forbidden (Ok answer)) (TooLarge : Type 0) where
   decide : (large : Bool) → (TooLarge → large ≡ true) → (large ≡ true → TooLarge) → (reply : Reply Q)
-      → Refuses Overflow TooLarge (AlwaysAnswers (Is answer)) reply → IsPassage large checked forbidden reply
+      → RejectsWhen Overflow TooLarge (AlwaysAnswers (EqualsAnswer answer)) reply
+          → IsTransmitReply large checked forbidden reply
   decide large is to (Err Overflow) told = grind (arith, is, to, told)
   decide large is to reply told = grind (arith, is, to, told, fine)
 
 module _ {F K Q S M P : Type 0} (beginning : Beginning F K Q S M P) where
-  blocked_told : Follows (Told beginning) (FlowsAgree beginning) (BlocksExactly beginning.config.validated)
+  blocked_told : Follows (RepliesAfter beginning) (FlowsAgree beginning) (BlocksExactly beginning.config.validated)
   blocked_told before (Transmit now bytes checked) reply told agree =
-      let path = state_of (pasts_of beginning before).current in
+      let path = path_state_of (pasts_of beginning before).current in
       grind (
         arith,
         agree.0.0,

@@ -3,7 +3,7 @@ use Rattle.std.proofs.Common.{◌≡◌, ◌≤◌, ℕ, Bool, true, false, Opti
 use Rattle.recovery_base.specs.declared.below.SpaceId.TheVariants.{Data}
 use Rattle.recovery_mtud.specs.Discovery.{reports}
 use Rattle.recovery_mtud.specs.DiscoveryLog.{discovery_by}
-use Rattle.recovery_mtud.specs.MtuEntries.{IsUntold}
+use Rattle.recovery_mtud.specs.MtuEntries.{IsFreshDiscovery}
 use Rattle.recovery_mtud.proofs.BurstRunLaws.{four_report, four_stand}
 use Rattle.recovery_mtud.proofs.MtuEntryLaws.{discovery_made_untold}
 use Rattle.recovery_paths.proofs.PathFateLaws.{apart_once}
@@ -12,9 +12,9 @@ use Rattle.recovery_events.specs.declared.event.Event.{Event}
 use Rattle.recovery_events.specs.declared.event.Event.TheVariants.{LossesDone}
 use Rattle.recovery_events.specs.declared.event.Answer.TheVariants.{BlackHole}
 use Rattle.recovery_events.specs.declared.event.Refusal.TheVariants.{NoMemory}
-use Rattle.recovery_history.specs.Told.{logs_of, pasts_of, first_path, settings_of, Told}
+use Rattle.recovery_history.specs.RepliesAfter.{logs_of, pasts_of, first_path, settings_of, RepliesAfter}
 use Rattle.recovery_history.specs.History.{Beginning, History, Reply}
-use Rattle.recovery_history.specs.Promises.Once.{departures_of}
+use Rattle.recovery_history.specs.Promises.ResolvedOnce.{departures_of}
 use Rattle.recovery_history.proofs.SearchSaid.{ComesAtFourBursts, NeedsFourBursts, Follows}
 use Rattle.recovery_history.proofs.FateLaws.{fates_depart}
 use Rattle.recovery_history.proofs.OneFateLaws.{leave_once, one_fate}
@@ -26,7 +26,7 @@ module _ {F K Q S M P : Type 0} (beginning : Beginning F K Q S M P) where
   -- at each moment
   untold_in : (history : History Q S M P) → WasUntold (pasts_of beginning history).current
   untold_in history =
-      let made : (limit : Option ℕ) → IsUntold ((settings_of beginning).discovery limit) =
+      let made : (limit : Option ℕ) → IsFreshDiscovery ((settings_of beginning).discovery limit) =
       λ limit. discovery_made_untold _ _ limit _ in
       untold_by (settings_of beginning) made (first_path beginning) (made None) (logs_of beginning history).paths
 
@@ -39,7 +39,7 @@ module _ {F K Q S M P : Type 0} (beginning : Beginning F K Q S M P) where
 
   -- where four have closed unanswered, the answer is a report
   pub comes_one : (before : History Q S M P) (event : Event Q S M P) (reply : Reply Q)
-      → Told beginning before event reply
+      → RepliesAfter beginning before event reply
       → ComesAtFourBursts beginning before event reply
   comes_one before (LossesDone now) (Ok answer) told = λ many.
       let past = (pasts_of beginning before).current in
@@ -65,7 +65,7 @@ module _ {F K Q S M P : Type 0} (beginning : Beginning F K Q S M P) where
   needs_by before now once false is = tt
 
   -- so where the answer says one
-  pub needs_one : Follows (Told beginning) (AllTracked beginning) (NeedsFourBursts beginning)
+  pub needs_one : Follows (RepliesAfter beginning) (AllTracked beginning) (NeedsFourBursts beginning)
   needs_one before (LossesDone now) (Ok answer) told all =
       rw told (needs_by before now (leave_once before (one_fate beginning before all) Data) (reports_there before) refl)
   needs_one before event reply told all = tt

@@ -3,12 +3,12 @@
 use Rattle.std.proofs.Common.{◌≡◌, ℕ, true, [], ◌∷◌, Option, None, Ok, refl, ap, ◌∙◌}
 use Rattle.recovery_base.specs.declared.below.SpaceId.{SpaceId}
 use Rattle.recovery_base.specs.Spaces.{same_space}
-use Rattle.recovery_ledger.specs.Packets.{Packet, packet_at, largest_acked_by}
+use Rattle.recovery_spaces.specs.Packets.{Packet, packet_at, largest_acked_by}
 use Rattle.recovery_events.specs.declared.event.Event.{Event}
 use Rattle.recovery_events.specs.declared.event.Event.TheVariants.{Send, PollMtu}
 use Rattle.recovery_events.specs.declared.event.Answer.TheVariants as answers
 use Rattle.recovery_events.specs.declared.event.Answer.TheVariants.{Probe}
-use Rattle.recovery_history.specs.Told.{Told}
+use Rattle.recovery_history.specs.RepliesAfter.{RepliesAfter}
 use Rattle.recovery_history.specs.History.{Beginning, History, Reply}
 use Rattle.recovery_history.specs.Promises.Acknowledged.{largest_in}
 use Rattle.recovery_history.proofs.AnswerLaws.{is_there}
@@ -29,7 +29,7 @@ module _ {F K Q S M P : Type 0} (beginning : Beginning F K Q S M P) where
 
   -- an event that was told keeps that
   pub keeps_carried : (before : History Q S M P) (event : Event Q S M P) (reply : Reply Q)
-      → Told beginning before event reply → AllCarry before → AllCarry ((event, reply) ∷ before)
+      → RepliesAfter beginning before event reply → AllCarry before → AllCarry ((event, reply) ∷ before)
   keeps_carried before event reply told all = λ space.
       said_told beginning space carried_by (λ contents packet. refl) before (λ n. largest_in space n before) (all space)
       event reply (λ n. largest_in space n ((event, reply) ∷ before)) told (same space event reply)

@@ -4,22 +4,22 @@ use Rattle.std.proofs.Common.{◌≡◌, ℕ, Bool, true, false, cond, List, [],
 use Rattle.recovery_base.specs.declared.below.SpaceId.{SpaceId}
 use Rattle.recovery_base.specs.declared.below.SpaceId.TheVariants.{Data}
 use Rattle.recovery_base.specs.Spaces.{same_space}
-use Rattle.recovery_ledger.specs.Packets.{Packet, Packets, packet_at, without, without_some, with_contents, replaced, contents_or}
+use Rattle.recovery_spaces.specs.Packets.{Packet, Packets, packet_at, without, without_some, with_contents, replaced, contents_or}
 use Rattle.std.specs.Option.{option_and_then}
-use Rattle.recovery_ledger.specs.Queued.{joined_with, queued_by}
-use Rattle.recovery_ledger.specs.SpaceLog.{SpaceEntry, sends, acknowledged, loses, probes, takes_pending, emptied}
-use Rattle.recovery_ledger.specs.Tracked.{Sent, sent_by, sent_moved, forgotten_by}
-use Rattle.recovery_ledger.proofs.PacketLaws.{none_found, number_at}
-use Rattle.recovery_queue.specs.Queues.{QueueWords}
+use Rattle.recovery_spaces.specs.Queued.{joined_with, queued_by}
+use Rattle.recovery_spaces.specs.SpaceLog.{SpaceEntry, sends, acknowledged, loses, probes, takes_pending, emptied}
+use Rattle.recovery_spaces.specs.Tracked.{SentState, sent_by, sent_moved, forgotten_by}
+use Rattle.recovery_spaces.proofs.PacketLaws.{none_found, number_at}
+use Rattle.recovery_queue.specs.Queues.{QueueSemantics}
 use Rattle.recovery_events.specs.declared.event.Event.{Event}
 use Rattle.recovery_events.specs.declared.event.Event.TheVariants.{Send, PollMtu, Acked, DiscardSpace, TakePending}
 use Rattle.recovery_events.specs.declared.event.Answer.TheVariants as answers
 use Rattle.recovery_events.specs.declared.event.Answer.TheVariants.{Probe}
-use Rattle.recovery_history.specs.Told.{logs_of, known_by, Told}
+use Rattle.recovery_history.specs.RepliesAfter.{logs_of, inputs_after, RepliesAfter}
 use Rattle.recovery_history.specs.History.{AtEach, Beginning, History, Reply}
-use Rattle.recovery_history.specs.Known.{Known, number_in, packet_now}
+use Rattle.recovery_history.specs.ReplyInputs.{ReplyInputs, number_in, packet_now}
 use Rattle.recovery_history.specs.Logs.{onto}
-use Rattle.recovery_history.specs.Promises.Contents.{LosesNothing, all, outgoing, held, gone, carried}
+use Rattle.recovery_history.specs.Promises.Contents.{ConservesData, all, outgoing, held, gone, carried}
 use Rattle.recovery_history.specs.Promises.Measures.{AddsUp, Totals}
 use Rattle.recovery_history.proofs.EntryKinds.{SpaceKind, sending, acknowledging, taking, emptying, space_kind, space_kept}
 use Rattle.recovery_history.proofs.AnswerLaws.{past_four}
@@ -139,7 +139,7 @@ module _ {F K Q S M P T : Type 0} (run : Beginning F K Q S M P) (totals : Totals
       (all_replaced tracked n packet (with_contents run.queue.words.empty packet) is
       ∙ ap (totals.plus (all_of tracked)) adds.empty ∙ unit_right totals (all_of tracked))
 
-  moves_none : (pending : P) (moved : Option ℕ) (sent : Sent P M)
+  moves_none : (pending : P) (moved : Option ℕ) (sent : SentState P M)
       → totals.plus (all_of (sent_moved run.queue.words.empty moved sent).tracked)
       (measure (joined_with run.queue.words pending (option_and_then (packet_at sent.tracked) moved)))
       ≡ totals.plus (all_of sent.tracked) (measure pending)
@@ -163,8 +163,8 @@ module _ {F K Q S M P T : Type 0} (beginning : Beginning F K Q S M P) (before : 
   abbrev log : List (SpaceEntry P M)
   log = (logs_of beginning before).spaces space
 
-  abbrev known : Known K P M
-  known = known_by beginning before
+  abbrev known : ReplyInputs K P M
+  known = inputs_after beginning before
 
   abbrev outgoing_now : T
   outgoing_now = outgoing beginning totals measure space before
@@ -200,10 +200,10 @@ module _ {F K Q S M P T : Type 0} (beginning : Beginning F K Q S M P) (before : 
   leaves true entry left changes = same ∙ sym (changes refl)
   leaves false entry left changes = same ∙ ap (totals.plus (held_by log)) (sym (totals.unit gone_now))
 
-  abbrev words : QueueWords P S
+  abbrev words : QueueSemantics P S
   words = beginning.queue.words
 
-  abbrev sent : Sent P M
+  abbrev sent : SentState P M
   sent = sent_in beginning before space
 
   abbrev pending : P
@@ -265,7 +265,7 @@ module _ {F K Q S M P T : Type 0} (beginning : Beginning F K Q S M P) (before : 
   Balanced after = outgoing beginning totals measure space after
       ≡ totals.plus (held beginning totals measure space after) (gone beginning totals measure space after)
 
-  reply_keeps : (event : Event Q S M P) (reply : Reply Q) → Told beginning before event reply
+  reply_keeps : (event : Event Q S M P) (reply : Reply Q) → RepliesAfter beginning before event reply
       → Balanced ((event, reply) ∷ before)
   reply_keeps (Send there now size eliciting largest queue frames) (Ok (answers.Sent number forgotten)) told =
       let packet = packet_now known now size eliciting largest (beginning.queue.contents queue) frames in
@@ -301,9 +301,10 @@ module _ {F K Q S M P T : Type 0} (beginning : Beginning F K Q S M P) (before : 
 -- ---- throughout a run
 
 module _ {F K Q S M P : Type 0} (beginning : Beginning F K Q S M P) where
-  pub loses_nothing : (history : History Q S M P) → AtEach (Told beginning) history → LosesNothing beginning history
+  pub loses_nothing : (history : History Q S M P) → AtEach (RepliesAfter beginning) history
+      → ConservesData beginning history
   loses_nothing =
-      kept_after (Told beginning) (LosesNothing beginning)
+      kept_after (RepliesAfter beginning) (ConservesData beginning)
       (λ before event reply here kept totals measure adds space.
       reply_keeps beginning before totals measure adds space (kept totals measure adds space) event reply here)
       (λ totals measure adds space. let none = measure beginning.queue.words.empty in

@@ -6,14 +6,14 @@ use Rattle.std.proofs.lemmas.List.Sums.{sum_by-cons, sum_by_push}
 use Rattle.recovery_base.specs.declared.below.SpaceId.{SpaceId}
 use Rattle.recovery_base.specs.declared.below.SpaceId.TheVariants.{Initial, Handshake, Data}
 use Rattle.recovery_base.specs.Spaces.{same_space}
-use Rattle.recovery_ledger.specs.Departures.{one_if_same}
-use Rattle.recovery_ledger.specs.InFlight.{over_spaces, size_in, eliciting_in}
-use Rattle.recovery_ledger.specs.Packets.{Packet, Packets, without, without_some}
-use Rattle.recovery_ledger.specs.SpaceLog.{SpaceEntry, sends, acknowledged, loses, probes, emptied}
-use Rattle.recovery_ledger.specs.Tracked.{Sent, sent_by, sent_less, sent_more, sent_moved, forgotten_by}
-use Rattle.recovery_ledger.proofs.CarryLaws.{sum-carrying}
-use Rattle.recovery_ledger.proofs.PacketLaws.{number_at}
-use Rattle.recovery_paths.specs.PathLog.{PathKnown, path_of}
+use Rattle.recovery_spaces.specs.Departures.{one_if_same}
+use Rattle.recovery_spaces.specs.InFlight.{over_spaces, size_in, eliciting_in}
+use Rattle.recovery_spaces.specs.Packets.{Packet, Packets, without, without_some}
+use Rattle.recovery_spaces.specs.SpaceLog.{SpaceEntry, sends, acknowledged, loses, probes, emptied}
+use Rattle.recovery_spaces.specs.Tracked.{SentState, sent_by, sent_less, sent_more, sent_moved, forgotten_by}
+use Rattle.recovery_spaces.proofs.CarryLaws.{sum-carrying}
+use Rattle.recovery_spaces.proofs.PacketLaws.{number_at}
+use Rattle.recovery_paths.specs.PathLog.{PathReplyInputs, path_of}
 use Rattle.recovery_paths.specs.declared.path_pair.PathName.TheVariants.{Current}
 use Rattle.recovery_events.specs.declared.event.Event.{Event}
 use Rattle.recovery_events.specs.declared.event.Event.TheVariants.{Send, Acked, Lost, DiscardSpace, PollMtu, InFlight}
@@ -22,12 +22,12 @@ use Rattle.recovery_events.specs.declared.event.Answer.TheVariants.{Probe}
 use Rattle.recovery_events.specs.declared.event.Refusal.TheVariants.{NoSuchPath}
 use Rattle.recovery_history.specs.Entries.{here}
 use Rattle.recovery_history.specs.Table.{answered, entries_of}
-use Rattle.recovery_history.specs.Told.{logs_of, known_by, Told}
+use Rattle.recovery_history.specs.RepliesAfter.{logs_of, inputs_after, RepliesAfter}
 use Rattle.recovery_history.specs.History.{Beginning, History, Reply}
-use Rattle.recovery_history.specs.Known.{Known, number_in, packet_now, in_flight_on, current_in_flight}
+use Rattle.recovery_history.specs.ReplyInputs.{ReplyInputs, number_in, packet_now, in_flight_on, current_in_flight}
 use Rattle.recovery_history.specs.Logs.{onto}
 use Rattle.recovery_history.specs.Replies.{AlwaysAnswers}
-use Rattle.recovery_history.specs.PartReplies.{Is, OnPath}
+use Rattle.recovery_history.specs.PartReplies.{EqualsAnswer, UnlessPathMissing}
 use Rattle.recovery_history.specs.Promises.Counted.{sum_on, IsTally, CountsInFlight}
 use Rattle.recovery_history.specs.Promises.Paths.{generations}
 use Rattle.recovery_history.proofs.AnswerLaws.{past_four}
@@ -99,7 +99,7 @@ module _ {P M : Type 0} (weigh : ℕ → Bool → ℕ) (generation : ℕ) where
   -- ---- one entry more, in this space or in another one
 
   -- a packet goes out
-  sum_sent : (sent : Sent P M) (gone : ℕ → Bool) (number : ℕ) (packet : Packet P M) (forgotten : Option ℕ)
+  sum_sent : (sent : SentState P M) (gone : ℕ → Bool) (number : ℕ) (packet : Packet P M) (forgotten : Option ℕ)
       → forgotten ≡ forgotten_by sent packet → ((m : ℕ) → times m sent.tracked ≤ 1)
       → sum_in gone (sent_more number packet sent).tracked ≡ sum_in (λ n. gone_with true forgotten gone n) sent.tracked
       + weigh_in gone (number, packet)
@@ -109,7 +109,7 @@ module _ {P M : Type 0} (weigh : ℕ → Bool → ℕ) (generation : ℕ) where
       let push = sum_by_push (weigh_in gone) (without_some sent.tracked (Some m)) (number, packet) in
       rw (← is) (omega (arith, push, sum_without gone m sent.tracked (once m)))
 
-  sum_moved : (sent : Sent P M) (gone : ℕ → Bool) (empty : P) (moved : Option ℕ)
+  sum_moved : (sent : SentState P M) (gone : ℕ → Bool) (empty : P) (moved : Option ℕ)
       → sum_in gone sent.tracked ≡ sum_in gone (sent_moved empty moved sent).tracked
   sum_moved sent gone empty moved =
       grind (arith, λ (number : ℕ). sum-carrying sent.tracked number (weigh_in gone) empty (λ m packet. refl))
@@ -133,13 +133,13 @@ module _ {F K Q S M P : Type 0} (beginning : Beginning F K Q S M P) (before : Hi
   abbrev log : SpaceId → List (SpaceEntry P M)
   log = (logs_of beginning before).spaces
 
-  abbrev known : Known K P M
-  known = known_by beginning before
+  abbrev known : ReplyInputs K P M
+  known = inputs_after beginning before
 
-  abbrev sent : SpaceId → Sent P M
+  abbrev sent : SpaceId → SentState P M
   sent = sent_in beginning before
 
-  abbrev sum_of : SpaceId → Sent P M → ℕ
+  abbrev sum_of : SpaceId → SentState P M → ℕ
   sum_of space sent = sum_in weigh generation (gone space) sent.tracked
 
   -- after an entry, or none
@@ -220,7 +220,7 @@ module _ {F K Q S M P : Type 0} (beginning : Beginning F K Q S M P) (before : Hi
       others space None = refl
       others space (Some m) = refl
 
-  reply_counts : (event : Event Q S M P) (reply : Reply Q) → Told beginning before event reply
+  reply_counts : (event : Event Q S M P) (reply : Reply Q) → RepliesAfter beginning before event reply
       → sum_on weigh generation gone ((event, reply) ∷ before) ≡ over_spaces
       (sum_after (entries_of beginning.queue known event reply).spaces)
   reply_counts (Send there now size eliciting largest queue frames) (Ok (answers.Sent number None)) told =
@@ -258,8 +258,8 @@ module _ {F K Q S M P : Type 0} (beginning : Beginning F K Q S M P) where
   Kept history = AllTracked beginning history × Counts beginning history
 
   module _ (before : History Q S M P) (counts : Counts beginning before) where
-    abbrev known_then : Known K P M
-    known_then = known_by beginning before
+    abbrev known_then : ReplyInputs K P M
+    known_then = inputs_after beginning before
 
     eliciting_same : (generation : ℕ) (packets : Packets P M)
         → sum_in (λ size eliciting. if eliciting then 1 else 0) generation (λ n. false) packets
@@ -293,8 +293,9 @@ module _ {F K Q S M P : Type 0} (beginning : Beginning F K Q S M P) where
         (let told = generation_told beginning before Current in cc) in
         rw made (counts (λ size eliciting. size) generation (λ space n. false), count_same generation)
 
-    tally : (path : Option (PathKnown K)) (reply : Reply Q)
-        → OnPath path (λ there. AlwaysAnswers (Is (answers.InFlight (in_flight_on known_then there).bytes
+    tally : (path : Option (PathReplyInputs K)) (reply : Reply Q)
+        → UnlessPathMissing path (λ there. AlwaysAnswers (EqualsAnswer
+            (answers.InFlight (in_flight_on known_then there).bytes
         (in_flight_on known_then there).ack_eliciting))) reply
         → IsTally before (option_map (λ p. p.generation) path) reply
     tally None (Err NoSuchPath) told = refl
@@ -305,16 +306,17 @@ module _ {F K Q S M P : Type 0} (beginning : Beginning F K Q S M P) where
         grind (arith, told, bytes, count_same path.generation)
     tally path reply told = grind (arith, told)
 
-  holds : (before : History Q S M P) (event : Event Q S M P) (reply : Reply Q) → Told beginning before event reply
+  holds : (before : History Q S M P) (event : Event Q S M P) (reply : Reply Q)
+      → RepliesAfter beginning before event reply
       → Kept before → CountsInFlight before event reply
   holds before (InFlight name) reply told kept =
       rw (← generation_told beginning before name)
-      (tally before kept.1 (path_of name (known_by beginning before).paths) reply told)
+      (tally before kept.1 (path_of name (inputs_after beginning before).paths) reply told)
   holds before event reply told kept = tt
 
   -- throughout a run
   pub keeps_counts : (before : History Q S M P) (event : Event Q S M P) (reply : Reply Q)
-      → Told beginning before event reply → Kept before → Kept ((event, reply) ∷ before)
+      → RepliesAfter beginning before event reply → Kept before → Kept ((event, reply) ∷ before)
   keeps_counts before event reply here kept = (
     keeps_tracked beginning before event reply here kept.0,
     λ weigh generation gone. reply_counts beginning before kept.0 kept.1 weigh generation gone event reply here,

@@ -7,18 +7,18 @@ use Rattle.std.specs.List.{list_all}
 use Rattle.std.proofs.lemmas.Bool.Decides.{nat_tests}
 use Rattle.std.proofs.lemmas.List.Sums.{sum_by-cons}
 use Rattle.recovery_paths.specs.declared.path_pair.PathName.TheVariants.{Current, Previous}
-use Rattle.recovery_paths.specs.PathLog.{OfPaths, PathsEntry, PathPast, each_path, known_of, on, receives, past_following, pasts_by, returns, reverted}
+use Rattle.recovery_paths.specs.PathLog.{PerPath, PathsEntry, PathHistory, each_path, known_of, on, receives, past_following, pasts_by, returns, reverted}
 use Rattle.recovery_events.specs.declared.event.Event.{Event}
 use Rattle.recovery_events.specs.declared.event.Event.TheVariants.{Transmit, DatagramIn, Validated, NewPath, DropPrevious, RevertPath}
 use Rattle.recovery_events.specs.declared.event.Answer.{Answer}
 use Rattle.recovery_events.specs.declared.event.Answer.TheVariants.{Transmitted}
-use Rattle.recovery_history.specs.Told.{logs_of, pasts_of, known_by, first_path, settings_of, Told}
+use Rattle.recovery_history.specs.RepliesAfter.{logs_of, pasts_of, inputs_after, first_path, settings_of, RepliesAfter}
 use Rattle.recovery_history.specs.History.{Beginning, History, Reply}
-use Rattle.recovery_history.specs.Known.{Known}
-use Rattle.recovery_history.specs.PartReplies.{IsDone, OnPath}
+use Rattle.recovery_history.specs.ReplyInputs.{ReplyInputs}
+use Rattle.recovery_history.specs.PartReplies.{AnswersDone, UnlessPathMissing}
 use Rattle.recovery_history.specs.Table.{limit}
 use Rattle.recovery_history.specs.Promises.Datagrams.{datagrams_on, bytes_in, bytes_out, is_validated}
-use Rattle.recovery_history.specs.Promises.Threefold.{is_checked}
+use Rattle.recovery_history.specs.Promises.Amplification.{is_checked}
 use Rattle.recovery_history.proofs.AmplificationLaws.{sent_freely}
 use Rattle.recovery_history.proofs.EntryKinds.{PathKind, receiving, validating, transmitting, passing, moving, dropping, returning, elsewhere, path_kind, paths_kept}
 use Rattle.recovery_history.proofs.SearchSaid.{Keeps}
@@ -34,7 +34,7 @@ abbrev flow : Bool → ℕ → ℕ → Flow
 flow validated came went = record { validated = validated; came = came; went = went }
 
 -- by its past in the logs
-abbrev pub flow_of : {K : Type 0} → PathPast K → Flow
+abbrev pub flow_of : {K : Type 0} → PathHistory K → Flow
 flow_of past = flow past.kept.validated past.kept.total_recvd past.kept.total_sent
 
 module _ {Q S M P : Type 0} where
@@ -62,7 +62,7 @@ module _ {Q S M P : Type 0} where
   IsFlowWhereLives validated here None = here ≡ []
   IsFlowWhereLives validated here (Some found) = IsFlow validated here found
 
-  abbrev pub AreFlows : Bool → History Q S M P → OfPaths Flow → Type 0
+  abbrev pub AreFlows : Bool → History Q S M P → PerPath Flow → Type 0
   AreFlows first history flows =
       IsFlow (is_validated first Current history) (datagrams_on Current history) flows.current
       × IsFlowWhereLives (is_validated first Previous history) (datagrams_on Previous history) flows.previous
@@ -86,24 +86,24 @@ module _ {F K Q S M P : Type 0} (beginning : Beginning F K Q S M P) (earlier : H
   abbrev log : List PathsEntry
   log = (logs_of beginning earlier).paths
 
-  abbrev known : Known K P M
-  known = known_by beginning earlier
+  abbrev known : ReplyInputs K P M
+  known = inputs_after beginning earlier
 
   abbrev first : Bool
   first = beginning.config.validated
 
-  abbrev flows : List PathsEntry → OfPaths Flow
+  abbrev flows : List PathsEntry → PerPath Flow
   flows log = each_path flow_of (pasts_by (settings_of beginning) (first_path beginning) log)
 
-  abbrev pasts : OfPaths (PathPast K)
+  abbrev pasts : PerPath (PathHistory K)
   pasts = pasts_by (settings_of beginning) (first_path beginning) log
 
   -- the path before is used again, with all that it had
-  flows_returned : (answer : Answer Q) (previous : Option (PathPast K))
-      → OnPath (option_map known_of previous) (λ there. IsDone {Q = Q}) (Ok answer)
+  flows_returned : (answer : Answer Q) (previous : Option (PathHistory K))
+      → UnlessPathMissing (option_map known_of previous) (λ there. AnswersDone {Q = Q}) (Ok answer)
       → IsFlowWhereLives (is_validated first Previous earlier) (datagrams_on Previous earlier)
       (option_map flow_of previous)
-      → (let old : OfPaths (PathPast K) = record pasts { previous = previous } in
+      → (let old : PerPath (PathHistory K) = record pasts { previous = previous } in
       AreFlows first ((RevertPath, Ok answer) ∷ earlier) (each_path flow_of
       (reverted (past_following (settings_of beginning) (returns (limit earlier))) old)))
   flows_returned answer None told lived = absurd told.1
@@ -118,7 +118,7 @@ module _ {F K Q S M P : Type 0} (beginning : Beginning F K Q S M P) (earlier : H
     one_more entry entries quiet flows = grind (arith, quiet, flows)
 
     -- one event more
-    pub reply_flows : (event : Event Q S M P) (reply : Reply Q) → Told beginning earlier event reply
+    pub reply_flows : (event : Event Q S M P) (reply : Reply Q) → RepliesAfter beginning earlier event reply
         → AreFlows first ((event, reply) ∷ earlier) (each_path flow_of (pasts_of beginning ((event, reply) ∷ earlier)))
     reply_flows (DatagramIn Current bytes) (Ok answer) told =
         let happened : Event Q S M P × Reply Q = (DatagramIn Current bytes, Ok answer) in
@@ -165,5 +165,5 @@ module _ {F K Q S M P : Type 0} (beginning : Beginning F K Q S M P) where
   pub flows_at_first : FlowsAgree []
   flows_at_first = ((refl, λ unproved checked. omega arith), refl)
 
-  pub flows_after : Keeps (Told beginning) FlowsAgree
+  pub flows_after : Keeps (RepliesAfter beginning) FlowsAgree
   flows_after before event reply told same = reply_flows beginning before same event reply told

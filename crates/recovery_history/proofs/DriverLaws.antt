@@ -3,31 +3,31 @@
 use Rattle.recovery_paths.proofs.BalanceLaws.{kept}
 use Rattle.recovery_events.specs.declared.event.Event.{Event}
 use Rattle.recovery_events.specs.declared.event.Refusal.{Refusal}
-use Rattle.recovery_history.specs.Table.{PlainStep, ToldBy}
-use Rattle.recovery_history.specs.Plain.{plain_of}
+use Rattle.recovery_history.specs.Table.{UnloggedStep, ReplyTable}
+use Rattle.recovery_history.specs.Unlogged.{plain_of}
 use Rattle.recovery_history.proofs.AboveLaws.{marks_refused}
 use Rattle.std.proofs.Common.{◌≡◌, ℕ, arith, Bool, false, List, Some, Result, IfOk, OnErr, Ok, Err, refl, ap, sym}
 use Rattle.recovery_base.specs.declared.below.SpaceId.{SpaceId}
 use Rattle.recovery_base.specs.declared.below.SpaceId.TheVariants.{Initial, Handshake, Data}
-use Rattle.recovery_ledger.specs.declared.spaces.ReceiveError.{ReceiveError}
-use Rattle.recovery_ledger.specs.declared.spaces.ReceiveError.TheVariants.{NumberTooLarge, NoMemory}
-use Rattle.recovery_ledger.specs.declared.spaces.Receipt.{Receipt}
-use Rattle.recovery_ledger.specs.declared.spaces.Receipt.TheVariants.{New, Duplicate}
-use Rattle.recovery_ledger.specs.Discarded.{is_discarded}
-use Rattle.recovery_ledger.specs.SpaceLog.{SpaceEntry}
-use Rattle.recovery_ledger.specs.Spaces.{Space, Spaces, space_of, with_space, tracking_of, acks_of, next_number_of, HasGreatestCome, ReceiveReply, heard_of, SpaceStep, arrives}
-use Rattle.recovery_ledger.proofs.SpaceAckLaws.{heard_greatest}
-use Rattle.recovery_paths.specs.PathLog.{PathsEntry, OfPaths, PathsStep, paths_known, paths_marks}
+use Rattle.recovery_spaces.specs.declared.spaces.ReceiveError.{ReceiveError}
+use Rattle.recovery_spaces.specs.declared.spaces.ReceiveError.TheVariants.{NumberTooLarge, NoMemory}
+use Rattle.recovery_spaces.specs.declared.spaces.Receipt.{Receipt}
+use Rattle.recovery_spaces.specs.declared.spaces.Receipt.TheVariants.{New, Duplicate}
+use Rattle.recovery_spaces.specs.Discarded.{is_discarded}
+use Rattle.recovery_spaces.specs.SpaceLog.{SpaceEntry}
+use Rattle.recovery_spaces.specs.Spaces.{Space, Spaces, space_of, with_space, tracking_of, acks_of, next_number_of, HasGreatestCome, ReceiveReply, heard_of, SpaceStep, arrives}
+use Rattle.recovery_spaces.proofs.SpaceAckLaws.{heard_greatest}
+use Rattle.recovery_paths.specs.PathLog.{PathsEntry, PerPath, PathsStep, paths_known, paths_marks}
 use Rattle.recovery_paths.specs.PathStates.{Path}
-use Rattle.recovery_queue.specs.Queues.{QueueWords}
-use Rattle.recovery_skips.specs.Filters.{Skipping}
+use Rattle.recovery_queue.specs.Queues.{QueueSemantics}
+use Rattle.recovery_packet_numbers.specs.Filters.{SkipState}
 use Rattle.recovery_events.specs.declared.event.Event.TheVariants.{Received}
 use Rattle.recovery_history.specs.Entries.{here, in_space, nothing}
-use Rattle.recovery_history.specs.History.{QueueMeaning}
-use Rattle.recovery_history.specs.Logs.{StepBy}
-use Rattle.recovery_history.specs.Parts.{Parts}
+use Rattle.recovery_history.specs.History.{QueueModel}
+use Rattle.recovery_history.specs.Logs.{OptionalStep}
+use Rattle.recovery_history.specs.RecoveryState.{RecoveryState}
 use Rattle.recovery_history.specs.Replies.{reply_to}
-use Rattle.recovery_history.specs.Changes.{Changes, Steps, SkippingStep, known_to, acks_to}
+use Rattle.recovery_history.specs.Transitions.{StateTransition, ComponentSteps, SkippingStep, inputs_of, acks_to}
 
 -- a space that is put back as it was
 pub with_same_space : {P M : Type 0} (spaces : Spaces P M) (space : SpaceId) (there : Space P M)
@@ -36,16 +36,16 @@ with_same_space spaces Initial there same = ap (with_space spaces Initial) same
 with_same_space spaces space there same = ap (with_space spaces space) same
 
 -- what is no packet of 1-RTT keys that is sent leaves the skipped numbers
-pub skips_nothing : {P M : Type 0} (space : SpaceId) (entry : SpaceEntry P M) (n : ℕ) (skipping : Skipping)
+pub skips_nothing : {P M : Type 0} (space : SpaceId) (entry : SpaceEntry P M) (n : ℕ) (skipping : SkipState)
     → SkippingStep (Some entry) n skipping skipping → SkippingStep (here space Data entry) n skipping skipping
 skips_nothing Data entry n skipping same = same
 skips_nothing space entry n skipping same = refl
 
-module _ {P M S : Type 0} (words : QueueWords P S) where
+module _ {P M S : Type 0} (words : QueueSemantics P S) where
   -- one space changes, and the others stay
   pub spaces_step : (entry : SpaceEntry P M) (spaces : Spaces P M) (changed : SpaceId) (there : Space P M)
       → SpaceStep words entry (space_of changed spaces) there
-      → (space : SpaceId) → StepBy (SpaceStep words) (here changed space entry) (space_of space spaces)
+      → (space : SpaceId) → OptionalStep (SpaceStep words) (here changed space entry) (space_of space spaces)
       (space_of space (with_space spaces changed there))
   spaces_step entry spaces Initial there change Initial = change
   spaces_step entry spaces Handshake there change Handshake = change
@@ -54,30 +54,30 @@ module _ {P M S : Type 0} (words : QueueWords P S) where
 
 -- ---- frames: what an event that is something to few parts does to all of them
 
-module _ {K P M S : Type 0} (words : QueueWords P S) where
+module _ {K P M S : Type 0} (words : QueueSemantics P S) where
   -- an event that is nothing to any part
-  pub nothing_changes : (old new : Parts K P M) → new ≡ old → Steps words nothing old new
+  pub nothing_changes : (old new : RecoveryState K P M) → new ≡ old → ComponentSteps words nothing old new
   nothing_changes old new same = rw same (grind arith)
 
   -- an event in one space, which may draw the next skip, and be something to the paths
-  pub space_changes : (old : Parts K P M) (space : SpaceId) (entry : SpaceEntry P M) (there : Space P M)
-      (skipping : Skipping) (entries : List PathsEntry) (paths : OfPaths (Path K))
+  pub space_changes : (old : RecoveryState K P M) (space : SpaceId) (entry : SpaceEntry P M) (there : Space P M)
+      (skipping : SkipState) (entries : List PathsEntry) (paths : PerPath (Path K))
       → SpaceStep words entry (space_of space old.spaces) there
       → SkippingStep (here space Data entry) (next_number_of (space_of Data old.spaces)) old.skipping skipping
       → PathsStep old.settings entries (paths_known old.paths) (paths_known paths)
-      → Steps words (record (in_space space entry) { paths = entries }) old
+      → ComponentSteps words (record (in_space space entry) { paths = entries }) old
       (record old { spaces = with_space old.spaces space there; skipping = skipping; paths = paths })
   space_changes old space entry there skipping entries paths step skips same =
       grind (arith, spaces_step words entry old.spaces space there step, skips, same)
 
 -- a refusal for which a space is put back as it was
-pub put_back : {K Q S M P : Type 0} (q : QueueMeaning Q S M P) (old : Parts K P M) (event : Event Q S M P)
+pub put_back : {K Q S M P : Type 0} (q : QueueModel Q S M P) (old : RecoveryState K P M) (event : Event Q S M P)
     (refusal : Refusal) (space : SpaceId) (there : Space P M) → there ≡ space_of space old.spaces
-    → PlainStep event (Err refusal) (plain_of old) (plain_of old)
-    → ToldBy q old.settings.words (acks_to old) (known_to old) event (Err refusal)
-    → Changes q old event (Err refusal) (record old { spaces = with_space old.spaces space there })
+    → UnloggedStep event (Err refusal) (plain_of old) (plain_of old)
+    → ReplyTable q old.settings.words (acks_to old) (inputs_of old) event (Err refusal)
+    → StateTransition q old event (Err refusal) (record old { spaces = with_space old.spaces space there })
 put_back {K} {Q} {S} {M} {P} q old event refusal space there same plain told =
-    let new : Parts K P M = record old { spaces = with_space old.spaces space there } in
+    let new : RecoveryState K P M = record old { spaces = with_space old.spaces space there } in
     let kept : new ≡ old =
     ap (λ (spaces : Spaces P M). record old { spaces = spaces }) (with_same_space old.spaces space there same) in
     record {
@@ -90,14 +90,14 @@ put_back {K} {Q} {S} {M} {P} q old event refusal space there same plain told =
 
 -- ---- a received packet
 
-module _ {K Q S M P : Type 0} (q : QueueMeaning Q S M P) (old : Parts K P M) (space : SpaceId) (now number : ℕ)
+module _ {K Q S M P : Type 0} (q : QueueModel Q S M P) (old : RecoveryState K P M) (space : SpaceId) (now number : ℕ)
     (ack_eliciting : Bool) (there : Space P M) (live : is_discarded space old.discarded ≡ false) where
   pub received_changes : (receipt : Result Receipt ReceiveError)
       → ReceiveReply (heard_of (space_of space old.spaces)) (acks_of (space_of space old.spaces)).counts number
       ack_eliciting receipt
       → IfOk receipt (λ r. SpaceStep q.words (arrives now number ack_eliciting r) (space_of space old.spaces) there)
       → OnErr receipt (there ≡ space_of space old.spaces)
-      → Changes {M = M} q old (Received space now number ack_eliciting) (reply_to receipt)
+      → StateTransition {M = M} q old (Received space now number ack_eliciting) (reply_to receipt)
       (record old { spaces = with_space old.spaces space there })
   received_changes (Ok (New arm)) is step kept = record {
     told = grind (arith, live, is);
@@ -120,7 +120,7 @@ module _ {K Q S M P : Type 0} (q : QueueMeaning Q S M P) (old : Parts K P M) (sp
       put_back q old (Received space now number ack_eliciting) _ space there kept refl (grind (arith, live, is))
 
 -- what a received packet changes leaves the tracked packets, and the greatest ack-eliciting number was received
-pub received_keeps : {P M S : Type 0} (words : QueueWords P S) (now number : ℕ) (ack_eliciting : Bool)
+pub received_keeps : {P M S : Type 0} (words : QueueSemantics P S) (now number : ℕ) (ack_eliciting : Bool)
     (receipt : Result Receipt ReceiveError) (old new : Space P M) → HasGreatestCome old
     → IfOk receipt (λ r. SpaceStep words (arrives now number ack_eliciting r) old new) → OnErr receipt (new ≡ old)
     → (tracking_of new ≡ tracking_of old) × (next_number_of new ≡ next_number_of old) × HasGreatestCome new

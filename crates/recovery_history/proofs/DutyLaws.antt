@@ -4,19 +4,19 @@ use Rattle.std.proofs.lemmas.Bool.Decides.{nat_tests}
 use Rattle.std.proofs.Common.{◌≡◌, ◌<◌, ℕ, Bool, true, false, ◌||◌, cond, List, [], ◌∷◌, Option, None, Some, Ok, Err, ◌⊎◌, refl, arith}
 use Rattle.recovery_base.specs.declared.below.SpaceId.{SpaceId}
 use Rattle.recovery_base.specs.Spaces.{same_space}
-use Rattle.recovery_ledger.specs.Acks.{IsRequired, StartedAt, counts_by, acks_by}
-use Rattle.recovery_ledger.specs.Spaces.{ArmsBy}
-use Rattle.recovery_ledger.specs.SpaceLog.{SpaceEntry, heard}
-use Rattle.recovery_queue.specs.Queues.{QueueWords}
+use Rattle.recovery_spaces.specs.Acks.{IsRequired, StartedAt, counts_by, acks_by}
+use Rattle.recovery_spaces.specs.Spaces.{ArmsBy}
+use Rattle.recovery_spaces.specs.SpaceLog.{SpaceEntry, heard}
+use Rattle.recovery_queue.specs.Queues.{QueueSemantics}
 use Rattle.recovery_events.specs.declared.event.Event.{Event}
 use Rattle.recovery_events.specs.declared.event.Event.TheVariants.{Received, AcksSent, AckDelayTimeout}
 use Rattle.recovery_events.specs.declared.event.Answer.TheVariants.{New}
 use Rattle.recovery_history.specs.Table.{entries_of}
-use Rattle.recovery_history.specs.Told.{logs_of, known_by, Told}
+use Rattle.recovery_history.specs.RepliesAfter.{logs_of, inputs_after, RepliesAfter}
 use Rattle.recovery_history.specs.History.{Beginning, History, Reply}
-use Rattle.recovery_history.specs.Known.{Known}
+use Rattle.recovery_history.specs.ReplyInputs.{ReplyInputs}
 use Rattle.recovery_history.specs.Logs.{onto}
-use Rattle.recovery_history.specs.Promises.Duty.{KeepsDuty, timer_runs, waits}
+use Rattle.recovery_history.specs.Promises.AckDuty.{AckIsScheduled, timer_runs, waits}
 use Rattle.recovery_history.proofs.Runs.{AllAlong, throughout_kept}
 use Rattle.recovery_history.proofs.EntryKinds.{SpaceKind, hearing, answering, delaying, space_kind, space_kept}
 use Rattle.recovery_history.proofs.RequiredLaws.{either, asks, is_required}
@@ -33,11 +33,11 @@ pub record Attends (waiting running : Bool) (eliciting : ℕ) (Required Started 
   pub started : Started → Required ⊎ (running ≡ true)
   pub duty : waiting ≡ true → Required ⊎ (running ≡ true)
 
-abbrev pub AttendsTo : {P M S : Type 0} → QueueWords P S → Bool → Bool → List (SpaceEntry P M) → Type 0
+abbrev pub AttendsTo : {P M S : Type 0} → QueueSemantics P S → Bool → Bool → List (SpaceEntry P M) → Type 0
 AttendsTo words waiting running log =
     Attends waiting running (counts_by log).eliciting (IsRequired log) ((m : ℕ) × StartedAt log m)
 
-module _ {P M S : Type 0} (words : QueueWords P S) (waiting running : Bool) (log : List (SpaceEntry P M))
+module _ {P M S : Type 0} (words : QueueSemantics P S) (waiting running : Bool) (log : List (SpaceEntry P M))
     (attends : AttendsTo words waiting running log) where
   -- a new ack-eliciting packet with which the timer does not start: it was started, or an ACK is required
   not_now : (now number : ℕ) → ¬ ArmsBy (acks_by words log) (counts_by log) number true
@@ -61,8 +61,8 @@ module _ {F K Q S M P : Type 0} (beginning : Beginning F K Q S M P) (before : Hi
   abbrev log : SpaceId → List (SpaceEntry P M)
   log = (logs_of beginning before).spaces
 
-  abbrev known : Known K P M
-  known = known_by beginning before
+  abbrev known : ReplyInputs K P M
+  known = inputs_after beginning before
 
   abbrev waiting : Bool
   waiting = waits space before
@@ -86,7 +86,7 @@ module _ {F K Q S M P : Type 0} (beginning : Beginning F K Q S M P) (before : Hi
         (rw (one_space there space at) at other)
     other_told false at = here
 
-  reply_attends : (event : Event Q S M P) (reply : Reply Q) → Told beginning before event reply
+  reply_attends : (event : Event Q S M P) (reply : Reply Q) → RepliesAfter beginning before event reply
       → After ((entries_of beginning.queue known event reply).spaces space)
       (waits space ((event, reply) ∷ before)) (timer_runs space ((event, reply) ∷ before))
   reply_attends (Received there now number true) (Ok (New false)) told =
@@ -111,7 +111,7 @@ module _ {F K Q S M P : Type 0} (beginning : Beginning F K Q S M P) where
       → AttendsTo beginning.queue.words (waits space history) (timer_runs space history)
       ((logs_of beginning history).spaces space)
 
-  pub after_one : Keeps (Told beginning) AllAttended
+  pub after_one : Keeps (RepliesAfter beginning) AllAttended
   after_one before event reply told all = λ space. reply_attends beginning before space (all space) event reply told
 
   pub none_attended : AllAttended []
@@ -122,7 +122,7 @@ module _ {F K Q S M P : Type 0} (beginning : Beginning F K Q S M P) where
     duty = λ is. cc;
   }
 
-  pub keeps_duty : AllAlong beginning (KeepsDuty beginning)
+  pub keeps_duty : AllAlong beginning (AckIsScheduled beginning)
   keeps_duty =
-      throughout_kept beginning AllAttended (KeepsDuty beginning) after_one
+      throughout_kept beginning AllAttended (AckIsScheduled beginning) after_one
       (λ before event reply here all space. (after_one before event reply here all space).duty) none_attended

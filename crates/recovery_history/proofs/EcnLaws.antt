@@ -3,13 +3,13 @@ use Rattle.std.proofs.Common.{◌≡◌, Bool, true, false, cond, List, [], ◌�
 use Rattle.recovery_base.specs.declared.below.SpaceId.{SpaceId}
 use Rattle.recovery_base.specs.declared.below.frames.EcnCounts.{EcnCounts}
 use Rattle.recovery_base.specs.Spaces.{same_space}
-use Rattle.recovery_ledger.specs.Queued.{queued_by}
-use Rattle.recovery_ledger.specs.SpaceLog.{SpaceEntry, feeds_back}
+use Rattle.recovery_spaces.specs.Queued.{queued_by}
+use Rattle.recovery_spaces.specs.SpaceLog.{SpaceEntry, feeds_back}
 use Rattle.recovery_events.specs.declared.event.Event.{Event}
 use Rattle.recovery_events.specs.declared.event.Event.TheVariants.{Ecn}
 use Rattle.recovery_events.specs.declared.event.Refusal.TheVariants as refusal
 use Rattle.recovery_events.specs.declared.event.Refusal.TheVariants.{SpaceDiscarded}
-use Rattle.recovery_history.specs.Told.{logs_of, known_by, Told}
+use Rattle.recovery_history.specs.RepliesAfter.{logs_of, inputs_after, RepliesAfter}
 use Rattle.recovery_history.specs.History.{Beginning, History, Reply}
 use Rattle.recovery_history.specs.Logs.{onto}
 use Rattle.recovery_history.specs.Promises.Ecn.{last_counts, ChecksEcn}
@@ -42,7 +42,7 @@ module _ {F K Q S M P : Type 0} (beginning : Beginning F K Q S M P) where
   same_counts ((event, Ok answer) ∷ earlier) space =
       let log = (logs_of beginning earlier).spaces space in
       let same = same_counts earlier space in
-      space_kept beginning.queue (known_by beginning earlier) space
+      space_kept beginning.queue (inputs_after beginning earlier) space
       (λ entry. kept_counts (onto entry log) ≡ last_counts space earlier) counts_none same
       (untaken log _ same) event (Ok answer) refl
   same_counts ((Ecn there newly counts, Err refusal) ∷ earlier) space = same_counts earlier space
@@ -50,7 +50,7 @@ module _ {F K Q S M P : Type 0} (beginning : Beginning F K Q S M P) where
 
   -- what an event is told, it is told of these counts
   pub checks_ecn : (before : History Q S M P) (event : Event Q S M P) (reply : Reply Q)
-      → Told beginning before event reply → ChecksEcn before event reply
+      → RepliesAfter beginning before event reply → ChecksEcn before event reply
   checks_ecn before (Ecn space newly counts) (Ok given) told = rw (← same_counts before space) told.1
   checks_ecn before (Ecn space newly counts) (Err (refusal.Ecn text)) told = rw (← same_counts before space) told.1
   checks_ecn before (Ecn space newly counts) (Err SpaceDiscarded) told = tt

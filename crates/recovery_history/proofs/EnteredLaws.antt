@@ -7,17 +7,17 @@ use Rattle.recovery_mtud.specs.Discovery.{poll_of}
 use Rattle.recovery_mtud.specs.DiscoveryLog.{loses_probe}
 use Rattle.recovery_mtud.specs.MtuEntries.{MtuEntry}
 use Rattle.recovery_paths.specs.PathMaking.{PathSettings}
-use Rattle.recovery_paths.specs.PathLog.{OfPaths, PathPast, PathsEntry, known_of, on, past_following, pasts_by, returns, reverted, searches}
+use Rattle.recovery_paths.specs.PathLog.{PerPath, PathHistory, PathsEntry, known_of, on, past_following, pasts_by, returns, reverted, searches}
 use Rattle.recovery_events.specs.declared.event.Event.{Event}
 use Rattle.recovery_events.specs.declared.event.Event.TheVariants.{PollMtu, Acked, Lost, LossesDone, PeerLimit, ResetPath, NewPath, RevertPath}
 use Rattle.recovery_events.specs.declared.event.Answer.{Answer}
 use Rattle.recovery_paths.specs.declared.path_pair.PathName.TheVariants.{Current, Previous}
 use Rattle.recovery_paths.specs.PathStates.{PathState}
-use Rattle.recovery_history.specs.Told.{logs_of, pasts_of, known_by, first_path, settings_of, Told}
+use Rattle.recovery_history.specs.RepliesAfter.{logs_of, pasts_of, inputs_after, first_path, settings_of, RepliesAfter}
 use Rattle.recovery_history.specs.History.{Beginning, History, Reply}
-use Rattle.recovery_history.specs.Known.{Known}
+use Rattle.recovery_history.specs.ReplyInputs.{ReplyInputs}
 use Rattle.recovery_history.specs.Table.{limit}
-use Rattle.recovery_history.specs.PartReplies.{IsDone, MtuProbeReply, OnPath}
+use Rattle.recovery_history.specs.PartReplies.{AnswersDone, MtuProbeReply, UnlessPathMissing}
 use Rattle.recovery_history.proofs.EntryKinds.{PathKind, departing, limiting, searching, resetting, moving, returning, elsewhere, path_kind, paths_kept}
 use Rattle.recovery_history.proofs.SearchSaid.{EntersAsTold, entries_on}
 
@@ -40,8 +40,8 @@ module _ {K : Type 0} (settings : PathSettings K) (first : PathState K) where
   unseen_one entry log is = grind (arith, is)
 
 module _ {F K Q S M P : Type 0} (beginning : Beginning F K Q S M P) (past : History Q S M P) where
-  abbrev known : Known K P M
-  known = known_by beginning past
+  abbrev known : ReplyInputs K P M
+  known = inputs_after beginning past
 
   -- what happened on the paths up to here
   abbrev log : List PathsEntry
@@ -59,7 +59,7 @@ module _ {F K Q S M P : Type 0} (beginning : Beginning F K Q S M P) (past : Hist
       → EntersAsTold beginning past (PollMtu now) (Ok given)
   polled now given size is told = grind (arith, is, told)
 
-  pub entered_one : (event : Event Q S M P) (reply : Reply Q) → Told beginning past event reply
+  pub entered_one : (event : Event Q S M P) (reply : Reply Q) → RepliesAfter beginning past event reply
       → EntersAsTold beginning past event reply
   entered_one (PollMtu now) (Ok given) told =
       polled now given (poll_of now known.paths.current.state.discovery) refl told.1.1
@@ -75,8 +75,9 @@ module _ {F K Q S M P : Type 0} (beginning : Beginning F K Q S M P) (past : Hist
   entered_one (NewPath now remote false) (Ok given) told = refl
   entered_one RevertPath (Ok given) told = go (pasts_of beginning past).previous told
     where
-      go : (previous : Option (PathPast K)) → OnPath (option_map known_of previous) (λ there. IsDone {Q = Q}) (Ok given)
-          → (let paths : OfPaths (PathPast K) = record (pasts_of beginning past) { previous = previous } in
+      go : (previous : Option (PathHistory K)) → UnlessPathMissing (option_map known_of previous)
+          (λ there. AnswersDone {Q = Q}) (Ok given)
+          → (let paths : PerPath (PathHistory K) = record (pasts_of beginning past) { previous = previous } in
           entries_on (reverted (past_following (settings_of beginning) (returns (limit past))) paths).current) ≡ []
       go None told = absurd told.1
       go (Some one) told = refl

@@ -5,8 +5,8 @@ use Rattle.std.proofs.lemmas.Bool.{and_parts}
 use Rattle.recovery_base.specs.declared.below.SpaceId.{SpaceId}
 use Rattle.recovery_base.specs.declared.below.SpaceId.TheVariants.{Data}
 use Rattle.recovery_base.specs.Spaces.{same_space}
-use Rattle.recovery_ledger.specs.Packets.{Packet, packet_at}
-use Rattle.recovery_ledger.specs.SpaceLog.{SpaceEntry, heard, heard_again, sends, acknowledged, loses, probes, takes_pending, feeds_back, emptied, ack_goes, ack_is_late, asked}
+use Rattle.recovery_spaces.specs.Packets.{Packet, packet_at}
+use Rattle.recovery_spaces.specs.SpaceLog.{SpaceEntry, heard, heard_again, sends, acknowledged, loses, probes, takes_pending, feeds_back, emptied, ack_goes, ack_is_late, asked}
 use Rattle.recovery_congestion.specs.Calls.{ControllerCall}
 use Rattle.recovery_mtud.specs.Discovery.{reports}
 use Rattle.recovery_mtud.specs.DiscoveryLog.{MtuCall, is_limited, losses_end, acks as acks_packet, loses as loses_packet, loses_probe}
@@ -18,8 +18,8 @@ use Rattle.recovery_events.specs.declared.event.Event.TheVariants.{Received, Sen
 use Rattle.recovery_events.specs.declared.event.Answer.TheVariants.{New, Flag, Transmitted, Delayed, Probe}
 use Rattle.recovery_history.specs.Table.{entries_of}
 use Rattle.recovery_history.specs.Entries.{acked_entry, acked_search, lost_search, searched}
-use Rattle.recovery_history.specs.History.{QueueMeaning, Reply}
-use Rattle.recovery_history.specs.Known.{Known, tracked_known}
+use Rattle.recovery_history.specs.History.{QueueModel, Reply}
+use Rattle.recovery_history.specs.ReplyInputs.{ReplyInputs, tracked_known}
 
 -- ---- kinds
 
@@ -123,7 +123,7 @@ module _ {Q S M P : Type 0} where
 
 -- ---- in one space
 
-module _ {K Q S M P : Type 0} (q : QueueMeaning Q S M P) (known : Known K P M) (space : SpaceId)
+module _ {K Q S M P : Type 0} (q : QueueModel Q S M P) (known : ReplyInputs K P M) (space : SpaceId)
     (IsKept : Option (SpaceEntry P M) → Type 0) (is_idle : SpaceKind → Bool)
     (none : IsKept None)
     (each : (entry : SpaceEntry P M) → is_idle (space_kind entry) ≡ true → IsKept (Some entry)) where
@@ -143,7 +143,7 @@ module _ {K Q S M P : Type 0} (q : QueueMeaning Q S M P) (known : Known K P M) (
 
 -- ---- on the paths
 
-module _ {K Q S M P : Type 0} (q : QueueMeaning Q S M P) (known : Known K P M) (IsKept : List PathsEntry → Type 0)
+module _ {K Q S M P : Type 0} (q : QueueModel Q S M P) (known : ReplyInputs K P M) (IsKept : List PathsEntry → Type 0)
     (is : PathKind → Bool) (none : IsKept [])
     (each : (entry : PathsEntry) (earlier : List PathsEntry) → is (path_kind entry) ≡ true → IsKept earlier
     → IsKept (entry ∷ earlier)) where

@@ -5,7 +5,7 @@ use Rattle.std.proofs.Common.{◌≡◌, ℕ, ◌+◌, ◌≤◌, ◌==◌, ◌&
 use Rattle.recovery_base.specs.declared.below.SpaceId.{SpaceId}
 use Rattle.recovery_base.specs.declared.below.SpaceId.TheVariants.{Data}
 use Rattle.recovery_base.specs.Spaces.{same_space}
-use Rattle.recovery_ledger.specs.Packets.{Packet, packet_at}
+use Rattle.recovery_spaces.specs.Packets.{Packet, packet_at}
 use Rattle.recovery_paths.specs.declared.path_pair.PathName.TheVariants.{Current}
 use Rattle.recovery_paths.specs.PathLog.{PathsEntry, on, searches}
 use Rattle.recovery_paths.proofs.PathFateLaws.{fates, told_in, told-append, fates_by}
@@ -13,17 +13,17 @@ use Rattle.recovery_events.specs.declared.event.Event.{Event}
 use Rattle.recovery_events.specs.declared.event.Event.TheVariants.{Acked, Lost}
 use Rattle.recovery_history.specs.Entries.{Entries, acked_entry, acked_search, lost_search}
 use Rattle.recovery_history.specs.Table.{entries_of}
-use Rattle.recovery_history.specs.Told.{logs_of, pasts_of, known_by, first_path, settings_of}
-use Rattle.recovery_history.specs.History.{Beginning, History, QueueMeaning, Reply}
-use Rattle.recovery_history.specs.Known.{Known, tracked_known}
-use Rattle.recovery_history.specs.Promises.Once.{departures_of}
+use Rattle.recovery_history.specs.RepliesAfter.{logs_of, pasts_of, inputs_after, first_path, settings_of}
+use Rattle.recovery_history.specs.History.{Beginning, History, QueueModel, Reply}
+use Rattle.recovery_history.specs.ReplyInputs.{ReplyInputs, tracked_known}
+use Rattle.recovery_history.specs.Promises.ResolvedOnce.{departures_of}
 use Rattle.recovery_history.proofs.EntryKinds.{PathKind, departing, elsewhere, path_kind, paths_kept}
 
 -- how often a number leaves the space of 1-RTT packets, where it is this one
 abbrev leaves_data : SpaceId → ℕ → ℕ → ℕ
 leaves_data space other number = if same_space space Data && other == number then 1 else 0
 
-module _ {K P M : Type 0} (known : Known K P M) (number : ℕ) where
+module _ {K P M : Type 0} (known : ReplyInputs K P M) (number : ℕ) where
   -- ---- what each part of an event's entries tells
 
   -- what is told of an acknowledged packet
@@ -53,7 +53,8 @@ module _ (number : ℕ) where
   silent_one (on Current (searches call)) earlier silent none = grind (arith, silent, none)
   silent_one entry earlier silent none = grind (arith, silent, none)
 
-module _ {K Q S M P : Type 0} (q : QueueMeaning Q S M P) (known : Known K P M) (number : ℕ) (earlier : History Q S M P)
+module _ {K Q S M P : Type 0} (q : QueueModel Q S M P) (known : ReplyInputs K P M) (number : ℕ)
+    (earlier : History Q S M P)
   where
     -- what is told of a number by an event's entries, it left by the event
     abbrev Departs : Entries P M → Event Q S M P × Reply Q → Type 0
@@ -87,7 +88,7 @@ module _ {F K Q S M P : Type 0} (beginning : Beginning F K Q S M P) (number : �
   told_departs [] = omega arith
   told_departs (happened ∷ earlier) =
       let logs = logs_of beginning earlier in
-      let known = known_by beginning earlier in
+      let known = inputs_after beginning earlier in
       omega (
         arith,
         told_departs earlier,

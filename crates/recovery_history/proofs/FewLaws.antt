@@ -8,9 +8,9 @@ use Rattle.recovery_mtud.proofs.SearchRunLaws.{idle_search}
 use Rattle.recovery_events.specs.declared.event.Event.{Event}
 use Rattle.recovery_events.specs.declared.event.Event.TheVariants.{PollMtu, Acked, Lost, NewPath}
 use Rattle.recovery_events.specs.declared.event.Answer.TheVariants as answer
-use Rattle.recovery_history.specs.Told.{settings_of}
+use Rattle.recovery_history.specs.RepliesAfter.{settings_of}
 use Rattle.recovery_history.specs.History.{Beginning, History, Reply}
-use Rattle.recovery_history.specs.Promises.Few.{ProbesFew, is_in_flight, sizes_probed}
+use Rattle.recovery_history.specs.Promises.ProbeCount.{BoundsProbeCount, is_in_flight, sizes_probed}
 use Rattle.recovery_history.specs.Promises.Probes.{last_probe}
 use Rattle.recovery_history.proofs.SearchSaid.{entered_so_far, Keeps, IsSmall}
 use Rattle.recovery_history.proofs.SearchLaws.{few_one}
@@ -55,7 +55,7 @@ module _ {F K Q S M P : Type 0} (beginning : Beginning F K Q S M P) where
       (step_tied settings.mtu settings.min_mtu history (entered_so_far beginning history) tied event reply)
 
   -- throughout a run, where the upper bound of a search is a `u16`
-  pub few_told : IsSmall beginning → AllAlong beginning (ProbesFew beginning)
+  pub few_told : IsSmall beginning → AllAlong beginning (BoundsProbeCount beginning)
   few_told small =
       throughout_facts beginning Tied tied_after (refl, refl, tt) (λ history event reply known tied settings is change.
       let few = few_one beginning small history event reply known.told known.searched settings is change in

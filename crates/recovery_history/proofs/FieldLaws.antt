@@ -4,11 +4,11 @@ use Rattle.std.proofs.lemmas.Bool.Decides.{nat_tests}
 use Rattle.std.proofs.Math.Path.{fun_ext}
 use Rattle.std.proofs.Common.{ℕ, ◌≡◌, ◌+◌, ◌<◌, ◌≤◌, true, List, [], ◌∷◌, ◌++◌, Option, None, Some, refl, ◌∙◌, arith, ◌==◌, ◌&&◌, Bool, false, cond, Ok, Err, subst}
 use Rattle.std.specs.Prelude.{option_map}
-use Rattle.recovery_ledger.specs.Packets.{Packet, Packets, packet_at, without, without_some, replaced, carrying, with_contents, forgotten_number, sent_onto}
-use Rattle.recovery_ledger.specs.SpaceLog.{SpaceEntry, acknowledged, loses, probes, sends}
-use Rattle.recovery_ledger.specs.Tracked.{Sent, sent_by}
-use Rattle.recovery_ledger.proofs.PacketLaws.{number_at, none_found}
-use Rattle.recovery_queue.specs.Queues.{QueueWords}
+use Rattle.recovery_spaces.specs.Packets.{Packet, Packets, packet_at, without, without_some, replaced, carrying, with_contents, forgotten_number, sent_onto}
+use Rattle.recovery_spaces.specs.SpaceLog.{SpaceEntry, acknowledged, loses, probes, sends}
+use Rattle.recovery_spaces.specs.Tracked.{SentState, sent_by}
+use Rattle.recovery_spaces.proofs.PacketLaws.{number_at, none_found}
+use Rattle.recovery_queue.specs.Queues.{QueueSemantics}
 use Rattle.recovery_history.proofs.EntryKinds.{space_kind, sends_none, space_kept}
 use Rattle.recovery_base.specs.declared.below.SpaceId.{SpaceId}
 use Rattle.recovery_base.specs.declared.below.SpaceId.TheVariants.{Data}
@@ -18,9 +18,9 @@ use Rattle.recovery_events.specs.declared.event.Event.TheVariants.{Send, PollMtu
 use Rattle.recovery_events.specs.declared.event.Answer.TheVariants as answers
 use Rattle.recovery_events.specs.declared.event.Answer.TheVariants.{Probe}
 use Rattle.recovery_history.specs.Table.{entries_of}
-use Rattle.recovery_history.specs.Told.{logs_of, known_by, Told}
+use Rattle.recovery_history.specs.RepliesAfter.{logs_of, inputs_after, RepliesAfter}
 use Rattle.recovery_history.specs.History.{Beginning, History, Reply}
-use Rattle.recovery_history.specs.Known.{Known, number_in, packet_now}
+use Rattle.recovery_history.specs.ReplyInputs.{ReplyInputs, number_in, packet_now}
 use Rattle.recovery_history.specs.Logs.{onto}
 use Rattle.recovery_history.proofs.AnswerLaws.{past_four}
 use Rattle.recovery_history.proofs.TrackedLaws.{is_new, one_space, probe_number, sent_in}
@@ -92,13 +92,14 @@ module _ {P M A : Type 0} (says : Packet P M → A) where
           (said_without_some packets _ said)
 
   -- so do the packets that are tracked, whose numbers were given out
-  abbrev pub IsSaid : (ℕ → A) → Sent P M → Type 0
+  abbrev pub IsSaid : (ℕ → A) → SentState P M → Type 0
   IsSaid by sent = AreSaid by sent.next sent.tracked
 
   -- an entry by which no packet goes out
   module _ {S : Type 0}
       (kept : (contents : P) (packet : Packet P M) → says (with_contents contents packet) ≡ says packet)
-      (words : QueueWords P S) (by : ℕ → A) (log : List (SpaceEntry P M)) (said : IsSaid by (sent_by words log)) where
+      (words : QueueSemantics P S) (by : ℕ → A) (log : List (SpaceEntry P M))
+          (said : IsSaid by (sent_by words log)) where
     pub said_after : (entry : SpaceEntry P M) → sends_none (space_kind entry) ≡ true
         → IsSaid by (sent_by words (entry ∷ log))
     said_after (acknowledged number) none =
@@ -121,8 +122,8 @@ module _ {F K Q S M P A : Type 0} (beginning : Beginning F K Q S M P) (space : S
   abbrev log : List (SpaceEntry P M)
   log = (logs_of beginning before).spaces space
 
-  abbrev known : Known K P M
-  known = known_by beginning before
+  abbrev known : ReplyInputs K P M
+  known = inputs_after beginning before
 
   abbrev Says : Option (SpaceEntry P M) → (ℕ → A) → Type 0
   Says entry then_by = IsSaid says then_by (sent_by beginning.queue.words (onto entry log))
@@ -159,7 +160,7 @@ module _ {F K Q S M P A : Type 0} (beginning : Beginning F K Q S M P) (space : S
       (packet_now known now size true None beginning.queue.words.empty beginning.queue.blank)
   said_then event reply = by
 
-  reply_says : (event : Event Q S M P) (reply : Reply Q) → Told beginning before event reply
+  reply_says : (event : Event Q S M P) (reply : Reply Q) → RepliesAfter beginning before event reply
       → Says ((entries_of beginning.queue known event reply).spaces space) (said_then event reply)
   reply_says (Send there now size eliciting largest queue frames) (Ok (answers.Sent number forgotten)) told =
       let is = past_four told in
@@ -175,7 +176,8 @@ module _ {F K Q S M P A : Type 0} (beginning : Beginning F K Q S M P) (space : S
   reply_says event (Err refusal) told = said
 
   -- so the history says it, where that is its word
-  pub said_told : (event : Event Q S M P) (reply : Reply Q) (then_by : ℕ → A) → Told beginning before event reply
+  pub said_told : (event : Event Q S M P) (reply : Reply Q) (then_by : ℕ → A)
+      → RepliesAfter beginning before event reply
       → ((n : ℕ) → said_then event reply n ≡ then_by n)
       → IsSaid says then_by (sent_in beginning ((event, reply) ∷ before) space)
   said_told event reply then_by told same =

@@ -7,20 +7,20 @@ use Rattle.std.proofs.Common.{◌≡◌, ◌<◌, ◌≤◌, ℕ, ◌==◌, ◌&
 use Rattle.recovery_base.specs.declared.below.SpaceId.{SpaceId}
 use Rattle.recovery_base.specs.declared.below.SpaceId.TheVariants.{Data}
 use Rattle.recovery_base.specs.Spaces.{same_space}
-use Rattle.recovery_ledger.specs.Departures.{one_if_same}
-use Rattle.recovery_ledger.specs.Packets.{Packet, Packets, packet_at, without, replaced, carrying, with_contents, is_above, is_silent_above, silent_above, least_number}
-use Rattle.recovery_ledger.specs.SpaceLog.{SpaceEntry, sends, acknowledged, loses, probes, emptied}
-use Rattle.recovery_ledger.specs.Tracked.{Sent, sent_by, sent_less, sent_more, sent_moved, forgotten_by}
-use Rattle.recovery_ledger.proofs.PacketLaws.{number_at, none_found}
+use Rattle.recovery_spaces.specs.Departures.{one_if_same}
+use Rattle.recovery_spaces.specs.Packets.{Packet, Packets, packet_at, without, replaced, carrying, with_contents, is_above, is_silent_above, silent_above, least_number}
+use Rattle.recovery_spaces.specs.SpaceLog.{SpaceEntry, sends, acknowledged, loses, probes, emptied}
+use Rattle.recovery_spaces.specs.Tracked.{SentState, sent_by, sent_less, sent_more, sent_moved, forgotten_by}
+use Rattle.recovery_spaces.proofs.PacketLaws.{number_at, none_found}
 use Rattle.recovery_events.specs.declared.event.Event.{Event}
 use Rattle.recovery_events.specs.declared.event.Event.TheVariants.{Send, Acked, Lost, DiscardSpace, PollMtu}
 use Rattle.recovery_events.specs.declared.event.Answer.TheVariants as answers
 use Rattle.recovery_events.specs.declared.event.Answer.TheVariants.{Probe}
-use Rattle.recovery_history.specs.Told.{logs_of, known_by, Told}
+use Rattle.recovery_history.specs.RepliesAfter.{logs_of, inputs_after, RepliesAfter}
 use Rattle.recovery_history.specs.History.{Beginning, History, Reply}
-use Rattle.recovery_history.specs.Known.{Known, number_in, packet_now}
+use Rattle.recovery_history.specs.ReplyInputs.{ReplyInputs, number_in, packet_now}
 use Rattle.recovery_history.specs.Logs.{onto}
-use Rattle.recovery_history.specs.Promises.Forgotten.{oldest, silent_since, ForgetsOldest}
+use Rattle.recovery_history.specs.Promises.Forgotten.{oldest, silent_since, ForgetsOldestNonEliciting}
 use Rattle.recovery_history.proofs.AnswerLaws.{past_four}
 use Rattle.recovery_history.proofs.CountedLaws.{gone_too, gone_with}
 use Rattle.recovery_history.proofs.EntryKinds.{keeps_packets, space_kind, space_kept}
@@ -72,7 +72,7 @@ module _ {P M : Type 0} (last : Option ℕ) where
         λ (packet : Packet P M). silents-replaced gone packets number packet (with_contents contents packet),
       )
 
-  silents_moved : (gone : ℕ → Bool) (sent : Sent P M) (empty : P) (moved : Option ℕ)
+  silents_moved : (gone : ℕ → Bool) (sent : SentState P M) (empty : P) (moved : Option ℕ)
       → silents gone sent.tracked ≡ silents gone (sent_moved empty moved sent).tracked
   silents_moved gone sent empty None = refl
   silents_moved gone sent empty (Some number) = sym (silents-carrying gone sent.tracked number empty)
@@ -132,11 +132,11 @@ at_end false n numbers = sym (append-nil numbers)
 
 -- ---- what a space tracks, and what the history says of its silent packets
 
-pub record Recalls {P M : Type 0} (sent : Sent P M) (since : (ℕ → Bool) → List ℕ) : Type 0 where
+pub record Recalls {P M : Type 0} (sent : SentState P M) (since : (ℕ → Bool) → List ℕ) : Type 0 where
   pub below : (m : ℕ) → sent.last ≡ Some m → m < sent.next
   pub same : (gone : ℕ → Bool) → since gone ≡ silents sent.last gone sent.tracked
 
-module _ {P M : Type 0} (sent : Sent P M) (since : (ℕ → Bool) → List ℕ) (here : Recalls sent since)
+module _ {P M : Type 0} (sent : SentState P M) (since : (ℕ → Bool) → List ℕ) (here : Recalls sent since)
     (once : (n : ℕ) → times n sent.tracked ≤ 1) where
   recalls_less : (number : ℕ) → Recalls (sent_less number sent) (λ gone. since (gone_too gone number))
   recalls_less number = record {
@@ -208,10 +208,10 @@ module _ {F K Q S M P : Type 0} (beginning : Beginning F K Q S M P) where
     abbrev log : List (SpaceEntry P M)
     log = (logs_of beginning before).spaces space
 
-    abbrev known : Known K P M
-    known = known_by beginning before
+    abbrev known : ReplyInputs K P M
+    known = inputs_after beginning before
 
-    abbrev sent : Sent P M
+    abbrev sent : SentState P M
     sent = sent_in beginning before space
 
     abbrev since : (ℕ → Bool) → List ℕ
@@ -276,7 +276,7 @@ module _ {F K Q S M P : Type 0} (beginning : Beginning F K Q S M P) where
     }
     all_leave false = here
 
-    reply_recalls : (event : Event Q S M P) (reply : Reply Q) → Told beginning before event reply
+    reply_recalls : (event : Event Q S M P) (reply : Reply Q) → RepliesAfter beginning before event reply
         → Recalls (sent_in beginning ((event, reply) ∷ before) space)
         (λ gone. silent_since space gone ((event, reply) ∷ before))
     reply_recalls (Send there now size eliciting largest queue frames) (Ok (answers.Sent number None)) told =
@@ -309,10 +309,11 @@ module _ {F K Q S M P : Type 0} (beginning : Beginning F K Q S M P) where
   abbrev Both : History Q S M P → Type 0
   Both history = AllTracked beginning history × AllRecalled history
 
-  forgets : (before : History Q S M P) (event : Event Q S M P) (reply : Reply Q) → Told beginning before event reply
-      → Both before → ForgetsOldest before event reply
+  forgets : (before : History Q S M P) (event : Event Q S M P) (reply : Reply Q)
+      → RepliesAfter beginning before event reply
+      → Both before → ForgetsOldestNonEliciting before event reply
   forgets before (Send space now size eliciting largest queue frames) (Ok (answers.Sent number forgotten)) told both =
-      let known = known_by beginning before in
+      let known = inputs_after beginning before in
       let packet = packet_now known now size eliciting largest (beginning.queue.contents queue) frames in
       let sent = sent_in beginning before space in
       let is = past_four told in
@@ -324,9 +325,9 @@ module _ {F K Q S M P : Type 0} (beginning : Beginning F K Q S M P) where
       ) refl
   forgets before event reply told both = tt
 
-  pub forgets_oldest : AllAlong beginning ForgetsOldest
+  pub forgets_oldest : AllAlong beginning ForgetsOldestNonEliciting
   forgets_oldest =
-      throughout_kept beginning Both ForgetsOldest
+      throughout_kept beginning Both ForgetsOldestNonEliciting
       (λ before event reply here both. (
         keeps_tracked beginning before event reply here both.0,
         λ space. reply_recalls before both.0 space (both.1 space) event reply here,

@@ -3,16 +3,16 @@ use Rattle.std.proofs.lemmas.Bool.Decides.{nat_tests}
 use Rattle.std.proofs.Common.{◌≡◌, ◌<◌, ◌^◌, ℕ, ◌&&◌, ◌↔◌, not, nat_lt, Bool, true, false, ◌∷◌, Option, None, Some, Ok, Err, refl, arith, if◌then◌else◌, IsTrue}
 use Rattle.recovery_base.specs.declared.below.SpaceId.TheVariants.{Data}
 use Rattle.recovery_acks.specs.AckFrequencies.{IsStale, delay_of}
-use Rattle.recovery_ledger.specs.Packets.{is_above}
+use Rattle.recovery_spaces.specs.Packets.{is_above}
 use Rattle.recovery_events.specs.declared.event.Event.{Event}
 use Rattle.recovery_events.specs.declared.event.Event.TheVariants.{AckFrequencyIn}
 use Rattle.recovery_events.specs.declared.event.Answer.TheVariants.{Flag}
 use Rattle.recovery_events.specs.declared.event.Refusal.TheVariants.{SpaceDiscarded, DelayTooSmall}
 use Rattle.recovery_history.specs.Table.{last_asked}
-use Rattle.recovery_history.specs.Told.{Told}
+use Rattle.recovery_history.specs.RepliesAfter.{RepliesAfter}
 use Rattle.recovery_history.specs.History.{Beginning, History, Reply}
-use Rattle.recovery_history.specs.Replies.{IsFlag, Refuses, AlwaysAnswers}
-use Rattle.recovery_history.specs.Promises.Frequency.{is_newest, TakesNewest}
+use Rattle.recovery_history.specs.Replies.{IsFlag, RejectsWhen, AlwaysAnswers}
+use Rattle.recovery_history.specs.Promises.Frequency.{is_newest, AppliesNewestFrequency}
 use Rattle.recovery_history.specs.Promises.NewNumbers.{is_discarded}
 use Rattle.recovery_history.proofs.Runs.{AllAlong, throughout_kept}
 
@@ -37,8 +37,8 @@ module _ (last : Option ℕ) (sequence n : ℕ) (newest : Bool) (same : newest �
 -- what the table says, where tests decide its causes
 by_tests : {Q : Type 0} (discarded newest small : Bool) (Newer Small : Type 0) → (newest ≡ true) ↔ Newer
     → (small ≡ true) ↔ Small → (reply : Reply Q)
-    → Refuses SpaceDiscarded (IsTrue discarded)
-    (Refuses DelayTooSmall (Newer × Small) (AlwaysAnswers (IsFlag Newer))) reply
+    → RejectsWhen SpaceDiscarded (IsTrue discarded)
+    (RejectsWhen DelayTooSmall (Newer × Small) (AlwaysAnswers (IsFlag Newer))) reply
     → reply ≡ (if discarded then Err SpaceDiscarded
     else if not newest then Ok (Flag false)
     else if small then Err DelayTooSmall
@@ -51,7 +51,7 @@ module _ {F K Q S M P : Type 0} (beginning : Beginning F K Q S M P) where
   Newest history = (n : ℕ) → is_newest n history ≡ is_above (last_asked history) n
 
   newest_after : (before : History Q S M P) (event : Event Q S M P) (reply : Reply Q)
-      → Told beginning before event reply → Newest before → Newest ((event, reply) ∷ before)
+      → RepliesAfter beginning before event reply → Newest before → Newest ((event, reply) ∷ before)
   newest_after before (AckFrequencyIn frame) (Ok (Flag true)) told same n =
       let flag = told.1.1 in
       newer_came (last_asked before) frame.sequence n (is_newest n before) (same n) (flag.0 refl)
@@ -65,8 +65,9 @@ module _ {F K Q S M P : Type 0} (beginning : Beginning F K Q S M P) where
       newer_came (last_asked before) frame.sequence n (is_newest n before) (same n) small.0
   newest_after before event reply told same n = same n
 
-  takes : (before : History Q S M P) (event : Event Q S M P) (reply : Reply Q) → Told beginning before event reply
-      → Newest before → TakesNewest before event reply
+  takes : (before : History Q S M P) (event : Event Q S M P) (reply : Reply Q)
+      → RepliesAfter beginning before event reply
+      → Newest before → AppliesNewestFrequency before event reply
   takes before (AckFrequencyIn frame) reply told same =
       let last = last_asked before in
       let sequence = frame.sequence in
@@ -75,5 +76,5 @@ module _ {F K Q S M P : Type 0} (beginning : Beginning F K Q S M P) where
       (grind (arith, nat_tests)) reply told
   takes before event reply told same = tt
 
-  pub takes_newest : AllAlong beginning TakesNewest
-  takes_newest = throughout_kept beginning Newest TakesNewest newest_after takes (λ n. refl)
+  pub takes_newest : AllAlong beginning AppliesNewestFrequency
+  takes_newest = throughout_kept beginning Newest AppliesNewestFrequency newest_after takes (λ n. refl)

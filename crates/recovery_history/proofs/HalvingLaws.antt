@@ -11,23 +11,23 @@ use Rattle.recovery_mtud.specs.Search.{MtuSearch, narrowed, probing_on, repeats,
 use Rattle.recovery_mtud.specs.Bursts.{LossBursts}
 use Rattle.recovery_mtud.specs.Discovery.{Discovery, limit_or_greatest, poll_of}
 use Rattle.recovery_mtud.specs.DiscoveryLog.{MtuCall, polls, discovery_after, discovery_by}
-use Rattle.recovery_mtud.specs.MtuEntries.{IsUntold, MtuEntry, entries_by, entry_of, limit_in_use, mtu_in_use as by_entries, poll_entry, probe_in_flight, probed as goes_out, search_settings}
+use Rattle.recovery_mtud.specs.MtuEntries.{IsFreshDiscovery, MtuEntry, entries_by, entry_of, limit_in_use, mtu_in_use as by_entries, poll_entry, probe_in_flight, probed as goes_out, search_settings}
 use Rattle.recovery_mtud.specs.SearchRuns.{AreLimitsOutside, ProbesInSearch, is_searched, lost_sizes, next_activation, probed_sizes, search_of, search_runs, start_upper}
 use Rattle.recovery_mtud.proofs.MtuEntryLaws.{Holds, holds_by}
 use Rattle.recovery_mtud.proofs.SearchRunLaws.{idle_before, idle_search}
-use Rattle.recovery_paths.specs.PathLog.{PathPast}
+use Rattle.recovery_paths.specs.PathLog.{PathHistory}
 use Rattle.recovery_events.specs.declared.event.Event.TheVariants.{PollMtu}
 use Rattle.recovery_events.specs.declared.event.Answer.TheVariants as answer
-use Rattle.recovery_history.specs.Told.{pasts_of, known_by}
-use Rattle.recovery_history.specs.Known.{Known}
+use Rattle.recovery_history.specs.RepliesAfter.{pasts_of, inputs_after}
+use Rattle.recovery_history.specs.ReplyInputs.{ReplyInputs}
 use Rattle.recovery_history.specs.PartReplies.{MtuProbeReply}
 use Rattle.recovery_history.specs.History.{Beginning, History}
 use Rattle.recovery_history.specs.Search.{discovery_settings}
 use Rattle.recovery_history.specs.Promises.Halving.{HalvesSizes, may_pass, next_size, size_after}
-use Rattle.recovery_history.specs.Promises.Few.{sizes_probed}
+use Rattle.recovery_history.specs.Promises.ProbeCount.{sizes_probed}
 use Rattle.recovery_history.specs.Promises.Mtu.{mtu, mtu_in_use}
 use Rattle.recovery_history.specs.Promises.Probes.{last_probe, runs}
-use Rattle.recovery_history.specs.Promises.Tries.{tries}
+use Rattle.recovery_history.specs.Promises.ProbesPerSize.{tries}
 use Rattle.recovery_history.specs.Table.{limit}
 use Rattle.recovery_history.proofs.MadeLaws.{made_in}
 use Rattle.recovery_history.proofs.NearLaws.{Kept, kept_by, kept_first, runs_same, upper_is}
@@ -248,7 +248,7 @@ next_by made settings entries =
     size_by settings.minimum_change (min (by_entries made entries) (limit_or_greatest (limit_in_use made entries)))
     (start_upper made settings entries) (probed_sizes (search_of entries)) (lost_sizes (search_of entries))
 
-module _ (made : Discovery) (settings : MtuDiscoveryConfig) (new : IsUntold made)
+module _ (made : Discovery) (settings : MtuDiscoveryConfig) (new : IsFreshDiscovery made)
     (is : search_settings made ≡ Some settings) (wide : 3 ≤ settings.minimum_change) where
   first : (search : Option MtuSearch) → IfSome search (λ own. (own.probing ≡ None) × (own.activation ≡ 0))
       → TiedIn made [] made.mtu search
@@ -325,7 +325,7 @@ last_is history through [] is = grind (arith, is)
 last_is history through (size ∷ sizes) is = grind (arith, is, first_is_last history)
 
 module _ {F K Q S M P : Type 0} (beginning : Beginning F K Q S M P) where
-  abbrev past_in : History Q S M P → PathPast K
+  abbrev past_in : History Q S M P → PathHistory K
   past_in history = (pasts_of beginning history).current
 
   module _ (history : History Q S M P) (settings : MtuDiscoveryConfig)
@@ -354,14 +354,14 @@ module _ {F K Q S M P : Type 0} (beginning : Beginning F K Q S M P) where
     polls_it : (searched : AreSearched beginning history) → 3 ≤ settings.minimum_change → (now : ℕ)
         → probe_in_flight (entered_so_far beginning history) ≡ None
         → is_searched settings now (entered_so_far beginning history) ≡ true
-        → poll_of now (known_by beginning history).paths.current.state.discovery
+        → poll_of now (inputs_after beginning history).paths.current.state.discovery
         ≡ next_size beginning settings history
     polls_it searched wide now quiet due =
         polled (past_in history).kept.discovery settings searched.0.untold (searched.0.settings_are ∙ is) wide
         (past_in history).searched now (kept.searched settings is).tied.5 quiet due ∙ sym next_same
 
   -- what a poll is told, it is told of what it finds
-  module _ (known : Known K P M) (now : ℕ) where
+  module _ (known : ReplyInputs K P M) (now : ℕ) where
     told_probe : (found : Option ℕ) (number size : ℕ)
         → MtuProbeReply beginning.queue known now found (Ok (answer.Probe number size)) → found ≡ Some size
     told_probe None number size told = absurd (cc)
@@ -375,7 +375,7 @@ module _ {F K Q S M P : Type 0} (beginning : Beginning F K Q S M P) where
   halves_one history (PollMtu now) (Ok (answer.Probe number size)) known kept = λ settings is wide. (
       let inside = in_search settings (goes_out now number size ∷ entered_so_far beginning history) _ is known.turn in
       sym (polls_it history settings is kept known.searched wide now inside.0 inside.1)
-      ∙ told_probe (known_by beginning history) now _ number size known.told.1.1
+      ∙ told_probe (inputs_after beginning history) now _ number size known.told.1.1
       )
   halves_one history (PollMtu now) (Ok answer.NoProbe) known kept = λ settings is wide quiet due. (
       let entries = entered_so_far beginning history in
@@ -383,7 +383,7 @@ module _ {F K Q S M P : Type 0} (beginning : Beginning F K Q S M P) where
       (sym (kept.searched settings is).tied.2) ∙ due in
       let few = kept.few in
       sym (polls_it history settings is kept known.searched wide now (grind (arith, quiet, few.0)) searched)
-      ∙ told_none (known_by beginning history) now _ known.told.1.1
+      ∙ told_none (inputs_after beginning history) now _ known.told.1.1
       )
   halves_one history event reply known kept = tt
 

@@ -8,10 +8,10 @@ use Rattle.recovery_mtud.specs.MtuEntries.{MtuEntry, reset, min_mtu_in_use}
 use Rattle.recovery_events.specs.declared.event.Event.{Event}
 use Rattle.recovery_events.specs.declared.event.Event.TheVariants.{PollMtu, Acked, Lost, LossesDone, ResetPath, NewPath, RevertPath}
 use Rattle.recovery_events.specs.declared.event.Answer.TheVariants as answer
-use Rattle.recovery_history.specs.Told.{settings_of}
+use Rattle.recovery_history.specs.RepliesAfter.{settings_of}
 use Rattle.recovery_history.specs.History.{Beginning, History, Reply}
 use Rattle.recovery_history.specs.Promises.Bursts.{open_run}
-use Rattle.recovery_history.specs.Promises.Holes.{ReportsAtFour, larger_acked, standing, unanswered}
+use Rattle.recovery_history.specs.Promises.BlackHoles.{ReportsBlackHoleAtFour, larger_acked, standing, unanswered}
 use Rattle.recovery_history.proofs.SearchSaid.{NeedsFourBursts, entered_so_far, Follows, Keeps}
 use Rattle.recovery_history.proofs.BurstLaws.{comes_one, needs_one}
 use Rattle.recovery_history.proofs.MadeLaws.{is_made, left_size, left_there, made_after, made_in}
@@ -100,7 +100,7 @@ module _ {F K Q S M P : Type 0} (beginning : Beginning F K Q S M P) where
 
   -- ---- what is promised
 
-  holes_one : Follows (Facts beginning) Kept (ReportsAtFour least)
+  holes_one : Follows (Facts beginning) Kept (ReportsBlackHoleAtFour least)
   holes_one history (LossesDone now) reply known kept =
       let is = least_known history kept in
       let tied = kept.tied in
@@ -114,5 +114,5 @@ module _ {F K Q S M P : Type 0} (beginning : Beginning F K Q S M P) where
   holes_one history event reply known kept = tt
 
   -- throughout a run
-  pub holes_told : AllAlong beginning (ReportsAtFour least)
+  pub holes_told : AllAlong beginning (ReportsBlackHoleAtFour least)
   holes_told = throughout_facts beginning Kept kept_after kept_first holes_one

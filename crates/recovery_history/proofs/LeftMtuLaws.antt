@@ -5,10 +5,10 @@ use Rattle.std.proofs.lemmas.Option.{none-some}
 use Rattle.std.specs.Option.{ForSome}
 use Rattle.recovery_config.specs.Settings.{initial_mtu_of}
 use Rattle.recovery_paths.specs.declared.path_pair.PathName.TheVariants.{Previous}
-use Rattle.recovery_paths.specs.PathLog.{OfPaths, PathPast, is_validated, past_following, past_with, receives, returns, reverted}
+use Rattle.recovery_paths.specs.PathLog.{PerPath, PathHistory, is_validated, past_following, past_with, receives, returns, reverted}
 use Rattle.recovery_events.specs.declared.event.Event.{Event}
 use Rattle.recovery_events.specs.declared.event.Event.TheVariants.{NewPath, DropPrevious, RevertPath}
-use Rattle.recovery_history.specs.Told.{pasts_of, settings_of, Told}
+use Rattle.recovery_history.specs.RepliesAfter.{pasts_of, settings_of, RepliesAfter}
 use Rattle.recovery_history.specs.Table.{limit}
 use Rattle.recovery_history.specs.History.{Beginning, History, Reply}
 use Rattle.recovery_history.specs.Promises.Mtu.{before_move, mtu, mtu_on}
@@ -51,8 +51,9 @@ module _ {F K Q S M P : Type 0} (beginning : Beginning F K Q S M P) (searched : 
   IsNow history = in_state (pasts_of beginning history).current ≡ mtu searched first least history
 
   -- no path is left before one that is used again
-  none_left : (change : PathPast K → PathPast K) (paths : OfPaths (PathPast K)) (previous : Option (PathPast K))
-      → (let with : OfPaths (PathPast K) = record paths { previous = previous } in
+  none_left : (change : PathHistory K → PathHistory K) (paths : PerPath (PathHistory K))
+      (previous : Option (PathHistory K))
+      → (let with : PerPath (PathHistory K) = record paths { previous = previous } in
       mtu_before (reverted change with) ≡ None)
   none_left change paths None = refl
   none_left change paths (Some past) = refl
@@ -75,7 +76,7 @@ module _ {F K Q S M P : Type 0} (beginning : Beginning F K Q S M P) (searched : 
 
   -- a path that is used again lived, and has that MTU
   pub left_is : (history : History Q S M P) (event : Event Q S M P) (reply : Reply Q)
-      → Told beginning history event reply → IsLeft history
+      → RepliesAfter beginning history event reply → IsLeft history
       → IsLeftAt beginning history event reply (mtu_on searched first least Previous history)
   left_is history RevertPath (Ok given) told left =
       only_one _ (left_size beginning history) _ (left_there beginning history RevertPath (Ok given) told) left

@@ -5,7 +5,7 @@ use Rattle.std.proofs.Common.{arith, ◌≡◌, ◌≤◌, ◌<◌, ◌+◌, ℕ
 use Rattle.std.specs.Prelude.{drop, if◌then◌else◌}
 use Rattle.std.specs.List.{list_any, range_with_len}
 use Rattle.recovery_ids.specs.declared.state.CidTimestamp.{CidTimestamp}
-use Rattle.recovery_ids.specs.LocalIds.{LocalIds, Rise, deadlines_with_last, holds_unretired, next_mark, timed_out, with_issued}
+use Rattle.recovery_ids.specs.LocalIds.{LocalIds, AreIncreasingWithin, deadlines_with_last, holds_unretired, next_mark, timed_out, with_issued}
 use Rattle.recovery_ids.proofs.DeadlineLaws.{deadlines_with-rise}
 use Rattle.recovery_ids.proofs.RiseLaws.{Rise-bound, Rise-wider}
 
@@ -62,7 +62,8 @@ AreLeft p ids = (ids.unretired ≡ filter p (range_with_len 0 ids.issued))
 -- the marks rise, and behind them the numbers of the lifetimes that run
 abbrev pub AreMarked : LocalIds → Type 0
 AreMarked ids =
-    (ids.retired_below ≤ ids.retire_prior_to) × Rise ids.retire_prior_to ids.issued (numbers_of ids.deadlines)
+    (ids.retired_below ≤ ids.retire_prior_to) × AreIncreasingWithin ids.retire_prior_to ids.issued
+        (numbers_of ids.deadlines)
 
 -- by the numbers that the peer retired, and the one below which it was asked to: all below the first mark are retired,
 -- and so are those from there up to the second
@@ -71,9 +72,10 @@ pub record AreAsked (p : ℕ → Bool) (asked : ℕ) (ids : LocalIds) : Type 0 w
   pub low : asked ≤ ids.retire_prior_to
   pub second : (n : ℕ) → asked ≤ n → n < ids.retire_prior_to → p n ≡ false
 
-mark_rises : (mark count : ℕ) (deadlines : List CidTimestamp) → Rise mark count (numbers_of deadlines)
-    → (mark ≤ next_mark mark deadlines) × Rise (next_mark mark deadlines) count (numbers_of (drop 1 deadlines))
-    × Rise mark count (numbers_of (drop 1 deadlines))
+mark_rises : (mark count : ℕ) (deadlines : List CidTimestamp) → AreIncreasingWithin mark count (numbers_of deadlines)
+    → (mark ≤ next_mark mark deadlines) × AreIncreasingWithin (next_mark mark deadlines) count
+        (numbers_of (drop 1 deadlines))
+    × AreIncreasingWithin mark count (numbers_of (drop 1 deadlines))
 mark_rises mark count [] rise = (omega arith, rise, rise)
 mark_rises mark count (oldest ∷ later) rise = grind (
   arith,
@@ -164,13 +166,13 @@ module _ (p : ℕ → Bool) (asked : ℕ) (ids : LocalIds) (left : AreLeft p ids
     first_now : (timed_out ids).retired_below ≡ ids.retire_prior_to
     first_now = grind (arith, none)
 
-    within : (deadlines : List CidTimestamp) → Rise ids.retire_prior_to ids.issued (numbers_of deadlines)
+    within : (deadlines : List CidTimestamp) → AreIncreasingWithin ids.retire_prior_to ids.issued (numbers_of deadlines)
         → next_mark ids.retire_prior_to deadlines ≤ ids.issued
     within deadlines rise =
         let rises = mark_rises ids.retire_prior_to ids.issued deadlines rise in
         Rise-bound (next_mark ids.retire_prior_to deadlines) ids.issued (numbers_of (drop 1 deadlines)) rises.1
 
-    asks : (deadlines : List CidTimestamp) → Rise ids.retire_prior_to ids.issued (numbers_of deadlines)
+    asks : (deadlines : List CidTimestamp) → AreIncreasingWithin ids.retire_prior_to ids.issued (numbers_of deadlines)
         → holds_unretired ids.retire_prior_to (next_mark ids.retire_prior_to deadlines) ids
         ≡ lives (next_mark 0 deadlines)
     asks [] rise = nowhere ids.retire_prior_to

@@ -2,14 +2,14 @@
 use Rattle.std.proofs.Common.{◌≡◌, ℕ, List, Option}
 use Rattle.recovery_base.specs.declared.below.SpaceId.{SpaceId}
 use Rattle.recovery_base.specs.declared.below.SpaceId.TheVariants.{Initial, Handshake, Data}
-use Rattle.recovery_ledger.specs.Queued.{no_ecn}
-use Rattle.recovery_ledger.specs.SpaceLog.{SpaceEntry}
-use Rattle.recovery_ledger.specs.Spaces.{Space, Spaces, space_of, with_space, SpaceLeft}
-use Rattle.recovery_queue.specs.Queues.{QueueWords}
-use Rattle.recovery_history.specs.Above.{untouched_of, with_loss_time}
+use Rattle.recovery_spaces.specs.Queued.{no_ecn}
+use Rattle.recovery_spaces.specs.SpaceLog.{SpaceEntry}
+use Rattle.recovery_spaces.specs.Spaces.{Space, Spaces, space_of, with_space, SpaceAfter}
+use Rattle.recovery_queue.specs.Queues.{QueueSemantics}
+use Rattle.recovery_history.specs.CallerState.{unset_fields_of, with_loss_time}
 use Rattle.recovery_history.specs.History.{Beginning, History}
-use Rattle.recovery_history.specs.Parts.{Parts}
-use Rattle.recovery_history.specs.Past.{Reached}
+use Rattle.recovery_history.specs.RecoveryState.{RecoveryState}
+use Rattle.recovery_history.specs.Reachability.{ReachedBy}
 
 -- what holds of each space, whatever its loss time, holds of each where one is set
 module _ {P M : Type 0} (Holds : SpaceId → Space P M → Type 0) (time : Option ℕ)
@@ -27,9 +27,9 @@ module _ {P M : Type 0} (Holds : SpaceId → Space P M → Type 0) (time : Optio
   each_with_loss_time Data Handshake = all Handshake
   each_with_loss_time Data Data = holds_with Data _ (all Data)
 
-left_with_loss_time : {P M S : Type 0} (words : QueueWords P S) (start : ℕ) (log : List (SpaceEntry P M))
-    (time : Option ℕ) (there : Space P M) → SpaceLeft words start log there
-    → SpaceLeft words start log (with_loss_time time there)
+left_with_loss_time : {P M S : Type 0} (words : QueueSemantics P S) (start : ℕ) (log : List (SpaceEntry P M))
+    (time : Option ℕ) (there : Space P M) → SpaceAfter words start log there
+    → SpaceAfter words start log (with_loss_time time there)
 left_with_loss_time words start log time there left = record {
   numbers = left.numbers;
   acks = left.acks;
@@ -44,9 +44,10 @@ left_with_loss_time words start log time there left = record {
 
 -- so it is all the same for the past
 module _ {F K Q S M P : Type 0} (beginning : Beginning F K Q S M P) (past : History Q S M P) where
-  pub reached_with_loss_time : (set : SpaceId) (time : Option ℕ) (there : Space P M) (recovery : Parts K P M)
-      → there ≡ space_of set recovery.spaces → Reached beginning past recovery
-      → Reached beginning past (record recovery { spaces = with_space recovery.spaces set (with_loss_time time there) })
+  pub reached_with_loss_time : (set : SpaceId) (time : Option ℕ) (there : Space P M) (recovery : RecoveryState K P M)
+      → there ≡ space_of set recovery.spaces → ReachedBy beginning past recovery
+      → ReachedBy beginning past (record recovery { spaces = with_space recovery.spaces set
+          (with_loss_time time there) })
   reached_with_loss_time set time there recovery is came =
       let left = came.left in rw is (record {
         told = came.told;
@@ -54,7 +55,7 @@ module _ {F K Q S M P : Type 0} (beginning : Beginning F K Q S M P) (past : Hist
           settings = left.settings;
           spaces = each_with_loss_time _ time (λ space. left_with_loss_time _ _ _ time) recovery.spaces left.spaces
               set;
-          beside = each_with_loss_time (λ space kept. untouched_of kept ≡ (no_ecn, 0)) time
+          beside = each_with_loss_time (λ space kept. unset_fields_of kept ≡ (no_ecn, 0)) time
               (λ space kept beside. beside) recovery.spaces left.beside set;
           discarded = left.discarded;
           skipping = left.skipping;

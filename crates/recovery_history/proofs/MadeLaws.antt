@@ -3,22 +3,22 @@
 use Rattle.std.proofs.Common.{◌≡◌, ℕ, true, false, ◌∷◌, Option, None, Some, Ok, refl, ap}
 use Rattle.std.specs.Prelude.{option_map, unwrap_or}
 use Rattle.recovery_mtud.specs.Discovery.{Discovery, within}
-use Rattle.recovery_paths.specs.PathLog.{OfPaths, PathPast, known_of, past_following, receives, returns, reverted, state_of}
+use Rattle.recovery_paths.specs.PathLog.{PerPath, PathHistory, known_of, past_following, receives, returns, reverted, path_state_of}
 use Rattle.recovery_paths.proofs.PathLogLaws.{some_same}
 use Rattle.recovery_events.specs.declared.event.Event.{Event}
 use Rattle.recovery_events.specs.declared.event.Event.TheVariants.{NewPath, DropPrevious, RevertPath}
-use Rattle.recovery_history.specs.Told.{pasts_of, settings_of, Told}
+use Rattle.recovery_history.specs.RepliesAfter.{pasts_of, settings_of, RepliesAfter}
 use Rattle.recovery_history.specs.Table.{limit}
 use Rattle.recovery_history.specs.History.{Beginning, History, Reply}
-use Rattle.recovery_history.specs.PartReplies.{IsDone, OnPath}
+use Rattle.recovery_history.specs.PartReplies.{AnswersDone, UnlessPathMissing}
 use Rattle.recovery_history.proofs.SeenLaws.{IsStill, IsStillOn, stays_seen}
 
 module _ {K : Type 0} where
-  abbrev pub in_state : PathPast K → ℕ
-  in_state past = (state_of past).discovery.mtu
+  abbrev pub in_state : PathHistory K → ℕ
+  in_state past = (path_state_of past).discovery.mtu
 
   -- the MTU of the path before the one in use, where it lives
-  abbrev pub mtu_before : OfPaths (PathPast K) → Option ℕ
+  abbrev pub mtu_before : PerPath (PathHistory K) → Option ℕ
   mtu_before paths = option_map in_state paths.previous
 
 module _ {F K Q S M P : Type 0} (beginning : Beginning F K Q S M P) where
@@ -32,16 +32,17 @@ module _ {F K Q S M P : Type 0} (beginning : Beginning F K Q S M P) where
 
   -- it had some: it lived
   pub left_there : (history : History Q S M P) (event : Event Q S M P) (reply : Reply Q)
-      → Told beginning history event reply → IsLeftAt history event reply (left_size history)
+      → RepliesAfter beginning history event reply → IsLeftAt history event reply (left_size history)
   left_there history RevertPath (Ok given) told = go (pasts_of beginning history).previous told
     where
-      go : (previous : Option (PathPast K)) → OnPath (option_map known_of previous) (λ there. IsDone {Q = Q}) (Ok given)
+      go : (previous : Option (PathHistory K)) → UnlessPathMissing (option_map known_of previous)
+          (λ there. AnswersDone {Q = Q}) (Ok given)
           → option_map in_state previous ≡ Some (unwrap_or (option_map in_state previous) 0)
       go None told = absurd told.1
       go (Some past) told = refl
   left_there history event reply told = tt
 
-  abbrev made_of : OfPaths (PathPast K) → Discovery
+  abbrev made_of : PerPath (PathHistory K) → Discovery
   made_of paths = paths.current.kept.discovery
 
   still : IsStill (settings_of beginning) made_of
@@ -72,8 +73,8 @@ module _ {F K Q S M P : Type 0} (beginning : Beginning F K Q S M P) where
   is_made past DropPrevious (Ok given) left is = refl
   is_made past RevertPath (Ok given) left is = go (pasts_of beginning past).previous is
     where
-      go : (previous : Option (PathPast K)) → option_map in_state previous ≡ Some left
-          → (let paths : OfPaths (PathPast K) = record (pasts_of beginning past) { previous = previous } in
+      go : (previous : Option (PathHistory K)) → option_map in_state previous ≡ Some left
+          → (let paths : PerPath (PathHistory K) = record (pasts_of beginning past) { previous = previous } in
           made_of (reverted (past_following (settings_of beginning) (returns (limit past))) paths))
           ≡ resumed left past
       go None is = absurd cc

@@ -7,15 +7,15 @@ use Rattle.recovery_mtud.specs.declared.config.MtuDiscoveryConfig.{MtuDiscoveryC
 use Rattle.recovery_mtud.specs.Discovery.{Discovery, within}
 use Rattle.recovery_mtud.specs.DiscoveryLog.{kept_limit}
 use Rattle.recovery_mtud.specs.MtuEntries.{MtuEntry, probe_in_flight, limit_in_use, min_mtu_in_use, mtu_in_use as by_entries}
-use Rattle.recovery_paths.specs.PathLog.{PathKnown, PathPast, known_of}
+use Rattle.recovery_paths.specs.PathLog.{PathReplyInputs, PathHistory, known_of}
 use Rattle.recovery_paths.specs.declared.path_pair.PathName.TheVariants.{Previous}
 use Rattle.recovery_events.specs.declared.event.Event.{Event}
 use Rattle.recovery_events.specs.declared.event.Event.TheVariants.{PollMtu, Acked, Lost, NewPath, RevertPath}
 use Rattle.recovery_events.specs.declared.event.Answer.TheVariants as answer
-use Rattle.recovery_history.specs.Told.{settings_of}
+use Rattle.recovery_history.specs.RepliesAfter.{settings_of}
 use Rattle.recovery_history.specs.Table.{limit}
 use Rattle.recovery_history.specs.History.{Beginning, History, Reply}
-use Rattle.recovery_history.specs.Promises.Mtu.{UsesMtu, mtu, mtu_in_use, mtu_on}
+use Rattle.recovery_history.specs.Promises.Mtu.{UsesAckedMtu, mtu, mtu_in_use, mtu_on}
 use Rattle.recovery_history.specs.Search.{discovery_settings}
 use Rattle.recovery_history.proofs.HolesLaws as holes
 use Rattle.recovery_history.proofs.MadeLaws.{in_state, is_made, made_in, resumed}
@@ -148,12 +148,12 @@ module _ {F K Q S M P : Type 0} (beginning : Beginning F K Q S M P) where
     left = left_at_first beginning is_searched;
   }
 
-  state_mtu : (previous : Option (PathPast K)) (path : PathKnown K)
+  state_mtu : (previous : Option (PathHistory K)) (path : PathReplyInputs K)
       → option_map known_of previous ≡ Some path
       → option_map in_state previous ≡ Some path.state.discovery.mtu
   state_mtu previous path is = grind (arith, is)
 
-  pub mtu_told : IsSmall beginning → AllAlong beginning (UsesMtu beginning)
+  pub mtu_told : IsSmall beginning → AllAlong beginning (UsesAckedMtu beginning)
   mtu_told small = throughout_facts beginning Kept kept_after kept_first (λ history event reply known kept.
       let after = kept_after history event reply known kept in (
         after.now,

@@ -16,11 +16,11 @@ use Rattle.recovery_events.specs.declared.event.Event.TheVariants.{PollMtu, Acke
 use Rattle.recovery_events.specs.declared.event.Answer.TheVariants as answer
 use Rattle.recovery_history.specs.Table.{limit}
 use Rattle.recovery_history.specs.History.{Beginning, History, Reply}
-use Rattle.recovery_history.specs.Told.{settings_of}
+use Rattle.recovery_history.specs.RepliesAfter.{settings_of}
 use Rattle.recovery_history.specs.Search.{discovery_settings}
-use Rattle.recovery_history.specs.Promises.Few.{is_in_flight}
+use Rattle.recovery_history.specs.Promises.ProbeCount.{is_in_flight}
 use Rattle.recovery_history.specs.Promises.Mtu.{mtu, mtu_on}
-use Rattle.recovery_history.specs.Promises.Near.{EndsNearBy, IsNear, next, start}
+use Rattle.recovery_history.specs.Promises.Convergence.{ConvergesNearBest, IsNear, next, start}
 use Rattle.recovery_history.specs.Promises.Probes.{acked_probes, lost_probes, runs}
 use Rattle.recovery_history.proofs.SearchSaid.{entered_so_far, Follows, Keeps, IsSmall}
 use Rattle.recovery_history.proofs.FewLaws as few
@@ -241,10 +241,10 @@ module _ {F K Q S M P : Type 0} (beginning : Beginning F K Q S M P) where
     searched = λ settings is. searched_first beginning settings is;
   }
 
-  pub near_told : IsSmall beginning → AllAlong beginning (EndsNearBy beginning)
+  pub near_told : IsSmall beginning → AllAlong beginning (ConvergesNearBest beginning)
   near_told small = throughout_facts beginning Kept kept_by kept_first near
     where
-      near : Follows (Facts beginning) Kept (EndsNearBy beginning)
+      near : Follows (Facts beginning) Kept (ConvergesNearBest beginning)
       near history (PollMtu now) (Ok answer.NoProbe) known kept = λ settings is change.
           near_after beginning settings is history now kept.few (kept.searched settings is)
           (ends_one beginning small history (PollMtu now) (Ok answer.NoProbe) known.told known.searched settings is

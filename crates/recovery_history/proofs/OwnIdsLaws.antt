@@ -14,10 +14,10 @@ use Rattle.recovery_events.specs.declared.event.Answer.TheVariants.{Flag}
 use Rattle.recovery_events.specs.declared.event.Refusal.TheVariants.{NoMemory, CidsNotInUse, UnissuedCid}
 use Rattle.recovery_history.specs.History.{Beginning, History, Reply}
 use Rattle.recovery_history.specs.IdReplies.{IssueReply, RetirementReply}
-use Rattle.recovery_history.specs.Told.{first_ids, Told}
+use Rattle.recovery_history.specs.RepliesAfter.{first_ids, RepliesAfter}
 use Rattle.recovery_history.specs.Table.{own_ids}
 use Rattle.recovery_history.specs.Promises.Lifetimes.{AsksToRetire, asked_below, lifetimes, lives_below, oldest_end}
-use Rattle.recovery_history.specs.Promises.OwnIds.{go_on, IsIssue, issued, is_retired, IssuesIds}
+use Rattle.recovery_history.specs.Promises.OwnIds.{go_on, IsIssue, issued, is_retired, IssuesIdsInOrder}
 use Rattle.recovery_history.proofs.LifetimesLaws.{AreAsked, AreLeft, AreMarked, answer, asked_less, asked_more, deadlines_more, is_asked, lifetime_stays, marked_more, timed_asked, timed_marked}
 use Rattle.recovery_history.proofs.Runs.{AllAlong, throughout_kept}
 use Rattle.recovery_history.proofs.SearchSaid.{Follows, Keeps}
@@ -116,7 +116,7 @@ module _ {F K Q S M P : Type 0} (beginning : Beginning F K Q S M P) where
     )
 
   -- an event that was told keeps that
-  own_after : Keeps (Told beginning) OwnHeld
+  own_after : Keeps (RepliesAfter beginning) OwnHeld
   own_after before (IssueIds now ids) (Ok answer) told same =
       let more = issued_more (λ n. not (is_retired before n)) (length ids.items) now (ids_before before same 0) same.2
       in
@@ -127,7 +127,8 @@ module _ {F K Q S M P : Type 0} (beginning : Beginning F K Q S M P) where
   own_after before event reply told same = same
 
   -- what an event is told, it is told of the ids of this end
-  issues_here : Follows (Told beginning) OwnHeld (IssuesIds beginning.config.issued beginning.config.cid_len)
+  issues_here : Follows (RepliesAfter beginning) OwnHeld (IssuesIdsInOrder beginning.config.issued
+      beginning.config.cid_len)
   issues_here before (IssueIds now ids) reply told same =
       rw same.1 (issues_told (ids_before before same 0) ids.items reply told)
   issues_here before (PeerRetired sequence limit) reply told same =
@@ -142,9 +143,9 @@ module _ {F K Q S M P : Type 0} (beginning : Beginning F K Q S M P) where
   issues_here before event reply told same = tt
 
   -- throughout a run
-  pub issues_ids : AllAlong beginning (IssuesIds beginning.config.issued beginning.config.cid_len)
+  pub issues_ids : AllAlong beginning (IssuesIdsInOrder beginning.config.issued beginning.config.cid_len)
   issues_ids =
-      throughout_kept beginning OwnHeld (IssuesIds beginning.config.issued beginning.config.cid_len) own_after
+      throughout_kept beginning OwnHeld (IssuesIdsInOrder beginning.config.issued beginning.config.cid_len) own_after
       issues_here own_first
 
 -- ---- lifetimes of ids
@@ -213,7 +214,7 @@ module _ {F K Q S M P : Type 0} (beginning : Beginning F K Q S M P) where
     marked_then : AreMarked (timed_out old)
     marked_then = timed_marked (still before) (asked_below beginning before) old kept.0.2 kept.3 kept.4
 
-  own_asked : Keeps (Told beginning) Kept
+  own_asked : Keeps (RepliesAfter beginning) Kept
   own_asked before (IssueIds now ids) (Ok given) told kept =
       let count = length ids.items in let old = ids_by before in (
         own_after beginning before (IssueIds now ids) (Ok given) told kept.0,
@@ -247,7 +248,7 @@ module _ {F K Q S M P : Type 0} (beginning : Beginning F K Q S M P) where
   )
   own_asked before event reply told kept = kept
 
-  asks_here : Follows (Told beginning) Kept (AsksToRetire beginning)
+  asks_here : Follows (RepliesAfter beginning) Kept (AsksToRetire beginning)
   asks_here before IdTimeout (Ok given) told kept = ap (λ given. Ok given) (told ∙ ap Flag (told_so before kept))
   asks_here before IdTimeout (Err NoMemory) told kept = absurd told
   asks_here before IdTimeout (Err refusal) told kept = absurd told

@@ -3,11 +3,11 @@
 use Rattle.std.proofs.Common.{ℕ, ◌≡◌, ◌∷◌, Ok, refl, arith}
 use Rattle.std.proofs.lemmas.Bool.Decides.{nat_tests}
 use Rattle.recovery_base.specs.declared.below.SpaceId.TheVariants.{Data}
-use Rattle.recovery_ledger.specs.Packets.{Packet}
+use Rattle.recovery_spaces.specs.Packets.{Packet}
 use Rattle.recovery_events.specs.declared.event.Event.{Event}
 use Rattle.recovery_events.specs.declared.event.Event.TheVariants.{Send, PollMtu}
 use Rattle.recovery_events.specs.declared.event.Answer.TheVariants.{Probe}
-use Rattle.recovery_history.specs.Told.{Told}
+use Rattle.recovery_history.specs.RepliesAfter.{RepliesAfter}
 use Rattle.recovery_history.specs.History.{Beginning, History, Reply}
 use Rattle.recovery_history.specs.Promises.Bursts.{size_of}
 use Rattle.recovery_history.proofs.FieldLaws.{IsSaid, said_then, said_told}
@@ -23,7 +23,7 @@ module _ {F K Q S M P : Type 0} (beginning : Beginning F K Q S M P) where
 
   -- an event keeps that
   pub sized_after : (history : History Q S M P) (event : Event Q S M P) (reply : Reply Q)
-      → Told beginning history event reply → Sized history
+      → RepliesAfter beginning history event reply → Sized history
       → Sized ((event, reply) ∷ history)
   sized_after history event reply told sized =
       said_told beginning Data size_in (λ contents packet. refl) history (size_of history) sized event reply

@@ -2,14 +2,14 @@
 use Rattle.std.proofs.Common.{ℕ, ◌<◌, ◌^◌, ◌∷◌, None, if◌then◌else◌}
 use Rattle.std.specs.Option.{ForSome}
 use mathlib.Core.Logic.{∥∥₁_map}
-use Rattle.recovery_congestion.specs.Controllers.{ControllerWords}
+use Rattle.recovery_congestion.specs.Controllers.{ControllerSemantics}
 use Rattle.recovery_paths.specs.Balance.{AreBalanced}
 use Rattle.recovery_events.specs.declared.event.Event.{Event}
-use Rattle.recovery_history.specs.History.{AtEach, Beginning, History, QueueMeaning, Reply}
-use Rattle.recovery_history.specs.Parts.{Parts}
-use Rattle.recovery_history.specs.Past.{Reached, ReachedSomehow, ExtendsOn, ExtendsFrom, Keeps, KeepsPastsOn, ExtendedOn}
-use Rattle.recovery_history.specs.Changes.{Changes}
-use Rattle.recovery_history.specs.Told.{Told}
+use Rattle.recovery_history.specs.History.{AtEach, Beginning, History, QueueModel, Reply}
+use Rattle.recovery_history.specs.RecoveryState.{RecoveryState}
+use Rattle.recovery_history.specs.Reachability.{ReachedBy, IsReachableState, StepFromAnyPast, StepFromPast, StepGuarantees, PreservesPastsOf, StepFromSomePast}
+use Rattle.recovery_history.specs.Transitions.{StateTransition}
+use Rattle.recovery_history.specs.RepliesAfter.{RepliesAfter}
 use Rattle.recovery_history.proofs.AcknowledgedLaws.{keeps_to_acknowledge}
 use Rattle.recovery_history.proofs.BlockedLaws.{blocks_exactly}
 use Rattle.recovery_history.proofs.CountedLaws.{counts_in_flight}
@@ -51,7 +51,7 @@ module _ {F K Q S M P : Type 0} (beginning : Beginning F K Q S M P) where
 
   -- all that is promised of an event follows from what it and those before it were told
   pub keeps : UpperFits → (before : History Q S M P) (event : Event Q S M P) (reply : Reply Q)
-      → AtEach (Told beginning) ((event, reply) ∷ before) → Keeps beginning before event reply
+      → AtEach (RepliesAfter beginning) ((event, reply) ∷ before) → StepGuarantees beginning before event reply
   keeps small before event reply all =
       let now = (event, reply) ∷ before in
       let one = have_one_fate beginning now all in
@@ -63,7 +63,7 @@ module _ {F K Q S M P : Type 0} (beginning : Beginning F K Q S M P) where
         own_ids = (issues_ids beginning now all).0;
         refused = (refuses_rightly beginning now all).0;
         counted = (counts_in_flight beginning now all).0;
-        threefold = (sends_threefold beginning now all).0;
+        amplification_limit = (sends_threefold beginning now all).0;
         blocked = (blocks_exactly beginning now all).0;
         delayed = (delayed beginning now all).0;
         rate = (rate beginning now all).0;
@@ -96,20 +96,21 @@ module _ {F K Q S M P : Type 0} (beginning : Beginning F K Q S M P) where
         halving = (halves_told beginning now all).0;
         lifetimes = (asks_to_retire beginning now all).0;
         pending = hands_out beginning before event reply all.0;
-        unskipped = (skips_none beginning now all).0;
-        spares = spares_memory beginning before event reply all.0;
+        no_skips = (skips_none beginning now all).0;
+        allocates_to_grow = spares_memory beginning before event reply all.0;
       }
 
   -- from every past by which it came here it goes on: each clause of whole runs, at the event that is put behind it
-  pub extends : (past : History Q S M P) (old : Parts K P M) (event : Event Q S M P) (reply : Reply Q)
-      (new : Parts K P M)
-      → Reached beginning past old → Changes beginning.queue old event reply new → AreBalanced new.spaces new.paths
-      → ExtendsFrom beginning past event reply new
+  pub extends : (past : History Q S M P) (old : RecoveryState K P M) (event : Event Q S M P) (reply : Reply Q)
+      (new : RecoveryState K P M)
+      → ReachedBy beginning past old → StateTransition beginning.queue old event reply new
+          → AreBalanced new.spaces new.paths
+      → StepFromPast beginning past event reply new
   extends past old event reply new came changes balanced =
       let by = changes_by_logs beginning past old event reply new came.left changes in
       let here = told_by_logs beginning past old came.left event reply by.told in
       let now = (event, reply) ∷ past in
-      let all : AtEach (Told beginning) now = (here, came.told) in
+      let all : AtEach (RepliesAfter beginning) now = (here, came.told) in
       record {
         keeps = keeps came.small past event reply all;
         came = record {
@@ -119,16 +120,17 @@ module _ {F K Q S M P : Type 0} (beginning : Beginning F K Q S M P) where
         };
       }
 
-module _ {F K Q S M P : Type 0} {built : F → ℕ → ℕ → K} {words : ControllerWords K} {queue : QueueMeaning Q S M P}
-    {old : Parts K P M} {event : Event Q S M P} {reply : Reply Q} {new : Parts K P M}
-    (on : ExtendsOn built words queue old event reply new)
+module _ {F K Q S M P : Type 0} {built : F → ℕ → ℕ → K} {words : ControllerSemantics K} {queue : QueueModel Q S M P}
+    {old : RecoveryState K P M} {event : Event Q S M P} {reply : Reply Q} {new : RecoveryState K P M}
+    (on : StepFromAnyPast built words queue old event reply new)
   where
     -- from a past by which it came here it went on
-    pub extended : ∥ ReachedSomehow built words queue old ∥₁ → ∥ ExtendedOn built words queue old event reply new ∥₁
+    pub extended : ∥ IsReachableState built words queue old ∥₁
+        → ∥ StepFromSomePast built words queue old event reply new ∥₁
     extended by = ∥∥₁_map by (λ by. record { origin = by; goes = on by.config by.start by.random by.past by.came })
 
     -- and came on
-    pub still_came : ∥ ReachedSomehow built words queue old ∥₁ → ∥ ReachedSomehow built words queue new ∥₁
+    pub still_came : ∥ IsReachableState built words queue old ∥₁ → ∥ IsReachableState built words queue new ∥₁
     still_came by = ∥∥₁_map by (λ by. record {
       config = by.config;
       start = by.start;
@@ -137,10 +139,10 @@ module _ {F K Q S M P : Type 0} {built : F → ℕ → ℕ → K} {words : Contr
       came = (on by.config by.start by.random by.past by.came).came;
     })
 
-module _ {F K Q S M P : Type 0} {built : F → ℕ → ℕ → K} {words : ControllerWords K} {queue : QueueMeaning Q S M P}
-    {old new : Parts K P M} (stays : KeepsPastsOn built words queue old new) where
+module _ {F K Q S M P : Type 0} {built : F → ℕ → ℕ → K} {words : ControllerSemantics K} {queue : QueueModel Q S M P}
+    {old new : RecoveryState K P M} (stays : PreservesPastsOf built words queue old new) where
   -- what is all the same for every past leaves that there is one
-  pub stays_come : ∥ ReachedSomehow built words queue old ∥₁ → ∥ ReachedSomehow built words queue new ∥₁
+  pub stays_come : ∥ IsReachableState built words queue old ∥₁ → ∥ IsReachableState built words queue new ∥₁
   stays_come by = ∥∥₁_map by (λ by. record {
     config = by.config;
     start = by.start;

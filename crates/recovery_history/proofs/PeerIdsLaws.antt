@@ -6,7 +6,7 @@ use Rattle.std.proofs.Math.Path.{fun_ext}
 use Rattle.std.proofs.lemmas.Bool.Decides.{nat_tests, Decides-ltb}
 use Rattle.std.proofs.lemmas.Slice.Eq.{bytes_eq-Decides}
 use Rattle.recovery_base.specs.declared.below.ids.NewConnectionId.{NewConnectionId}
-use Rattle.recovery_ids.specs.RemoteIds.{HeldId, Table, RemoteIds, IsLeastHeld, Repeats, active_connection_id_limit, with_id, with_frame, without_id}
+use Rattle.recovery_ids.specs.RemoteIds.{HeldId, IdTable, RemoteIds, IsLeastHeld, RepeatsFrame, active_connection_id_limit, with_id, with_frame, without_id}
 use Rattle.recovery_ids.specs.RemoteStep.{given, used, replaced, remote_ids_with}
 use Rattle.recovery_ids.proofs.RemoteStepLaws.{gives, uses, uses_none, replaces}
 use Rattle.recovery_events.specs.declared.event.Event.{Event}
@@ -16,8 +16,8 @@ use Rattle.recovery_events.specs.declared.event.Answer.TheVariants.{Retire, Done
 use Rattle.recovery_events.specs.declared.event.Refusal.TheVariants.{NumberTooLarge, BadRetirePriorTo, Retired, ExceedsLimit, Conflict, NotInitialId}
 use Rattle.recovery_history.specs.History.{Beginning, History, Reply}
 use Rattle.recovery_history.specs.IdReplies.{FrameReply, IsFrameAnswer, IsNextAnswer}
-use Rattle.recovery_history.specs.Replies.{AlwaysAnswers, Refuses}
-use Rattle.recovery_history.specs.Told.{Told}
+use Rattle.recovery_history.specs.Replies.{AlwaysAnswers, RejectsWhen}
+use Rattle.recovery_history.specs.RepliesAfter.{RepliesAfter}
 use Rattle.recovery_history.specs.Promises.GivenIds.{AreHeld, ids_held, id_under, retired_below, least_from, active_id}
 use Rattle.recovery_history.specs.Promises.PeerIds.{AcceptsIds, frame_reply, moved, repeats}
 use Rattle.recovery_history.proofs.Runs.{AllAlong, throughout_kept}
@@ -38,22 +38,22 @@ repeats_decides frame (Some (id, Some token)) =
 
 -- what a replaced id is told
 abbrev InitialReply : {Q : Type 0} → RemoteIds → Reply Q → Type 0
-InitialReply ids = Refuses NotInitialId (ids.active ≢ 0) (AlwaysAnswers (λ answer. answer ≡ Done))
+InitialReply ids = RejectsWhen NotInitialId (ids.active ≢ 0) (AlwaysAnswers (λ answer. answer ≡ Done))
 
 -- ---- the least number under which an id is held
 
-abbrev IsLeastFrom : Table → ℕ → Option ℕ → Type 0
+abbrev IsLeastFrom : IdTable → ℕ → Option ℕ → Type 0
 IsLeastFrom held low None = (n : ℕ) → low ≤ n → held n ≡ None
 IsLeastFrom held low (Some least) = IsLeastHeld held low least
 
-same_least : (held : Table) (low : ℕ) (one other : Option ℕ) → IsLeastFrom held low one → IsLeastFrom held low other
+same_least : (held : IdTable) (low : ℕ) (one other : Option ℕ) → IsLeastFrom held low one → IsLeastFrom held low other
     → one ≡ other
 same_least held low None None is_one is_other = refl
 same_least held low one (Some m) is_one is_other =
     grind (arith, is_one, is_other.bound, is_other.is_held, is_other.least)
 same_least held low (Some n) None is_one is_other = grind (arith, is_other n, is_one.bound, is_one.is_held)
 
-module _ (held : Table) (low number : ℕ) (entry : HeldId) where
+module _ (held : IdTable) (low number : ℕ) (entry : HeldId) where
   -- one more id is held
   least_with : (least : Option ℕ) → IsLeastFrom held low least → IsLeastFrom (with_id number entry held) low
       (if nat_lt number low then least else Some (unwrap_or (option_map (min number) least) number))
@@ -68,7 +68,7 @@ module _ (held : Table) (low number : ℕ) (entry : HeldId) where
 
 module _ {Q S M P : Type 0} (initial : List ℕ) where
   -- what was given, as a table
-  abbrev ids_given : History Q S M P → Table
+  abbrev ids_given : History Q S M P → IdTable
   ids_given history n = id_under initial n history
 
   zero_given : (history : History Q S M P) → IsSome (ids_given history 0)
@@ -152,7 +152,7 @@ module _ {Q S M P : Type 0} (initial : List ℕ) (history : History Q S M P) (id
       fine : IsFine frame
       fine = (ordered, ahead, near)
 
-      again : Repeats frame ids.held
+      again : RepeatsFrame frame ids.held
       again = grind (arith, unlike, repeats_decides frame (ids.held frame.sequence))
 
       go : (answer : Answer Q) → IsFrameAnswer ids frame answer
@@ -234,7 +234,7 @@ module _ {Q S M P : Type 0} (initial : List ℕ) (history : History Q S M P) (id
       (λ reply near.
       refused_by Conflict (λ given. only_refusal given _ refl)
       (not (repeats frame (id_under initial frame.sequence history)))
-      (¬ Repeats frame ids.held) _ _
+      (¬ RepeatsFrame frame ids.held) _ _
       (grind (arith, same.0 frame.sequence, ahead, same.1, repeats_decides frame (ids.held frame.sequence)))
       (λ reply again.
       frame_accepted frame (ordered, ahead, near) reply)
@@ -277,7 +277,8 @@ module _ {F K Q S M P : Type 0} (beginning : Beginning F K Q S M P) where
   follows after new held = subst (AreHeld initial_id after) (held_same initial_id after new held) held
 
   -- an event that was told keeps that
-  keeps_ids : (before : History Q S M P) (event : Event Q S M P) (reply : Reply Q) → Told beginning before event reply
+  keeps_ids : (before : History Q S M P) (event : Event Q S M P) (reply : Reply Q)
+      → RepliesAfter beginning before event reply
       → HoldsIds before → HoldsIds ((event, reply) ∷ before)
   keeps_ids before (NewId frame) (Ok answer) told same =
       follows ((NewId frame, Ok answer) ∷ before) _ (frame_step initial_id before _ same frame answer told)
@@ -289,7 +290,7 @@ module _ {F K Q S M P : Type 0} (beginning : Beginning F K Q S M P) where
 
   -- what an event is told, it is told of the ids of the peer
   accepts_told : (before : History Q S M P) (event : Event Q S M P) (reply : Reply Q)
-      → Told beginning before event reply → HoldsIds before → AcceptsIds initial_id before event reply
+      → RepliesAfter beginning before event reply → HoldsIds before → AcceptsIds initial_id before event reply
   accepts_told before (NewId frame) reply told same = frame_told initial_id before _ same frame reply told
   accepts_told before NextId reply told same = next_told initial_id before _ same reply told
   accepts_told before (InitialId id) reply told same = initial_told initial_id before _ same reply told

@@ -3,14 +3,14 @@ use Rattle.std.proofs.Common.{◌≡◌, Bool, true, false, cond, List, [], ◌�
 use Rattle.std.specs.Prelude.{option_to_list}
 use Rattle.recovery_base.specs.declared.below.SpaceId.{SpaceId}
 use Rattle.recovery_base.specs.Spaces.{same_space}
-use Rattle.recovery_ledger.specs.Packets.{Packet}
-use Rattle.recovery_ledger.specs.Queued.{joined_with, queued_by}
-use Rattle.recovery_ledger.specs.SpaceLog.{SpaceEntry, loses, probes, takes_pending, emptied}
+use Rattle.recovery_spaces.specs.Packets.{Packet}
+use Rattle.recovery_spaces.specs.Queued.{joined_with, queued_by}
+use Rattle.recovery_spaces.specs.SpaceLog.{SpaceEntry, loses, probes, takes_pending, emptied}
 use Rattle.recovery_events.specs.declared.event.Event.{Event}
 use Rattle.recovery_events.specs.declared.event.Event.TheVariants.{Lost, QueueProbe, TakePending, DiscardSpace}
 use Rattle.recovery_events.specs.declared.event.Answer.TheVariants.{Queue}
 use Rattle.recovery_history.specs.Entries.{found_in}
-use Rattle.recovery_history.specs.Told.{logs_of, known_by, Told}
+use Rattle.recovery_history.specs.RepliesAfter.{logs_of, inputs_after, RepliesAfter}
 use Rattle.recovery_history.specs.History.{Beginning, History, Reply}
 use Rattle.recovery_history.specs.Logs.{onto}
 use Rattle.recovery_history.specs.Promises.Pending.{joined_all, waiting, HandsOutInOrder}
@@ -64,7 +64,7 @@ module _ {F K Q S M P : Type 0} (beginning : Beginning F K Q S M P) where
   same_waits ((QueueProbe there immediate streams, Ok answer) ∷ earlier) space =
       let same = same_waits earlier space in
       here earlier space same (same_space there space)
-      (probes immediate (found_in (known_by beginning earlier) beginning.queue.words streams there)) _
+      (probes immediate (found_in (inputs_after beginning earlier) beginning.queue.words streams there)) _
       (λ at. rw (one_space there space at) (comes _ _ _ same))
   same_waits ((TakePending there, Ok answer) ∷ earlier) space =
       here earlier space (same_waits earlier space) (same_space there space) takes_pending [] (λ at. refl)
@@ -72,7 +72,7 @@ module _ {F K Q S M P : Type 0} (beginning : Beginning F K Q S M P) where
       here earlier space (same_waits earlier space) (same_space there space) emptied [] (λ at. refl)
   same_waits ((event, Ok answer) ∷ earlier) space =
       let same = same_waits earlier space in
-      space_kept beginning.queue (known_by beginning earlier) space
+      space_kept beginning.queue (inputs_after beginning earlier) space
       (λ entry. waits (onto entry ((logs_of beginning earlier).spaces space))
       ≡ joined_all beginning (waiting beginning space earlier)) waits_on same
       (stays earlier space same) event (Ok answer) refl
@@ -83,6 +83,6 @@ module _ {F K Q S M P : Type 0} (beginning : Beginning F K Q S M P) where
   same_waits ((event, Err refusal) ∷ earlier) space = same_waits earlier space
 
   pub hands_out : (before : History Q S M P) (event : Event Q S M P) (reply : Reply Q)
-      → Told beginning before event reply → HandsOutInOrder beginning before event reply
+      → RepliesAfter beginning before event reply → HandsOutInOrder beginning before event reply
   hands_out before (TakePending space) (Ok (Queue queue)) told = told.1 ∙ same_waits before space
   hands_out before event reply told = tt

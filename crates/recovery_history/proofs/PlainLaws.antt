@@ -4,41 +4,41 @@ use Rattle.std.proofs.Common.{arith, ◌≡◌, ℕ, true, List, ◌∷◌, Ok, 
 use Rattle.recovery_base.specs.declared.below.SpaceId.{SpaceId}
 use Rattle.recovery_base.specs.declared.timer.Timer.{Timer}
 use Rattle.recovery_base.specs.Timers.{moment}
-use Rattle.recovery_congestion.specs.Controllers.{ControllerWords}
+use Rattle.recovery_congestion.specs.Controllers.{ControllerSemantics}
 use Rattle.recovery_ids.specs.LocalIds.{LocalIds}
-use Rattle.recovery_ledger.specs.Acks.{AckState}
-use Rattle.recovery_ledger.specs.Discarded.{is_discarded}
+use Rattle.recovery_spaces.specs.Acks.{AckState}
+use Rattle.recovery_spaces.specs.Discarded.{is_discarded}
 use Rattle.recovery_events.specs.declared.event.Event.{Event}
 use Rattle.recovery_events.specs.declared.event.Event.TheVariants.{AckFrequencyIn, InitialId, NewId, NextId, NextTimeout, SetTimer, StopTimer}
 use Rattle.recovery_events.specs.declared.event.Answer.{Answer}
 use Rattle.recovery_events.specs.declared.event.Answer.TheVariants.{Done, Flag}
 use Rattle.recovery_events.specs.declared.event.Refusal.TheVariants.{DelayTooSmall, NoMemory}
-use Rattle.recovery_history.specs.History.{Beginning, History, QueueMeaning, Reply}
+use Rattle.recovery_history.specs.History.{Beginning, History, QueueModel, Reply}
 use Rattle.recovery_history.specs.IdReplies.{FrameReply}
-use Rattle.recovery_history.specs.Known.{Known}
-use Rattle.recovery_history.specs.Plain.{Plain}
-use Rattle.recovery_history.specs.Table.{PlainStep, frequency_by, limit, own_ids, ToldBy}
+use Rattle.recovery_history.specs.ReplyInputs.{ReplyInputs}
+use Rattle.recovery_history.specs.Unlogged.{UnloggedState}
+use Rattle.recovery_history.specs.Table.{UnloggedStep, frequency_by, limit, own_ids, ReplyTable}
 use Rattle.recovery_history.specs.Promises.GivenIds.{AreHeld}
 use Rattle.recovery_history.specs.Promises.NewNumbers.{is_discarded as was_discarded}
-use Rattle.recovery_history.specs.Promises.Timeouts.{TellsTimers, moment_of}
+use Rattle.recovery_history.specs.Promises.Timeouts.{ReportsNextTimeout, timer_value}
 use Rattle.recovery_history.specs.Replies.{AlwaysAnswers}
-use Rattle.recovery_history.specs.Told.{Told}
+use Rattle.recovery_history.specs.RepliesAfter.{RepliesAfter}
 use Rattle.recovery_history.proofs.PeerIdsLaws.{frame_step, next_step, initial_step}
 
-module _ {K Q S M P : Type 0} (q : QueueMeaning Q S M P) (words : ControllerWords K) (heard : SpaceId → AckState)
-    (known : Known K P M) (first : ℕ) (initial : List ℕ) (own : LocalIds) where
-  abbrev pub PlainLeft : History Q S M P → Plain → Type 0
+module _ {K Q S M P : Type 0} (q : QueueModel Q S M P) (words : ControllerSemantics K) (heard : SpaceId → AckState)
+    (known : ReplyInputs K P M) (first : ℕ) (initial : List ℕ) (own : LocalIds) where
+  abbrev pub PlainLeft : History Q S M P → UnloggedState → Type 0
   PlainLeft history plain =
       ((space : SpaceId) → is_discarded space plain.discarded ≡ was_discarded space history)
       × (plain.frequency ≡ frequency_by first history)
-      × ((kind : Timer) → moment kind plain.timers ≡ moment_of history kind)
+      × ((kind : Timer) → moment kind plain.timers ≡ timer_value history kind)
       × (plain.peer_limit ≡ limit history)
       × AreHeld initial history plain.remote_ids
       × (plain.local_ids ≡ own_ids own history)
 
-  pub plain_after : (history : History Q S M P) (event : Event Q S M P) (reply : Reply Q) (old new : Plain)
-      → PlainLeft history old → known.remote_ids ≡ old.remote_ids → ToldBy q words heard known event reply
-      → PlainStep event reply old new → PlainLeft ((event, reply) ∷ history) new
+  pub plain_after : (history : History Q S M P) (event : Event Q S M P) (reply : Reply Q) (old new : UnloggedState)
+      → PlainLeft history old → known.remote_ids ≡ old.remote_ids → ReplyTable q words heard known event reply
+      → UnloggedStep event reply old new → PlainLeft ((event, reply) ∷ history) new
   plain_after history (NewId frame) (Ok answer) old new left is told step =
       let reply : Type 0 = FrameReply old.remote_ids frame (Ok answer) in
       let here : reply = rw is at told in
@@ -65,7 +65,7 @@ always given (Err refusal) told = absurd told
 module _ {F K Q S M P : Type 0} (beginning : Beginning F K Q S M P) where
   -- what an event is told, it is told of timers
   pub timers_told : (history : History Q S M P) (event : Event Q S M P) (reply : Reply Q)
-      → Told beginning history event reply → TellsTimers history event reply
+      → RepliesAfter beginning history event reply → ReportsNextTimeout history event reply
   timers_told history NextTimeout reply told = always _ reply told
   timers_told history (SetTimer timer time) reply told = always Done reply told
   timers_told history (StopTimer timer) reply told = always Done reply told

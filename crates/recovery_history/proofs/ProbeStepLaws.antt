@@ -7,18 +7,18 @@ use Rattle.std.specs.Range.{range_inclusive_start, range_inclusive_end, range_in
 use Rattle.recovery_base.specs.declared.below.SpaceId.TheVariants.{Initial, Handshake, Data}
 use Rattle.recovery_base.specs.declared.below.SpaceId.{SpaceId}
 use Rattle.recovery_base.specs.declared.below.frames.EcnCounts.{EcnCounts}
-use Rattle.recovery_ledger.specs.Packets.{Tracking}
-use Rattle.recovery_ledger.specs.Probes.{ProbeFound}
-use Rattle.recovery_ledger.specs.SpaceLog.{probes, feeds_back}
-use Rattle.recovery_ledger.specs.Spaces.{Space, Spaces, space_of, with_space, tracking_of, acks_of, next_number_of, SpaceStep}
-use Rattle.recovery_ledger.proofs.CoherentLaws.{coherent_kept, come_kept}
+use Rattle.recovery_spaces.specs.Packets.{Tracking}
+use Rattle.recovery_spaces.specs.Probes.{ProbeFound}
+use Rattle.recovery_spaces.specs.SpaceLog.{probes, feeds_back}
+use Rattle.recovery_spaces.specs.Spaces.{Space, Spaces, space_of, with_space, tracking_of, acks_of, next_number_of, SpaceStep}
+use Rattle.recovery_spaces.proofs.CoherentLaws.{coherent_kept, come_kept}
 use Rattle.recovery_paths.specs.Balance.{AreBalanced}
-use Rattle.recovery_paths.specs.PathLog.{OfPaths}
+use Rattle.recovery_paths.specs.PathLog.{PerPath}
 use Rattle.recovery_paths.specs.PathStates.{Path}
 use Rattle.recovery_paths.proofs.BalanceLaws.{kept, probed}
-use Rattle.recovery_queue.specs.Queues.{QueueWords}
-use Rattle.recovery_skips.specs.Filters.{AcksSkip, range_holds}
-use Rattle.recovery_history.specs.Known.{Known}
+use Rattle.recovery_queue.specs.Queues.{QueueSemantics}
+use Rattle.recovery_packet_numbers.specs.Filters.{AcksSkippedNumber, range_holds}
+use Rattle.recovery_history.specs.ReplyInputs.{ReplyInputs}
 use Rattle.recovery_history.specs.PartReplies.{skipped_in}
 use Rattle.recovery_history.proofs.DriverLaws.{with_same_space}
 
@@ -32,7 +32,7 @@ pub record Stays {P M : Type 0} (old new : Space P M) : Type 0 where
 pub stays_as : {P M : Type 0} (like old new : Space P M) → new ≡ like → Stays old like → Stays old new
 stays_as like old new same stays = rw same stays
 
-module _ {K P M : Type 0} (spaces : Spaces P M) (paths : OfPaths (Path K)) (balanced : AreBalanced spaces paths) where
+module _ {K P M : Type 0} (spaces : Spaces P M) (paths : PerPath (Path K)) (balanced : AreBalanced spaces paths) where
   pub stays_balanced : (space : SpaceId) (here : Space P M) → Stays (space_of space spaces) here
       → AreBalanced (with_space spaces space here) paths
   stays_balanced space here stays =
@@ -54,7 +54,7 @@ module _ {K P M : Type 0} (spaces : Spaces P M) (paths : OfPaths (Path K)) (bala
       (next ∙ ap next_number_of is))
 
   -- a probe is asked for, unless memory is refused
-  pub probe_balanced : {S A B : Type 0} (words : QueueWords P S) (space : SpaceId) (immediate : Bool)
+  pub probe_balanced : {S A B : Type 0} (words : QueueSemantics P S) (space : SpaceId) (immediate : Bool)
       (found : ProbeFound) (result : Result A B) (here : Space P M)
       → OnOk result (SpaceStep words (probes immediate found) (space_of space spaces) here)
       → OnErr result (here ≡ space_of space spaces) → AreBalanced (with_space spaces space here) paths
@@ -64,21 +64,21 @@ module _ {K P M : Type 0} (spaces : Spaces P M) (paths : OfPaths (Path K)) (bala
       rw (with_same_space spaces space here same) balanced
 
 -- counts of ECN are kept, or refused
-pub fed_back_stays : {P M S A B : Type 0} (words : QueueWords P S) (counts : EcnCounts) (result : Result A B)
+pub fed_back_stays : {P M S A B : Type 0} (words : QueueSemantics P S) (counts : EcnCounts) (result : Result A B)
     (old new : Space P M) → OnOk result (SpaceStep words (feeds_back counts) old new) → OnErr result (new ≡ old)
     → Stays old new
 fed_back_stays words counts result old new step same = grind (arith, step, same)
 
 -- ---- acknowledgements of skipped numbers
 
-module _ {K P M : Type 0} (known : Known K P M) (range : RangeInclusive ℕ) (low high : ℕ)
+module _ {K P M : Type 0} (known : ReplyInputs K P M) (range : RangeInclusive ℕ) (low high : ℕ)
     (start : range_inclusive_start range ≡ low) (end : range_inclusive_end range ≡ high)
     (whole : range_inclusive_exhausted range ≡ false) where
   -- where the range is whole, it holds what lies between its ends
   holds_between : (n : ℕ) → range_holds range n ≡ (nat_le low n && nat_le n high)
   holds_between n = grind (arith, start, end, whole)
 
-  pub skip_acked : (space : SpaceId) → AcksSkip space range known.skipped
+  pub skip_acked : (space : SpaceId) → AcksSkippedNumber space range known.skipped
       → IsSomeAnd (skipped_in known space) (λ s. (low ≤ s) × (s ≤ high))
   skip_acked Data acks = go known.skipped acks.holds
     where
@@ -90,7 +90,7 @@ module _ {K P M : Type 0} (known : Known K P M) (range : RangeInclusive ℕ) (lo
   skip_acked Handshake acks = let elsewhere = acks.in_data in absurd (cc)
 
   pub acks_skip : (space : SpaceId) → IsSomeAnd (skipped_in known space) (λ s. (low ≤ s) × (s ≤ high))
-      → AcksSkip space range known.skipped
+      → AcksSkippedNumber space range known.skipped
   acks_skip Data is = record { in_data = refl; holds = go known.skipped is }
     where
       go : (last : Option ℕ) → IsSomeAnd last (λ s. (low ≤ s) × (s ≤ high))

@@ -8,7 +8,7 @@ use Rattle.recovery_events.specs.declared.event.Refusal.{Refusal}
 use Rattle.recovery_events.specs.declared.event.Refusal.TheVariants.{NoMemory}
 use Rattle.recovery_events.specs.Refusals.{refusal_number}
 use Rattle.recovery_history.specs.History.{Reply}
-use Rattle.recovery_history.specs.Replies.{same_refusal, Refuses, Answers}
+use Rattle.recovery_history.specs.Replies.{same_refusal, RejectsWhen, AnswersOrNoMemory}
 
 -- of a refusal that holds no text there is one alone with its number
 pub only_refusal : (given of : Refusal) → (refusal_number of == 17) ≡ false → same_refusal given of ≡ true → given ≡ of
@@ -17,7 +17,7 @@ only_refusal given of no_text same = grind (arith, nat_tests)
 
 pub refuses_alike : {Q : Type 0} (refusal : Refusal) (Cause Reason : Type 0) (Otherwise Else : Reply Q → Type 0)
     → Cause ↔ Reason → ((reply : Reply Q) → Otherwise reply → Else reply)
-    → (reply : Reply Q) → Refuses refusal Cause Otherwise reply → Refuses refusal Reason Else reply
+    → (reply : Reply Q) → RejectsWhen refusal Cause Otherwise reply → RejectsWhen refusal Reason Else reply
 refuses_alike refusal Cause Reason Otherwise Else same others (Ok answer) told =
     grind (arith, same, others (Ok answer), told)
 refuses_alike refusal Cause Reason Otherwise Else same others (Err given) told =
@@ -25,7 +25,7 @@ refuses_alike refusal Cause Reason Otherwise Else same others (Err given) told =
 
 pub answers_alike : {Q : Type 0} (Grows Takes : Type 0) (IsAnswer IsOther : Answer Q → Type 0) → (Grows → Takes)
     → ((answer : Answer Q) → IsAnswer answer → IsOther answer)
-    → (reply : Reply Q) → Answers Grows IsAnswer reply → Answers Takes IsOther reply
+    → (reply : Reply Q) → AnswersOrNoMemory Grows IsAnswer reply → AnswersOrNoMemory Takes IsOther reply
 answers_alike Grows Takes IsAnswer IsOther grows alike (Ok answer) told = alike answer told
 answers_alike Grows Takes IsAnswer IsOther grows alike (Err NoMemory) told = grows told
 answers_alike Grows Takes IsAnswer IsOther grows alike (Err refusal) told = absurd told
@@ -35,7 +35,7 @@ pub refused_by : {Q : Type 0} (refusal : Refusal)
     → ((given : Refusal) → same_refusal given refusal ≡ true → given ≡ refusal)
     → (cause : Bool) (Cause : Type 0) (Otherwise : Reply Q → Type 0) (rest : Reply Q) → Decides cause Cause
     → ((reply : Reply Q) → ¬ Cause → Otherwise reply → reply ≡ rest)
-    → (reply : Reply Q) → Refuses refusal Cause Otherwise reply → reply ≡ (if cause then Err refusal else rest)
+    → (reply : Reply Q) → RejectsWhen refusal Cause Otherwise reply → reply ≡ (if cause then Err refusal else rest)
 refused_by refusal only cause Cause Otherwise rest decides others (Ok answer) told =
     grind (arith, decides, others (Ok answer), told)
 refused_by refusal only cause Cause Otherwise rest decides others (Err given) told =

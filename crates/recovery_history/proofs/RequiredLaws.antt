@@ -2,14 +2,14 @@
 -- `DutyLaws` rest on it.
 use Rattle.std.proofs.Common.{◌≤◌, ◌<◌, ◌+◌, ◌-◌, ℕ, zero, suc, List, [], ◌∷◌, Option, None, Some, ◌⊎◌, inl, inr, max, arith}
 use Rattle.std.proofs.lemmas.Bool.{cases_eq, cases_lt}
-use Rattle.recovery_acks.specs.Acks.{AckCounts, AsksAtOnce, IsOutOfOrder, IsReported}
+use Rattle.recovery_acks.specs.Acks.{AckCounts, RequiresImmediateAck, IsOutOfOrder, IsReported}
 use Rattle.std.specs.Option.{unwrap_or}
-use Rattle.recovery_base.specs.Numbers.{With, IsInWindow, IsLeastMissing, IsMissing}
+use Rattle.recovery_base.specs.Numbers.{InsertNumber, IsInWindow, IsLeastMissing, IsMissing}
 use Rattle.recovery_base.proofs.WindowLaws.{HasGreatest}
-use Rattle.recovery_ledger.specs.Acks.{IsRequired, counts_by}
-use Rattle.recovery_ledger.specs.Received.{CameIn}
-use Rattle.recovery_ledger.specs.SpaceLog.{SpaceEntry, heard, heard_again}
-use Rattle.recovery_ledger.proofs.ReceivedLaws.{came_greatest}
+use Rattle.recovery_spaces.specs.Acks.{IsRequired, counts_by}
+use Rattle.recovery_spaces.specs.Received.{ReceivedNumbers}
+use Rattle.recovery_spaces.specs.SpaceLog.{SpaceEntry, heard, heard_again}
+use Rattle.recovery_spaces.proofs.ReceivedLaws.{came_greatest}
 
 -- ---- what can be decided
 
@@ -99,17 +99,18 @@ module _ (Numbers : ℕ → Type 0) (greatest : HasGreatest Numbers) (came : (n 
       gap (inr none) = inr (λ h. none h.0 h.1.0 h.1.1 h.1.2)
 
 module _ {P M : Type 0} where
-  has_come : (log : List (SpaceEntry P M)) (n : ℕ) → Decided (CameIn log n)
+  has_come : (log : List (SpaceEntry P M)) (n : ℕ) → Decided (ReceivedNumbers log n)
   has_come [] n = inr (λ h. h)
   has_come (heard now number eliciting ∷ earlier) n = grind (arith, has_come earlier n)
   has_come (entry ∷ earlier) n = grind (arith, has_come earlier n)
 
   pub asks : (log : List (SpaceEntry P M)) (counts : AckCounts) (number : ℕ)
-      → Decided (AsksAtOnce (With number (CameIn log)) counts number)
+      → Decided (RequiresImmediateAck (InsertNumber number (ReceivedNumbers log)) counts number)
   asks log counts number =
       let longer : List (SpaceEntry P M) = heard_again number ∷ log in
       either (grind arith)
-      (is_out_of_order (CameIn longer) (came_greatest longer) (has_come longer) counts.thresholds.1 counts.acknowledged
+      (is_out_of_order (ReceivedNumbers longer) (came_greatest longer)
+          (has_come longer) counts.thresholds.1 counts.acknowledged
       (unwrap_or counts.greatest 0) (max (unwrap_or counts.greatest 0) number) number)
 
   -- an ACK is required at once, or not

@@ -1,6 +1,6 @@
 -- A run goes on by one event, and what each event keeps holds throughout. The clauses of `run` that are carried from
 -- event to event rest on it.
-use Rattle.recovery_history.specs.Told.{Told}
+use Rattle.recovery_history.specs.RepliesAfter.{RepliesAfter}
 use Rattle.std.proofs.Common.{◌≡◌, List, [], ◌∷◌, ◌++◌, length, reverse, refl, ap, ◌∙◌, arith}
 use Rattle.std.specs.List.{zip}
 use Rattle.std.proofs.lemmas.List.{length-append, reverse-append}
@@ -67,16 +67,17 @@ throughout_by P H Kept keeps holds first = at_each P Kept keeps first H holds
 -- of every run whose events were told, it holds throughout
 abbrev pub AllAlong : {F K Q S M P : Type 0} → Beginning F K Q S M P
     → (History Q S M P → Event Q S M P → Reply Q → Type 0) → Type 0
-AllAlong {F} {K} {Q} {S} {M} {P} beginning H = (history : History Q S M P) → AtEach (Told beginning) history
+AllAlong {F} {K} {Q} {S} {M} {P} beginning H = (history : History Q S M P) → AtEach (RepliesAfter beginning) history
     → AtEach H history
 
 -- what holds of an event because of what was kept before it holds throughout a run
 module _ {F K Q S M P : Type 0} (beginning : Beginning F K Q S M P) (Kept : History Q S M P → Type 0)
     (Holds : History Q S M P → Event Q S M P → Reply Q → Type 0) where
   pub throughout_kept : ((before : History Q S M P) (event : Event Q S M P) (reply : Reply Q)
-      → Told beginning before event reply → Kept before → Kept ((event, reply) ∷ before))
-      → ((before : History Q S M P) (event : Event Q S M P) (reply : Reply Q) → Told beginning before event reply
+      → RepliesAfter beginning before event reply → Kept before → Kept ((event, reply) ∷ before))
+      → ((before : History Q S M P) (event : Event Q S M P) (reply : Reply Q)
+          → RepliesAfter beginning before event reply
       → Kept before → Holds before event reply)
       → Kept [] → AllAlong beginning Holds
-  throughout_kept keeps holds first = at_each (Told beginning) Kept keeps first Holds
+  throughout_kept keeps holds first = at_each (RepliesAfter beginning) Kept keeps first Holds
       (λ before event reply told kept after. holds before event reply told kept)

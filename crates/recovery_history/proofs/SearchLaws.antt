@@ -9,20 +9,20 @@ use Rattle.recovery_base.specs.Spaces.{same_space}
 use Rattle.recovery_mtud.specs.declared.config.MtuDiscoveryConfig.{MtuDiscoveryConfig}
 use Rattle.recovery_mtud.specs.DiscoveryLog.{polls}
 use Rattle.recovery_mtud.specs.MtuEntries.{MtuEntry, poll_entry, probed, unprobed, mtu_in_use}
-use Rattle.recovery_mtud.specs.SearchRuns.{EndsNearBest, ProbesInSearch, TakesFew}
+use Rattle.recovery_mtud.specs.SearchRuns.{EndsNearBest, ProbesInSearch, UsesFewProbes}
 use Rattle.recovery_mtud.proofs.MtuEntryLaws.{is_probe_by}
 use Rattle.recovery_mtud.proofs.SearchRunLaws.{search_takes_few, search_ends_near, probes_in_search, mtu_by, search_runs_by, limits_outside_after}
 use Rattle.recovery_mtud.proofs.UnsearchedLaws.{unsearched}
-use Rattle.recovery_paths.specs.PathLog.{OnEachPath, PathPast, pasts_by, state_of}
+use Rattle.recovery_paths.specs.PathLog.{OnEachPath, PathHistory, pasts_by, path_state_of}
 use Rattle.recovery_paths.specs.PathStates.{is_path_probe}
 use Rattle.recovery_paths.proofs.SearchedLaws.{IsSearchedBy, IsPathSearchedBy, first_searched, searched_over, searched_at_first}
 use Rattle.recovery_events.specs.declared.event.Event.TheVariants.{Acked, Lost, PeerLimit, PollMtu}
 use Rattle.recovery_events.specs.declared.event.Answer.TheVariants.{Probe, NoProbe}
 use Rattle.recovery_events.specs.declared.event.Answer.TheVariants as answer
 use Rattle.recovery_events.specs.declared.event.Refusal.TheVariants.{Searching}
-use Rattle.recovery_history.specs.Told.{logs_of, pasts_of, known_by, first_path, settings_of, Told}
-use Rattle.recovery_history.specs.History.{Beginning, History, QueueMeaning}
-use Rattle.recovery_history.specs.Known.{Known}
+use Rattle.recovery_history.specs.RepliesAfter.{logs_of, pasts_of, inputs_after, first_path, settings_of, RepliesAfter}
+use Rattle.recovery_history.specs.History.{Beginning, History, QueueModel}
+use Rattle.recovery_history.specs.ReplyInputs.{ReplyInputs}
 use Rattle.recovery_history.specs.Search.{WhereSearched, discovery_settings}
 use Rattle.recovery_history.specs.PartReplies.{MtuProbeReply}
 use Rattle.recovery_history.proofs.SearchSaid.{EndsNear, LimitsOutside, ProbesInTurn, TellsProbes, entered_so_far, entries_on, is_in_flight, Follows, Keeps, IsSmall}
@@ -34,14 +34,14 @@ pub where_allowed : {A : Type 0} (P : A → Type 0) (allowed : Bool) (o : Option
 where_allowed P true o holds = holds
 where_allowed P false o holds = λ x is. absurd cc
 
-module _ {K Q S M P : Type 0} (q : QueueMeaning Q S M P) (known : Known K P M) (now : ℕ) where
+module _ {K Q S M P : Type 0} (q : QueueModel Q S M P) (known : ReplyInputs K P M) (now : ℕ) where
   -- a poll that gives none is not answered by a probe
   unanswered : {A : Type 0} (answer : Option ℕ) (number size : ℕ) → answer ≡ None
       → MtuProbeReply q known now answer (Ok (Probe number size)) → A
   unanswered None number size none told = absurd cc
   unanswered (Some own) number size none told = absurd cc
 
-module _ {K Q S M P : Type 0} (q : QueueMeaning Q S M P) (known : Known K P M) (settings : MtuDiscoveryConfig)
+module _ {K Q S M P : Type 0} (q : QueueModel Q S M P) (known : ReplyInputs K P M) (settings : MtuDiscoveryConfig)
     (now next : ℕ) (earlier : List MtuEntry) where
   -- a poll that is answered by a probe gives one
   probe_out : (answer : Option ℕ) (number size : ℕ) → MtuProbeReply q known now answer (Ok (Probe number size))
@@ -70,7 +70,7 @@ module _ {F K Q S M P : Type 0} (beginning : Beginning F K Q S M P) where
       (fresh_is None)
 
 module _ {F K Q S M P : Type 0} (beginning : Beginning F K Q S M P) where
-  abbrev past_in : History Q S M P → PathPast K
+  abbrev past_in : History Q S M P → PathHistory K
   past_in history = (pasts_of beginning history).current
 
   -- each path that lives is
@@ -78,52 +78,54 @@ module _ {F K Q S M P : Type 0} (beginning : Beginning F K Q S M P) where
   AreSearched history = OnEachPath (IsPathSearchedBy (discovery_settings beginning)) (pasts_of beginning history)
 
   -- an event keeps that
-  pub searched_one : Keeps (Told beginning) AreSearched
+  pub searched_one : Keeps (RepliesAfter beginning) AreSearched
   searched_one before event reply told searched =
       searched_over (settings_of beginning) (discovery_settings beginning) (fresh_is beginning) (first_path beginning) _
       (logs_of beginning before).paths
-      (is_allowed beginning.queue (settings_of beginning) _ (known_by beginning before) event reply told) searched
+      (is_allowed beginning.queue (settings_of beginning) _ (inputs_after beginning before) event reply told) searched
 
   -- the upper bound is a `u16`
   module _ (small : IsSmall beginning) where
-    pub few_one : Follows (Told beginning) AreSearched (λ before event reply. WhereSearched beginning (λ settings.
-        TakesFew (entered_so_far beginning ((event, reply) ∷ before))))
+    pub few_one : Follows (RepliesAfter beginning) AreSearched
+        (λ before event reply. WhereSearched beginning (λ settings.
+        UsesFewProbes (entered_so_far beginning ((event, reply) ∷ before))))
     few_one before event reply told searched = λ settings is change.
         let past = past_in ((event, reply) ∷ before) in
         let by = (searched_one before event reply told searched).0 in
         search_takes_few past.kept.discovery settings by.untold (by.settings_are ∙ is) change (small settings is)
         past.searched
 
-    pub ends_one : Follows (Told beginning) AreSearched (EndsNear beginning)
+    pub ends_one : Follows (RepliesAfter beginning) AreSearched (EndsNear beginning)
     ends_one before (PollMtu now) (Ok NoProbe) told searched = λ settings is change. (
         let past = past_in before in
         let made = past.kept.discovery in
         let by = searched.0 in
-        let poll = polls now (known_by beginning before).next_number in
-        none_out beginning.queue (known_by beginning before) settings now _ (entries_on past) made _ told.1.1
+        let poll = polls now (inputs_after beginning before).next_number in
+        none_out beginning.queue (inputs_after beginning before) settings now _ (entries_on past) made _ told.1.1
         (search_ends_near made settings by.untold (by.settings_are ∙ is) change (small settings is)
         (poll ∷ past.searched) (limits_outside_after made by.untold poll past.searched tt by.outside))
         )
     ends_one before event reply told searched = tt
 
-  pub probes_one : Follows (Told beginning) AreSearched (ProbesInTurn beginning)
+  pub probes_one : Follows (RepliesAfter beginning) AreSearched (ProbesInTurn beginning)
   probes_one before (PollMtu now) (Ok (Probe number size)) told searched = go (discovery_settings beginning) refl
     where
-      past : PathPast K
+      past : PathHistory K
       past = past_in before
 
       go : (by : Option MtuDiscoveryConfig) → discovery_settings beginning ≡ by
           → IsSomeAnd by (λ settings. ProbesInSearch settings (probed now number size ∷ entries_on past))
-      go None is = unanswered beginning.queue (known_by beginning before) now _ number size
+      go None is = unanswered beginning.queue (inputs_after beginning before) now _ number size
           (unsearched past.kept.discovery (searched.0.settings_are ∙ is) now past.searched) told.1.1
       go (Some settings) is =
-          probe_out beginning.queue (known_by beginning before) settings now _ (entries_on past) _ number size told.1.1
+          probe_out beginning.queue (inputs_after beginning before) settings now _
+              (entries_on past) _ number size told.1.1
           (probes_in_search past.kept.discovery settings searched.0.untold (searched.0.settings_are ∙ is)
-          (polls now (known_by beginning before).next_number ∷ past.searched))
+          (polls now (inputs_after beginning before).next_number ∷ past.searched))
   probes_one before event reply told searched = tt
 
   -- a search runs on the path in use exactly where its entries say so
-  pub limits_one : Follows (Told beginning) AreSearched (LimitsOutside beginning)
+  pub limits_one : Follows (RepliesAfter beginning) AreSearched (LimitsOutside beginning)
   limits_one before (PeerLimit size) (Err Searching) told searched =
       sym (search_runs_by _ searched.0.untold (past_in before).searched) ∙ told.1
   limits_one before (PeerLimit size) (Ok given) told searched =
@@ -132,12 +134,12 @@ module _ {F K Q S M P : Type 0} (beginning : Beginning F K Q S M P) where
 
   -- the packet that is a probe by the state is the one in flight by the entries
   probe_same : (before : History Q S M P) → AreSearched before → (space : SpaceId) (number : ℕ)
-      → is_path_probe space number (state_of (past_in before)) ≡ is_in_flight beginning before space number
+      → is_path_probe space number (path_state_of (past_in before)) ≡ is_in_flight beginning before space number
   probe_same before searched space number =
       ap (λ probe. same_space space Data && probe)
       (is_probe_by _ searched.0.untold (past_in before).searched number)
 
-  pub tells_one : Follows (Told beginning) AreSearched (TellsProbes beginning)
+  pub tells_one : Follows (RepliesAfter beginning) AreSearched (TellsProbes beginning)
   tells_one before (Acked space now number app_limited) (Ok given) told searched = told.1.1
       ∙ ap answer.Acked (probe_same before searched space number)
   tells_one before (Lost space number) (Ok given) told searched =
@@ -145,8 +147,8 @@ module _ {F K Q S M P : Type 0} (beginning : Beginning F K Q S M P) where
   tells_one before event reply told searched = tt
 
   -- after an event, the MTU in use is the one that the entries say
-  pub mtu_one : Follows (Told beginning) AreSearched (λ before event reply.
+  pub mtu_one : Follows (RepliesAfter beginning) AreSearched (λ before event reply.
       let past = (pasts_of beginning ((event, reply) ∷ before)).current in
-      (state_of past).discovery.mtu ≡ mtu_in_use past.kept.discovery (entries_on past))
+      (path_state_of past).discovery.mtu ≡ mtu_in_use past.kept.discovery (entries_on past))
   mtu_one before event reply told searched =
       mtu_by _ (searched_one before event reply told searched).0.untold (past_in ((event, reply) ∷ before)).searched

@@ -4,19 +4,19 @@ use Rattle.std.specs.Prelude.{◌≡◌, ℕ, ◌&&◌, Bool, true, false, List,
 use Rattle.recovery_base.specs.declared.below.SpaceId.{SpaceId}
 use Rattle.recovery_base.specs.Spaces.{same_space}
 use Rattle.recovery_base.specs.declared.below.SpaceId.TheVariants.{Data}
-use Rattle.recovery_ledger.specs.Packets.{Packet, packet_at}
+use Rattle.recovery_spaces.specs.Packets.{Packet, packet_at}
 use Rattle.recovery_mtud.specs.BurstRuns.{AreFourStanding, AreFourUnanswered}
 use Rattle.recovery_mtud.specs.MtuEntries.{MtuEntry, probed, unprobed, limited, acked, probe_lost, lost, losses_over, reported, reset, entries_by, probe_in_flight, size_at}
 use Rattle.recovery_mtud.specs.SearchRuns.{EndsNearBest, ProbesInSearch, search_runs}
-use Rattle.recovery_paths.specs.PathLog.{PathPast}
+use Rattle.recovery_paths.specs.PathLog.{PathHistory}
 use Rattle.recovery_events.specs.declared.event.Event.{Event}
 use Rattle.recovery_events.specs.declared.event.Event.TheVariants.{Acked, Lost, PollMtu, PeerLimit, LossesDone, NewPath, ResetPath, RevertPath}
 use Rattle.recovery_events.specs.declared.event.Answer.TheVariants as answer
 use Rattle.recovery_events.specs.declared.event.Answer.TheVariants.{Probe, NoProbe, BlackHole}
 use Rattle.recovery_events.specs.declared.event.Refusal.TheVariants.{Searching}
-use Rattle.recovery_history.specs.Told.{pasts_of, known_by, settings_of}
+use Rattle.recovery_history.specs.RepliesAfter.{pasts_of, inputs_after, settings_of}
 use Rattle.recovery_history.specs.History.{Beginning, History, Reply}
-use Rattle.recovery_history.specs.Known.{tracked_known}
+use Rattle.recovery_history.specs.ReplyInputs.{tracked_known}
 use Rattle.recovery_history.specs.Search.{WhereSearched, discovery_settings}
 use Rattle.std.specs.Option.{ForSome}
 
@@ -31,7 +31,7 @@ module _ {Q S M C : Type 0} where
   Keeps P Kept = Follows P Kept (λ before event reply. Kept ((event, reply) ∷ before))
 
 -- what the discovery of a path was told and answered since it was made
-abbrev pub entries_on : {K : Type 0} → PathPast K → List MtuEntry
+abbrev pub entries_on : {K : Type 0} → PathHistory K → List MtuEntry
 entries_on past = entries_by past.kept.discovery past.searched
 
 -- what the size of a packet gives, where there is one
@@ -41,7 +41,7 @@ of_packet entry packet = option_to_list (option_map (λ packet. entry packet.siz
 module _ {F K Q S M P : Type 0} (beginning : Beginning F K Q S M P) where
   -- the packet of 1-RTT keys that is tracked under a number
   abbrev pub data_packet : History Q S M P → ℕ → Option (Packet P M)
-  data_packet history = packet_at (tracked_known (known_by beginning history) Data)
+  data_packet history = packet_at (tracked_known (inputs_after beginning history) Data)
 
   -- what the search on the path in use was told and answered before
   abbrev pub entered_so_far : History Q S M P → List MtuEntry

@@ -2,14 +2,14 @@
 -- promises on searches by events alone rest on it.
 use Rattle.std.proofs.Common.{arith, ℕ, ◌≡◌, Bool, true, false, if◌then◌else◌, List, [], ◌∷◌, None, Some, Ok, Err, is_some}
 use Rattle.recovery_base.specs.declared.below.SpaceId.TheVariants.{Data}
-use Rattle.recovery_ledger.specs.Packets.{Packet}
+use Rattle.recovery_spaces.specs.Packets.{Packet}
 use Rattle.recovery_mtud.specs.Discovery.{reports}
 use Rattle.recovery_mtud.specs.MtuEntries.{MtuEntry, probed, unprobed, limited, acked, lost, losses_over, probe_in_flight, probe_lost, reported, reset, size_at}
 use Rattle.recovery_mtud.specs.SearchRuns.{search_runs}
 use Rattle.recovery_events.specs.declared.event.Event.{Event}
 use Rattle.recovery_events.specs.declared.event.Event.TheVariants.{PollMtu, Acked, Lost, LossesDone, PeerLimit, ResetPath, NewPath, RevertPath}
 use Rattle.recovery_events.specs.declared.event.Answer.TheVariants as answer
-use Rattle.recovery_history.specs.Told.{known_by, settings_of, Told, logs_of}
+use Rattle.recovery_history.specs.RepliesAfter.{inputs_after, settings_of, RepliesAfter, logs_of}
 use Rattle.recovery_history.specs.History.{Beginning, History, Reply}
 use Rattle.recovery_history.proofs.AnswerLaws.{is_there}
 use Rattle.recovery_history.proofs.Runs.{AllAlong, throughout_by, throughout_kept}
@@ -19,14 +19,14 @@ use Rattle.recovery_history.proofs.SearchLaws.{AreSearched, first_is, limits_one
 use Rattle.recovery_history.proofs.PacketSizeLaws.{Sized, sized_after, size_in}
 use Rattle.recovery_history.proofs.FieldLaws.{said_found}
 use Rattle.recovery_history.specs.Promises.Bursts.{size_of}
-use Rattle.recovery_ledger.specs.Tracked.{sent_by}
+use Rattle.recovery_spaces.specs.Tracked.{sent_by}
 
 -- ---- what is known of an event and its reply
 
 pub record Facts {F K Q S M P : Type 0} (beginning : Beginning F K Q S M P) (history : History Q S M P)
     (event : Event Q S M P) (reply : Reply Q)
     : Type 0 where
-  pub told : Told beginning history event reply
+  pub told : RepliesAfter beginning history event reply
   pub entered : EntersAsTold beginning history event reply
   pub searched : AreSearched beginning history
   pub tells : TellsProbes beginning history event reply
@@ -117,7 +117,7 @@ module _ {F K Q S M P : Type 0} (beginning : Beginning F K Q S M P) (history : H
         arith,
         known.told,
         known.entered,
-        step (reports (known_by beginning history).paths.current.state.discovery),
+        step (reports (inputs_after beginning history).paths.current.state.discovery),
       )
   stepped (NewPath now remote true) (Ok given) known step = grind (arith, known.entered, step)
   stepped RevertPath (Ok given) known step = grind (arith, known.entered, step)

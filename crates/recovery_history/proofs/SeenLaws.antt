@@ -2,25 +2,25 @@
 -- make a path, drop one or use one again. `MadeLaws` and `LeftMtuLaws` rest on it.
 use Rattle.std.proofs.Common.{ℕ, ◌≡◌, Bool, true, false, List, ◌∷◌, ◌++◌, Ok, Err, refl, ◌∙◌, arith}
 use Rattle.recovery_paths.specs.PathMaking.{PathSettings}
-use Rattle.recovery_paths.specs.PathLog.{OfPaths, PathEntry, PathPast, PathsEntry, on, is_validated, on_path_of, past_with, pasts_by, receives}
+use Rattle.recovery_paths.specs.PathLog.{PerPath, PathEntry, PathHistory, PathsEntry, on, is_validated, on_path_of, past_with, pasts_by, receives}
 use Rattle.recovery_paths.specs.declared.path_pair.PathName.TheVariants.{Current, Previous}
 use Rattle.recovery_paths.specs.PathStates.{PathState}
 use Rattle.recovery_events.specs.declared.event.Event.{Event}
 use Rattle.recovery_events.specs.declared.event.Event.TheVariants.{NewPath, DropPrevious, RevertPath}
-use Rattle.recovery_history.specs.Told.{logs_of, pasts_of, known_by, first_path, settings_of}
+use Rattle.recovery_history.specs.RepliesAfter.{logs_of, pasts_of, inputs_after, first_path, settings_of}
 use Rattle.recovery_history.specs.History.{Beginning, History, Reply}
-use Rattle.recovery_history.specs.Known.{Known}
+use Rattle.recovery_history.specs.ReplyInputs.{ReplyInputs}
 use Rattle.recovery_history.proofs.EntryKinds.{PathKind, moving, dropping, returning, elsewhere, path_kind, paths_kept}
 use Rattle.std.specs.Prelude.{Option, option_map}
 
 -- what happens on the path in use is not seen
-abbrev pub IsStill : {K A : Type 0} → PathSettings K → (OfPaths (PathPast K) → A) → Type 0
-IsStill {K} settings see = (entry : PathEntry) (paths : OfPaths (PathPast K))
+abbrev pub IsStill : {K A : Type 0} → PathSettings K → (PerPath (PathHistory K) → A) → Type 0
+IsStill {K} settings see = (entry : PathEntry) (paths : PerPath (PathHistory K))
     → see (on_path_of Current (past_with settings entry) paths) ≡ see paths
 
 -- nor that datagrams come in on the path before it, or that it is validated
-abbrev pub IsStillOn : {K A : Type 0} → PathSettings K → (OfPaths (PathPast K) → A) → Type 0
-IsStillOn {K} settings see = (paths : OfPaths (PathPast K))
+abbrev pub IsStillOn : {K A : Type 0} → PathSettings K → (PerPath (PathHistory K) → A) → Type 0
+IsStillOn {K} settings see = (paths : PerPath (PathHistory K))
     → ((bytes : ℕ) → see (on_path_of Previous (past_with settings (receives bytes)) paths) ≡ see paths)
     × (see (on_path_of Previous (past_with settings is_validated) paths) ≡ see paths)
 
@@ -37,7 +37,7 @@ stays_there returning = false
 stays_there elsewhere = false
 stays_there kind = true
 
-module _ {K A : Type 0} (settings : PathSettings K) (first : PathState K) (see : OfPaths (PathPast K) → A)
+module _ {K A : Type 0} (settings : PathSettings K) (first : PathState K) (see : PerPath (PathHistory K) → A)
     (still : IsStill settings see) (still_on : IsStillOn settings see) where
   one_seen : (entry : PathsEntry) (log : List PathsEntry) → stays_there (path_kind entry) ≡ true
       → see (pasts_by settings first (entry ∷ log)) ≡ see (pasts_by settings first log)
@@ -46,11 +46,11 @@ module _ {K A : Type 0} (settings : PathSettings K) (first : PathState K) (see :
   one_seen (on Previous is_validated) log is = (still_on (pasts_by settings first log)).1
   one_seen entry log is = absurd cc
 
-module _ {F K Q S M P A : Type 0} (beginning : Beginning F K Q S M P) (see : OfPaths (PathPast K) → A)
+module _ {F K Q S M P A : Type 0} (beginning : Beginning F K Q S M P) (see : PerPath (PathHistory K) → A)
     (still : IsStill (settings_of beginning) see) (still_on : IsStillOn (settings_of beginning) see)
     (past : History Q S M P) where
-  abbrev known : Known K P M
-  known = known_by beginning past
+  abbrev known : ReplyInputs K P M
+  known = inputs_after beginning past
 
   abbrev log : List PathsEntry
   log = (logs_of beginning past).paths

@@ -1,46 +1,46 @@
 -- A packet that is sent: it may be tracked, the balance of the paths stays, and each part changes by its step. The call
 -- `send` rests on it.
-use Rattle.recovery_ledger.specs.SpaceLog.{sends}
+use Rattle.recovery_spaces.specs.SpaceLog.{sends}
 use Rattle.recovery_history.specs.Entries.{here}
 use Rattle.std.proofs.Common.{◌≡◌, ℕ, ◌<◌, ◌≤◌, ◌^◌, Bool, false, Option, option_map, Ok, refl, sym, ap, subst, ◌∙◌, arith}
 use Rattle.recovery_base.specs.declared.below.SpaceId.{SpaceId}
 use Rattle.recovery_congestion.specs.Calls.{sends as sends_bytes}
-use Rattle.recovery_ledger.specs.Discarded.{is_discarded}
-use Rattle.recovery_ledger.specs.InFlight.{Overflows}
-use Rattle.recovery_ledger.specs.Packets.{Packet, entry_number, forgotten_entry, IsTooLarge}
-use Rattle.recovery_ledger.specs.Paths.{generation_of, counters_of, after_forgetting}
-use Rattle.recovery_ledger.specs.Spaces.{Space, Spaces, space_of, with_space, tracking_of, packets_of, next_number_of, space_sends}
-use Rattle.recovery_ledger.specs.Tracked.{packet_sent}
-use Rattle.recovery_ledger.specs.declared.paths.InFlight.{InFlight}
-use Rattle.recovery_ledger.proofs.PacketLaws.{entry_number_of}
+use Rattle.recovery_spaces.specs.Discarded.{is_discarded}
+use Rattle.recovery_spaces.specs.InFlight.{Overflows}
+use Rattle.recovery_spaces.specs.Packets.{Packet, entry_number, forgotten_entry, IsTooLarge}
+use Rattle.recovery_spaces.specs.Paths.{generation_of, counters_of, after_forgetting}
+use Rattle.recovery_spaces.specs.Spaces.{Space, Spaces, space_of, with_space, tracking_of, packets_of, next_number_of, space_sends}
+use Rattle.recovery_spaces.specs.Tracked.{packet_sent}
+use Rattle.recovery_spaces.specs.declared.paths.InFlight.{InFlight}
+use Rattle.recovery_spaces.proofs.PacketLaws.{entry_number_of}
 use Rattle.recovery_paths.specs.Balance.{AreBalanced}
 use Rattle.recovery_paths.specs.PathPair.{on_ledger, paths_after_sending}
-use Rattle.recovery_paths.specs.PathLog.{OfPaths, PathKnown, on_path_of, path_known, paths_known, paths_marks}
+use Rattle.recovery_paths.specs.PathLog.{PerPath, PathReplyInputs, on_path_of, path_known, paths_known, paths_marks}
 use Rattle.recovery_paths.specs.PathStates.{PathState, Path, on_state, after_telling}
 use Rattle.recovery_paths.specs.declared.path_pair.PathName.TheVariants.{Current}
 use Rattle.recovery_paths.proofs.BalanceLaws.{paths_balanced_sent}
-use Rattle.recovery_skips.specs.Filters.{Skipping}
+use Rattle.recovery_packet_numbers.specs.Filters.{SkipState}
 use Rattle.recovery_events.specs.declared.event.Answer.TheVariants.{Sent}
 use Rattle.recovery_events.specs.declared.event.Event.TheVariants.{Send}
-use Rattle.recovery_history.specs.History.{QueueMeaning}
-use Rattle.recovery_history.specs.Known.{number_in}
+use Rattle.recovery_history.specs.History.{QueueModel}
+use Rattle.recovery_history.specs.ReplyInputs.{number_in}
 use Rattle.recovery_history.specs.Numbers.{number_behind, skipping_behind}
-use Rattle.recovery_history.specs.Parts.{Parts}
-use Rattle.recovery_history.specs.Changes.{Changes, known_to}
+use Rattle.recovery_history.specs.RecoveryState.{RecoveryState}
+use Rattle.recovery_history.specs.Transitions.{StateTransition, inputs_of}
 use Rattle.recovery_history.proofs.AboveLaws.{previous_same, both_marks}
 use Rattle.recovery_history.proofs.DriverLaws.{space_changes}
 use Rattle.recovery_history.proofs.NumberLaws.{number_above, number_known, number_skips}
 
 -- the paths where a packet was sent, and another is perhaps forgotten for it, as the controller is told
-abbrev pub paths_telling : {K P M : Type 0} → Packet P M → Space P M → (PathState K → PathState K) → OfPaths (Path K)
-    → OfPaths (Path K)
+abbrev pub paths_telling : {K P M : Type 0} → Packet P M → Space P M → (PathState K → PathState K) → PerPath (Path K)
+    → PerPath (Path K)
 paths_telling packet there change paths =
     on_path_of Current (on_state change) (paths_after_sending packet (forgotten_entry packet (tracking_of there)) paths)
 
-module _ {K P M : Type 0} (spaces : Spaces P M) (paths : OfPaths (Path K)) (balanced : AreBalanced spaces paths)
+module _ {K P M : Type 0} (spaces : Spaces P M) (paths : PerPath (Path K)) (balanced : AreBalanced spaces paths)
     (space : SpaceId) (number : ℕ) (packet : Packet P M) (own : packet.path_generation
     ≡ generation_of paths.current.ledger) (above : next_number_of (space_of space spaces) ≤ number) where
-  pub sent_balanced : (here : Space P M) (then : OfPaths (Path K)) → (¬ IsTooLarge packet.largest_acked)
+  pub sent_balanced : (here : Space P M) (then : PerPath (Path K)) → (¬ IsTooLarge packet.largest_acked)
       → here ≡ space_sends number packet (space_of space spaces)
       → then ≡ paths_after_sending packet (forgotten_entry packet (tracking_of (space_of space spaces))) paths
       → AreBalanced (with_space spaces space here) then
@@ -50,11 +50,11 @@ module _ {K P M : Type 0} (spaces : Spaces P M) (paths : OfPaths (Path K)) (bala
 
 -- what is known of the paths then: the controller was told
 module _ {K P M : Type 0} (packet : Packet P M) (there : Space P M) (change : PathState K → PathState K)
-    (paths : OfPaths (Path K)) where
+    (paths : PerPath (Path K)) where
   abbrev forgotten : Option (ℕ × Packet P M)
   forgotten = forgotten_entry packet (tracking_of there)
 
-  abbrev known_as : ℕ → Option (PathKnown K) → OfPaths (PathKnown K)
+  abbrev known_as : ℕ → Option (PathReplyInputs K) → PerPath (PathReplyInputs K)
   known_as generation previous = record {
     current = record { generation = generation; state = change paths.current.state };
     previous = previous;
@@ -72,7 +72,7 @@ module _ {K P M : Type 0} (packet : Packet P M) (there : Space P M) (change : Pa
       (paths_telling packet there change paths).current paths refl
 
 -- what the event comes to
-module _ {K Q S M P : Type 0} (q : QueueMeaning Q S M P) (old : Parts K P M)
+module _ {K Q S M P : Type 0} (q : QueueModel Q S M P) (old : RecoveryState K P M)
     (balanced : AreBalanced old.spaces old.paths) (space : SpaceId) (now size : ℕ) (ack_eliciting : Bool)
     (largest_acked : Option ℕ) (queue : Q) (frames : M)
     (live : is_discarded space old.discarded ≡ false) (small : ¬ IsTooLarge largest_acked) where
@@ -83,7 +83,7 @@ module _ {K Q S M P : Type 0} (q : QueueMeaning Q S M P) (old : Parts K P M)
   abbrev here_then : Space P M
   here_then = space_of space old.spaces
 
-  pub send_changes : (generation number : ℕ) (there : Space P M) (skipping : Skipping) (paths : OfPaths (Path K))
+  pub send_changes : (generation number : ℕ) (there : Space P M) (skipping : SkipState) (paths : PerPath (Path K))
       (forgotten : Option ℕ)
       → generation ≡ generation_of old.paths.current.ledger
       → number ≡ number_behind old.skipping.filter space (next_number_of here_then) → number < 2 ^ 62
@@ -93,7 +93,8 @@ module _ {K Q S M P : Type 0} (q : QueueMeaning Q S M P) (old : Parts K P M)
       → skipping ≡ skipping_behind space (next_number_of here_then) old.skipping
       → paths ≡ paths_telling (packet_at_generation generation) here_then
       (after_telling old.settings.words (sends_bytes now size number)) old.paths
-      → Changes q old (Send space now size ack_eliciting largest_acked queue frames) (Ok (Sent number forgotten))
+      → StateTransition q old (Send space now size ack_eliciting largest_acked queue frames)
+          (Ok (Sent number forgotten))
       (record old { spaces = with_space old.spaces space there; skipping = skipping; paths = paths })
   send_changes generation number there skipping paths forgotten own is left fits gone step draws told =
       let packet = packet_at_generation (generation_of old.paths.current.ledger) in
@@ -104,16 +105,17 @@ module _ {K Q S M P : Type 0} (q : QueueMeaning Q S M P) (old : Parts K P M)
       let fitting = subst Fits balanced.current fits in
       record {
         told = grind (arith, live, small, left, fitting, is_known, is_forgotten);
-        steps = space_changes q.words old space (sends (number_in (known_to old) space) packet) there skipping _ paths (
+        steps = space_changes q.words old space (sends (number_in (inputs_of old) space) packet) there skipping _ paths
+            (
           omega (arith, above, is, is_known),
           (rw own at step) ∙ ap (λ (n : ℕ). space_sends n packet here_then) is_known,
         )
-            (number_skips old.spaces space (number_in (known_to old) space) packet old.skipping skipping
+            (number_skips old.spaces space (number_in (inputs_of old) space) packet old.skipping skipping
             (sym (number_known old space)) draws)
             (rw (told, is_known) (telling_known (packet_at_generation generation) here_then
-            (after_telling old.settings.words (sends_bytes now size (number_in (known_to old) space))) old.paths));
+            (after_telling old.settings.words (sends_bytes now size (number_in (inputs_of old) space))) old.paths));
         plain = refl;
-        marks = ap (λ (p : OfPaths (Path K)). paths_marks p) told
+        marks = ap (λ (p : PerPath (Path K)). paths_marks p) told
             ∙ telling_marks packet here_then (after_telling old.settings.words (sends_bytes now size number)) old.paths;
         refused = tt;
       }

@@ -2,25 +2,25 @@
 use Rattle.std.proofs.lemmas.Bool.Decides.{nat_tests}
 use Rattle.std.proofs.lemmas.List.Sums.{sum_by-cons}
 use Rattle.std.proofs.Common.{◌≡◌, ◌≤◌, ℕ, not, Bool, true, false, cond, filter, [], ◌∷◌, Option, None, Some, Ok, refl, arith}
-use Rattle.recovery_ledger.specs.Departures.{one_if_same}
-use Rattle.recovery_ledger.specs.Packets.{Packet, Packets, packet_at, least_number}
-use Rattle.recovery_ledger.specs.Probes.{probe_found}
-use Rattle.recovery_ledger.specs.Queued.{Queued, has_other, probe_queued}
-use Rattle.recovery_ledger.proofs.PacketLaws.{number_at}
-use Rattle.recovery_queue.specs.Queues.{QueueWords}
+use Rattle.recovery_spaces.specs.Departures.{one_if_same}
+use Rattle.recovery_spaces.specs.Packets.{Packet, Packets, packet_at, least_number}
+use Rattle.recovery_spaces.specs.Probes.{probe_found}
+use Rattle.recovery_spaces.specs.Queued.{QueuedState, has_other, probe_queued}
+use Rattle.recovery_spaces.proofs.PacketLaws.{number_at}
+use Rattle.recovery_queue.specs.Queues.{QueueSemantics}
 use Rattle.recovery_events.specs.declared.event.Event.{Event}
 use Rattle.recovery_events.specs.declared.event.Event.TheVariants.{QueueProbe}
 use Rattle.recovery_events.specs.declared.event.Answer.TheVariants as answers
-use Rattle.recovery_history.specs.Told.{known_by, Told}
+use Rattle.recovery_history.specs.RepliesAfter.{inputs_after, RepliesAfter}
 use Rattle.recovery_history.specs.History.{AtEach, Beginning, History, Reply}
-use Rattle.recovery_history.specs.Promises.Sendable.{StaysFull, FindsToSend}
+use Rattle.recovery_history.specs.Promises.Sendable.{JoinStaysNonempty, ReportsSendable}
 use Rattle.recovery_history.proofs.AcknowledgedLaws.{keeps_to_acknowledge}
 use Rattle.recovery_history.proofs.Runs.{kept_after}
 use Rattle.recovery_history.proofs.TrackedLaws.{at_itself, stands, times, AllTracked, keeps_tracked, none_tracked}
 
 -- ---- what a probe finds
 
-module _ {P M S : Type 0} (words : QueueWords P S) (streams : S) where
+module _ {P M S : Type 0} (words : QueueSemantics P S) (streams : S) where
   abbrev is_filled : ℕ × Packet P M → Bool
   is_filled entry = not (words.is_empty entry.1.retransmits streams)
 
@@ -58,8 +58,8 @@ module _ {P M S : Type 0} (words : QueueWords P S) (streams : S) where
           )
 
   -- so that there is always something
-  finds : (queued : Queued P) (packets : Packets P M) (immediate : Bool) → ((m : ℕ) → times m packets ≤ 1)
-      → StaysFull words streams
+  finds : (queued : QueuedState P) (packets : Packets P M) (immediate : Bool) → ((m : ℕ) → times m packets ≤ 1)
+      → JoinStaysNonempty words streams
       → has_other words streams (probe_queued words immediate (probe_found words streams queued.pending packets) packets
       queued) ≡ true
   finds queued packets immediate once full =
@@ -79,13 +79,13 @@ module _ {P M S : Type 0} (words : QueueWords P S) (streams : S) where
 
 module _ {F K Q S M P : Type 0} (beginning : Beginning F K Q S M P) where
   pub finds_to_send : (before : History Q S M P) (event : Event Q S M P) (reply : Reply Q)
-      → AtEach (Told beginning) ((event, reply) ∷ before) → FindsToSend beginning before event reply
+      → AtEach (RepliesAfter beginning) ((event, reply) ∷ before) → ReportsSendable beginning before event reply
   finds_to_send before (QueueProbe space immediate streams) (Ok (answers.Sendable frames)) all =
       let told = all.0.1 in
       let acked = keeps_to_acknowledge beginning before all.1 space in
-      let tracked = kept_after (Told beginning) (AllTracked beginning) (keeps_tracked beginning)
+      let tracked = kept_after (RepliesAfter beginning) (AllTracked beginning) (keeps_tracked beginning)
       (none_tracked beginning) before all.1 in
-      let here = (known_by beginning before).spaces space in (
+      let here = (inputs_after beginning before).spaces space in (
         (
           λ on. (
               let due = told.0.0 on in

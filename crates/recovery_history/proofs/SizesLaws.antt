@@ -12,15 +12,15 @@ use Rattle.recovery_mtud.specs.SearchRuns.{ProbesInSearch, start_upper}
 use Rattle.recovery_events.specs.declared.event.Event.TheVariants.{PollMtu}
 use Rattle.recovery_events.specs.declared.event.Answer.TheVariants as answer
 use Rattle.recovery_events.specs.declared.event.Refusal.TheVariants.{Overflow}
-use Rattle.recovery_paths.specs.PathLog.{PathPast}
-use Rattle.recovery_history.specs.Told.{pasts_of, known_by}
-use Rattle.recovery_history.specs.Known.{Known}
+use Rattle.recovery_paths.specs.PathLog.{PathHistory}
+use Rattle.recovery_history.specs.RepliesAfter.{pasts_of, inputs_after}
+use Rattle.recovery_history.specs.ReplyInputs.{ReplyInputs}
 use Rattle.recovery_history.specs.PartReplies.{MtuProbeReply}
 use Rattle.recovery_history.specs.History.{Beginning, History}
 use Rattle.recovery_history.specs.Table.{limit}
 use Rattle.recovery_history.specs.Promises.Mtu.{mtu_in_use}
-use Rattle.recovery_history.specs.Promises.Near.{start}
-use Rattle.recovery_history.specs.Promises.Sizes.{ProbesWithin}
+use Rattle.recovery_history.specs.Promises.Convergence.{start}
+use Rattle.recovery_history.specs.Promises.ProbeSizes.{BoundsProbeSize}
 use Rattle.recovery_history.specs.Search.{discovery_settings}
 use Rattle.recovery_mtud.proofs.SearchRunLaws.{flight_within}
 use Rattle.recovery_mtud.proofs.UnsearchedLaws.{unsearched}
@@ -70,11 +70,11 @@ module _ {F K Q S M P : Type 0} (beginning : Beginning F K Q S M P) where
 
   module _ (history : History Q S M P) (now : ℕ) (kept : Kept beginning history)
       (searched : AreSearched beginning history) where
-    abbrev past : PathPast K
+    abbrev past : PathHistory K
     past = (pasts_of beginning history).current
 
-    abbrev known_then : Known K P M
-    known_then = known_by beginning history
+    abbrev known_then : ReplyInputs K P M
+    known_then = inputs_after beginning history
 
     due_within : (settings : MtuDiscoveryConfig) → discovery_settings beginning ≡ Some settings → (size : ℕ)
         (due : Option ℕ) → due ≡ Some size
@@ -105,7 +105,7 @@ module _ {F K Q S M P : Type 0} (beginning : Beginning F K Q S M P) where
     overflows : counted.Kept beginning history → (due : Option ℕ)
         → poll_of now known_then.paths.current.state.discovery ≡ due
         → MtuProbeReply beginning.queue known_then now due (Err Overflow)
-        → ProbesWithin beginning history (PollMtu now) (Err Overflow)
+        → BoundsProbeSize beginning history (PollMtu now) (Err Overflow)
     overflows counts None is told = absurd told
     overflows counts (Some size) is told =
         (size, due_small size is, (same_cause beginning history counts size true).1 told)
@@ -115,7 +115,7 @@ module _ {F K Q S M P : Type 0} (beginning : Beginning F K Q S M P) where
   abbrev Both : History Q S M P → Type 0
   Both history = Kept beginning history × counted.Kept beginning history
 
-  sizes_one : Follows (Facts beginning) Both (ProbesWithin beginning)
+  sizes_one : Follows (Facts beginning) Both (BoundsProbeSize beginning)
   sizes_one history (PollMtu now) (Ok (answer.Probe number size)) known both =
       let upper = upper_within history now number size both.0 known (discovery_settings beginning) refl known.turn in
       (upper.0, upper.1, above_in_use history now number size both.0 known)
@@ -123,7 +123,7 @@ module _ {F K Q S M P : Type 0} (beginning : Beginning F K Q S M P) where
       let told = known.told.1.1 in overflows history now both.0 known.searched both.1 _ refl told
   sizes_one history event reply known both = tt
 
-  pub sizes_told : IsSmall beginning → AllAlong beginning (ProbesWithin beginning)
+  pub sizes_told : IsSmall beginning → AllAlong beginning (BoundsProbeSize beginning)
   sizes_told small =
       throughout_facts beginning Both
       (λ history event reply known both. (

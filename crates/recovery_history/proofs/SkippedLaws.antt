@@ -1,5 +1,5 @@
 -- Which number a packet goes out under, which numbers were skipped, and which packets are refused, by the history: the
--- clauses `next`, `unskipped`, `skipped` and `sends` of `run`.
+-- clauses `next`, `no_skips`, `skipped` and `sends` of `run`.
 use Rattle.std.proofs.lemmas.Bool.Decides.{nat_tests}
 use Rattle.std.proofs.lemmas.Bool.{cases_lt, false≢true}
 use Rattle.std.proofs.Common.{◌≡◌, ◌<◌, ◌≤◌, ◌+◌, ◌-◌, ◌^◌, ℕ, zero, suc, ◌==◌, ◌&&◌, nat_lt, Bool, true, false, cond, List, [], ◌∷◌, Option, None, Some, Ok, Err, ◌⊎◌, inl, inr, ◌↔◌, if◌then◌else◌, refl, sym, ap, ◌∙◌, arith}
@@ -8,28 +8,28 @@ use Rattle.rand_core.specs.Stream.{Stream}
 use Rattle.recovery_base.specs.declared.below.SpaceId.{SpaceId}
 use Rattle.recovery_base.specs.declared.below.SpaceId.TheVariants.{Data}
 use Rattle.recovery_base.specs.Spaces.{same_space}
-use Rattle.recovery_ledger.specs.Packets.{Packet}
-use Rattle.recovery_ledger.specs.SpaceLog.{SpaceEntry, sends}
-use Rattle.recovery_ledger.specs.Tracked.{sent_by}
-use Rattle.recovery_skips.specs.Skips.{is_at, is_skipped, next_skip, skip_at, skips_below, skip_before, number_from, IsGreatestBelow}
-use Rattle.recovery_skips.specs.declared.filter.Skips.TheVariants.{Disabled}
-use Rattle.recovery_skips.proofs.SkipCountLaws.{skip_before_greatest}
-use Rattle.recovery_skips.proofs.SkipLaws.{number_not_skipped}
+use Rattle.recovery_spaces.specs.Packets.{Packet}
+use Rattle.recovery_spaces.specs.SpaceLog.{SpaceEntry, sends}
+use Rattle.recovery_spaces.specs.Tracked.{sent_by}
+use Rattle.recovery_packet_numbers.specs.Skips.{is_at, is_skipped, next_skip, skip_at, skips_below, skip_before, number_from, IsGreatestBelow}
+use Rattle.recovery_packet_numbers.specs.declared.filter.Skips.TheVariants.{Disabled}
+use Rattle.recovery_packet_numbers.proofs.SkipCountLaws.{skip_before_greatest}
+use Rattle.recovery_packet_numbers.proofs.SkipLaws.{number_not_skipped}
 use Rattle.recovery_events.specs.declared.event.Event.{Event}
 use Rattle.recovery_events.specs.declared.event.Event.TheVariants.{Send, PollMtu, CheckAck}
 use Rattle.recovery_events.specs.declared.event.Answer.TheVariants as answers
 use Rattle.recovery_events.specs.declared.event.Answer.TheVariants.{Probe}
 use Rattle.recovery_events.specs.declared.event.Refusal.TheVariants.{SpaceDiscarded, NumberTooLarge, BadRange, SkippedAcked, NumbersExhausted, Overflow, NoMemory}
-use Rattle.recovery_history.specs.Told.{logs_of, known_by, Told}
+use Rattle.recovery_history.specs.RepliesAfter.{logs_of, inputs_after, RepliesAfter}
 use Rattle.recovery_history.specs.History.{Beginning, History, Reply}
-use Rattle.recovery_history.specs.Known.{Known, number_in, packet_now, current_in_flight}
+use Rattle.recovery_history.specs.ReplyInputs.{ReplyInputs, number_in, packet_now, current_in_flight}
 use Rattle.recovery_history.specs.Logs.{onto}
 use Rattle.recovery_history.specs.PartReplies.{skipped_in}
 use Rattle.recovery_history.specs.Promises.Fates.{more_if, times, is_given}
-use Rattle.recovery_history.specs.Promises.Sends.{Overfills, SendsUnless}
-use Rattle.recovery_history.specs.Promises.Skipped.{IsAboveAll, IsNext, GivesNext, ChecksAcks}
+use Rattle.recovery_history.specs.Promises.Sends.{OverflowsInFlight, SendsOrRejects}
+use Rattle.recovery_history.specs.Promises.Skipped.{IsAboveAllSent, IsNextNumber, AssignsNextNumber, RejectsSkippedAcks}
 use Rattle.recovery_history.specs.Promises.Tracked.{goes_out}
-use Rattle.recovery_history.specs.Promises.Unskipped.{SkipsNone}
+use Rattle.recovery_history.specs.Promises.Unskipped.{SkipsNoNumbers}
 use Rattle.recovery_history.proofs.AnswerLaws.{past_four}
 use Rattle.recovery_history.proofs.CountedLaws.{Kept, keeps_counts, none_counted, flight_now}
 use Rattle.recovery_history.proofs.EntryKinds.{sends_none, space_kind, space_kept}
@@ -156,7 +156,7 @@ module _ {F K Q S M P : Type 0} (beginning : Beginning F K Q S M P) where
 
   -- the number that is given out may go
   may_go : (history : History Q S M P) (space : SpaceId)
-      → MayGo (skip_in space) (sent_in beginning history space).next (number_in (known_by beginning history) space)
+      → MayGo (skip_in space) (sent_in beginning history space).next (number_in (inputs_after beginning history) space)
   may_go history Data =
       let next = (sent_in beginning history Data).next in
       (number_not_skipped beginning.config.skips beginning.random next, from_or_behind next)
@@ -173,8 +173,8 @@ module _ {F K Q S M P : Type 0} (beginning : Beginning F K Q S M P) where
     abbrev log : List (SpaceEntry P M)
     log = (logs_of beginning before).spaces space
 
-    abbrev known : Known K P M
-    known = known_by beginning before
+    abbrev known : ReplyInputs K P M
+    known = inputs_after beginning before
 
     abbrev count_now : ℕ
     count_now = times (is_given space n) before
@@ -194,7 +194,7 @@ module _ {F K Q S M P : Type 0} (beginning : Beginning F K Q S M P) where
         (gives_more (skip_in space) _ n count_now here (number_in known space) (may_go before space))
     goes_told there packet number is false at = here
 
-    reply_gives : (event : Event Q S M P) (reply : Reply Q) → Told beginning before event reply
+    reply_gives : (event : Event Q S M P) (reply : Reply Q) → RepliesAfter beginning before event reply
         → GivesIn ((event, reply) ∷ before) space n
     reply_gives (Send there now size eliciting largest queue frames) (Ok (answers.Sent number forgotten)) told =
         let is = past_four told in
@@ -214,19 +214,19 @@ module _ {F K Q S M P : Type 0} (beginning : Beginning F K Q S M P) where
   -- ---- throughout a run
 
   pub keeps_given : (before : History Q S M P) (event : Event Q S M P) (reply : Reply Q)
-      → Told beginning before event reply → AllGiven before → AllGiven ((event, reply) ∷ before)
+      → RepliesAfter beginning before event reply → AllGiven before → AllGiven ((event, reply) ∷ before)
   keeps_given before event reply told all = λ space n. reply_gives before space n (all space n) event reply told
 
   pub none_given : AllGiven []
   none_given = λ space n. grind arith
 
   module _ (before : History Q S M P) (all : AllGiven before) where
-    pub is_next : (space : SpaceId) → IsNext space (number_in (known_by beginning before) space) before
+    pub is_next : (space : SpaceId) → IsNextNumber space (number_in (inputs_after beginning before) space) before
     is_next space =
         let skip = skip_in space in
         let next = (sent_in beginning before space).next in
         let count : ℕ → ℕ = λ n. times (is_given space n) before in
-        let number = number_in (known_by beginning before) space in
+        let number = number_in (inputs_after beginning before) space in
         let goes = may_go before space in (
           above_all skip next count (all space) number goes,
           λ m above less. (
@@ -236,38 +236,38 @@ module _ {F K Q S M P : Type 0} (beginning : Beginning F K Q S M P) where
         )
 
     -- a packet that goes out has that number
-    goes_as : (there : SpaceId) (given : ℕ) → given ≡ number_in (known_by beginning before) there
+    goes_as : (there : SpaceId) (given : ℕ) → given ≡ number_in (inputs_after beginning before) there
         → (space : SpaceId) (number : ℕ) → (same_space there space && given == number) ≡ true
-        → number ≡ number_in (known_by beginning before) space
+        → number ≡ number_in (inputs_after beginning before) space
     goes_as there given is space number goes =
         let same : number ≡ given = grind (arith, nat_tests, goes) in
         let at = one_space there space (grind (arith, nat_tests, goes)) in
         rw (same, is, ← at) refl
 
-    number_told : (event : Event Q S M P) (reply : Reply Q) → Told beginning before event reply
+    number_told : (event : Event Q S M P) (reply : Reply Q) → RepliesAfter beginning before event reply
         → (space : SpaceId) (number : ℕ) → goes_out (event, reply) space number ≡ true
-        → number ≡ number_in (known_by beginning before) space
+        → number ≡ number_in (inputs_after beginning before) space
     number_told (Send there now size eliciting largest queue frames) (Ok (answers.Sent number forgotten)) told =
         let is = past_four told in goes_as there number (cc)
     number_told (PollMtu now) (Ok (Probe number size)) told =
-        goes_as Data number (probe_number beginning.queue (known_by beginning before) now _ number size told.1.1)
+        goes_as Data number (probe_number beginning.queue (inputs_after beginning before) now _ number size told.1.1)
     number_told event reply told = λ space number goes. absurd (false≢true goes)
 
-    gives_next : (event : Event Q S M P) (reply : Reply Q) → Told beginning before event reply
-        → GivesNext before event reply
+    gives_next : (event : Event Q S M P) (reply : Reply Q) → RepliesAfter beginning before event reply
+        → AssignsNextNumber before event reply
     gives_next event reply told = λ space number goes.
         rw (number_told event reply told space number goes) (is_next space)
 
     -- ---- where none is skipped
 
-    is_first : beginning.config.skips ≡ Disabled → (space : SpaceId) (m : ℕ) → IsAboveAll space m before
-        → number_in (known_by beginning before) space ≤ m
+    is_first : beginning.config.skips ≡ Disabled → (space : SpaceId) (m : ℕ) → IsAboveAllSent space m before
+        → number_in (inputs_after beginning before) space ≤ m
     is_first none space m above = go (nat_lt m number) refl
       where
         number : ℕ
-        number = number_in (known_by beginning before) space
+        number = number_in (inputs_after beginning before) space
 
-        go : (b : Bool) → nat_lt m number ≡ b → number_in (known_by beginning before) space ≤ m
+        go : (b : Bool) → nat_lt m number ≡ b → number_in (inputs_after beginning before) space ≤ m
         go false least = grind (arith, nat_tests, least)
         go true less =
             let next = (sent_in beginning before space).next in
@@ -275,8 +275,8 @@ module _ {F K Q S M P : Type 0} (beginning : Beginning F K Q S M P) where
             (may_go before space) above (grind (arith, nat_tests, less)) in
             absurd (false≢true (sym (never none space next) ∙ is.0))
 
-    first_told : (event : Event Q S M P) (reply : Reply Q) → Told beginning before event reply
-        → SkipsNone beginning before event reply
+    first_told : (event : Event Q S M P) (reply : Reply Q) → RepliesAfter beginning before event reply
+        → SkipsNoNumbers beginning before event reply
     first_told event reply told none space number goes m above =
         rw (number_told event reply told space number goes) (is_first none space m above)
 
@@ -286,7 +286,7 @@ module _ {F K Q S M P : Type 0} (beginning : Beginning F K Q S M P) where
     IsLast space = IsGreatest (skip_in space) (sent_in beginning before space).next
         (λ n. times (is_given space n) before) (all space)
 
-    last_skip : (space : SpaceId) → IsLast space (skipped_in (known_by beginning before) space)
+    last_skip : (space : SpaceId) → IsLast space (skipped_in (inputs_after beginning before) space)
     last_skip Data =
         let next = (sent_in beginning before Data).next in
         go (skip_before beginning.config.skips beginning.random next)
@@ -300,14 +300,15 @@ module _ {F K Q S M P : Type 0} (beginning : Beginning F K Q S M P) where
     last_skip space = λ m below. refl
 
     checks : (space : SpaceId) (low high : ℕ) (reply : Reply Q)
-        → Told beginning before (CheckAck space low high) reply → ChecksAcks before (CheckAck space low high) reply
+        → RepliesAfter beginning before (CheckAck space low high) reply → RejectsSkippedAcks before
+            (CheckAck space low high) reply
     checks space low high (Ok given) told =
         let behind = told.1.1 in
         let last = behind.1 in (
           last.1,
           omega (arith, told.1.0),
           omega (arith, behind.0),
-          λ holds. last.0 (holds_from (skip_in space) _ _ (all space) (skipped_in (known_by beginning before) space)
+          λ holds. last.0 (holds_from (skip_in space) _ _ (all space) (skipped_in (inputs_after beginning before) space)
               (last_skip space) low high holds),
         )
     checks space low high (Err SpaceDiscarded) told = tt
@@ -316,26 +317,27 @@ module _ {F K Q S M P : Type 0} (beginning : Beginning F K Q S M P) where
     checks space low high (Err SkippedAcked) told =
         let behind = told.1.1 in (
           omega (arith, told.1.0),
-          holds_to (skip_in space) _ _ (all space) (skipped_in (known_by beginning before) space) (last_skip space) low
+          holds_to (skip_in space) _ _ (all space) (skipped_in (inputs_after beginning before) space)
+              (last_skip space) low
               high behind.1,
         )
     checks space low high (Err other) told = absurd (past_four told)
 
-    checks_acks : (event : Event Q S M P) (reply : Reply Q) → Told beginning before event reply
-        → ChecksAcks before event reply
+    checks_acks : (event : Event Q S M P) (reply : Reply Q) → RepliesAfter beginning before event reply
+        → RejectsSkippedAcks before event reply
     checks_acks (CheckAck space low high) reply told = checks space low high reply told
     checks_acks event reply told = tt
 
-  pub keeps_next : AllAlong beginning GivesNext
-  keeps_next = throughout_kept beginning AllGiven GivesNext keeps_given
+  pub keeps_next : AllAlong beginning AssignsNextNumber
+  keeps_next = throughout_kept beginning AllGiven AssignsNextNumber keeps_given
       (λ before event reply here all. gives_next before all event reply here) none_given
 
-  pub skips_none : AllAlong beginning (SkipsNone beginning)
-  skips_none = throughout_kept beginning AllGiven (SkipsNone beginning) keeps_given
+  pub skips_none : AllAlong beginning (SkipsNoNumbers beginning)
+  skips_none = throughout_kept beginning AllGiven (SkipsNoNumbers beginning) keeps_given
       (λ before event reply here all. first_told before all event reply here) none_given
 
-  pub keeps_skipped : AllAlong beginning ChecksAcks
-  keeps_skipped = throughout_kept beginning AllGiven ChecksAcks keeps_given
+  pub keeps_skipped : AllAlong beginning RejectsSkippedAcks
+  keeps_skipped = throughout_kept beginning AllGiven RejectsSkippedAcks keeps_given
       (λ before event reply here all. checks_acks before all event reply here) none_given
 
 -- ---- packets that are refused
@@ -354,19 +356,19 @@ module _ {F K Q S M P : Type 0} (beginning : Beginning F K Q S M P) where
 
   -- the history and the table tell overflow alike
   pub same_cause : (before : History Q S M P) → Kept beginning before → (size : ℕ) (eliciting : Bool)
-      → (let now = current_in_flight (known_by beginning before) in
-      Overfills before size eliciting ↔ Passes now.bytes now.ack_eliciting size eliciting)
+      → (let now = current_in_flight (inputs_after beginning before) in
+      OverflowsInFlight before size eliciting ↔ Passes now.bytes now.ack_eliciting size eliciting)
   same_cause before kept size eliciting =
       let flight = flight_now beginning before kept.1 in
-      let now = current_in_flight (known_by beginning before) in
+      let now = current_in_flight (inputs_after beginning before) in
       same_passes _ _ now.bytes now.ack_eliciting size eliciting flight.0 flight.1
 
   module _ (before : History Q S M P) (both : Both before) where
-    abbrev known_now : Known K P M
-    known_now = known_by beginning before
+    abbrev known_now : ReplyInputs K P M
+    known_now = inputs_after beginning before
 
-    unless_told : (event : Event Q S M P) (reply : Reply Q) → Told beginning before event reply
-        → SendsUnless before event reply
+    unless_told : (event : Event Q S M P) (reply : Reply Q) → RepliesAfter beginning before event reply
+        → SendsOrRejects before event reply
     unless_told (Send space now size eliciting largest queue frames) (Ok (answers.Sent number forgotten)) told =
         let behind = told.1.1 in (told.1.0, λ over. behind.1.0 ((same_cause before both.1 size eliciting).0 over))
     unless_told (Send space now size eliciting largest queue frames) (Ok answer) told = let is = past_four told in cc
@@ -382,9 +384,9 @@ module _ {F K Q S M P : Type 0} (beginning : Beginning F K Q S M P) where
         (number_in known_now Data, is_next beginning before both.0 Data, told.1)
     unless_told event reply told = tt
 
-  pub sends_unless : AllAlong beginning SendsUnless
+  pub sends_unless : AllAlong beginning SendsOrRejects
   sends_unless =
-      throughout_kept beginning Both SendsUnless
+      throughout_kept beginning Both SendsOrRejects
       (λ before event reply here both. (
         keeps_given beginning before event reply here both.0,
         keeps_counts beginning before event reply here both.1,

@@ -4,18 +4,18 @@ use Rattle.std.proofs.Common.{◌≡◌, ℕ, ◌||◌, ◌↔◌, Bool, true, f
 use Rattle.recovery_base.specs.declared.below.SpaceId.{SpaceId}
 use Rattle.recovery_base.specs.declared.below.SpaceId.TheVariants.{Initial, Handshake, Data}
 use Rattle.recovery_base.specs.Spaces.{same_space}
-use Rattle.recovery_ledger.specs.Acks.{IsRequired, StartedAt}
-use Rattle.recovery_ledger.specs.SpaceLog.{SpaceEntry, heard}
+use Rattle.recovery_spaces.specs.Acks.{IsRequired, StartedAt}
+use Rattle.recovery_spaces.specs.SpaceLog.{SpaceEntry, heard}
 use Rattle.recovery_events.specs.declared.event.Event.{Event}
 use Rattle.recovery_events.specs.declared.event.Event.TheVariants.{Received, AcksSent, AckDelayTimeout}
 use Rattle.recovery_events.specs.declared.event.Answer.TheVariants.{New}
 use Rattle.recovery_history.specs.Table.{entries_of}
-use Rattle.recovery_history.specs.Told.{logs_of, known_by, Told}
+use Rattle.recovery_history.specs.RepliesAfter.{logs_of, inputs_after, RepliesAfter}
 use Rattle.recovery_history.specs.History.{Beginning, History, Reply}
-use Rattle.recovery_history.specs.Known.{Known}
+use Rattle.recovery_history.specs.ReplyInputs.{ReplyInputs}
 use Rattle.recovery_history.specs.Logs.{onto}
-use Rattle.recovery_history.specs.Promises.Duty.{timer_runs}
-use Rattle.recovery_history.specs.Promises.Starts.{StartsTimer}
+use Rattle.recovery_history.specs.Promises.AckDuty.{timer_runs}
+use Rattle.recovery_history.specs.Promises.AckTimer.{StartsAckDelayTimer}
 use Rattle.recovery_history.proofs.DutyLaws.{AllAttended, after_one, none_attended, is_silent}
 use Rattle.recovery_history.proofs.EntryKinds.{space_kept}
 use Rattle.recovery_history.proofs.Runs.{AllAlong, throughout_kept}
@@ -41,8 +41,8 @@ module _ {F K Q S M P : Type 0} (beginning : Beginning F K Q S M P) where
     abbrev log : SpaceId → List (SpaceEntry P M)
     log = (logs_of beginning before).spaces
 
-    abbrev known : Known K P M
-    known = known_by beginning before
+    abbrev known : ReplyInputs K P M
+    known = inputs_after beginning before
 
     abbrev running : Bool
     running = timer_runs space before
@@ -57,7 +57,7 @@ module _ {F K Q S M P : Type 0} (beginning : Beginning F K Q S M P) where
     starts_told there now number eliciting was true at is = rw (one_space there space at) at was
     starts_told there now number eliciting was false at is = here is
 
-    reply_starts : (event : Event Q S M P) (reply : Reply Q) → Told beginning before event reply
+    reply_starts : (event : Event Q S M P) (reply : Reply Q) → RepliesAfter beginning before event reply
         → After ((entries_of beginning.queue known event reply).spaces space)
         (timer_runs space ((event, reply) ∷ before))
     reply_starts (Received there now number eliciting) (Ok (New true)) told =
@@ -82,8 +82,8 @@ module _ {F K Q S M P : Type 0} (beginning : Beginning F K Q S M P) where
   -- ---- what a packet is told
 
   module _ (before : History Q S M P) (both : Both before) where
-    timer_told : (event : Event Q S M P) (reply : Reply Q) → Told beginning before event reply
-        → StartsTimer beginning before event reply
+    timer_told : (event : Event Q S M P) (reply : Reply Q) → RepliesAfter beginning before event reply
+        → StartsAckDelayTimer beginning before event reply
     timer_told (Received space now number eliciting) (Ok (New arm)) told = go (same_space space space) (itself space)
       where
         go : (b : Bool) → b ≡ true → (arm ≡ true) ↔ ((eliciting ≡ true) × (timer_runs space before ≡ false)
@@ -93,9 +93,9 @@ module _ {F K Q S M P : Type 0} (beginning : Beginning F K Q S M P) where
         go false is = cc
     timer_told event reply told = tt
 
-  pub starts_timer : AllAlong beginning (StartsTimer beginning)
+  pub starts_timer : AllAlong beginning (StartsAckDelayTimer beginning)
   starts_timer =
-      throughout_kept beginning Both (StartsTimer beginning)
+      throughout_kept beginning Both (StartsAckDelayTimer beginning)
       (λ before event reply here both. (
         after_one beginning before event reply here both.0,
         λ space. reply_starts before space (both.1 space) event reply here,

@@ -7,14 +7,14 @@ use Rattle.recovery_base.specs.declared.below.SpaceId.{SpaceId}
 use Rattle.recovery_base.specs.declared.below.frames.EcnCounts.{EcnCounts}
 use Rattle.recovery_base.specs.declared.below.ids.NewConnectionId.{NewConnectionId}
 use Rattle.recovery_acks.specs.Acks.{AckCounts, Acks}
-use Rattle.recovery_congestion.specs.Controllers.{ControllerWords}
-use Rattle.recovery_ids.specs.RemoteIds.{Table, RemoteIds, IsLeastHeld, with_frame}
-use Rattle.recovery_ledger.specs.Acks.{AckState, acks_by}
-use Rattle.recovery_ledger.specs.Probes.{ProbeFound}
-use Rattle.recovery_ledger.specs.Paths.{counters_of}
-use Rattle.recovery_ledger.specs.Spaces.{AcksLeft}
-use Rattle.recovery_ledger.specs.declared.paths.InFlight.{InFlight as Counters}
-use Rattle.recovery_paths.specs.PathLog.{OfPaths, PathKnown, each_path, path_known, path_of, paths_known}
+use Rattle.recovery_congestion.specs.Controllers.{ControllerSemantics}
+use Rattle.recovery_ids.specs.RemoteIds.{IdTable, RemoteIds, IsLeastHeld, with_frame}
+use Rattle.recovery_spaces.specs.Acks.{AckState, acks_by}
+use Rattle.recovery_spaces.specs.Probes.{ProbeFound}
+use Rattle.recovery_spaces.specs.Paths.{counters_of}
+use Rattle.recovery_spaces.specs.Spaces.{AcksAfter}
+use Rattle.recovery_spaces.specs.declared.paths.InFlight.{InFlight as Counters}
+use Rattle.recovery_paths.specs.PathLog.{PerPath, PathReplyInputs, each_path, path_known, path_of, paths_known}
 use Rattle.recovery_paths.specs.PathStates.{Path}
 use Rattle.recovery_events.specs.declared.event.Answer.{Answer}
 use Rattle.recovery_events.specs.declared.event.Answer.TheVariants.{Queue, Flag, New, Sendable, Retire}
@@ -25,19 +25,19 @@ use Rattle.recovery_paths.specs.declared.path_pair.PathName.{PathName}
 use Rattle.recovery_paths.specs.declared.path_pair.PathName.TheVariants.{Previous}
 use Rattle.recovery_events.specs.declared.event.Event.{Event}
 use Rattle.recovery_events.specs.declared.event.Event.TheVariants.{DropPrevious, RevertPath}
-use Rattle.recovery_history.specs.Told.{logs_of, known_by, Told}
-use Rattle.recovery_history.specs.History.{Beginning, History, QueueMeaning, Reply}
+use Rattle.recovery_history.specs.RepliesAfter.{logs_of, inputs_after, RepliesAfter}
+use Rattle.recovery_history.specs.History.{Beginning, History, QueueModel, Reply}
 use Rattle.recovery_history.specs.IdReplies.{IsFrameAnswer, IsNextAnswer}
-use Rattle.recovery_history.specs.Parts.{Parts}
-use Rattle.recovery_history.specs.Known.{Known, SpaceKnown, in_flight_on}
+use Rattle.recovery_history.specs.RecoveryState.{RecoveryState}
+use Rattle.recovery_history.specs.ReplyInputs.{ReplyInputs, SpaceReplyInputs, in_flight_on}
 use Rattle.recovery_events.specs.Refusals.{refusal_number}
-use Rattle.recovery_history.specs.Replies.{same_refusal, IsFlag, Refuses, Answers, AlwaysAnswers}
-use Rattle.recovery_history.specs.Same.{AcksAlike, LooksAlike, SameRefusal, SameAnswer, SameReply}
-use Rattle.recovery_history.specs.Left.{InFlightLeft, Left}
+use Rattle.recovery_history.specs.Replies.{same_refusal, IsFlag, RejectsWhen, AnswersOrNoMemory, AlwaysAnswers}
+use Rattle.recovery_history.specs.Equality.{AcksObservablyEqual, IsObservablyEqual, SameRefusal, SameAnswer, SameReply}
+use Rattle.recovery_history.specs.StateAfter.{InFlightAfter, StateAfter}
 use Rattle.recovery_history.proofs.PeerIdsLaws.{held_same}
 use Rattle.recovery_history.proofs.ReplyLaws.{only_refusal}
-use Rattle.recovery_history.specs.PartReplies.{EcnAnswer, Is, IsPendingQueue, IsQueueProbeAnswer, OnPath, MtuProbeReply, ReceivedAnswer}
-use Rattle.recovery_history.specs.Table.{ToldBy}
+use Rattle.recovery_history.specs.PartReplies.{EcnAnswer, EqualsAnswer, IsPendingQueue, IsQueueProbeAnswer, UnlessPathMissing, MtuProbeReply, ReceivedAnswer}
+use Rattle.recovery_history.specs.Table.{ReplyTable}
 
 -- ---- refusals, by their numbers
 
@@ -53,7 +53,7 @@ same_refusals e f of no_text is_e is_f =
 
 -- ---- the least id that is held
 
-pub least_held : (held : Table) (low one other : ℕ) → IsLeastHeld held low one → IsLeastHeld held low other
+pub least_held : (held : IdTable) (low one other : ℕ) → IsLeastHeld held low one → IsLeastHeld held low other
     → one ≡ other
 least_held held low one other is_one is_other =
     grind (
@@ -66,7 +66,7 @@ least_held held low one other is_one is_other =
       is_other.is_held,
     )
 
-module _ {Q S M P : Type 0} (q : QueueMeaning Q S M P) where
+module _ {Q S M P : Type 0} (q : QueueModel Q S M P) where
   -- of two replies that may be given, neither of which says that memory was refused, both are the same
   abbrev Decides : (Reply Q → Type 0) → Type 0
   Decides Replies =
@@ -80,12 +80,13 @@ module _ {Q S M P : Type 0} (q : QueueMeaning Q S M P) where
   same_answer (Queue queue) = refl
   same_answer other = refl
 
-  is_agree : (given : Answer Q) → Agree (Is given)
+  is_agree : (given : Answer Q) → Agree (EqualsAnswer given)
   is_agree given one other is_one is_other = rw (is_one, is_other) (same_answer given)
 
   -- ---- the causes in their order, and the answer
 
-  answers : (Grows : Type 0) (IsAnswer : Answer Q → Type 0) → Agree IsAnswer → Decides (Answers Grows IsAnswer)
+  answers : (Grows : Type 0) (IsAnswer : Answer Q → Type 0) → Agree IsAnswer → Decides
+      (AnswersOrNoMemory Grows IsAnswer)
   answers Grows IsAnswer agree (Ok one) (Ok other) here there told_one told_other =
       agree one other told_one told_other
   answers Grows IsAnswer agree one other here there told_one told_other =
@@ -96,15 +97,15 @@ module _ {Q S M P : Type 0} (q : QueueMeaning Q S M P) where
   both Cause b c same others one other = grind arith
 
   refuses : (cause : Refusal) (Cause : Type 0) (Otherwise : Reply Q → Type 0)
-      → (refusal_number cause == 17) ≡ false → Decides Otherwise → Decides (Refuses cause Cause Otherwise)
+      → (refusal_number cause == 17) ≡ false → Decides Otherwise → Decides (RejectsWhen cause Cause Otherwise)
   refuses cause Cause Otherwise no_text decides (Err one) (Err other) here there =
       both Cause (same_refusal one cause) (same_refusal other cause) (same_refusals one other cause no_text)
       (decides (Err one) (Err other) here there)
   refuses cause Cause Otherwise no_text decides one other here there = λ told_one told_other.
       grind (arith, decides one other here there)
 
-  is_decided : (given : Answer Q) → Decides (AlwaysAnswers (Is given))
-  is_decided given = answers ⊥ (Is given) (is_agree given)
+  is_decided : (given : Answer Q) → Decides (AlwaysAnswers (EqualsAnswer given))
+  is_decided given = answers ⊥ (EqualsAnswer given) (is_agree given)
 
   -- ---- answers
 
@@ -117,16 +118,16 @@ module _ {Q S M P : Type 0} (q : QueueMeaning Q S M P) where
   received_agree heard counts number eliciting (New one) other is_one is_other = grind (arith, is_one, is_other)
   received_agree heard counts number eliciting one other is_one is_other = grind (arith, is_one, is_other)
 
-  pending_agree : (here : SpaceKnown P M) → Agree (IsPendingQueue q here)
+  pending_agree : (here : SpaceReplyInputs P M) → Agree (IsPendingQueue q here)
   pending_agree here (Queue one) other is_one is_other = grind (arith, is_one, is_other)
   pending_agree here one other is_one is_other = absurd is_one
 
-  probe_agree : (here : SpaceKnown P M) (streams : S) (heard : AckState) (immediate : Bool) (found : ProbeFound)
+  probe_agree : (here : SpaceReplyInputs P M) (streams : S) (heard : AckState) (immediate : Bool) (found : ProbeFound)
       → Agree (IsQueueProbeAnswer q here streams heard immediate found)
   probe_agree here streams heard immediate found (Sendable one) other is_one is_other = grind (arith, is_one, is_other)
   probe_agree here streams heard immediate found one other is_one is_other = absurd is_one
 
-  ecn_decides : (here : SpaceKnown P M) (newly : ℕ) (counts : EcnCounts) → Decides (EcnAnswer here newly counts)
+  ecn_decides : (here : SpaceReplyInputs P M) (newly : ℕ) (counts : EcnCounts) → Decides (EcnAnswer here newly counts)
   ecn_decides here newly counts (Ok one) (Ok other) m n is_one is_other =
       is_agree _ one other is_one.1 is_other.1
   ecn_decides here newly counts (Err (refusal.Ecn text)) (Err (refusal.Ecn too)) m n is_one is_other =
@@ -153,12 +154,13 @@ module _ {Q S M P : Type 0} (q : QueueMeaning Q S M P) where
 
   -- ---- the table
 
-  module _ {K : Type 0} (words : ControllerWords K) (heard : SpaceId → AckState) (known : Known K P M) where
-    on_path : (path : PathName) (Replies : PathKnown K → Reply Q → Type 0)
-        → ((there : PathKnown K) → Decides (Replies there)) → Decides (OnPath (path_of path known.paths) Replies)
+  module _ {K : Type 0} (words : ControllerSemantics K) (heard : SpaceId → AckState) (known : ReplyInputs K P M) where
+    on_path : (path : PathName) (Replies : PathReplyInputs K → Reply Q → Type 0)
+        → ((there : PathReplyInputs K) → Decides (Replies there)) → Decides
+            (UnlessPathMissing (path_of path known.paths) Replies)
     on_path path Replies decides = go (path_of path known.paths)
       where
-        go : (found : Option (PathKnown K)) → Decides (OnPath found Replies)
+        go : (found : Option (PathReplyInputs K)) → Decides (UnlessPathMissing found Replies)
         go None = refuses NoSuchPath (Unit {0}) (λ reply. ⊥) refl (λ one other here there told. absurd told)
         go (Some found) = decides found
 
@@ -167,7 +169,7 @@ module _ {Q S M P : Type 0} (q : QueueMeaning Q S M P) where
     probe_out now (Some size) = refuses Overflow _ _ refl (answers (Unit {0}) _ (is_agree _))
 
     -- by the causes and the answer of each line
-    decides : (event : Event Q S M P) → Decides (ToldBy q words heard known event)
+    decides : (event : Event Q S M P) → Decides (ReplyTable q words heard known event)
     decides DropPrevious = on_path Previous _ (λ there. is_decided _)
     decides RevertPath = on_path Previous _ (λ there. is_decided _)
     decides event =
@@ -188,7 +190,7 @@ module _ {Q S M P : Type 0} (q : QueueMeaning Q S M P) where
 
 -- ---- what a history decides
 
-module _ {K P M : Type 0} (known : Known K P M) where
+module _ {K P M : Type 0} (known : ReplyInputs K P M) where
   -- what is in flight on the previous path, by what is known of it
   previous_in_flight : (path : Option (Path K))
       → ForSome path (λ p. counters_of p.ledger ≡ in_flight_on known (path_known p))
@@ -196,24 +198,24 @@ module _ {K P M : Type 0} (known : Known K P M) where
   previous_in_flight None left = refl
   previous_in_flight (Some path) left = ap (λ (c : Counters). Some c) (left path refl)
 
-  in_flight_known : (paths : OfPaths (Path K)) → InFlightLeft known paths
+  in_flight_known : (paths : PerPath (Path K)) → InFlightAfter known paths
       → each_path (λ path. counters_of path.ledger) paths ≡ each_path (in_flight_on known) (paths_known paths)
   in_flight_known paths left = grind (arith, left.current, previous_in_flight paths.previous left.previous)
 
-  in_flight_alike : (one other : OfPaths (Path K)) → InFlightLeft known one → InFlightLeft known other
+  in_flight_alike : (one other : PerPath (Path K)) → InFlightAfter known one → InFlightAfter known other
       → paths_known one ≡ paths_known other
       → each_path (λ path. counters_of path.ledger) one ≡ each_path (λ path. counters_of path.ledger) other
   in_flight_alike one other left too same =
       grind (arith, in_flight_known one left, in_flight_known other too, same)
 
 module _ {F K Q S M P : Type 0} (beginning : Beginning F K Q S M P) (history : History Q S M P) where
-  pub one_reply_to : (event : Event Q S M P) (one other : Reply Q) → Told beginning history event one
-      → Told beginning history event other
+  pub one_reply_to : (event : Event Q S M P) (one other : Reply Q) → RepliesAfter beginning history event one
+      → RepliesAfter beginning history event other
       → one ≢ Err NoMemory → other ≢ Err NoMemory → SameReply beginning.queue.contents one other
   one_reply_to event one other told_one told_other here there =
       decides beginning.queue beginning.words
       (λ space. acks_by beginning.queue.words ((logs_of beginning history).spaces space))
-      (known_by beginning history) event one other here there told_one told_other
+      (inputs_after beginning history) event one other here there told_one told_other
 
   -- an option that says each number alike is the same
   same_base : (one other : Option ℕ) → ((m : ℕ) → (one ≡ Some m) ↔ (other ≡ Some m)) → one ≡ other
@@ -221,14 +223,15 @@ module _ {F K Q S M P : Type 0} (beginning : Beginning F K Q S M P) (history : H
   same_base (Some m) other alike = sym ((alike m).0 refl)
   same_base one (Some m) alike = (alike m).1 refl
 
-  acks_alike : (said : AckState) (counts : AckCounts) (one other : Acks) → AcksLeft said counts one
-      → AcksLeft said counts other → AcksAlike one other
+  acks_alike : (said : AckState) (counts : AckCounts) (one other : Acks) → AcksAfter said counts one
+      → AcksAfter said counts other → AcksObservablyEqual one other
   acks_alike said counts one other left too =
       let base = same_base one.base other.base (λ m. grind (arith, left.started m, too.started m)) in
       grind (arith, left.pending, too.pending, base)
 
-  pub one_state_left : (one other : Parts K P M) → Left beginning history one → Left beginning history other
-      → LooksAlike one other
+  pub one_state_left : (one other : RecoveryState K P M) → StateAfter beginning history one
+      → StateAfter beginning history other
+      → IsObservablyEqual one other
   one_state_left one other first second = let left = first.parts in let too = second.parts in record {
     settings = left.settings ∙ sym too.settings;
     spaces = λ space. (
@@ -250,5 +253,5 @@ module _ {F K Q S M P : Type 0} (beginning : Beginning F K Q S M P) (history : H
     local_ids = left.local_ids ∙ sym too.local_ids;
   }
     where
-      known : Known K P M
-      known = known_by beginning history
+      known : ReplyInputs K P M
+      known = inputs_after beginning history

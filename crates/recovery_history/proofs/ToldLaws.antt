@@ -1,34 +1,34 @@
 -- What the parts of a recovery tell is what the history tells: the clause `told` of `run`, event by event.
 use Rattle.std.proofs.Common.{arith, ℕ, ◌↔◌, Bool, IsSome}
 use Rattle.recovery_base.specs.declared.below.SpaceId.{SpaceId}
-use Rattle.recovery_base.specs.Numbers.{Recent, IsNew}
+use Rattle.recovery_base.specs.Numbers.{RecentNumbers, IsNewNumber}
 use Rattle.recovery_base.proofs.WindowLaws.{HasGreatest, new_to_known, new_to_all}
-use Rattle.recovery_congestion.specs.Controllers.{ControllerWords}
-use Rattle.recovery_ledger.specs.Acks.{AckState, acks_by}
-use Rattle.recovery_ledger.specs.Probes.{ProbeFound}
-use Rattle.recovery_ledger.proofs.HeardLaws.{arms_alike}
-use Rattle.recovery_ledger.proofs.ReceivedLaws.{came_greatest}
+use Rattle.recovery_congestion.specs.Controllers.{ControllerSemantics}
+use Rattle.recovery_spaces.specs.Acks.{AckState, acks_by}
+use Rattle.recovery_spaces.specs.Probes.{ProbeFound}
+use Rattle.recovery_spaces.proofs.HeardLaws.{arms_alike}
+use Rattle.recovery_spaces.proofs.ReceivedLaws.{came_greatest}
 use Rattle.recovery_events.specs.declared.event.Event.{Event}
 use Rattle.recovery_events.specs.declared.event.Event.TheVariants.{Received, QueueProbe}
 use Rattle.recovery_events.specs.declared.event.Answer.{Answer}
 use Rattle.recovery_events.specs.declared.event.Answer.TheVariants.{New, Duplicate, Sendable}
 use Rattle.recovery_events.specs.declared.event.Refusal.TheVariants.{NumberTooLarge, SpaceDiscarded}
 use Rattle.recovery_history.specs.Entries.{found_in}
-use Rattle.recovery_history.specs.Told.{known_by, logs_of}
-use Rattle.recovery_history.specs.History.{Beginning, History, Reply, QueueMeaning}
-use Rattle.recovery_history.specs.Known.{SpaceKnown, Known}
-use Rattle.recovery_history.specs.Parts.{Parts}
-use Rattle.recovery_history.specs.Replies.{Answers}
-use Rattle.recovery_history.specs.Left.{PartsLeft}
-use Rattle.recovery_history.specs.Changes.{acks_to}
-use Rattle.recovery_history.specs.PartReplies.{InSpace, ReceivedAnswer, ReceivedReply, IsQueueProbeAnswer}
-use Rattle.recovery_history.specs.Table.{ToldBy}
+use Rattle.recovery_history.specs.RepliesAfter.{inputs_after, logs_of}
+use Rattle.recovery_history.specs.History.{Beginning, History, Reply, QueueModel}
+use Rattle.recovery_history.specs.ReplyInputs.{SpaceReplyInputs, ReplyInputs}
+use Rattle.recovery_history.specs.RecoveryState.{RecoveryState}
+use Rattle.recovery_history.specs.Replies.{AnswersOrNoMemory}
+use Rattle.recovery_history.specs.StateAfter.{LoggedStateAfter}
+use Rattle.recovery_history.specs.Transitions.{acks_to}
+use Rattle.recovery_history.specs.PartReplies.{UnlessSpaceDiscarded, ReceivedAnswer, ReceivedReply, IsQueueProbeAnswer}
+use Rattle.recovery_history.specs.Table.{ReplyTable}
 use Rattle.recovery_history.proofs.ReplyLaws.{refuses_alike, answers_alike}
 
 -- ---- what the window of a space tells is what all numbers tell
 
 record HeardAlike (here there : AckState) : Type 0 where
-  numbers : (n : ℕ) → here.came n ↔ Recent there.came n
+  numbers : (n : ℕ) → here.came n ↔ RecentNumbers there.came n
   greatest : HasGreatest there.came
   required : here.required ↔ there.required
   started : (m : ℕ) → here.started m ↔ there.started m
@@ -36,10 +36,10 @@ record HeardAlike (here there : AckState) : Type 0 where
 
 module _ {here there : AckState} (alike : HeardAlike here there) where
   -- a number that is new by the window is new by all numbers
-  new_told : (number : ℕ) → IsNew here.came number → IsNew there.came number
+  new_told : (number : ℕ) → IsNewNumber here.came number → IsNewNumber there.came number
   new_told = new_to_all there.came here.came alike.greatest alike.numbers
 
-  module _ {Q P M : Type 0} (known : SpaceKnown P M) (number : ℕ) (ack_eliciting : Bool) where
+  module _ {Q P M : Type 0} (known : SpaceReplyInputs P M) (number : ℕ) (ack_eliciting : Bool) where
     -- what a received packet is answered
     answer_told : (answer : Answer Q) → ReceivedAnswer here known.counts number ack_eliciting answer
         → ReceivedAnswer there known.counts number ack_eliciting answer
@@ -56,7 +56,7 @@ module _ {here there : AckState} (alike : HeardAlike here there) where
         refuses_alike SpaceDiscarded _ _ _ _ (λ h. h, λ h. h)
         (refuses_alike NumberTooLarge _ _ _ _ (λ h. h, λ h. h) (answers_alike _ _ _ _ (new_told number) answer_told))
 
-  module _ {Q S M P : Type 0} (q : QueueMeaning Q S M P) (known : SpaceKnown P M) (streams : S) (immediate : Bool)
+  module _ {Q S M P : Type 0} (q : QueueModel Q S M P) (known : SpaceReplyInputs P M) (streams : S) (immediate : Bool)
       (found : ProbeFound) where
     -- what can be sent, where a probe is asked for
     probe_answer_told : (answer : Answer Q) → IsQueueProbeAnswer q known streams here immediate found answer
@@ -65,17 +65,19 @@ module _ {here there : AckState} (alike : HeardAlike here there) where
     probe_answer_told answer told = absurd told
 
     probe_told : (reply : Reply Q)
-        → InSpace known (Answers (IsSome found.moved) (IsQueueProbeAnswer q known streams here immediate found)) reply
-        → InSpace known (Answers (IsSome found.moved) (IsQueueProbeAnswer q known streams there immediate found)) reply
+        → UnlessSpaceDiscarded known (AnswersOrNoMemory (IsSome found.moved)
+            (IsQueueProbeAnswer q known streams here immediate found)) reply
+        → UnlessSpaceDiscarded known (AnswersOrNoMemory (IsSome found.moved)
+            (IsQueueProbeAnswer q known streams there immediate found)) reply
     probe_told = refuses_alike SpaceDiscarded _ _ _ _ (λ h. h, λ h. h)
         (answers_alike _ (IsSome found.moved) _ _ (λ h. h) probe_answer_told)
 
 -- the two events that are told by what came
-told_alike : {K Q S M P : Type 0} (q : QueueMeaning Q S M P) (words : ControllerWords K)
+told_alike : {K Q S M P : Type 0} (q : QueueModel Q S M P) (words : ControllerSemantics K)
     {here there : SpaceId → AckState}
     → ((space : SpaceId) → HeardAlike (here space) (there space))
-    → (known : Known K P M) (event : Event Q S M P) (reply : Reply Q) → ToldBy q words here known event reply
-    → ToldBy q words there known event reply
+    → (known : ReplyInputs K P M) (event : Event Q S M P) (reply : Reply Q) → ReplyTable q words here known event reply
+    → ReplyTable q words there known event reply
 told_alike q words alike known (Received space now number ack_eliciting) reply told =
     received_told (alike space) (known.spaces space) number ack_eliciting reply told
 told_alike q words alike known (QueueProbe space immediate streams) reply told =
@@ -85,7 +87,7 @@ told_alike q words alike known event reply told = told
 -- ---- all events
 
 module _ {F K Q S M P : Type 0} (beginning : Beginning F K Q S M P) (history : History Q S M P)
-    (state : Parts K P M) (left : PartsLeft beginning history state) where
+    (state : RecoveryState K P M) (left : LoggedStateAfter beginning history state) where
   -- what the logs say of the packets that came
   abbrev heard_there : SpaceId → AckState
   heard_there space = acks_by beginning.queue.words ((logs_of beginning history).spaces space)
@@ -102,9 +104,9 @@ module _ {F K Q S M P : Type 0} (beginning : Beginning F K Q S M P) (history : H
 
   -- told by the parts, an event is told by the history
   pub told_by_logs : (event : Event Q S M P) (reply : Reply Q)
-      → ToldBy beginning.queue state.settings.words (acks_to state) (known_by beginning history) event reply
-      → ToldBy beginning.queue beginning.words heard_there (known_by beginning history) event reply
+      → ReplyTable beginning.queue state.settings.words (acks_to state) (inputs_after beginning history) event reply
+      → ReplyTable beginning.queue beginning.words heard_there (inputs_after beginning history) event reply
   told_by_logs event reply told =
       told_alike beginning.queue beginning.words {here = acks_to state} {there = heard_there} alike
-      (known_by beginning history)
+      (inputs_after beginning history)
       event reply (rw left.settings at told)

@@ -11,24 +11,24 @@ use Rattle.std.proofs.lemmas.List.Sums.{sum_by-cons}
 use Rattle.recovery_base.specs.declared.below.SpaceId.{SpaceId}
 use Rattle.recovery_base.specs.declared.below.SpaceId.TheVariants.{Initial, Data}
 use Rattle.recovery_base.specs.Spaces.{same_space}
-use Rattle.recovery_ledger.specs.Departures.{one_if_same}
-use Rattle.recovery_ledger.specs.Packets.{Packet, Packets, packet_at, least_number, silent_above}
-use Rattle.recovery_ledger.specs.SpaceLog.{SpaceEntry, sends, acknowledged, loses, probes, emptied}
-use Rattle.recovery_ledger.specs.Tracked.{Sent, sent_by, sent_less, sent_more, forgotten_by}
-use Rattle.recovery_ledger.proofs.CarryLaws.{sum-carrying}
-use Rattle.recovery_ledger.proofs.LedgerLaws.{sum-sent_onto}
-use Rattle.recovery_ledger.proofs.PacketLaws.{number_at, sum-without}
-use Rattle.recovery_skips.proofs.SkipLaws.{number_from_above}
+use Rattle.recovery_spaces.specs.Departures.{one_if_same}
+use Rattle.recovery_spaces.specs.Packets.{Packet, Packets, packet_at, least_number, silent_above}
+use Rattle.recovery_spaces.specs.SpaceLog.{SpaceEntry, sends, acknowledged, loses, probes, emptied}
+use Rattle.recovery_spaces.specs.Tracked.{SentState, sent_by, sent_less, sent_more, forgotten_by}
+use Rattle.recovery_spaces.proofs.CarryLaws.{sum-carrying}
+use Rattle.recovery_spaces.proofs.LedgerLaws.{sum-sent_onto}
+use Rattle.recovery_spaces.proofs.PacketLaws.{number_at, sum-without}
+use Rattle.recovery_packet_numbers.proofs.SkipLaws.{number_from_above}
 use Rattle.recovery_events.specs.declared.event.Event.{Event}
 use Rattle.recovery_events.specs.declared.event.Event.TheVariants.{Send, Acked, Lost, DiscardSpace, PollMtu}
 use Rattle.recovery_events.specs.declared.event.Answer.TheVariants as answers
 use Rattle.recovery_events.specs.declared.event.Answer.TheVariants.{Probe}
-use Rattle.recovery_history.specs.Told.{logs_of, known_by, Told}
-use Rattle.recovery_history.specs.History.{Beginning, History, QueueMeaning, Reply}
-use Rattle.recovery_history.specs.Known.{Known, number_in, packet_now}
+use Rattle.recovery_history.specs.RepliesAfter.{logs_of, inputs_after, RepliesAfter}
+use Rattle.recovery_history.specs.History.{Beginning, History, QueueModel, Reply}
+use Rattle.recovery_history.specs.ReplyInputs.{ReplyInputs, number_in, packet_now}
 use Rattle.recovery_history.specs.Logs.{onto}
 use Rattle.recovery_history.specs.Promises.Fates.{more_if, times as times_in, is_given, is_acked, is_lost, is_forgotten as is_forgotten_in, goes_with_space}
-use Rattle.recovery_history.specs.Promises.Rising.{GivesRising}
+use Rattle.recovery_history.specs.Promises.Increasing.{NumbersIncrease}
 use Rattle.recovery_history.specs.Promises.Tracked.{is_tracked}
 use Rattle.recovery_history.specs.PartReplies.{MtuProbeReply}
 use Rattle.recovery_history.proofs.EntryKinds.{keeps_packets, space_kind, space_kept}
@@ -55,7 +55,7 @@ module _ (n : ℕ) where
 module _ {P M : Type 0} (n : ℕ) where
   -- the number stands there once where it is tracked, and else not; it was given out once at most, and not yet from the
   -- next one on; and where it was it is tracked, or gone
-  pub record Tracks (sent : Sent P M) (tracked : Bool) (given departed : ℕ) : Type 0 where
+  pub record Tracks (sent : SentState P M) (tracked : Bool) (given departed : ℕ) : Type 0 where
     pub same : times n sent.tracked ≡ cond tracked 1 0
     pub adds : given ≡ more_if tracked departed
     pub once : given ≤ 1
@@ -94,7 +94,8 @@ module _ {P M : Type 0} (n : ℕ) where
         is,
       )
 
-  module _ (sent : Sent P M) (tracked : Bool) (given departed : ℕ) (here : Tracks sent tracked given departed) where
+  module _ (sent : SentState P M) (tracked : Bool) (given departed : ℕ)
+      (here : Tracks sent tracked given departed) where
     -- a packet goes out under a number that was not given out, and another is perhaps forgotten
     sent_tracks : (number : ℕ) (packet : Packet P M) → sent.next ≤ number
         → let forgotten = is_it n (forgotten_by sent packet) in
@@ -116,12 +117,12 @@ module _ {P M : Type 0} (n : ℕ) where
 -- ---- what an event does to it
 
 -- what a history leaves of the packets of a space
-abbrev pub sent_in : {F K Q S M P : Type 0} → Beginning F K Q S M P → History Q S M P → SpaceId → Sent P M
+abbrev pub sent_in : {F K Q S M P : Type 0} → Beginning F K Q S M P → History Q S M P → SpaceId → SentState P M
 sent_in beginning history space = sent_by beginning.queue.words ((logs_of beginning history).spaces space)
 
 -- the number that is given out was not given out before
 pub is_new : {F K Q S M P : Type 0} (beginning : Beginning F K Q S M P) (before : History Q S M P) (space : SpaceId)
-    → (sent_in beginning before space).next ≤ number_in (known_by beginning before) space
+    → (sent_in beginning before space).next ≤ number_in (inputs_after beginning before) space
 is_new beginning before Data =
     number_from_above beginning.config.skips beginning.random (sent_in beginning before Data).next
 is_new beginning before space = omega arith
@@ -130,7 +131,7 @@ pub one_space : (there space : SpaceId) → same_space there space ≡ true → 
 one_space Initial Initial e = refl
 one_space there space e = grind (arith, e)
 
-pub probe_number : {K Q S M P : Type 0} (q : QueueMeaning Q S M P) (known : Known K P M) (now : ℕ) (due : Option ℕ)
+pub probe_number : {K Q S M P : Type 0} (q : QueueModel Q S M P) (known : ReplyInputs K P M) (now : ℕ) (due : Option ℕ)
     (number size : ℕ)
     → MtuProbeReply q known now due (Ok (Probe number size)) → number ≡ known.next_number
 probe_number q known now due number size told = grind (arith, told)
@@ -153,8 +154,8 @@ module _ {F K Q S M P : Type 0} (beginning : Beginning F K Q S M P) (before : Hi
   abbrev log : List (SpaceEntry P M)
   log = (logs_of beginning before).spaces space
 
-  abbrev known : Known K P M
-  known = known_by beginning before
+  abbrev known : ReplyInputs K P M
+  known = inputs_after beginning before
 
   abbrev tracked_now : Bool
   tracked_now = is_tracked space n before
@@ -209,7 +210,7 @@ module _ {F K Q S M P : Type 0} (beginning : Beginning F K Q S M P) (before : Hi
       let sum = sum-without (counts n) (sent_in beginning before space).tracked number found.0 found.1 in
       grind (arith, nat_tests, sum, here.same, here.adds, here.once, here.late)
 
-  reply_tracks : (event : Event Q S M P) (reply : Reply Q) → Told beginning before event reply
+  reply_tracks : (event : Event Q S M P) (reply : Reply Q) → RepliesAfter beginning before event reply
       → TracksIn beginning ((event, reply) ∷ before) space n
   reply_tracks (Acked there now number app_limited) (Ok answer) told =
       step (same_space there space) false (number == n) (acknowledged number) _ _ _ (leaves_told there number told.1.0)
@@ -253,7 +254,7 @@ module _ {F K Q S M P : Type 0} (beginning : Beginning F K Q S M P) where
 
   -- an event that was told keeps that
   pub keeps_tracked : (before : History Q S M P) (event : Event Q S M P) (reply : Reply Q)
-      → Told beginning before event reply
+      → RepliesAfter beginning before event reply
       → AllTracked before → AllTracked ((event, reply) ∷ before)
   keeps_tracked before event reply told all =
       λ space n. reply_tracks beginning before space n (all space n) event reply told
@@ -271,8 +272,8 @@ module _ {F K Q S M P : Type 0} (beginning : Beginning F K Q S M P) where
 
 module _ {F K Q S M P : Type 0} (beginning : Beginning F K Q S M P) where
   module _ (before : History Q S M P) (all : AllTracked beginning before) where
-    abbrev known_before : Known K P M
-    known_before = known_by beginning before
+    abbrev known_before : ReplyInputs K P M
+    known_before = inputs_after beginning before
 
     -- the next number of a space is above all that were given out there
     next_rises : (there : SpaceId) (given : ℕ) → given ≡ number_in known_before there
@@ -287,15 +288,15 @@ module _ {F K Q S M P : Type 0} (beginning : Beginning F K Q S M P) where
           λ n above. (all there n).late (omega (arith, is_new beginning before there, above)),
         )
 
-    rises : (event : Event Q S M P) (reply : Reply Q) → Told beginning before event reply
-        → GivesRising before event reply
+    rises : (event : Event Q S M P) (reply : Reply Q) → RepliesAfter beginning before event reply
+        → NumbersIncrease before event reply
     rises (Send there now size eliciting largest queue frames) (Ok (answers.Sent number forgotten)) told =
         let is = past_four told in next_rises there number (cc) told.1.1.0
     rises (PollMtu now) (Ok (Probe number size)) told =
         next_rises Data number (probe_number beginning.queue known_before now _ number size told.1.1) told.1.0
     rises event reply told = λ space number goes. absurd (false≢true goes)
 
-  pub keeps_rising : AllAlong beginning GivesRising
+  pub keeps_rising : AllAlong beginning NumbersIncrease
   keeps_rising =
-      throughout_kept beginning (AllTracked beginning) GivesRising (keeps_tracked beginning)
+      throughout_kept beginning (AllTracked beginning) NumbersIncrease (keeps_tracked beginning)
       (λ before event reply here all. rises before all event reply here) (none_tracked beginning)

@@ -11,13 +11,13 @@ use Rattle.recovery_mtud.specs.Search.{MtuSearch, narrowed, probing_on, repeats,
 use Rattle.recovery_mtud.specs.Bursts.{LossBursts}
 use Rattle.recovery_mtud.specs.Discovery.{Discovery}
 use Rattle.recovery_mtud.specs.DiscoveryLog.{MtuCall, polls, discovery_after, discovery_by}
-use Rattle.recovery_mtud.specs.MtuEntries.{IsUntold, MtuEntry, entries_by, entry_of, poll_entry, search_settings}
+use Rattle.recovery_mtud.specs.MtuEntries.{IsFreshDiscovery, MtuEntry, entries_by, entry_of, poll_entry, search_settings}
 use Rattle.recovery_mtud.specs.SearchRuns.{probed_sizes, search_of, search_runs}
 use Rattle.recovery_mtud.proofs.MtuEntryLaws.{Holds, holds_by}
 use Rattle.recovery_mtud.proofs.SearchRunLaws.{idle_search}
-use Rattle.recovery_history.specs.Told.{pasts_of}
+use Rattle.recovery_history.specs.RepliesAfter.{pasts_of}
 use Rattle.recovery_history.specs.History.{Beginning}
-use Rattle.recovery_history.specs.Promises.Tries.{tries, TriesThrice}
+use Rattle.recovery_history.specs.Promises.ProbesPerSize.{tries, ProbesSizeAtMostThrice}
 use Rattle.recovery_history.proofs.FewLaws as few
 use Rattle.recovery_history.proofs.Runs.{AllAlong}
 use Rattle.recovery_history.proofs.SearchLaws.{searched_one}
@@ -138,7 +138,7 @@ module _ (made : Discovery) (settings : MtuDiscoveryConfig) (wide : 3 ≤ settin
 settings_stay : (call : MtuCall) (old : Discovery) → search_settings (discovery_after call old) ≡ search_settings old
 settings_stay call old = grind (arith, nat_tests)
 
-module _ (made : Discovery) (settings : MtuDiscoveryConfig) (new : IsUntold made)
+module _ (made : Discovery) (settings : MtuDiscoveryConfig) (new : IsFreshDiscovery made)
     (is : search_settings made ≡ Some settings) (wide : 3 ≤ settings.minimum_change) where
   first : (search : Option MtuSearch) → IfSome search (λ own. (own.probing ≡ None) × (own.activation ≡ 0))
       → Tied [] (option_and_then (λ own. own.probing) search)
@@ -181,7 +181,7 @@ module _ (made : Discovery) (settings : MtuDiscoveryConfig) (new : IsUntold made
 -- ---- throughout a run
 
 module _ {F K Q S M P : Type 0} (beginning : Beginning F K Q S M P) where
-  pub tries_told : AllAlong beginning (TriesThrice beginning)
+  pub tries_told : AllAlong beginning (ProbesSizeAtMostThrice beginning)
   tries_told =
       throughout_facts beginning (few.Tied beginning) (few.tied_after beginning) (refl, refl, tt)
       (λ history event reply known tied settings is change size. (

@@ -13,10 +13,10 @@ use Rattle.recovery_events.specs.declared.event.Answer.TheVariants as answer
 use Rattle.recovery_events.specs.declared.event.Refusal.TheVariants.{Searching}
 use Rattle.recovery_history.specs.History.{Beginning, History, Reply}
 use Rattle.recovery_history.specs.Search.{discovery_settings}
-use Rattle.recovery_history.specs.Promises.Few.{is_in_flight as flies}
-use Rattle.recovery_history.specs.Promises.Near.{next}
+use Rattle.recovery_history.specs.Promises.ProbeCount.{is_in_flight as flies}
+use Rattle.recovery_history.specs.Promises.Convergence.{next}
 use Rattle.recovery_history.specs.Promises.Probes.{runs}
-use Rattle.recovery_history.specs.Promises.Turns.{SearchesInTurn, is_probe_in_flight}
+use Rattle.recovery_history.specs.Promises.OneProbe.{OneProbeAtATime, is_probe_in_flight}
 use Rattle.recovery_history.proofs.SearchSaid.{entered_so_far, is_in_flight, IsSmall}
 use Rattle.recovery_history.proofs.NearLaws.{Kept, kept_by, kept_first, runs_same}
 use Rattle.recovery_history.proofs.SearchSteps.{Facts, throughout_facts}
@@ -43,7 +43,7 @@ module _ {F K Q S M P : Type 0} (beginning : Beginning F K Q S M P) where
     )
 
     turns_one : (event : Event Q S M P) (reply : Reply Q) → Facts beginning history event reply
-        → SearchesInTurn beginning history event reply
+        → OneProbeAtATime beginning history event reply
     turns_one (PollMtu now) (Ok (answer.Probe number size)) known =
         turn_of now number size (discovery_settings beginning) refl known.turn
     turns_one (Acked there now number app_limited) (Ok given) known =
@@ -57,7 +57,7 @@ module _ {F K Q S M P : Type 0} (beginning : Beginning F K Q S M P) where
     turns_one event reply known = tt
 
   -- throughout a run
-  pub turns_told : IsSmall beginning → AllAlong beginning (SearchesInTurn beginning)
+  pub turns_told : IsSmall beginning → AllAlong beginning (OneProbeAtATime beginning)
   turns_told small =
       throughout_facts beginning (Kept beginning) (kept_by beginning) (kept_first beginning)
       (λ history event reply known kept. turns_one history kept event reply known)

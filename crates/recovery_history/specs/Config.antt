@@ -2,7 +2,7 @@
 use Rattle.std.specs.Prelude.{ℕ, ◌*◌, ◌^◌, true, false, List, Some}
 use Rattle.std.specs.declared.net.socket_addr.SocketAddr.{SocketAddr}
 use Rattle.recovery_config.specs.declared.config.TransportConfig.{TransportConfig}
-use Rattle.recovery_skips.specs.declared.filter.Skips.TheVariants.{Disabled}
+use Rattle.recovery_packet_numbers.specs.declared.filter.Skips.TheVariants.{Disabled}
 use Rattle.recovery_history.specs.declared.config.RecoveryConfig.{RecoveryConfig}
 
 -- times are in nanoseconds

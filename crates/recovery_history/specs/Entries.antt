@@ -1,18 +1,18 @@
 -- What an event may be to the spaces and to the paths: the words of the table.
 use Rattle.std.specs.declared.net.socket_addr.SocketAddr.{SocketAddr}
-use Rattle.recovery_queue.specs.Queues.{QueueWords}
+use Rattle.recovery_queue.specs.Queues.{QueueSemantics}
 use Rattle.std.specs.Prelude.{ℕ, ◌+◌, Bool, true, false, ◌&&◌, ◌==◌, List, ◌∷◌, Option, None, Some, if◌then◌else◌, []}
 use Rattle.recovery_base.specs.declared.below.SpaceId.{SpaceId}
 use Rattle.recovery_base.specs.declared.below.SpaceId.TheVariants.{Data}
-use Rattle.recovery_history.specs.Known.{Known, number_in, packet_now}
+use Rattle.recovery_history.specs.ReplyInputs.{ReplyInputs, number_in, packet_now}
 use Rattle.recovery_congestion.specs.Calls.{sends as sends_bytes, acks, takes_mtu}
-use Rattle.recovery_ledger.specs.Packets.{Packet}
-use Rattle.recovery_ledger.specs.Probes.{ProbeFound, probe_found}
+use Rattle.recovery_spaces.specs.Packets.{Packet}
+use Rattle.recovery_spaces.specs.Probes.{ProbeFound, probe_found}
 use Rattle.recovery_mtud.specs.DiscoveryLog.{MtuCall, discovery_after, acks as acks_packet}
 use Rattle.recovery_paths.specs.PathStates.{loss_call, is_path_probe}
-use Rattle.recovery_paths.specs.PathLog.{PathsEntry, Following, fresh, extends, on_current, searches, tells}
+use Rattle.recovery_paths.specs.PathLog.{PathsEntry, PathOrigin, fresh, extends, on_current, searches, tells}
 use Rattle.recovery_base.specs.Spaces.{same_space}
-use Rattle.recovery_ledger.specs.SpaceLog.{SpaceEntry, sends}
+use Rattle.recovery_spaces.specs.SpaceLog.{SpaceEntry, sends}
 
 -- what happens in one space is nothing to another
 abbrev pub here : {P M : Type 0} → SpaceId → SpaceId → SpaceEntry P M → Option (SpaceEntry P M)
@@ -39,7 +39,7 @@ in_space space entry = happens space entry []
 abbrev pub on_path : {P M : Type 0} → PathsEntry → Entries P M
 on_path entry = record nothing { paths = entry ∷ [] }
 
-module _ {K P M : Type 0} (known : Known K P M) where
+module _ {K P M : Type 0} (known : ReplyInputs K P M) where
   -- ---- what the controller of the path in use is told (RFC 9002, 7)
 
   -- an acknowledged packet, where it was tracked, went out on the path and elicits an ACK
@@ -82,12 +82,12 @@ module _ {K P M : Type 0} (known : Known K P M) where
       happens space (sends number packet) (on_current (tells (sends_bytes now size number)) ∷ [])
 
   -- what a probe finds in a space (RFC 9002, 6.2.4)
-  abbrev pub found_in : {S : Type 0} → QueueWords P S → S → SpaceId → ProbeFound
+  abbrev pub found_in : {S : Type 0} → QueueSemantics P S → S → SpaceId → ProbeFound
   found_in words streams space =
       let here = known.spaces space in probe_found words streams here.queued.pending here.sent.tracked
 
   -- ---- paths
 
-  abbrev pub following : ℕ → SocketAddr → Bool → Following
+  abbrev pub following : ℕ → SocketAddr → Bool → PathOrigin
   following now remote true = fresh (known.paths.made + 1) remote known.peer_limit now
   following now remote false = extends (known.paths.made + 1) remote now

@@ -3,8 +3,8 @@ use Rattle.std.specs.Prelude.{◌≡◌, ℕ, List, [], ◌∷◌, length, rever
 use Rattle.std.specs.Global.{Vec}
 use Rattle.std.specs.List.{zip}
 use Rattle.rand_core.specs.Stream.{Stream}
-use Rattle.recovery_congestion.specs.Controllers.{ControllerWords}
-use Rattle.recovery_queue.specs.Queues.{QueueWords}
+use Rattle.recovery_congestion.specs.Controllers.{ControllerSemantics}
+use Rattle.recovery_queue.specs.Queues.{QueueSemantics}
 use Rattle.recovery_history.specs.declared.config.RecoveryConfig.{RecoveryConfig}
 use Rattle.recovery_events.specs.declared.event.Event.{Event}
 use Rattle.recovery_events.specs.declared.event.Answer.{Answer}
@@ -12,14 +12,14 @@ use Rattle.recovery_events.specs.declared.event.Refusal.{Refusal}
 
 -- what queues of what is sent again hold, and what each call does to that. Q is the queue, S what it is asked with,
 -- M what a packet says of itself besides, and P what contracts see of a queue.
-pub record QueueMeaning (Q S M P : Type 0) : Type 0 where
+pub record QueueModel (Q S M P : Type 0) : Type 0 where
   pub contents : Q → P
-  pub words : QueueWords P S
+  pub words : QueueSemantics P S
   -- what a packet says of itself where nobody says what
   pub blank : M
 
-abbrev pub queue_meaning : {Q S M P : Type 0} → (Q → P) → QueueWords P S → M → QueueMeaning Q S M P
-queue_meaning contents words blank = record { contents = contents; words = words; blank = blank }
+abbrev pub queue_model : {Q S M P : Type 0} → (Q → P) → QueueSemantics P S → M → QueueModel Q S M P
+queue_model contents words blank = record { contents = contents; words = words; blank = blank }
 
 -- how a run begins: with which settings, and when. F is the factory of controllers, and K what contracts see of one:
 -- what is built, and what each call does to it, are the implementation's own functions.
@@ -27,13 +27,13 @@ pub record Beginning (F K Q S M P : Type 0) : Type 0 where
   pub config : RecoveryConfig F
   pub start : ℕ
   pub built : F → ℕ → ℕ → K
-  pub words : ControllerWords K
+  pub words : ControllerSemantics K
   -- what queues hold, and what each call does to that
-  pub queue : QueueMeaning Q S M P
+  pub queue : QueueModel Q S M P
   -- the words that the generator of skipped numbers gives
   pub random : Stream
 
-abbrev pub begins : {F K Q S M P : Type 0} → (F → ℕ → ℕ → K) → ControllerWords K → QueueMeaning Q S M P
+abbrev pub begins : {F K Q S M P : Type 0} → (F → ℕ → ℕ → K) → ControllerSemantics K → QueueModel Q S M P
     → RecoveryConfig F → ℕ → Stream → Beginning F K Q S M P
 begins built words queue config start random =
     record { config = config; start = start; built = built; words = words; queue = queue; random = random }

@@ -4,17 +4,17 @@ use Rattle.std.specs.List.{range_with_len}
 use Rattle.recovery_base.specs.declared.below.ids.IssuedCid.{IssuedCid}
 use Rattle.recovery_base.specs.declared.below.ids.NewConnectionId.{NewConnectionId}
 use Rattle.recovery_ids.specs.LocalIds.{LocalIds, without_number}
-use Rattle.recovery_ids.specs.RemoteIds.{Table, RemoteIds, IsLeastHeld, Repeats, active_connection_id_limit, with_frame}
+use Rattle.recovery_ids.specs.RemoteIds.{IdTable, RemoteIds, IsLeastHeld, RepeatsFrame, active_connection_id_limit, with_frame}
 use Rattle.recovery_events.specs.declared.event.Answer.{Answer}
 use Rattle.recovery_events.specs.declared.event.Answer.TheVariants.{Retire, Done}
 use Rattle.recovery_events.specs.declared.event.Refusal.TheVariants.{NumberTooLarge, BadRetirePriorTo, Retired, ExceedsLimit, Conflict, CidsNotInUse, UnissuedCid, BadRange}
 use Rattle.recovery_history.specs.History.{Reply}
-use Rattle.recovery_history.specs.Replies.{IsFlag, Refuses, Answers, AlwaysAnswers}
+use Rattle.recovery_history.specs.Replies.{IsFlag, RejectsWhen, AnswersOrNoMemory, AlwaysAnswers}
 
 -- ---- ids of the peer
 
 -- a number's id has this token
-abbrev pub HasToken : Table → ℕ → List ℕ → Type 0
+abbrev pub HasToken : IdTable → ℕ → List ℕ → Type 0
 HasToken held n token = (id : List ℕ) × (held n ≡ Some (id, Some token))
 
 -- a frame that retires the active number is answered the numbers from it up to the least one that is held then, at most
@@ -29,11 +29,11 @@ IsFrameAnswer ids frame answer = ⊥
 
 -- why a frame is refused, and what it is answered (19.15)
 abbrev pub FrameReply : {Q : Type 0} → RemoteIds → NewConnectionId → Reply Q → Type 0
-FrameReply ids frame = Refuses NumberTooLarge (2 ^ 62 ≤ frame.sequence)
-    (Refuses BadRetirePriorTo (frame.sequence < frame.retire_prior_to)
-    (Refuses Retired (frame.sequence < ids.active)
-    (Refuses ExceedsLimit (max ids.active frame.retire_prior_to + active_connection_id_limit ≤ frame.sequence)
-    (Refuses Conflict (¬ Repeats frame ids.held) (AlwaysAnswers (IsFrameAnswer ids frame))))))
+FrameReply ids frame = RejectsWhen NumberTooLarge (2 ^ 62 ≤ frame.sequence)
+    (RejectsWhen BadRetirePriorTo (frame.sequence < frame.retire_prior_to)
+    (RejectsWhen Retired (frame.sequence < ids.active)
+    (RejectsWhen ExceedsLimit (max ids.active frame.retire_prior_to + active_connection_id_limit ≤ frame.sequence)
+    (RejectsWhen Conflict (¬ RepeatsFrame frame ids.held) (AlwaysAnswers (IsFrameAnswer ids frame))))))
 
 -- the next id is the least one held above the active one: the numbers from the active one up to it are retired, and its
 -- token is told; where none is held the active one stays
@@ -48,12 +48,12 @@ IsNextAnswer ids answer = ⊥
 -- ids are issued in the order of their numbers, which go on from the count issued and end below 2^62; only where there
 -- are ids is memory taken
 abbrev pub IssueReply : {Q : Type 0} → LocalIds → List IssuedCid → Reply Q → Type 0
-IssueReply ids more = Refuses NumberTooLarge (2 ^ 62 < ids.issued + length more)
-    (Refuses BadRange (map (λ id. id.sequence) more ≢ range_with_len ids.issued (length more))
-    (Answers (more ≢ []) (λ answer. answer ≡ Done)))
+IssueReply ids more = RejectsWhen NumberTooLarge (2 ^ 62 < ids.issued + length more)
+    (RejectsWhen BadRange (map (λ id. id.sequence) more ≢ range_with_len ids.issued (length more))
+    (AnswersOrNoMemory (more ≢ []) (λ answer. answer ≡ Done)))
 
 -- why a retirement is refused; it is told whether the limit leaves room for one more id (19.16)
 abbrev pub RetirementReply : {Q : Type 0} → LocalIds → ℕ → ℕ → Reply Q → Type 0
-RetirementReply ids sequence limit = Refuses CidsNotInUse (ids.cid_len ≡ 0)
-    (Refuses UnissuedCid (ids.issued ≤ sequence)
+RetirementReply ids sequence limit = RejectsWhen CidsNotInUse (ids.cid_len ≡ 0)
+    (RejectsWhen UnissuedCid (ids.issued ≤ sequence)
     (AlwaysAnswers (IsFlag (length (without_number sequence ids).unretired < limit))))

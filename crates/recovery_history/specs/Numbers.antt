@@ -2,7 +2,7 @@
 use Rattle.std.specs.Prelude.{ℕ}
 use Rattle.recovery_base.specs.declared.below.SpaceId.{SpaceId}
 use Rattle.recovery_base.specs.declared.below.SpaceId.TheVariants.{Initial, Handshake, Data}
-use Rattle.recovery_skips.specs.Filters.{Filter, Skipping, number_by, passed}
+use Rattle.recovery_packet_numbers.specs.Filters.{Filter, SkipState, number_by, passed}
 
 -- the number that is given out next in a space, where n is one above the last one
 abbrev pub number_behind : Filter → SpaceId → ℕ → ℕ
@@ -11,7 +11,7 @@ number_behind filter Handshake n = n
 number_behind filter Data n = number_by filter n
 
 -- it is given out
-abbrev pub skipping_behind : SpaceId → ℕ → Skipping → Skipping
+abbrev pub skipping_behind : SpaceId → ℕ → SkipState → SkipState
 skipping_behind Initial n old = old
 skipping_behind Handshake n old = old
 skipping_behind Data n old = passed n old

@@ -4,20 +4,20 @@
 use Rattle.std.specs.Prelude.{ℕ, true, ◌∷◌, Option, None, Some, Ok}
 use Rattle.recovery_congestion.specs.PacerLog.{asked, AreChecked, DelaysBy, KeepsRate}
 use Rattle.recovery_congestion.specs.Pacing.{PacerCall}
-use Rattle.recovery_congestion.specs.NamedMoment.{PassesAtMoment}
+use Rattle.recovery_congestion.specs.ReportedTime.{PassesAtMoment}
 use Rattle.recovery_congestion.specs.PaidLog.{DelaysUncovered, PaysInFull, PaysRate}
 use Rattle.recovery_congestion.specs.Progress.{PassesBehind}
-use Rattle.recovery_paths.specs.PathLog.{OnEachPath, PathPast, state_of}
+use Rattle.recovery_paths.specs.PathLog.{OnEachPath, PathHistory, path_state_of}
 use Rattle.recovery_paths.specs.PathStates.{pacer_call}
 use Rattle.recovery_events.specs.declared.event.Event.{Event}
 use Rattle.recovery_events.specs.declared.event.Event.TheVariants.{Transmit, PacerCheck}
 use Rattle.recovery_events.specs.declared.event.Answer.{Answer}
 use Rattle.recovery_events.specs.declared.event.Answer.TheVariants.{Delayed, Blocked}
-use Rattle.recovery_history.specs.Told.{pasts_of}
+use Rattle.recovery_history.specs.RepliesAfter.{pasts_of}
 use Rattle.recovery_history.specs.History.{Beginning, History, Reply}
 
 -- a call of a path's pacer is answered by the balance: it is delayed until this moment, or it is not
-abbrev pub IsByBalance : {K : Type 0} → PathPast K → PacerCall → Option ℕ → Type 0
+abbrev pub IsByBalance : {K : Type 0} → PathHistory K → PacerCall → Option ℕ → Type 0
 IsByBalance past call given = AreChecked (asked call ∷ past.pacing) → DelaysBy past.kept.pacer past.pacing call given
 
 -- until when, where the answer is that it is delayed
@@ -27,43 +27,46 @@ delay_in answer = None
 
 module _ {F K Q S M P : Type 0} (beginning : Beginning F K Q S M P) where
   -- this holds of the pacer of the path in use, of a call of it for so many bytes, and of its delay
-  abbrev pub OnCall : (PathPast K → PacerCall → Option ℕ → Type 0) → History Q S M P → ℕ → ℕ → Option ℕ → Type 0
-  OnCall Holds history now bytes given =
+  abbrev pub AtPacerCall : (PathHistory K → PacerCall → Option ℕ → Type 0) → History Q S M P → ℕ → ℕ → Option ℕ → Type 0
+  AtPacerCall Holds history now bytes given =
       let past = (pasts_of beginning history).current in
-      Holds past (pacer_call beginning.words (state_of past) now bytes) given
+      Holds past (pacer_call beginning.words (path_state_of past) now bytes) given
 
   -- the pacer of the path in use is called where an event asks it, and for a checked transmission that is not blocked
-  abbrev pub AtCalls : (PathPast K → PacerCall → Option ℕ → Type 0) → History Q S M P → Event Q S M P → Reply Q → Type 0
-  AtCalls Holds history (PacerCheck now bytes) (Ok answer) = OnCall Holds history now bytes (delay_in answer)
-  AtCalls Holds history (Transmit now bytes true) (Ok Blocked) = Unit {0}
-  AtCalls Holds history (Transmit now bytes true) (Ok answer) = OnCall Holds history now bytes (delay_in answer)
-  AtCalls Holds history event reply = Unit {0}
+  abbrev pub AtPacerCalls : (PathHistory K → PacerCall → Option ℕ → Type 0) → History Q S M P → Event Q S M P → Reply Q
+      → Type 0
+  AtPacerCalls Holds history (PacerCheck now bytes) (Ok answer) = AtPacerCall Holds history now bytes (delay_in answer)
+  AtPacerCalls Holds history (Transmit now bytes true) (Ok Blocked) = Unit {0}
+  AtPacerCalls Holds history (Transmit now bytes true) (Ok answer) = AtPacerCall Holds history now bytes
+      (delay_in answer)
+  AtPacerCalls Holds history event reply = Unit {0}
 
   abbrev pub DelaysByBalance : History Q S M P → Event Q S M P → Reply Q → Type 0
-  DelaysByBalance = AtCalls IsByBalance
+  DelaysByBalance = AtPacerCalls IsByBalance
 
   -- what was delayed as the pacer was asked last passes soon behind the moment that was named
-  abbrev pub PassesSoon : History Q S M P → Event Q S M P → Reply Q → Type 0
-  PassesSoon = AtCalls (λ past. PassesBehind past.kept.pacer past.pacing)
+  abbrev pub PassesAfterDelay : History Q S M P → Event Q S M P → Reply Q → Type 0
+  PassesAfterDelay = AtPacerCalls (λ past. PassesBehind past.kept.pacer past.pacing)
 
   -- what was delayed passes at the moment that was named, where the bucket has room for what rounding and questions in
   -- between cost
-  abbrev pub PassesWhenNamed : History Q S M P → Event Q S M P → Reply Q → Type 0
-  PassesWhenNamed = AtCalls (λ past. PassesAtMoment past.kept.pacer past.pacing)
+  abbrev pub PassesAtReportedTime : History Q S M P → Event Q S M P → Reply Q → Type 0
+  PassesAtReportedTime = AtPacerCalls (λ past. PassesAtMoment past.kept.pacer past.pacing)
 
   -- after an event, the pacer of each path that lives keeps the rate
-  abbrev pub KeepsPace : History Q S M P → Event Q S M P → Reply Q → Type 0
-  KeepsPace history event reply = OnEachPath (λ past. AreChecked past.pacing → KeepsRate past.kept.pacer past.pacing)
+  abbrev pub BoundsPacingRate : History Q S M P → Event Q S M P → Reply Q → Type 0
+  BoundsPacingRate history event reply = OnEachPath (λ past. AreChecked past.pacing
+      → KeepsRate past.kept.pacer past.pacing)
       (pasts_of beginning ((event, reply) ∷ history))
 
   -- ---- with no premise
 
   -- what the balance of what was paid for covers is not delayed, and the rest is
   abbrev pub DelaysExactly : History Q S M P → Event Q S M P → Reply Q → Type 0
-  DelaysExactly = AtCalls (λ past. DelaysUncovered past.kept.pacer past.pacing)
+  DelaysExactly = AtPacerCalls (λ past. DelaysUncovered past.kept.pacer past.pacing)
 
   -- what passes where it is paced is paid for in full; and after an event, the pacer of each path that lives pays
   -- within its rate
-  abbrev pub PaysAtRate : History Q S M P → Event Q S M P → Reply Q → Type 0
-  PaysAtRate history event reply = AtCalls (λ past. PaysInFull past.kept.pacer past.pacing) history event reply
+  abbrev pub BoundsPaidRate : History Q S M P → Event Q S M P → Reply Q → Type 0
+  BoundsPaidRate history event reply = AtPacerCalls (λ past. PaysInFull past.kept.pacer past.pacing) history event reply
       × OnEachPath (λ past. PaysRate past.kept.pacer past.pacing) (pasts_of beginning ((event, reply) ∷ history))

@@ -4,65 +4,67 @@ use Rattle.recovery_base.specs.declared.below.SpaceId.{SpaceId}
 use Rattle.recovery_base.specs.declared.below.SpaceId.TheVariants.{Data}
 use Rattle.recovery_base.specs.declared.below.frames.EcnCounts.{EcnCounts}
 use Rattle.recovery_base.specs.Ecn.{ecn_fault}
-use Rattle.recovery_base.specs.Numbers.{IsNew}
-use Rattle.recovery_congestion.specs.Controllers.{ControllerWords}
+use Rattle.recovery_base.specs.Numbers.{IsNewNumber}
+use Rattle.recovery_congestion.specs.Controllers.{ControllerSemantics}
 use Rattle.recovery_acks.specs.Acks.{AckCounts}
-use Rattle.recovery_ledger.specs.Acks.{Arms, AckState}
-use Rattle.recovery_ledger.specs.InFlight.{Overflows}
-use Rattle.recovery_ledger.specs.Packets.{Packet, packet_at, IsTooLarge}
-use Rattle.recovery_ledger.specs.Probes.{ProbeFound}
-use Rattle.recovery_ledger.specs.Queued.{IsSendable, probe_queued}
-use Rattle.recovery_ledger.specs.Tracked.{forgotten_by}
-use Rattle.recovery_ledger.specs.declared.paths.InFlight.{InFlight as Counters}
-use Rattle.recovery_paths.specs.PathLog.{PathKnown}
+use Rattle.recovery_spaces.specs.Acks.{ArmsAckTimer, AckState}
+use Rattle.recovery_spaces.specs.InFlight.{Overflows}
+use Rattle.recovery_spaces.specs.Packets.{Packet, packet_at, IsTooLarge}
+use Rattle.recovery_spaces.specs.Probes.{ProbeFound}
+use Rattle.recovery_spaces.specs.Queued.{IsSendable, probe_queued}
+use Rattle.recovery_spaces.specs.Tracked.{forgotten_by}
+use Rattle.recovery_spaces.specs.declared.paths.InFlight.{InFlight as Counters}
+use Rattle.recovery_paths.specs.PathLog.{PathReplyInputs}
 use Rattle.recovery_paths.specs.PathStates.{PathState, is_blocked, path_delay}
 use Rattle.recovery_events.specs.declared.event.Answer.{Answer}
 use Rattle.recovery_events.specs.declared.event.Answer.TheVariants as answer
 use Rattle.recovery_events.specs.declared.event.Refusal.TheVariants as refusal
-use Rattle.recovery_history.specs.History.{Reply, QueueMeaning}
-use Rattle.recovery_history.specs.Known.{SpaceKnown, Known, packet_now, current_in_flight}
-use Rattle.recovery_history.specs.Replies.{Refuses, Answers, AlwaysAnswers}
+use Rattle.recovery_history.specs.History.{Reply, QueueModel}
+use Rattle.recovery_history.specs.ReplyInputs.{SpaceReplyInputs, ReplyInputs, packet_now, current_in_flight}
+use Rattle.recovery_history.specs.Replies.{RejectsWhen, AnswersOrNoMemory, AlwaysAnswers}
 
 module _ {Q : Type 0} where
-  abbrev pub Is : Answer Q → Answer Q → Type 0
-  Is expected given = given ≡ expected
+  abbrev pub EqualsAnswer : Answer Q → Answer Q → Type 0
+  EqualsAnswer expected given = given ≡ expected
 
   -- it is done, always
-  abbrev pub IsDone : Reply Q → Type 0
-  IsDone = AlwaysAnswers (λ given. given ≡ answer.Done)
+  abbrev pub AnswersDone : Reply Q → Type 0
+  AnswersDone = AlwaysAnswers (λ given. given ≡ answer.Done)
 
   -- what a received packet is answered: what it is to its space
   abbrev pub ReceivedAnswer : AckState → AckCounts → ℕ → Bool → Answer Q → Type 0
   ReceivedAnswer heard counts number eliciting (answer.New arm) =
-      IsNew heard.came number × (IsTrue arm ↔ Arms heard.came heard.required heard.started counts number eliciting)
-  ReceivedAnswer heard counts number eliciting answer.Duplicate = ¬ IsNew heard.came number
+      IsNewNumber heard.came number × (IsTrue arm ↔ ArmsAckTimer heard.came heard.required heard.started counts number
+          eliciting)
+  ReceivedAnswer heard counts number eliciting answer.Duplicate = ¬ IsNewNumber heard.came number
   ReceivedAnswer heard counts number eliciting other = ⊥
 
 -- ---- events in a space
 
-module _ {Q P M : Type 0} (here : SpaceKnown P M) where
+module _ {Q P M : Type 0} (here : SpaceReplyInputs P M) where
   -- refused where the space was discarded, and else replied so
-  abbrev pub InSpace : (Reply Q → Type 0) → Reply Q → Type 0
-  InSpace = Refuses refusal.SpaceDiscarded (IsTrue here.discarded)
+  abbrev pub UnlessSpaceDiscarded : (Reply Q → Type 0) → Reply Q → Type 0
+  UnlessSpaceDiscarded = RejectsWhen refusal.SpaceDiscarded (IsTrue here.discarded)
 
   -- what a received packet comes to, from the numbers that came before it; only a new number takes memory
   abbrev pub ReceivedReply : AckState → ℕ → Bool → Reply Q → Type 0
-  ReceivedReply heard number eliciting = InSpace
-      (Refuses refusal.NumberTooLarge (2 ^ 62 ≤ number)
-      (Answers (IsNew heard.came number) (ReceivedAnswer heard here.counts number eliciting)))
+  ReceivedReply heard number eliciting = UnlessSpaceDiscarded
+      (RejectsWhen refusal.NumberTooLarge (2 ^ 62 ≤ number)
+      (AnswersOrNoMemory (IsNewNumber heard.came number) (ReceivedAnswer heard here.counts number eliciting)))
 
   -- a packet that is sent is given this number, and a silent packet may be forgotten for it
   abbrev pub SendReply : Counters → ℕ → Packet P M → Reply Q → Type 0
-  SendReply counters number packet = InSpace
-      (Refuses refusal.NumberTooLarge (IsTooLarge packet.largest_acked)
-      (Refuses refusal.NumbersExhausted (2 ^ 62 ≤ number)
-      (Refuses refusal.Overflow (Overflows counters packet)
-      (Answers (Unit {0}) (Is (answer.Sent number (forgotten_by here.sent packet)))))))
+  SendReply counters number packet = UnlessSpaceDiscarded
+      (RejectsWhen refusal.NumberTooLarge (IsTooLarge packet.largest_acked)
+      (RejectsWhen refusal.NumbersExhausted (2 ^ 62 ≤ number)
+      (RejectsWhen refusal.Overflow (Overflows counters packet)
+      (AnswersOrNoMemory (Unit {0}) (EqualsAnswer (answer.Sent number (forgotten_by here.sent packet)))))))
 
   -- a packet that is tracked leaves; to join its queue to others may take memory
-  abbrev pub LeaveReply : Type 0 → ℕ → Answer Q → Reply Q → Type 0
-  LeaveReply Grows number given = InSpace
-      (Refuses refusal.NotTracked (packet_at here.sent.tracked number ≡ None) (Answers Grows (Is given)))
+  abbrev pub RemovalReply : Type 0 → ℕ → Answer Q → Reply Q → Type 0
+  RemovalReply Grows number given = UnlessSpaceDiscarded
+      (RejectsWhen refusal.NotTracked (packet_at here.sent.tracked number ≡ None)
+          (AnswersOrNoMemory Grows (EqualsAnswer given)))
 
   -- counts of ECN are refused where they cannot be right, in the words of the first fault, and else tell whether more
   -- packets were marked (RFC 9000, 13.4.2.1)
@@ -72,7 +74,7 @@ module _ {Q P M : Type 0} (here : SpaceKnown P M) where
   EcnAnswer newly counts (Err (refusal.Ecn text)) = ecn_fault here.queued.ecn newly counts ≡ Some text.now
   EcnAnswer newly counts (Err other) = ⊥
 
-module _ {Q S M P : Type 0} (q : QueueMeaning Q S M P) (here : SpaceKnown P M) where
+module _ {Q S M P : Type 0} (q : QueueModel Q S M P) (here : SpaceReplyInputs P M) where
   -- a probe is asked for, and finds this: what can be sent then
   abbrev pub IsQueueProbeAnswer : S → AckState → Bool → ProbeFound → Answer Q → Type 0
   IsQueueProbeAnswer streams heard immediate found (answer.Sendable frames) =
@@ -85,7 +87,7 @@ module _ {Q S M P : Type 0} (q : QueueMeaning Q S M P) (here : SpaceKnown P M) w
   IsPendingQueue other = ⊥
 
 -- of the spaces only that of 1-RTT packets skips numbers
-abbrev pub skipped_in : {K P M : Type 0} → Known K P M → SpaceId → Option ℕ
+abbrev pub skipped_in : {K P M : Type 0} → ReplyInputs K P M → SpaceId → Option ℕ
 skipped_in known Data = known.skipped
 skipped_in known other = None
 
@@ -93,13 +95,13 @@ skipped_in known other = None
 
 module _ {K Q : Type 0} where
   -- refused where there is no such path
-  abbrev pub OnPath : Option (PathKnown K) → (PathKnown K → Reply Q → Type 0) → Reply Q → Type 0
-  OnPath None Replies = Refuses refusal.NoSuchPath (Unit {0}) (λ reply. ⊥)
-  OnPath (Some path) Replies = Replies path
+  abbrev pub UnlessPathMissing : Option (PathReplyInputs K) → (PathReplyInputs K → Reply Q → Type 0) → Reply Q → Type 0
+  UnlessPathMissing None Replies = RejectsWhen refusal.NoSuchPath (Unit {0}) (λ reply. ⊥)
+  UnlessPathMissing (Some path) Replies = Replies path
 
 -- ---- the path in use
 
-module _ {K Q : Type 0} (words : ControllerWords K) where
+module _ {K Q : Type 0} (words : ControllerSemantics K) where
   -- the pacer's answer: so it may be done now, or when to ask again
   abbrev pub delayed_or : Answer Q → Option ℕ → Answer Q
   delayed_or now None = now
@@ -114,11 +116,11 @@ module _ {K Q : Type 0} (words : ControllerWords K) where
 
 -- ---- the search for the MTU (RFC 8899, 5; RFC 9000, 14.3)
 
-module _ {K Q S M P : Type 0} (q : QueueMeaning Q S M P) (known : Known K P M) where
+module _ {K Q S M P : Type 0} (q : QueueModel Q S M P) (known : ReplyInputs K P M) where
   -- a probe goes out under the next number, where one is due
   abbrev pub MtuProbeReply : ℕ → Option ℕ → Reply Q → Type 0
-  MtuProbeReply now None = AlwaysAnswers (Is answer.NoProbe)
+  MtuProbeReply now None = AlwaysAnswers (EqualsAnswer answer.NoProbe)
   MtuProbeReply now (Some size) =
       let packet = packet_now known now size true None q.words.empty q.blank in
-      Refuses refusal.Overflow (Overflows (current_in_flight known) packet)
-      (Answers (Unit {0}) (Is (answer.Probe known.next_number size)))
+      RejectsWhen refusal.Overflow (Overflows (current_in_flight known) packet)
+      (AnswersOrNoMemory (Unit {0}) (EqualsAnswer (answer.Probe known.next_number size)))

@@ -6,12 +6,12 @@ use Rattle.recovery_events.specs.declared.event.Answer.{Answer}
 use Rattle.recovery_events.specs.declared.event.Refusal.{Refusal}
 use Rattle.recovery_events.specs.declared.event.Answer.TheVariants as answers
 use Rattle.recovery_events.specs.declared.event.Refusal.TheVariants.{NumberTooLarge, Overflow, NoMemory}
-use Rattle.recovery_ledger.specs.declared.paths.LedgerError.{LedgerError}
-use Rattle.recovery_ledger.specs.declared.paths.LedgerError.TheVariants as ledger
-use Rattle.recovery_ledger.specs.declared.spaces.ReceiveError.{ReceiveError}
-use Rattle.recovery_ledger.specs.declared.spaces.ReceiveError.TheVariants as error
-use Rattle.recovery_ledger.specs.declared.spaces.Receipt.{Receipt}
-use Rattle.recovery_ledger.specs.declared.spaces.Receipt.TheVariants.{New, Duplicate}
+use Rattle.recovery_spaces.specs.declared.paths.LedgerError.{LedgerError}
+use Rattle.recovery_spaces.specs.declared.paths.LedgerError.TheVariants as ledger
+use Rattle.recovery_spaces.specs.declared.spaces.ReceiveError.{ReceiveError}
+use Rattle.recovery_spaces.specs.declared.spaces.ReceiveError.TheVariants as error
+use Rattle.recovery_spaces.specs.declared.spaces.Receipt.{Receipt}
+use Rattle.recovery_spaces.specs.declared.spaces.Receipt.TheVariants.{New, Duplicate}
 use Rattle.recovery_history.specs.History.{Reply}
 
 -- the same refusal, but for its text
@@ -19,20 +19,20 @@ abbrev pub same_refusal : Refusal → Refusal → Bool
 same_refusal = sameb the_type
 
 -- where the cause holds the event is refused so, and else its reply is one of the others
-abbrev pub Refuses : {Q : Type 0} → Refusal → Type 0 → (Reply Q → Type 0) → Reply Q → Type 0
-Refuses refusal Cause Otherwise (Ok answer) = (¬ Cause) × Otherwise (Ok answer)
-Refuses refusal Cause Otherwise (Err given) =
+abbrev pub RejectsWhen : {Q : Type 0} → Refusal → Type 0 → (Reply Q → Type 0) → Reply Q → Type 0
+RejectsWhen refusal Cause Otherwise (Ok answer) = (¬ Cause) × Otherwise (Ok answer)
+RejectsWhen refusal Cause Otherwise (Err given) =
     MatchBool (same_refusal given refusal) Cause ((¬ Cause) × Otherwise (Err given))
 
 -- the answer is one of these, or memory is refused to an event that grows something
-abbrev pub Answers : {Q : Type 0} → Type 0 → (Answer Q → Type 0) → Reply Q → Type 0
-Answers Grows IsAnswer (Ok answer) = IsAnswer answer
-Answers Grows IsAnswer (Err NoMemory) = Grows
-Answers Grows IsAnswer (Err refusal) = ⊥
+abbrev pub AnswersOrNoMemory : {Q : Type 0} → Type 0 → (Answer Q → Type 0) → Reply Q → Type 0
+AnswersOrNoMemory Grows IsAnswer (Ok answer) = IsAnswer answer
+AnswersOrNoMemory Grows IsAnswer (Err NoMemory) = Grows
+AnswersOrNoMemory Grows IsAnswer (Err refusal) = ⊥
 
 -- the answer is one of these, and no memory is taken
 abbrev pub AlwaysAnswers : {Q : Type 0} → (Answer Q → Type 0) → Reply Q → Type 0
-AlwaysAnswers = Answers ⊥
+AlwaysAnswers = AnswersOrNoMemory ⊥
 
 -- the answer says whether it holds
 abbrev pub IsFlag : {Q : Type 0} → Type 0 → Answer Q → Type 0

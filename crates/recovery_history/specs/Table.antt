@@ -4,12 +4,12 @@ use Rattle.std.specs.Prelude.{◌≡◌, ◌≢◌, ℕ, ◌+◌, ◌<◌, ◌�
 use Rattle.recovery_base.specs.declared.below.SpaceId.{SpaceId}
 use Rattle.recovery_base.specs.declared.below.SpaceId.TheVariants.{Data}
 use Rattle.recovery_acks.specs.AckFrequencies.{IsStale, delay_of, with_last, with_request}
-use Rattle.recovery_congestion.specs.Controllers.{ControllerWords}
+use Rattle.recovery_congestion.specs.Controllers.{ControllerSemantics}
 use Rattle.recovery_ids.specs.LocalIds.{holds_unretired, timed_out, LocalIds, with_issued, without_number}
-use Rattle.recovery_ledger.specs.Acks.{AckState}
-use Rattle.recovery_ledger.specs.Packets.{packet_at}
+use Rattle.recovery_spaces.specs.Acks.{AckState}
+use Rattle.recovery_spaces.specs.Packets.{packet_at}
 use Rattle.recovery_mtud.specs.Discovery.{poll_of, is_searching_of, reports}
-use Rattle.recovery_paths.specs.PathLog.{path_of, on, moves, drops_previous, reverts, on_current, receives, is_validated, samples, tells, asks, transmits, passes, is_reset, OfPaths, moved_to, reverted}
+use Rattle.recovery_paths.specs.PathLog.{path_of, on, moves, drops_previous, reverts, on_current, receives, is_validated, samples, tells, asks, transmits, passes, is_reset, PerPath, moved_to, reverted}
 use Rattle.recovery_paths.specs.PathStates.{is_path_probe, path_delay, PathMarks}
 use Rattle.recovery_events.specs.declared.event.Event.{Event}
 use Rattle.recovery_events.specs.declared.event.Event.TheVariants.{Received, Send, Acked, Lost, NewId, NextId, InitialId, IssueIds, IdTimeout, PeerRetired, AckFrequencyIn, AcksSent, AckDelayTimeout, SetTimer, StopTimer, NextTimeout, DiscardSpace, InFlight, DatagramIn, Validated, Sample, Transmit, PacerCheck, Congestion, EndAcks, PollMtu, PeerLimit, LossesDone, Ecn, CheckAck, QueueProbe, TakePending, NewPath, ResetPath, DropPrevious, RevertPath}
@@ -17,23 +17,23 @@ use Rattle.recovery_events.specs.declared.event.Answer.{Answer}
 use Rattle.recovery_events.specs.declared.event.Answer.TheVariants as answers
 use Rattle.recovery_events.specs.declared.event.Refusal.TheVariants as refusals
 use Rattle.recovery_history.specs.Entries.{found_in, Entries, nothing, happens, in_space, on_path, acked_entry, searched, acked_search, lost_search, sending, following}
-use Rattle.recovery_history.specs.History.{History, Reply, QueueMeaning}
+use Rattle.recovery_history.specs.History.{History, Reply, QueueModel}
 use Rattle.recovery_history.specs.IdReplies.{FrameReply, IsNextAnswer, IssueReply, RetirementReply}
-use Rattle.recovery_history.specs.Known.{Known, number_in, packet_now, in_flight_on, current_in_flight, tracked_known}
+use Rattle.recovery_history.specs.ReplyInputs.{ReplyInputs, number_in, packet_now, in_flight_on, current_in_flight, tracked_known}
 use Rattle.recovery_history.specs.Promises.Timeouts.{every_timer, least}
-use Rattle.recovery_history.specs.Replies.{IsFlag, Refuses, Answers, AlwaysAnswers}
+use Rattle.recovery_history.specs.Replies.{IsFlag, RejectsWhen, AnswersOrNoMemory, AlwaysAnswers}
 use Rattle.recovery_events.specs.declared.event.Answer.TheVariants.{New, Flag, Transmitted, Delayed, Probe}
 use Rattle.recovery_congestion.specs.Calls.{sends as sends_bytes, ends_acks, congests}
 use Rattle.recovery_mtud.specs.DiscoveryLog.{polls, is_limited, losses_end}
-use Rattle.recovery_ledger.specs.SpaceLog.{heard as hears, heard_again, acknowledged, loses, probes, takes_pending, feeds_back, emptied, ack_goes, ack_is_late, asked}
+use Rattle.recovery_spaces.specs.SpaceLog.{heard as hears, heard_again, acknowledged, loses, probes, takes_pending, feeds_back, emptied, ack_goes, ack_is_late, asked}
 use Rattle.recovery_base.specs.Timers.{TimerStep}
 use Rattle.recovery_acks.specs.declared.frequency.AckFrequencyState.{AckFrequencyState}
 use Rattle.recovery_ids.specs.RemoteStep.{RemoteStep, given, used, replaced}
-use Rattle.recovery_ledger.specs.Discarded.{DiscardedStep}
+use Rattle.recovery_spaces.specs.Discarded.{DiscardedStep}
 use Rattle.recovery_events.specs.declared.event.Refusal.TheVariants.{DelayTooSmall}
 use Rattle.recovery_paths.specs.PathMaking.{marks_made}
-use Rattle.recovery_history.specs.PartReplies.{Is, IsDone, InSpace, ReceivedReply, SendReply, LeaveReply, EcnAnswer, IsQueueProbeAnswer, IsPendingQueue, skipped_in, OnPath, delayed_or, transmit_answer, MtuProbeReply}
-use Rattle.recovery_history.specs.Plain.{Plain}
+use Rattle.recovery_history.specs.PartReplies.{EqualsAnswer, AnswersDone, UnlessSpaceDiscarded, ReceivedReply, SendReply, RemovalReply, EcnAnswer, IsQueueProbeAnswer, IsPendingQueue, skipped_in, UnlessPathMissing, delayed_or, transmit_answer, MtuProbeReply}
+use Rattle.recovery_history.specs.Unlogged.{UnloggedState}
 
 -- ---- what the history says of the parts of which no log is kept: the ACKs that the peer asked for
 -- (draft-ietf-quic-ack-frequency-04, section 4), the size that it takes (RFC 9000, 18.2) and the ids of this end;
@@ -82,78 +82,86 @@ module _ {Q S M P : Type 0} where
 
 -- ---- what each is told in reply
 
-module _ {K Q S M P : Type 0} (q : QueueMeaning Q S M P) (words : ControllerWords K) (heard : SpaceId → AckState)
-    (known : Known K P M) where
-  abbrev pub ToldBy : Event Q S M P → Reply Q → Type 0
-  ToldBy (Received space now number eliciting) = ReceivedReply (known.spaces space) (heard space) number eliciting
-  ToldBy (Send space now size eliciting largest queue frames) = SendReply (known.spaces space) (current_in_flight known)
+module _ {K Q S M P : Type 0} (q : QueueModel Q S M P) (words : ControllerSemantics K) (heard : SpaceId → AckState)
+    (known : ReplyInputs K P M) where
+  abbrev pub ReplyTable : Event Q S M P → Reply Q → Type 0
+  ReplyTable (Received space now number eliciting) = ReceivedReply (known.spaces space) (heard space) number eliciting
+  ReplyTable (Send space now size eliciting largest queue frames) = SendReply (known.spaces space)
+      (current_in_flight known)
       (number_in known space) (packet_now known now size eliciting largest (q.contents queue) frames)
-  ToldBy (Acked space now number app_limited) =
-      LeaveReply (known.spaces space) ⊥ number (answers.Acked (is_path_probe space number known.paths.current.state))
-  ToldBy (Lost space number) = LeaveReply (known.spaces space) (Unit {0}) number
+  ReplyTable (Acked space now number app_limited) =
+      RemovalReply (known.spaces space) ⊥ number (answers.Acked (is_path_probe space number known.paths.current.state))
+  ReplyTable (Lost space number) = RemovalReply (known.spaces space) (Unit {0}) number
       (answers.Lost (is_path_probe space number known.paths.current.state))
-  ToldBy (NewId frame) = FrameReply known.remote_ids frame
-  ToldBy NextId = AlwaysAnswers (IsNextAnswer known.remote_ids)
+  ReplyTable (NewId frame) = FrameReply known.remote_ids frame
+  ReplyTable NextId = AlwaysAnswers (IsNextAnswer known.remote_ids)
   -- the initial id is replaced while it is the active one
-  ToldBy (InitialId id) = Refuses refusals.NotInitialId (known.remote_ids.active ≢ 0) IsDone
-  ToldBy (IssueIds now ids) = IssueReply known.local_ids ids.items
+  ReplyTable (InitialId id) = RejectsWhen refusals.NotInitialId (known.remote_ids.active ≢ 0) AnswersDone
+  ReplyTable (IssueIds now ids) = IssueReply known.local_ids ids.items
   -- the answer says whether a number is not retired that the mark passes
-  ToldBy IdTimeout =
+  ReplyTable IdTimeout =
       let ids = known.local_ids in let later = timed_out ids in
-      AlwaysAnswers (Is (answers.Flag (holds_unretired ids.retire_prior_to later.retire_prior_to later)))
-  ToldBy (PeerRetired sequence limit) = RetirementReply known.local_ids sequence limit
+      AlwaysAnswers (EqualsAnswer (answers.Flag (holds_unretired ids.retire_prior_to later.retire_prior_to later)))
+  ReplyTable (PeerRetired sequence limit) = RetirementReply known.local_ids sequence limit
   -- a frame is taken where it is newer than the last one; one for less than a millisecond is refused then
-  ToldBy (AckFrequencyIn frame) =
+  ReplyTable (AckFrequencyIn frame) =
       let is_newer = ¬ IsStale known.last_asked frame.sequence in
-      InSpace (known.spaces Data)
-      (Refuses refusals.DelayTooSmall (is_newer × (delay_of frame < 10 ^ 6)) (AlwaysAnswers (IsFlag is_newer)))
-  ToldBy (AcksSent space) = InSpace (known.spaces space) IsDone
-  ToldBy (AckDelayTimeout space) = InSpace (known.spaces space) IsDone
-  ToldBy (SetTimer timer time) = IsDone
-  ToldBy (StopTimer timer) = IsDone
-  ToldBy NextTimeout = AlwaysAnswers (Is (answers.Timeout (least (map known.moment_of every_timer))))
-  ToldBy (DiscardSpace space) = InSpace (known.spaces space) IsDone
-  ToldBy (InFlight path) = OnPath (path_of path known.paths) (λ there. let counters = in_flight_on known there in
-      AlwaysAnswers (Is (answers.InFlight counters.bytes counters.ack_eliciting)))
-  ToldBy (DatagramIn path bytes) = OnPath (path_of path known.paths)
-      (λ there. Refuses refusals.Overflow (2 ^ 64 ≤ there.state.total_recvd + bytes) IsDone)
-  ToldBy (Validated path) = OnPath (path_of path known.paths) (λ there. IsDone)
-  ToldBy (Sample delay rtt) = IsDone
-  ToldBy (Transmit now bytes checked) =
+      UnlessSpaceDiscarded (known.spaces Data)
+      (RejectsWhen refusals.DelayTooSmall (is_newer × (delay_of frame < 10 ^ 6)) (AlwaysAnswers (IsFlag is_newer)))
+  ReplyTable (AcksSent space) = UnlessSpaceDiscarded (known.spaces space) AnswersDone
+  ReplyTable (AckDelayTimeout space) = UnlessSpaceDiscarded (known.spaces space) AnswersDone
+  ReplyTable (SetTimer timer time) = AnswersDone
+  ReplyTable (StopTimer timer) = AnswersDone
+  ReplyTable NextTimeout = AlwaysAnswers (EqualsAnswer (answers.Timeout (least (map known.moment_of every_timer))))
+  ReplyTable (DiscardSpace space) = UnlessSpaceDiscarded (known.spaces space) AnswersDone
+  ReplyTable (InFlight path) = UnlessPathMissing (path_of path known.paths)
+      (λ there. let counters = in_flight_on known there in
+      AlwaysAnswers (EqualsAnswer (answers.InFlight counters.bytes counters.ack_eliciting)))
+  ReplyTable (DatagramIn path bytes) = UnlessPathMissing (path_of path known.paths)
+      (λ there. RejectsWhen refusals.Overflow (2 ^ 64 ≤ there.state.total_recvd + bytes) AnswersDone)
+  ReplyTable (Validated path) = UnlessPathMissing (path_of path known.paths) (λ there. AnswersDone)
+  ReplyTable (Sample delay rtt) = AnswersDone
+  ReplyTable (Transmit now bytes checked) =
       let path = known.paths.current.state in
-      Refuses refusals.Overflow (2 ^ 64 ≤ path.total_sent + bytes)
-      (AlwaysAnswers (Is (transmit_answer words now bytes checked path)))
-  ToldBy (PacerCheck now bytes) =
-      AlwaysAnswers (Is (delayed_or words answers.Ready (path_delay words now bytes known.paths.current.state)))
-  ToldBy (Congestion now sent persistent bytes) = IsDone
-  ToldBy (EndAcks now app_limited largest) = IsDone
-  ToldBy (PollMtu now) = InSpace (known.spaces Data)
-      (Refuses refusals.NumbersExhausted (2 ^ 62 ≤ known.next_number)
+      RejectsWhen refusals.Overflow (2 ^ 64 ≤ path.total_sent + bytes)
+      (AlwaysAnswers (EqualsAnswer (transmit_answer words now bytes checked path)))
+  ReplyTable (PacerCheck now bytes) =
+      AlwaysAnswers (EqualsAnswer (delayed_or words answers.Ready
+          (path_delay words now bytes known.paths.current.state)))
+  ReplyTable (Congestion now sent persistent bytes) = AnswersDone
+  ReplyTable (EndAcks now app_limited largest) = AnswersDone
+  ReplyTable (PollMtu now) = UnlessSpaceDiscarded (known.spaces Data)
+      (RejectsWhen refusals.NumbersExhausted (2 ^ 62 ≤ known.next_number)
       (MtuProbeReply q known now (poll_of now known.paths.current.state.discovery)))
   -- a limit is taken while no search runs
-  ToldBy (PeerLimit size) = Refuses refusals.ZeroMtu (size ≡ 0)
-      (Refuses refusals.Searching (IsTrue (is_searching_of known.paths.current.state.discovery)) IsDone)
-  ToldBy (LossesDone now) = AlwaysAnswers (Is (answers.BlackHole (reports known.paths.current.state.discovery)))
-  ToldBy (Ecn space newly counts) = InSpace (known.spaces space) (EcnAnswer (known.spaces space) newly counts)
+  ReplyTable (PeerLimit size) = RejectsWhen refusals.ZeroMtu (size ≡ 0)
+      (RejectsWhen refusals.Searching (IsTrue (is_searching_of known.paths.current.state.discovery)) AnswersDone)
+  ReplyTable (LossesDone now) = AlwaysAnswers (EqualsAnswer (answers.BlackHole
+      (reports known.paths.current.state.discovery)))
+  ReplyTable (Ecn space newly counts) = UnlessSpaceDiscarded (known.spaces space)
+      (EcnAnswer (known.spaces space) newly counts)
   -- no acknowledged range holds the last number that was skipped
-  ToldBy (CheckAck space low high) = InSpace (known.spaces space)
-      (Refuses refusals.NumberTooLarge (2 ^ 62 ≤ high)
-      (Refuses refusals.BadRange (high < low)
-      (Refuses refusals.SkippedAcked (IsSomeAnd (skipped_in known space) (λ s. (low ≤ s) × (s ≤ high))) IsDone)))
-  ToldBy (QueueProbe space immediate streams) =
+  ReplyTable (CheckAck space low high) = UnlessSpaceDiscarded (known.spaces space)
+      (RejectsWhen refusals.NumberTooLarge (2 ^ 62 ≤ high)
+      (RejectsWhen refusals.BadRange (high < low)
+      (RejectsWhen refusals.SkippedAcked (IsSomeAnd (skipped_in known space) (λ s. (low ≤ s) × (s ≤ high)))
+          AnswersDone)))
+  ReplyTable (QueueProbe space immediate streams) =
       let here = known.spaces space in let found = found_in known q.words streams space in
-      InSpace here (Answers (IsSome found.moved) (IsQueueProbeAnswer q here streams (heard space) immediate found))
-  ToldBy (TakePending space) = InSpace (known.spaces space) (AlwaysAnswers (IsPendingQueue q (known.spaces space)))
+      UnlessSpaceDiscarded here (AnswersOrNoMemory (IsSome found.moved)
+          (IsQueueProbeAnswer q here streams (heard space) immediate found))
+  ReplyTable (TakePending space) = UnlessSpaceDiscarded (known.spaces space)
+      (AlwaysAnswers (IsPendingQueue q (known.spaces space)))
   -- a path that goes on from the current one needs a second controller
-  ToldBy (NewPath now remote is_fresh) = Refuses refusals.Overflow (2 ^ 64 ≤ known.paths.made + 1)
-      (Answers (IsTrue (not is_fresh)) (Is answers.Done))
-  ToldBy (ResetPath now) = IsDone
-  ToldBy DropPrevious = OnPath known.paths.previous (λ there. IsDone)
-  ToldBy RevertPath = OnPath known.paths.previous (λ there. IsDone)
+  ReplyTable (NewPath now remote is_fresh) = RejectsWhen refusals.Overflow (2 ^ 64 ≤ known.paths.made + 1)
+      (AnswersOrNoMemory (IsTrue (not is_fresh)) (EqualsAnswer answers.Done))
+  ReplyTable (ResetPath now) = AnswersDone
+  ReplyTable DropPrevious = UnlessPathMissing known.paths.previous (λ there. AnswersDone)
+  ReplyTable RevertPath = UnlessPathMissing known.paths.previous (λ there. AnswersDone)
 
 -- ---- what each is to the spaces and to the paths: a line, or two where its answer says what it was
 
-module _ {K Q S M P : Type 0} (q : QueueMeaning Q S M P) (known : Known K P M) where
+module _ {K Q S M P : Type 0} (q : QueueModel Q S M P) (known : ReplyInputs K P M) where
   -- what an event is by its answer, and by what was known before it
   abbrev pub answered : Event Q S M P → Answer Q → Entries P M
   answered (Received space now number eliciting) (New arm) = in_space space (hears now number eliciting)
@@ -207,36 +215,36 @@ module _ {K Q S M P : Type 0} (q : QueueMeaning Q S M P) (known : Known K P M) w
 -- ---- what each does to the parts of which no log is kept
 
 -- what an event does to them
-abbrev pub PlainStep : {Q S M P : Type 0} → Event Q S M P → Reply Q → Plain → Plain → Type 0
-PlainStep (SetTimer timer time) (Ok answer) old new =
+abbrev pub UnloggedStep : {Q S M P : Type 0} → Event Q S M P → Reply Q → UnloggedState → UnloggedState → Type 0
+UnloggedStep (SetTimer timer time) (Ok answer) old new =
     TimerStep timer (Some time) old.timers new.timers × (new ≡ record old { timers = new.timers })
-PlainStep (StopTimer timer) (Ok answer) old new =
+UnloggedStep (StopTimer timer) (Ok answer) old new =
     TimerStep timer None old.timers new.timers × (new ≡ record old { timers = new.timers })
-PlainStep (DiscardSpace space) (Ok answer) old new =
+UnloggedStep (DiscardSpace space) (Ok answer) old new =
     DiscardedStep space old.discarded new.discarded × (new ≡ record old { discarded = new.discarded })
-PlainStep (AckFrequencyIn frame) (Ok (Flag true)) old new =
+UnloggedStep (AckFrequencyIn frame) (Ok (Flag true)) old new =
     new ≡ record old { frequency = with_request frame old.frequency }
-PlainStep (AckFrequencyIn frame) (Err DelayTooSmall) old new =
+UnloggedStep (AckFrequencyIn frame) (Err DelayTooSmall) old new =
     new ≡ record old { frequency = with_last frame.sequence old.frequency }
-PlainStep (NewId frame) (Ok answer) old new =
+UnloggedStep (NewId frame) (Ok answer) old new =
     RemoteStep (given frame) old.remote_ids new.remote_ids × (new ≡ record old { remote_ids = new.remote_ids })
-PlainStep NextId (Ok answer) old new =
+UnloggedStep NextId (Ok answer) old new =
     RemoteStep used old.remote_ids new.remote_ids × (new ≡ record old { remote_ids = new.remote_ids })
-PlainStep (InitialId id) (Ok answer) old new =
+UnloggedStep (InitialId id) (Ok answer) old new =
     RemoteStep (replaced id) old.remote_ids new.remote_ids × (new ≡ record old { remote_ids = new.remote_ids })
-PlainStep (IssueIds now ids) (Ok answer) old new =
+UnloggedStep (IssueIds now ids) (Ok answer) old new =
     new ≡ record old { local_ids = with_issued (length ids.items) now old.local_ids }
-PlainStep IdTimeout (Ok answer) old new = new ≡ record old { local_ids = timed_out old.local_ids }
-PlainStep (PeerRetired sequence limit) (Ok answer) old new =
+UnloggedStep IdTimeout (Ok answer) old new = new ≡ record old { local_ids = timed_out old.local_ids }
+UnloggedStep (PeerRetired sequence limit) (Ok answer) old new =
     new ≡ record old { local_ids = without_number sequence old.local_ids }
-PlainStep (PeerLimit size) (Ok answer) old new = new ≡ record old { peer_limit = Some size }
-PlainStep event reply old new = new ≡ old
+UnloggedStep (PeerLimit size) (Ok answer) old new = new ≡ record old { peer_limit = Some size }
+UnloggedStep event reply old new = new ≡ old
 
 -- ---- what each does to what the layer above keeps with the paths
 
 -- a path that is made has fresh marks, but that one that goes on keeps the first packet after a sample of the RTT; the
 -- marks of a path go with it, and no event changes them
-abbrev pub marks_after : {Q S M P : Type 0} → Event Q S M P → Reply Q → OfPaths PathMarks → OfPaths PathMarks
+abbrev pub marks_after : {Q S M P : Type 0} → Event Q S M P → Reply Q → PerPath PathMarks → PerPath PathMarks
 marks_after (NewPath now remote true) (Ok answer) old = moved_to (marks_made None) old
 marks_after (NewPath now remote false) (Ok answer) old = moved_to (marks_made old.current.first_after_sample) old
 marks_after DropPrevious (Ok answer) old = record old { previous = None }

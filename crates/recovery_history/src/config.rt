@@ -2,7 +2,7 @@
 use recovery_base::below::ConnectionId;
 use recovery_base::time::Duration;
 use recovery_config::config::TransportConfig;
-use recovery_skips::Skips;
+use recovery_packet_numbers::Skips;
 use std::net::SocketAddr;
 
 /// The longest delay of ACKs where none is said, in milliseconds (RFC 9000, 18.2: max_ack_delay).

@@ -1,7 +1,7 @@
 -- Deadlines with equal moments. `StateLaws` rest on it.
 use Rattle.std.proofs.Common.{◌≡◌, ℕ, zero, suc, ◌+◌, nat_eq, cond, List, [], ◌∷◌, length, map, take, get_or, Option, None, Some, refl, arith}
 use Rattle.std.proofs.lemmas.Bool.Decides.{nat_tests}
-use Rattle.recovery_ids.specs.LocalIds.{without_last_at, with_deadline, deadlines_with, Rise}
+use Rattle.recovery_ids.specs.LocalIds.{without_last_at, with_deadline, deadlines_with, AreIncreasingWithin}
 use Rattle.recovery_ids.specs.declared.state.CidTimestamp.{CidTimestamp}
 use Rattle.recovery_ids.proofs.RiseLaws.{Rise-wider}
 
@@ -13,8 +13,9 @@ made number moment = record { sequence = number; timestamp = moment }
 abbrev numbers_of : List CidTimestamp → List ℕ
 numbers_of deadlines = map (λ deadline. deadline.sequence) deadlines
 
-with_deadline-rise : (low number moment : ℕ) (deadlines : List CidTimestamp) → Rise low number (numbers_of deadlines)
-    → Rise low (number + 1) (numbers_of (with_deadline (made number moment) deadlines))
+with_deadline-rise : (low number moment : ℕ) (deadlines : List CidTimestamp) → AreIncreasingWithin low number
+    (numbers_of deadlines)
+    → AreIncreasingWithin low (number + 1) (numbers_of (with_deadline (made number moment) deadlines))
 with_deadline-rise _ _ _ [] rise = grind arith
 with_deadline-rise _ _ _ (_ ∷ []) rise = grind arith
 with_deadline-rise _ number moment (first ∷ next ∷ later) rise =
@@ -22,8 +23,8 @@ with_deadline-rise _ number moment (first ∷ next ∷ later) rise =
 
 -- a number above all others keeps the numbers rising
 pub deadlines_with-rise : (lifetime : Option ℕ) (now low number : ℕ) (deadlines : List CidTimestamp)
-    → Rise low number (numbers_of deadlines)
-    → Rise low (number + 1) (numbers_of (deadlines_with lifetime now number deadlines))
+    → AreIncreasingWithin low number (numbers_of deadlines)
+    → AreIncreasingWithin low (number + 1) (numbers_of (deadlines_with lifetime now number deadlines))
 deadlines_with-rise None _ _ _ _ rise =
     Rise-wider _ _ _ _ _ rise (omega arith) (omega arith)
 deadlines_with-rise (Some lifetime) now low number deadlines rise = grind (

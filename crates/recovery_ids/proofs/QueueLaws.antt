@@ -5,12 +5,12 @@ use Rattle.std.proofs.lemmas.Bool.Decides.{nat_tests}
 use Rattle.recovery_base.specs.declared.below.ids.NewConnectionId.{NewConnectionId}
 use Rattle.recovery_ids.specs.declared.window.TheConstants.{LEN}
 use Rattle.recovery_ids.specs.declared.window.Window.{Window}
-use Rattle.recovery_ids.specs.RemoteIds.{Table, IsLeastHeld, with_id, without_below, with_frame, Repeats, AcceptsFrame, IsRetirement}
+use Rattle.recovery_ids.specs.RemoteIds.{IdTable, IsLeastHeld, with_id, without_below, with_frame, RepeatsFrame, AcceptsFrame, IsRetirement}
 use Rattle.recovery_ids.specs.Window.{held_at, Advances}
 use Rattle.recovery_ids.specs.CidQueue.{remote_ids}
 
 -- a table to which a frame's number is added, and whose numbers below the least are dropped
-frame_table : (frame : NewConnectionId) (low least : ℕ) (old lower mid new : Table) → low ≡ frame.retire_prior_to
+frame_table : (frame : NewConnectionId) (low least : ℕ) (old lower mid new : IdTable) → low ≡ frame.retire_prior_to
     → low ≤ frame.sequence → ((n : ℕ) → lower n ≡ without_below low old n)
     → ((n : ℕ) → mid n ≡ with_id frame.sequence (frame.id, Some frame.reset_token) lower n) → IsLeastHeld mid low least
     → ((n : ℕ) → new n ≡ without_below least mid n)
@@ -45,7 +45,7 @@ module _ (old lower mid new : Window) (frame : NewConnectionId) (token : List �
   start_held : held_at new new.start ≡ held_at mid new.start
   start_held = (after _).1 (omega arith)
 
-  pub accepts_move : Repeats frame (held_at old) → (range : Range ℕ) → range.start ≡ old.start →
+  pub accepts_move : RepeatsFrame frame (held_at old) → (range : Range ℕ) → range.start ≡ old.start →
       range.end ≡ min new.start (old.start + LEN) →
       AcceptsFrame (remote_ids old) frame (Some (range, token)) (remote_ids new)
   accepts_move repeats _ begins ends = record {

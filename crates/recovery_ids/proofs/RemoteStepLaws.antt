@@ -5,13 +5,13 @@ use Rattle.std.specs.declared.ops.Range.{Range}
 use Rattle.std.proofs.lemmas.Bool.Decides.{nat_tests}
 use Rattle.std.proofs.Math.Path.{fun_ext}
 use Rattle.recovery_base.specs.declared.below.ids.NewConnectionId.{NewConnectionId}
-use Rattle.recovery_ids.specs.RemoteIds.{Table, RemoteIds, AcceptsFrame, TakesNext, AreInWindow, active_connection_id_limit, with_id, with_frame, without_id}
+use Rattle.recovery_ids.specs.RemoteIds.{IdTable, RemoteIds, AcceptsFrame, MovesToNext, AreInWindow, active_connection_id_limit, with_id, with_frame, without_id}
 use Rattle.recovery_ids.specs.RemoteStep.{given, used, replaced, first_held, remote_ids_with}
 
 -- ---- the least number held
 
 -- the search finds the least number held, where it goes far enough
-first_held_is : (held : Table) (least low more : ℕ) → IsSome (held least) → low ≤ least → least < low + more
+first_held_is : (held : IdTable) (least low more : ℕ) → IsSome (held least) → low ≤ least → least < low + more
     → ((n : ℕ) → low ≤ n → n < least → held n ≡ None) → first_held held low more ≡ Some least
 unfolding first_held
 first_held_is _ _ _ zero _ from far none = absurd (omega arith)
@@ -24,7 +24,7 @@ first_held_is held least low (suc more) there from far none = grind (
 )
 
 -- where nothing is held from a number on, it finds none
-none_held : (held : Table) (low more : ℕ) → ((n : ℕ) → low ≤ n → held n ≡ None) → first_held held low more ≡ None
+none_held : (held : IdTable) (low more : ℕ) → ((n : ℕ) → low ≤ n → held n ≡ None) → first_held held low more ≡ None
 unfolding first_held
 none_held _ _ zero _ = refl
 none_held held low (suc more) none =
@@ -32,10 +32,10 @@ none_held held low (suc more) none =
 
 -- ---- what a call is to them
 
-same_ids : (active : ℕ) (held : Table) (ids : RemoteIds) → ids.active ≡ active → ((n : ℕ) → ids.held n ≡ held n) →
+same_ids : (active : ℕ) (held : IdTable) (ids : RemoteIds) → ids.active ≡ active → ((n : ℕ) → ids.held n ≡ held n) →
     ids ≡ record { active = active; held = held }
 same_ids active held ids same alike =
-    ap (λ (table : Table). record ids { held = table }) (fun_ext alike)
+    ap (λ (table : IdTable). record ids { held = table }) (fun_ext alike)
     ∙ ap (λ (n : ℕ). record { active = n; held = held }) same
 
 pub gives : (old new : RemoteIds) (frame : NewConnectionId) (answer : Option (Range ℕ × List ℕ))
@@ -55,7 +55,7 @@ gives old new frame _ ordered accepts window =
     (omega (arith, reached, accepts.in_window.1)) (λ n above below. sym (accepts.held n) ∙ accepts.active.least n
     (omega arith) below)) (same_ids new.active held new refl accepts.held)
 
-pub uses : (old new : RemoteIds) (token : List ℕ) (range : Range ℕ) → TakesNext old token range new → AreInWindow old
+pub uses : (old new : RemoteIds) (token : List ℕ) (range : Range ℕ) → MovesToNext old token range new → AreInWindow old
     → new ≡ remote_ids_with used old
 unfolding remote_ids_with
 uses old new _ _ takes window = let next = takes.active in

@@ -7,11 +7,11 @@ use Rattle.std.specs.Set.{remove_key}
 use Rattle.std.specs.List.{list_any, range_with_len}
 use Rattle.std.proofs.lemmas.Bool.Decides.{nat_tests}
 use Rattle.recovery_queue.specs.Slots.{IsAboveAll, first_number, is_from}
-use Rattle.recovery_ids.specs.LocalIds.{Rise}
+use Rattle.recovery_ids.specs.LocalIds.{AreIncreasingWithin}
 use Rattle.recovery_ids.proofs.RiseLaws.{Rise-bound, Rise-wider, absent_below, list_any-front}
 
 -- a removal takes a number out by its value
-pub removes : (low high x : ℕ) (ns : List ℕ) → Rise low high ns
+pub removes : (low high x : ℕ) (ns : List ℕ) → AreIncreasingWithin low high ns
     → remove_key (is_at (nat_cmp x)) ns ≡ filter (λ n. not (n == x)) ns
 removes _ _ x [] _ = refl
 removes _ high x (n ∷ ns) rise = grind (
@@ -36,7 +36,8 @@ module _ {T : Type 0} where
   keys-removed test (e ∷ es) = grind (arith, keys-removed test es)
 
   -- numbers that rise up to another are below it
-  pub is_above : (low number : ℕ) (es : List (ℕ × T)) → Rise low number (keys_of es) → IsAboveAll es number
+  pub is_above : (low number : ℕ) (es : List (ℕ × T)) → AreIncreasingWithin low number (keys_of es)
+      → IsAboveAll es number
   is_above _ _ [] _ _ _ found = absurd cc
   is_above low number (e ∷ es) rise other item found = grind (
     arith,
@@ -47,7 +48,7 @@ module _ {T : Type 0} where
   )
 
   -- the least number decides whether one lies below another
-  pub least_decides : (low high end least : ℕ) (es : List (ℕ × T)) → Rise low high (keys_of es)
+  pub least_decides : (low high end least : ℕ) (es : List (ℕ × T)) → AreIncreasingWithin low high (keys_of es)
       → Some least ≡ first_number (filter (is_from 0) es)
       → nat_lt least end ≡ list_any (λ n. nat_lt n end) (keys_of es)
   least_decides _ _ _ _ [] _ there = absurd cc
@@ -60,14 +61,15 @@ module _ {T : Type 0} where
   none_decides _ (e ∷ es) none = grind arith
 
 -- a number behind lower ones leaves those that stand around it
-pub removed_behind : (low x : ℕ) (before later : List ℕ) → Rise low x before
+pub removed_behind : (low x : ℕ) (before later : List ℕ) → AreIncreasingWithin low x before
     → remove_key (is_at (nat_cmp x)) (before ++ x ∷ later) ≡ before ++ later
 removed_behind _ x [] _ _ = grind arith
 removed_behind _ x (n ∷ ns) later rise =
     grind (arith, Rise-bound (n + 1) x ns rise.1, removed_behind (n + 1) x ns later rise.1)
 
 -- numbers that were put to the end leave it again, the lowest first
-pub one_back : (before : List ℕ) (first number end : ℕ) → first ≤ number → number < end → Rise 0 first before
+pub one_back : (before : List ℕ) (first number end : ℕ) → first ≤ number → number < end
+    → AreIncreasingWithin 0 first before
     → remove_key (is_at (nat_cmp number)) (before ++ range_with_len number (end - number))
     ≡ before ++ range_with_len (number + 1) (end - (number + 1))
 one_back before first number end from more rise =

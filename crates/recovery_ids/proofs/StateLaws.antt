@@ -2,7 +2,7 @@
 use Rattle.std.proofs.Common.{◌≡◌, ℕ, zero, suc, ◌+◌, ◌-◌, ◌^◌, ◌≤◌, ◌==◌, nat_lt, not, Bool, false, List, [], ◌∷◌, map, drop, Option, refl, sym, arith}
 use Rattle.std.specs.List.{list_any, range_with_len}
 use Rattle.recovery_ids.specs.declared.state.CidTimestamp.{CidTimestamp}
-use Rattle.recovery_ids.specs.LocalIds.{LocalIds, no_ids, AreSoundIds, Rise, timed_out, next_mark, holds_unretired, with_issued, without_number, deadlines_with_last}
+use Rattle.recovery_ids.specs.LocalIds.{LocalIds, no_ids, AreSoundIds, AreIncreasingWithin, timed_out, next_mark, holds_unretired, with_issued, without_number, deadlines_with_last}
 use Rattle.recovery_ids.proofs.RiseLaws.{Rise-bound, Rise-wider, Rise-from, Rise-filter, Rise-append, list_any-between}
 use Rattle.recovery_ids.proofs.DeadlineLaws.{deadlines_with-rise}
 
@@ -13,10 +13,10 @@ any_below end ids = list_any (λ n. nat_lt n end) ids.unretired
 
 -- the oldest deadline goes, and the mark may move behind its number
 mark_rises : (mark issued : ℕ) (deadlines : List CidTimestamp)
-    → Rise mark issued (map (λ deadline. deadline.sequence) deadlines) →
+    → AreIncreasingWithin mark issued (map (λ deadline. deadline.sequence) deadlines) →
     (mark ≤ next_mark mark deadlines)
-    × Rise mark issued (map (λ deadline. deadline.sequence) (drop 1 deadlines))
-    × Rise (next_mark mark deadlines) issued (map (λ deadline. deadline.sequence) (drop 1 deadlines))
+    × AreIncreasingWithin mark issued (map (λ deadline. deadline.sequence) (drop 1 deadlines))
+    × AreIncreasingWithin (next_mark mark deadlines) issued (map (λ deadline. deadline.sequence) (drop 1 deadlines))
 mark_rises _ _ [] rise = (omega arith, rise, rise)
 mark_rises mark issued (oldest ∷ later) rise = grind (
   arith,
@@ -29,7 +29,7 @@ module _ {ids : LocalIds} (sound : AreSoundIds ids) where
   asked = list_any-between _ _ _ _ ids.unretired sound.unretired (omega arith)
 
   -- where no number below the mark is unretired, all rise from there
-  rises : any_below ids.retire_prior_to ids ≡ false → Rise ids.retire_prior_to ids.issued ids.unretired
+  rises : any_below ids.retire_prior_to ids ≡ false → AreIncreasingWithin ids.retire_prior_to ids.issued ids.unretired
   rises none = Rise-from _ _ _ ids.unretired sound.unretired none (Rise-bound _ _ _ sound.deadlines)
 
   pub timed_sound : AreSoundIds (timed_out ids)

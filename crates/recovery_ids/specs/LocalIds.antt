@@ -102,16 +102,16 @@ pub record AcceptsRetirement (old : LocalIds) (number limit : ℕ) (more : Bool)
   pub room : IsTrue more ↔ (length new.unretired < limit)
 
 -- the numbers rise, and lie from low up to high - 1
-abbrev pub Rise : ℕ → ℕ → List ℕ → Type 0
-Rise low high [] = low ≤ high
-Rise low high (n ∷ ns) = (low ≤ n) × Rise (n + 1) high ns
+abbrev pub AreIncreasingWithin : ℕ → ℕ → List ℕ → Type 0
+AreIncreasingWithin low high [] = low ≤ high
+AreIncreasingWithin low high (n ∷ ns) = (low ≤ n) × AreIncreasingWithin (n + 1) high ns
 
 -- the unretired numbers rise from the first mark, the deadlines' numbers from the second, all below the count issued
 pub record AreSoundIds (ids : LocalIds) : Type 0 where
   pub small : ids.issued ≤ 2 ^ 62
   pub marks : ids.retired_below ≤ ids.retire_prior_to
-  pub unretired : Rise ids.retired_below ids.issued ids.unretired
-  pub deadlines : Rise ids.retire_prior_to ids.issued (map (λ deadline. deadline.sequence) ids.deadlines)
+  pub unretired : AreIncreasingWithin ids.retired_below ids.issued ids.unretired
+  pub deadlines : AreIncreasingWithin ids.retire_prior_to ids.issued (map (λ deadline. deadline.sequence) ids.deadlines)
 
 -- the moment of the oldest deadline
 abbrev pub first_moment : List CidTimestamp → Option ℕ

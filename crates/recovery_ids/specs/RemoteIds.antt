@@ -17,23 +17,23 @@ abbrev pub HeldId : Type 0
 HeldId = List ℕ × Option (List ℕ)
 
 -- what is held for each number
-abbrev pub Table : Type 0
-Table = ℕ → Option HeldId
+abbrev pub IdTable : Type 0
+IdTable = ℕ → Option HeldId
 
 -- the table with an entry for one number
-abbrev pub with_id : ℕ → HeldId → Table → Table
+abbrev pub with_id : ℕ → HeldId → IdTable → IdTable
 with_id number entry held n = if n == number then Some entry else held n
 
 -- the table without one number
-abbrev pub without_id : ℕ → Table → Table
+abbrev pub without_id : ℕ → IdTable → IdTable
 without_id number held n = if n == number then None else held n
 
 -- the table without the numbers below another
-abbrev pub without_below : ℕ → Table → Table
+abbrev pub without_below : ℕ → IdTable → IdTable
 without_below low held n = if nat_lt n low then None else held n
 
 -- n is the least number held at or above another
-pub record IsLeastHeld (held : Table) (low n : ℕ) : Type 0 where
+pub record IsLeastHeld (held : IdTable) (low n : ℕ) : Type 0 where
   pub bound : low ≤ n
   pub is_held : IsSome (held n)
   pub least : (m : ℕ) → low ≤ m → m < n → held m ≡ None
@@ -41,23 +41,23 @@ pub record IsLeastHeld (held : Table) (low n : ℕ) : Type 0 where
 -- the ids that are held, and the number of the active one
 pub record RemoteIds : Type 0 where
   pub active : ℕ
-  pub held : Table
+  pub held : IdTable
 
 -- the table with a frame's id, and without the numbers that the frame retires
-abbrev pub with_frame : NewConnectionId → Table → Table
+abbrev pub with_frame : NewConnectionId → IdTable → IdTable
 with_frame frame held =
     with_id frame.sequence (frame.id, Some frame.reset_token) (without_below frame.retire_prior_to held)
 
 -- the answer to a move of the active number: the numbers to be retired, at most as many as are stored, and the new
 -- active id's token
-pub record TellsMove (old : RemoteIds) (range : Range ℕ) (token : List ℕ) (new : RemoteIds) : Type 0 where
+pub record MoveAnswer (old : RemoteIds) (range : Range ℕ) (token : List ℕ) (new : RemoteIds) : Type 0 where
   pub begins : range.start ≡ old.active
   pub ends : range.end ≡ min new.active (old.active + active_connection_id_limit)
   pub token_held : (id : List ℕ) × (new.held new.active ≡ Some (id, Some token))
 
 -- a frame for a number that is held repeats it: its id is the one held, and its token too, where one is held
-abbrev pub Repeats : NewConnectionId → Table → Type 0
-Repeats frame held = IfSome (held frame.sequence)
+abbrev pub RepeatsFrame : NewConnectionId → IdTable → Type 0
+RepeatsFrame frame held = IfSome (held frame.sequence)
     (λ entry. (frame.id ≡ entry.0) × IfSome entry.1 (λ token. frame.reset_token ≡ token))
 
 -- what becomes of the ids where a frame is accepted: the active number is the least held one, and moves exactly where
@@ -66,24 +66,24 @@ pub record AcceptsFrame (old : RemoteIds) (frame : NewConnectionId) (answer : Op
     (new : RemoteIds) : Type 0 where
   pub in_window : (old.active ≤ frame.sequence)
       × (frame.sequence < max old.active frame.retire_prior_to + active_connection_id_limit)
-  pub repeats : Repeats frame old.held
+  pub repeats : RepeatsFrame frame old.held
   pub held : (n : ℕ) → new.held n ≡ with_frame frame old.held n
   pub active : IsLeastHeld new.held 0 new.active
   pub stays : frame.retire_prior_to ≤ old.active → (new.active ≡ old.active) × (answer ≡ None)
-  pub moves : old.active < frame.retire_prior_to → IsSomeAnd answer (λ told. TellsMove old told.0 told.1 new)
+  pub moves : old.active < frame.retire_prior_to → IsSomeAnd answer (λ told. MoveAnswer old told.0 told.1 new)
 
 -- why a frame is refused
 abbrev pub RefusesFrame : RemoteIds → NewConnectionId → InsertError → Type 0
 RefusesFrame old frame Retired = frame.sequence < old.active
 RefusesFrame old frame ExceedsLimit =
     max old.active frame.retire_prior_to + active_connection_id_limit ≤ frame.sequence
-RefusesFrame old frame Conflict = ¬ Repeats frame old.held
+RefusesFrame old frame Conflict = ¬ RepeatsFrame frame old.held
 
 -- a move to the next id: the active one is dropped, and the least number held above it is the new active one
-pub record TakesNext (old : RemoteIds) (token : List ℕ) (range : Range ℕ) (new : RemoteIds) : Type 0 where
+pub record MovesToNext (old : RemoteIds) (token : List ℕ) (range : Range ℕ) (new : RemoteIds) : Type 0 where
   pub active : IsLeastHeld old.held (old.active + 1) new.active
   pub held : (n : ℕ) → new.held n ≡ without_id old.active old.held n
-  pub told : TellsMove old range token new
+  pub told : MoveAnswer old range token new
   pub whole : range.end ≡ new.active
 
 -- the range that an answer retires begins at the old active number, is not empty, ends at most at the new one, has at

@@ -1,7 +1,7 @@
 -- What happens to the ids of the peer, and what it makes of them (RFC 9000, 5.1.1 and 5.1.2).
 use Rattle.std.specs.Prelude.{◌≡◌, ℕ, zero, suc, ◌+◌, max, List, Option, None, Some, is_some, unwrap_or, if◌then◌else◌}
 use Rattle.recovery_base.specs.declared.below.ids.NewConnectionId.{NewConnectionId}
-use Rattle.recovery_ids.specs.RemoteIds.{Table, RemoteIds, AreInWindow, active_connection_id_limit, with_id, with_frame, without_id}
+use Rattle.recovery_ids.specs.RemoteIds.{IdTable, RemoteIds, AreInWindow, active_connection_id_limit, with_id, with_frame, without_id}
 
 pub data RemoteEntry : Type 0 where
   -- a NEW_CONNECTION_ID frame is accepted (19.15)
@@ -12,12 +12,12 @@ pub data RemoteEntry : Type 0 where
   replaced : (id : List ℕ) → RemoteEntry
 
 -- the first of so many numbers that is held, if one is
-unfoldable pub first_held : Table → ℕ → ℕ → Option ℕ
+unfoldable pub first_held : IdTable → ℕ → ℕ → Option ℕ
 first_held held low zero = None
 first_held held low (suc more) = if is_some (held low) then Some low else first_held held (low + 1) more
 
 -- the least number held from one on, if one is: what is stored lies among so many numbers
-abbrev pub least_held : Table → ℕ → Option ℕ
+abbrev pub least_held : IdTable → ℕ → Option ℕ
 least_held held low = first_held held low active_connection_id_limit
 
 -- a frame's id is held, the numbers that the frame retires are not, and the least one that is held is active

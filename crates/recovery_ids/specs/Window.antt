@@ -5,8 +5,8 @@ use Rattle.recovery_ids.specs.declared.window.TheConstants.{LEN}
 use Rattle.recovery_ids.specs.declared.window.Window.{Window}
 
 -- the window has room for a number
-abbrev pub IsWithin : Window → ℕ → Type 0
-IsWithin window n = (window.start ≤ n) × (n < window.start + LEN)
+abbrev pub FitsInWindow : Window → ℕ → Type 0
+FitsInWindow window n = (window.start ≤ n) × (n < window.start + LEN)
 
 -- what a window holds for a number: nothing outside
 abbrev pub held_at : Window → ℕ → Option HeldId

@@ -1,7 +1,7 @@
 //! The ids of the peer that packets may be sent to.
 ghost use Rattle.std.specs.Prelude.{◌≡◌, ℕ, ◌+◌, ◌<◌, ◌≤◌, ◌^◌, ◌==◌, Some, None, IsSome, IfSome, IfOk, OnOk, OnErr, IfNone, IsSomeAnd, MatchOption, MatchResult, Decides, length, if◌then◌else◌};
 ghost use Rattle.recovery_ids.specs.CidQueue.{held, active_of, remote_ids};
-ghost use Rattle.recovery_ids.specs.RemoteIds.{AcceptsFrame, RefusesFrame, Repeats, TakesNext, IsRetirement, AreInWindow, with_id, items_from, active_connection_id_limit};
+ghost use Rattle.recovery_ids.specs.RemoteIds.{AcceptsFrame, RefusesFrame, RepeatsFrame, MovesToNext, IsRetirement, AreInWindow, with_id, items_from, active_connection_id_limit};
 ghost use Rattle.recovery_ids.specs.RemoteStep.{RemoteStep, given, used, replaced, initial_ids};
 ghost use Rattle.recovery_ids.specs.Window.{held_at, Advances, IsWindowSound};
 
@@ -125,7 +125,7 @@ impl CidQueue {
     pub fn next(&mut self) -> Option<(ResetToken, Range<u64>)>
         ensures moves { MatchOption result
             ((n : ℕ) → active_of self.old < n → held self.old n ≡ None)
-            (λ told. TakesNext (remote_ids self.old) told.0 told.1 (remote_ids self.new)) }
+            (λ told. MovesToNext (remote_ids self.old) told.0 told.1 (remote_ids self.new)) }
         ensures none { IfNone result (self.new ≡ self.old) }
         ensures range { IfSome result
             (λ told. IsRetirement (remote_ids self.old) told.1 (remote_ids self.new)) }
@@ -178,7 +178,7 @@ impl CidQueue {
 
 /// Whether a frame says of its number what is held for it, if anything is: the id, and the token where one is held.
 fn repeats(frame: &NewConnectionId, held: Option<CidData>) -> bool
-    ensures { Decides result (Repeats frame.now (λ n. held)) }
+    ensures { Decides result (RepeatsFrame frame.now (λ n. held)) }
 {
     match held {
         Some((id, token)) => is_same_id(&frame.id, &id) && is_same_token(&frame.reset_token, token),

@@ -2,7 +2,7 @@
 ghost use Rattle.std.specs.Prelude.{◌≡◌, ℕ, List, ◌+◌, ◌-◌, ◌<◌, ◌≤◌, ◌^◌, ◌==◌, nat_lt, [], ◌++◌, length, map, filter, drop, not, IsOk, IfOk, OnOk, OnErr, MatchResult};
 ghost use Rattle.std.specs.List.{list_any, range_with_len};
 ghost use Rattle.std.specs.VecDeque.{deque_len, deque_capacity};
-ghost use Rattle.recovery_ids.specs.LocalIds.{without_last_at, with_deadline, deadlines_with_last, next_mark, no_ids, with_issued, holds_unretired, timed_out, first_moment, RefusesRetirement, AcceptsRetirement, Rise, AreSoundIds};
+ghost use Rattle.recovery_ids.specs.LocalIds.{without_last_at, with_deadline, deadlines_with_last, next_mark, no_ids, with_issued, holds_unretired, timed_out, first_moment, RefusesRetirement, AcceptsRetirement, AreIncreasingWithin, AreSoundIds};
 ghost use Rattle.recovery_ids.specs.CidState.{numbers_in};
 
 use recovery_base::below::{IssuedCid, NoMemory, TransportError};
@@ -226,7 +226,7 @@ impl CidState {
 /// count past all memory is refused before any is taken. `NoMemory` changes nothing.
 fn issue(numbers: &mut SlotQueue<()>, first: u64, end: u64) -> Result<(), NoMemory>
     requires ahead { first ≤ end }
-    requires above { Rise 0 first (numbers_in numbers.old) }
+    requires above { AreIncreasingWithin 0 first (numbers_in numbers.old) }
     ensures ok { OnOk result
         (numbers_in numbers.new ≡ numbers_in numbers.old ++ range_with_len first (end - first)) }
     ensures err { OnErr result (numbers_in numbers.new ≡ numbers_in numbers.old) }
@@ -248,7 +248,7 @@ fn issue(numbers: &mut SlotQueue<()>, first: u64, end: u64) -> Result<(), NoMemo
 /// Takes out the numbers from one up to another, which stand behind all others.
 fn take_back(numbers: &mut SlotQueue<()>, first: u64, end: u64)
     requires { first ≤ end }
-    ensures { (before : List ℕ) → Rise 0 first before
+    ensures { (before : List ℕ) → AreIncreasingWithin 0 first before
         → numbers_in numbers.old ≡ before ++ range_with_len first (end - first)
         → numbers_in numbers.new ≡ before }
 {
@@ -311,7 +311,8 @@ fn drop_last_at(deadlines: &mut VecDeque<CidTimestamp>, timestamp: Instant)
 
 /// Takes the oldest deadline, and answers the mark behind its number. Without one the mark stays.
 fn pop_mark(deadlines: &mut VecDeque<CidTimestamp>, mark: u64) -> u64
-    requires { Rise 0 (2 ^ 62) (map (λ deadline. deadline.sequence) deadlines.old.items) }
+    requires { AreIncreasingWithin 0 (2 ^ 62)
+        (map (λ deadline. deadline.sequence) deadlines.old.items) }
     ensures mark { result ≡ next_mark mark deadlines.old.items }
     ensures items { deadlines.new.items ≡ drop 1 deadlines.old.items }
 {
@@ -323,7 +324,7 @@ fn pop_mark(deadlines: &mut VecDeque<CidTimestamp>, mark: u64) -> u64
 
 /// Whether one of the numbers lies below another.
 fn is_any_below(numbers: &SlotQueue<()>, end: u64) -> bool
-    requires { Rise 0 (2 ^ 62) (numbers_in numbers.now) }
+    requires { AreIncreasingWithin 0 (2 ^ 62) (numbers_in numbers.now) }
     ensures { result ≡ list_any (λ n. nat_lt n end) (numbers_in numbers.now) }
 {
     match numbers.first_from(0) {
@@ -334,7 +335,7 @@ fn is_any_below(numbers: &SlotQueue<()>, end: u64) -> bool
 
 /// Takes a number out, if it is there.
 fn remove(numbers: &mut SlotQueue<()>, number: u64)
-    requires { Rise 0 (2 ^ 62) (numbers_in numbers.old) }
+    requires { AreIncreasingWithin 0 (2 ^ 62) (numbers_in numbers.old) }
     ensures { numbers_in numbers.new ≡ filter (λ n. not (n == number)) (numbers_in numbers.old) }
 {
     let _removed = numbers.take(number);

@@ -1,7 +1,7 @@
 //! What is held for the numbers of a window.
 ghost use Rattle.std.specs.Prelude.{◌≡◌, ℕ, ◌+◌, ◌<◌, ◌≤◌, ◌^◌, ◌%◌, ◌==◌, Some, None, MatchOption, set, if◌then◌else◌};
 ghost use Rattle.recovery_ids.specs.RemoteIds.{IsLeastHeld, with_id, without_below};
-ghost use Rattle.recovery_ids.specs.Window.{held_at, IsWithin};
+ghost use Rattle.recovery_ids.specs.Window.{held_at, FitsInWindow};
 
 use recovery_base::below::{ConnectionId, ResetToken};
 
@@ -63,7 +63,7 @@ impl Window {
 
     /// What is held for a number of the window.
     fn entry(&self, number: u64) -> Option<CidData>
-        requires { IsWithin self.now number }
+        requires { FitsInWindow self.now number }
         ensures { result ≡ held_at self.now number }
     {
         self.entries[slot(number)]
@@ -71,7 +71,7 @@ impl Window {
 
     /// Holds this for a number of the window.
     pub fn set(&mut self, number: u64, entry: CidData)
-        requires { IsWithin self.old number }
+        requires { FitsInWindow self.old number }
         ensures start { self.new.start ≡ self.old.start }
         ensures entries { (n : ℕ) → held_at self.new n ≡ with_id number entry (held_at self.old) n }
     {

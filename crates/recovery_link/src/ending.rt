@@ -1,7 +1,7 @@
 //! How the program ends.
 use quic_recovery::Refusal;
 use quic_recovery::below::NoMemory;
-use recovery_sender::Refused;
+use recovery_sender::SenderError;
 use std::alloc::{AllocError, AllocFailed};
 
 /// How the program ends.
@@ -16,7 +16,7 @@ pub enum Ending {
     /// Memory was refused.
     OutOfMemory,
     /// A call of the sender was refused, which no transfer comes to.
-    Refused,
+    SenderError,
     /// The arguments are wrong; nothing was written.
     WrongArguments,
 }
@@ -28,7 +28,7 @@ impl Ending {
         match self {
             Ending::Ended | Ending::Closed => 0,
             Ending::WrongArguments => 2,
-            Ending::WriteFailed | Ending::OutOfMemory | Ending::Refused => 1,
+            Ending::WriteFailed | Ending::OutOfMemory | Ending::SenderError => 1,
         }
     }
 
@@ -38,7 +38,7 @@ impl Ending {
             Ending::Ended | Ending::Closed => "",
             Ending::WriteFailed => "link: write failed\n",
             Ending::OutOfMemory => "link: out of memory\n",
-            Ending::Refused => "link: the sender refused a call\n",
+            Ending::SenderError => "link: the sender refused a call\n",
             Ending::WrongArguments => {
                 "usage: recovery-link [--script|--qlog] [NAME=VALUE]..: --help has names and limits\n"
             }
@@ -64,11 +64,11 @@ impl From<AllocFailed<u64>> for Ending {
     }
 }
 
-impl From<Refused> for Ending {
-    fn from(refused: Refused) -> Self {
+impl From<SenderError> for Ending {
+    fn from(refused: SenderError) -> Self {
         match refused {
-            Refused::Event(Refusal::NoMemory) => Ending::OutOfMemory,
-            _ => Ending::Refused,
+            SenderError::Event(Refusal::NoMemory) => Ending::OutOfMemory,
+            _ => Ending::SenderError,
         }
     }
 }

@@ -12,10 +12,10 @@ use quic_recovery::time::{Duration, Instant};
 use quic_recovery::{Answer, Event};
 use rand_core::SeedableRng;
 use rand_pcg::Pcg32;
-use recovery_lines::lines::peer_at;
+use recovery_script_syntax::lines::peer_at;
 use recovery_queue::items::ItemQueue;
 use recovery_replay::replay::{FIRST_PORT, config, skips};
-use recovery_sender::{Ack, Losses, Refused, Sender, Side, Timeout, Transmission};
+use recovery_sender::{Ack, Losses, SenderError, Sender, Side, Timeout, Transmission};
 use std::alloc::Global;
 use std::collections::VecDeque;
 use std::io::Write;
@@ -146,7 +146,7 @@ where
         Ok(again)
     }
 
-    fn ask(&mut self, now: u64) -> Result<Option<u64>, Refused> {
+    fn ask(&mut self, now: u64) -> Result<Option<u64>, SenderError> {
         let at = Instant::from_nanos(now);
         match self.sender.transmit(at, SIZE, SpaceId::Data, self.is_paced) {
             Ok(sent) => Ok(again_at(&sent)),
@@ -180,7 +180,7 @@ where
             .send(SpaceId::Data, at, SIZE, true, None, queue, ())
         {
             Ok(Answer::Sent { number, .. }) => Ok(number),
-            Ok(_) => Err(Ending::Refused),
+            Ok(_) => Err(Ending::SenderError),
             Err(refused) => Err(Ending::from(refused)),
         }
     }
@@ -248,7 +248,7 @@ where
         };
         let items = match self.sender.on_event(taken) {
             Ok(Answer::Queue(items)) => items,
-            Ok(_) => return Err(Ending::Refused),
+            Ok(_) => return Err(Ending::SenderError),
             Err(refused) => return Err(Ending::from(refused)),
         };
         for item in items.items() {

@@ -4,16 +4,16 @@ use Rattle.std.proofs.lemmas.Option.{none-some, same_Some}
 use Rattle.std.proofs.lemmas.Bool.Decides.{eqb_tells, leb_tells}
 use Rattle.std.specs.Option.{ForSome}
 use Rattle.recovery_base.specs.Timers.{earlier_of}
-use Rattle.recovery_ledger.specs.Packets.{Packet, Packets, packet_at, without}
-use Rattle.recovery_ledger.proofs.PacketLaws.{number_at}
+use Rattle.recovery_spaces.specs.Packets.{Packet, Packets, packet_at, without}
+use Rattle.recovery_spaces.proofs.PacketLaws.{number_at}
 use Rattle.recovery_losses.specs.declared.looks.Candidate.{Candidate}
-use Rattle.recovery_losses.specs.declared.looks.Look.{Look}
+use Rattle.recovery_losses.specs.declared.looks.LossPass.{LossPass}
 use Rattle.recovery_losses.specs.declared.tally.Run.{Run}
 use Rattle.recovery_losses.specs.declared.tally.Tally.{Tally}
 use Rattle.recovery_losses.proofs.RunLaws.{run_end, run_first, run_like, run_on}
-use Rattle.recovery_losses.specs.Looking.{Looked}
-use Rattle.recovery_losses.specs.Persisting.{IsEndAt, RunIs}
-use Rattle.recovery_losses.specs.Losses.{AreLost, AreRising, IsBelow, IsDueAt, IsEarliest, IsLost, IsLostBelow, IsNext, IsOneOf, IsTold, NoneFrom, bytes_counted, counting, finding_probe, going_on, is_counted, is_end, last_counted, later_of, nothing_found, sent_counted, size_counted, waiting, without_all}
+use Rattle.recovery_losses.specs.DetectionPass.{PassSoFar}
+use Rattle.recovery_losses.specs.PersistentCongestion.{IsEndAt, IsLossRun}
+use Rattle.recovery_losses.specs.Losses.{AreLost, AreIncreasing, IsBelow, IsDueAt, IsEarliest, IsLost, IsLostBelow, IsNextLossCandidate, IsOneOf, IsDeclaredLost, NoneFrom, bytes_counted, counting, finding_probe, going_on, is_counted, is_end, last_counted, later_of, nothing_found, sent_counted, size_counted, waiting, without_all}
 
 -- ---- numbers
 
@@ -36,24 +36,24 @@ pub last_among : (numbers : List ℕ) (last : ℕ) → IsOneOf last (numbers ++ 
 last_among [] last = inl refl
 last_among (first ∷ numbers) last = inr (last_among numbers last)
 
-pub rising_more : (first end last : ℕ) (numbers : List ℕ) → AreRising first numbers end → end ≤ last
-    → AreRising first (numbers ++ last ∷ []) (last + 1)
+pub rising_more : (first end last : ℕ) (numbers : List ℕ) → AreIncreasing first numbers end → end ≤ last
+    → AreIncreasing first (numbers ++ last ∷ []) (last + 1)
 rising_more first end last [] rising above = (omega (arith, rising, above), omega arith)
 rising_more first end last (number ∷ numbers) rising above =
     (rising.0, rising_more (number + 1) end last numbers rising.1 above)
 
-pub rising_wider : (first end wider : ℕ) (numbers : List ℕ) → AreRising first numbers end → end ≤ wider
-    → AreRising first numbers wider
+pub rising_wider : (first end wider : ℕ) (numbers : List ℕ) → AreIncreasing first numbers end → end ≤ wider
+    → AreIncreasing first numbers wider
 rising_wider first end wider [] rising above = omega (arith, rising, above)
 rising_wider first end wider (number ∷ numbers) rising above =
     (rising.0, rising_wider (number + 1) end wider numbers rising.1 above)
 
-at_most : (first end : ℕ) (numbers : List ℕ) → AreRising first numbers end → first ≤ end
+at_most : (first end : ℕ) (numbers : List ℕ) → AreIncreasing first numbers end → first ≤ end
 at_most first end [] rising = rising
 at_most first end (number ∷ numbers) rising =
     omega (arith, rising.0, at_most (number + 1) end numbers rising.1)
 
-pub rising_below : (first end : ℕ) (numbers : List ℕ) (number : ℕ) → AreRising first numbers end
+pub rising_below : (first end : ℕ) (numbers : List ℕ) (number : ℕ) → AreIncreasing first numbers end
     → IsOneOf number numbers → number < end
 rising_below first end [] number rising never = absurd never
 rising_below first end (one ∷ numbers) number rising (inl is) =
@@ -94,7 +94,7 @@ later_joins (Some one) None three = refl
 later_joins (Some one) (Some two) None = refl
 later_joins (Some one) (Some two) (Some three) = ap (λ t. Some t) (omega arith)
 
-module _ {P M : Type 0} (look : Look) (packets : Packets P M) where
+module _ {P M : Type 0} (look : LossPass) (packets : Packets P M) where
   bytes_more : (numbers : List ℕ) (last : ℕ) → bytes_counted look packets (numbers ++ last ∷ [])
       ≡ bytes_counted look packets numbers + size_counted look packets (packet_at packets last)
   bytes_more [] last = omega arith
@@ -123,7 +123,7 @@ earlier_from (Some s) due least is = elim (leb_tells s due) [
 ]
 
 -- a packet is to be looked at at one moment
-due_once : (look : Look) (number sent one other : ℕ) → IsDueAt look number sent one → IsDueAt look number sent other
+due_once : (look : LossPass) (number sent one other : ℕ) → IsDueAt look number sent one → IsDueAt look number sent other
     → one ≡ other
 due_once look number sent one other (inl first) (inl second) = first.1 ∙ sym second.1
 due_once look number sent one other (inl first) (inr second) = absurd (first.0 second.0)
@@ -148,8 +148,8 @@ counts_by false sent size before tally run other bytes =
 
 -- ---- below the first packet, and below the next
 
-module _ {P M : Type 0} (look : Look) (old : Packets P M) where
-  pub looked_first : Looked look old 0 [] nothing_found old
+module _ {P M : Type 0} (look : LossPass) (old : Packets P M) where
+  pub looked_first : PassSoFar look old 0 [] nothing_found old
   looked_first = record {
     lost = record { rising = omega arith; lost = λ number none. absurd none };
     taken = refl;
@@ -163,19 +163,19 @@ module _ {P M : Type 0} (look : Look) (old : Packets P M) where
     run = run_first _ _ look.period 0 none_told (λ number sent ends. absurd ends.told);
   }
     where
-      none_told : (number : ℕ) → IsTold [] None number → ⊥
+      none_told : (number : ℕ) → IsDeclaredLost [] None number → ⊥
       none_told number (inl never) = never
       none_told number (inr none) = none-some number none
 
   module _ (from : ℕ) (numbers : List ℕ) (tally : Tally) (now : Packets P M)
-      (looked : Looked look old from numbers tally now) where
+      (looked : PassSoFar look old from numbers tally now) where
     -- from there on all is as it was
     still : (number : ℕ) → from ≤ number → packet_at now number ≡ packet_at old number
     still number above = ap (λ (packets : Packets P M). packet_at packets number) looked.taken
         ∙ all_other old numbers number
         (λ there. absurd (omega (arith, above, rising_below 0 from numbers number looked.lost.rising there)))
 
-    pub looked_end : (end : ℕ) → from ≤ end → NoneFrom look now from → Looked look old end numbers tally now
+    pub looked_end : (end : ℕ) → from ≤ end → NoneFrom look now from → PassSoFar look old end numbers tally now
     looked_end end above none = record {
       lost = record {
         rising = rising_wider 0 from end numbers looked.lost.rising above;
@@ -198,7 +198,7 @@ module _ {P M : Type 0} (look : Look) (old : Packets P M) where
 
     -- ---- the next packet
 
-    module _ (next : Candidate) (is : IsNext look now from next) where
+    module _ (next : Candidate) (is : IsNextLossCandidate look now from next) where
       here : IsBelow look old next.number is.packet
       here = (sym (still next.number is.from_on) ∙ is.below.0, is.below.1)
 
@@ -213,12 +213,12 @@ module _ {P M : Type 0} (look : Look) (old : Packets P M) where
         | inr under ↦ inl under.1
       ]
 
-      untold_next : IsTold numbers tally.probe next.number → ⊥
+      untold_next : IsDeclaredLost numbers tally.probe next.number → ⊥
       untold_next (inl there) =
           absurd (omega (arith, is.from_on, rising_below 0 from numbers next.number looked.lost.rising there))
       untold_next (inr probe) = absurd (omega (arith, is.from_on, (looked.probe next.number probe).1))
 
-      wider : AreRising 0 numbers (next.number + 1)
+      wider : AreIncreasing 0 numbers (next.number + 1)
       wider = rising_wider 0 from (next.number + 1) numbers looked.lost.rising (omega (arith, is.from_on))
 
       lost_wider : AreLost look old (next.number + 1) numbers
@@ -231,7 +231,7 @@ module _ {P M : Type 0} (look : Look) (old : Packets P M) where
 
       -- it waits
       pub looked_waiting : (due : ℕ) → IsDueAt look next.number next.time_sent due
-          → Looked look old (next.number + 1) numbers (waiting due tally) now
+          → PassSoFar look old (next.number + 1) numbers (waiting due tally) now
       looked_waiting due is_due = record {
         lost = lost_wider;
         taken = looked.taken;
@@ -246,7 +246,8 @@ module _ {P M : Type 0} (look : Look) (old : Packets P M) where
           due_here = rw (← is.is.time_sent) is_due
 
           one : ForSome (earlier_of tally.loss_time (Some due)) (λ least. (number : ℕ) × (packet : Packet P M)
-              × IsBelow look old number packet × (number < next.number + 1) × (IsTold numbers tally.probe number → ⊥)
+              × IsBelow look old number packet × (number < next.number + 1) ×
+                  (IsDeclaredLost numbers tally.probe number → ⊥)
               × IsDueAt look number packet.time_sent least)
           one least told = elim (earlier_from tally.loss_time due least told) [
             | inl now_due ↦ (next.number, is.packet, here, omega arith, untold_next, rw now_due due_here)
@@ -257,7 +258,7 @@ module _ {P M : Type 0} (look : Look) (old : Packets P M) where
           ]
 
           least : (number : ℕ) (packet : Packet P M) (at : ℕ) → IsBelow look old number packet
-              → number < next.number + 1 → (IsTold numbers tally.probe number → ⊥)
+              → number < next.number + 1 → (IsDeclaredLost numbers tally.probe number → ⊥)
               → IsDueAt look number packet.time_sent at
               → (t : ℕ) × (earlier_of tally.loss_time (Some due) ≡ Some t) × (t ≤ at)
           least number packet at below small untold is_at =
@@ -281,8 +282,9 @@ module _ {P M : Type 0} (look : Look) (old : Packets P M) where
 
       -- where the packet itself is told, those that are not lie below
       module _ (IsToldNow : ℕ → Type 0) (told_here : IsToldNow next.number)
-          (told_still : (number : ℕ) → IsTold numbers tally.probe number → IsToldNow number)
-          (told_before : (number : ℕ) → number < from → IsToldNow number → IsTold numbers tally.probe number) where
+          (told_still : (number : ℕ) → IsDeclaredLost numbers tally.probe number → IsToldNow number)
+          (told_before : (number : ℕ) → number < from → IsToldNow number → IsDeclaredLost numbers tally.probe number)
+              where
         earliest_still : IsEarliest look old (next.number + 1) IsToldNow tally.loss_time
         earliest_still = record {
           one = λ least told. (let was = looked.earliest.one least told in (
@@ -302,38 +304,39 @@ module _ {P M : Type 0} (look : Look) (old : Packets P M) where
 
       -- it is the probe of the MTU
       pub looked_probe : IsLost look next.number next.time_sent → look.probe ≡ Some next.number
-          → Looked look old (next.number + 1) numbers (finding_probe look next tally) now
+          → PassSoFar look old (next.number + 1) numbers (finding_probe look next tally) now
       looked_probe lost probe = record {
         lost = lost_wider;
         taken = looked.taken;
         probe = λ number told. (let same : next.number ≡ number = same_Some next.number number (sym probe ∙ told) in
             (told, omega (arith, same), rw (← same) (lost_here lost)));
-        earliest = earliest_still (IsTold numbers look.probe) (inr probe) told_still told_before;
+        earliest = earliest_still (IsDeclaredLost numbers look.probe) (inr probe) told_still told_before;
         bytes = looked.bytes;
         last_sent = looked.last_sent;
-        run = run_on (IsTold numbers tally.probe) (IsTold numbers look.probe) (IsEndAt look old numbers)
+        run = run_on (IsDeclaredLost numbers tally.probe) (IsDeclaredLost numbers look.probe) (IsEndAt look old numbers)
             (IsEndAt look old numbers) look.period from next.number tally.run looked.run is.from_on (inr probe)
             told_still was_told (λ other sent ends. ends) (λ other sent ends. ends);
       }
         where
-          was_told : (number : ℕ) → IsTold numbers look.probe number → IsTold numbers tally.probe number
+          was_told : (number : ℕ) → IsDeclaredLost numbers look.probe number → IsDeclaredLost numbers tally.probe number
               ⊎ (next.number ≡ number)
           was_told number (inl there) = inl (inl there)
           was_told number (inr told) = inr (same_Some next.number number (sym probe ∙ told))
 
-          told_still : (number : ℕ) → IsTold numbers tally.probe number → IsTold numbers look.probe number
+          told_still : (number : ℕ) → IsDeclaredLost numbers tally.probe number
+              → IsDeclaredLost numbers look.probe number
           told_still number (inl there) = inl there
           told_still number (inr told) = inr (looked.probe number told).0
 
-          told_before : (number : ℕ) → number < from → IsTold numbers look.probe number
-              → IsTold numbers tally.probe number
+          told_before : (number : ℕ) → number < from → IsDeclaredLost numbers look.probe number
+              → IsDeclaredLost numbers tally.probe number
           told_before number small (inl there) = inl there
           told_before number small (inr told) =
               absurd (omega (arith, small, is.from_on, same_Some next.number number (sym probe ∙ told)))
 
       -- it is told lost
       pub looked_lost : IsLost look next.number next.time_sent → look.probe ≢ Some next.number
-          → Looked look old (next.number + 1) (numbers ++ next.number ∷ []) (counting look next tally)
+          → PassSoFar look old (next.number + 1) (numbers ++ next.number ∷ []) (counting look next tally)
           (without now next.number)
       looked_lost lost other = record {
         lost = record {
@@ -346,14 +349,14 @@ module _ {P M : Type 0} (look : Look) (old : Packets P M) where
         taken = ap (λ (packets : Packets P M). without packets next.number) looked.taken
             ∙ sym (without_more old numbers next.number);
         probe = rw counted.1 probe_wider;
-        earliest = rw (counted.0, counted.1) (earliest_still (IsTold (numbers ++ next.number ∷ []) tally.probe)
+        earliest = rw (counted.0, counted.1) (earliest_still (IsDeclaredLost (numbers ++ next.number ∷ []) tally.probe)
             (inl (last_among numbers next.number)) told_still told_before);
         bytes = counted.2 ∙ ap (λ sum. min sum (2 ^ 64 - 1)) (sym (bytes_more look old numbers next.number
             ∙ ap (λ there. bytes_counted look old numbers + size_counted look old there) here.0));
         last_sent = counted.3 ∙ ap (λ sent. later_of sent counted_sent) looked.last_sent
             ∙ sym (last_more look old numbers next.number
             ∙ ap (λ there. later_of (last_counted look old numbers) (sent_counted look old there)) here.0);
-        run = subst (λ probe. RunIs (IsTold (numbers ++ next.number ∷ []) probe)
+        run = subst (λ probe. IsLossRun (IsDeclaredLost (numbers ++ next.number ∷ []) probe)
             (IsEndAt look old (numbers ++ next.number ∷ [])) look.period (next.number + 1)
             (counting look next tally).run) (sym counted.1) (run_lost (is_counted look next.size next.path_generation)
             (is_end look next.number next.ack_eliciting) refl refl);
@@ -399,8 +402,8 @@ module _ {P M : Type 0} (look : Look) (old : Packets P M) where
             | inr same ↦ inr (this_end number sent ends same)
           ]
 
-          was_told : (number : ℕ) → IsTold (numbers ++ next.number ∷ []) tally.probe number
-              → IsTold numbers tally.probe number ⊎ (next.number ≡ number)
+          was_told : (number : ℕ) → IsDeclaredLost (numbers ++ next.number ∷ []) tally.probe number
+              → IsDeclaredLost numbers tally.probe number ⊎ (next.number ≡ number)
           was_told number (inl there) = elim (one_more numbers next.number number there) [
             | inl before ↦ inl (inl before)
             | inr same ↦ inr same
@@ -411,30 +414,33 @@ module _ {P M : Type 0} (look : Look) (old : Packets P M) where
           end_under number sent ends =
               omega (arith, is.from_on, rising_below 0 from numbers number looked.lost.rising ends.told)
 
-          told_still : (number : ℕ) → IsTold numbers tally.probe number
-              → IsTold (numbers ++ next.number ∷ []) tally.probe number
+          told_still : (number : ℕ) → IsDeclaredLost numbers tally.probe number
+              → IsDeclaredLost (numbers ++ next.number ∷ []) tally.probe number
           told_still number (inl there) = inl (among_more numbers next.number number there)
           told_still number (inr told) = inr told
 
-          run_before : RunIs (IsTold (numbers ++ next.number ∷ []) tally.probe) (IsEndAt look old numbers) look.period
+          run_before : IsLossRun (IsDeclaredLost (numbers ++ next.number ∷ []) tally.probe)
+              (IsEndAt look old numbers) look.period
               (next.number + 1) (going_on next.number tally.run)
-          run_before = run_on (IsTold numbers tally.probe) (IsTold (numbers ++ next.number ∷ []) tally.probe)
+          run_before = run_on (IsDeclaredLost numbers tally.probe)
+              (IsDeclaredLost (numbers ++ next.number ∷ []) tally.probe)
               (IsEndAt look old numbers) (IsEndAt look old numbers) look.period from next.number tally.run looked.run
               is.from_on (inl (last_among numbers next.number)) told_still was_told (λ other sent ends. ends)
               (λ other sent ends. ends)
 
           run_no_end : ((number sent : ℕ) → IsEndAt look old (numbers ++ next.number ∷ []) number sent
               → IsEndAt look old numbers number sent)
-              → RunIs (IsTold (numbers ++ next.number ∷ []) tally.probe)
+              → IsLossRun (IsDeclaredLost (numbers ++ next.number ∷ []) tally.probe)
               (IsEndAt look old (numbers ++ next.number ∷ [])) look.period (next.number + 1)
               (going_on next.number tally.run)
-          run_no_end less = run_on (IsTold numbers tally.probe) (IsTold (numbers ++ next.number ∷ []) tally.probe)
+          run_no_end less = run_on (IsDeclaredLost numbers tally.probe)
+              (IsDeclaredLost (numbers ++ next.number ∷ []) tally.probe)
               (IsEndAt look old numbers) (IsEndAt look old (numbers ++ next.number ∷ [])) look.period from next.number
               tally.run looked.run is.from_on (inl (last_among numbers next.number)) told_still was_told end_more less
 
           run_lost : (counts ends : Bool) → is_counted look next.size next.path_generation ≡ counts
               → is_end look next.number next.ack_eliciting ≡ ends
-              → RunIs (IsTold (numbers ++ next.number ∷ []) tally.probe)
+              → IsLossRun (IsDeclaredLost (numbers ++ next.number ∷ []) tally.probe)
               (IsEndAt look old (numbers ++ next.number ∷ [])) look.period (next.number + 1)
               (counting look next tally).run
           run_lost false ends none_counts is_ends = rw none_counts (run_no_end (λ number sent found.
@@ -448,7 +454,7 @@ module _ {P M : Type 0} (look : Look) (old : Packets P M) where
                 | inr this ↦ absurd (true≢false (sym this.3 ∙ none_ends))
               ]))
           run_lost true true is_counts is_ends = rw (is_counts, is_ends) (run_end
-              (IsTold (numbers ++ next.number ∷ []) tally.probe) (IsEndAt look old numbers)
+              (IsDeclaredLost (numbers ++ next.number ∷ []) tally.probe) (IsEndAt look old numbers)
               (IsEndAt look old (numbers ++ next.number ∷ [])) look (next.number + 1) next.number next.time_sent
               (going_on next.number tally.run) run_before refl end_under (record {
                 told = last_among numbers next.number;
@@ -475,8 +481,8 @@ module _ {P M : Type 0} (look : Look) (old : Packets P M) where
               (counts_by (is_counted look next.size next.path_generation) next.time_sent next.size
               (bytes_counted look old numbers) tally _ _ looked.bytes)
 
-          told_before : (number : ℕ) → number < from → IsTold (numbers ++ next.number ∷ []) tally.probe number
-              → IsTold numbers tally.probe number
+          told_before : (number : ℕ) → number < from → IsDeclaredLost (numbers ++ next.number ∷ []) tally.probe number
+              → IsDeclaredLost numbers tally.probe number
           told_before number small (inl there) = elim (one_more numbers next.number number there) [
             | inl before ↦ inl before
             | inr same ↦ absurd (omega (arith, small, is.from_on, same))
@@ -485,8 +491,8 @@ module _ {P M : Type 0} (look : Look) (old : Packets P M) where
 
 -- ---- the probe of the MTU is told last, where memory is not refused
 
-module _ {P M : Type 0} (look : Look) (old : Packets P M) (end : ℕ) (numbers : List ℕ) (tally : Tally)
-    (now : Packets P M) (looked : Looked look old end numbers tally now) where
+module _ {P M : Type 0} (look : LossPass) (old : Packets P M) (end : ℕ) (numbers : List ℕ) (tally : Tally)
+    (now : Packets P M) (looked : PassSoFar look old end numbers tally now) where
   pub not_told : (number : ℕ) → tally.probe ≡ Some number → IsOneOf number numbers → ⊥
   not_told number probe there = (looked.lost.lost number there).1 (looked.probe number probe).0
 
@@ -498,17 +504,18 @@ module _ {P M : Type 0} (look : Look) (old : Packets P M) (end : ℕ) (numbers :
       ∙ all_other old numbers number (not_told number probe) ∙ was.2.1.0)
 
   pub probe_waits : (probe : ℕ) → tally.probe ≡ Some probe
-      → IsEarliest look old end (IsTold numbers None) (earlier_of tally.loss_time (Some look.at))
+      → IsEarliest look old end (IsDeclaredLost numbers None) (earlier_of tally.loss_time (Some look.at))
   probe_waits probe is = record { one = one; least = least }
     where
       was : (look.probe ≡ Some probe) × (probe < end) × IsLostBelow look old probe
       was = looked.probe probe is
 
-      untold : IsTold numbers None probe → ⊥
+      untold : IsDeclaredLost numbers None probe → ⊥
       untold (inl there) = not_told probe is there
       untold (inr none) = none-some probe none
 
-      still_untold : (number : ℕ) → (IsTold numbers tally.probe number → ⊥) → IsTold numbers None number → ⊥
+      still_untold : (number : ℕ) → (IsDeclaredLost numbers tally.probe number → ⊥)
+          → IsDeclaredLost numbers None number → ⊥
       still_untold number other (inl there) = other (inl there)
       still_untold number other (inr none) = none-some number none
 
@@ -516,7 +523,7 @@ module _ {P M : Type 0} (look : Look) (old : Packets P M) (end : ℕ) (numbers :
       due_now = inr (was.2.2, refl)
 
       one : ForSome (earlier_of tally.loss_time (Some look.at)) (λ least. (number : ℕ) × (packet : Packet P M)
-          × IsBelow look old number packet × (number < end) × (IsTold numbers None number → ⊥)
+          × IsBelow look old number packet × (number < end) × (IsDeclaredLost numbers None number → ⊥)
           × IsDueAt look number packet.time_sent least)
       one least told = elim (earlier_from tally.loss_time look.at least told) [
         | inl now_due ↦ (probe, was.2.0, was.2.1, was.1, untold, rw now_due due_now)
@@ -527,7 +534,7 @@ module _ {P M : Type 0} (look : Look) (old : Packets P M) (end : ℕ) (numbers :
       ]
 
       least : (number : ℕ) (packet : Packet P M) (at : ℕ) → IsBelow look old number packet → number < end
-          → (IsTold numbers None number → ⊥) → IsDueAt look number packet.time_sent at
+          → (IsDeclaredLost numbers None number → ⊥) → IsDueAt look number packet.time_sent at
           → (t : ℕ) × (earlier_of tally.loss_time (Some look.at) ≡ Some t) × (t ≤ at)
       least number packet at below small other is_at =
           let earlier = earlier_is tally.loss_time look.at in elim (eqb_tells number probe) [

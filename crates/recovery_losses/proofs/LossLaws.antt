@@ -1,10 +1,10 @@
 -- The packets that a look goes over, one after another.
 use Rattle.std.proofs.Common.{◌≡◌, ℕ, ◌≤◌, ◌<◌, [], ◌∷◌, None, Some, arith, filter}
-use Rattle.recovery_ledger.specs.Packets.{Packet, Packets, packet_at, first_from}
+use Rattle.recovery_spaces.specs.Packets.{Packet, Packets, packet_at, first_from}
 use Rattle.recovery_queue.specs.Slots.{is_from, AreFrom}
 use Rattle.recovery_losses.specs.declared.looks.Candidate.{Candidate}
-use Rattle.recovery_losses.specs.declared.looks.Look.{Look}
-use Rattle.recovery_losses.specs.Losses.{IsNext, IsOf, NoneFrom}
+use Rattle.recovery_losses.specs.declared.looks.LossPass.{LossPass}
+use Rattle.recovery_losses.specs.Losses.{IsNextLossCandidate, IsCandidateOf, NoneFrom}
 
 module _ {P M : Type 0} where
   pub none_from : (from : ℕ) (packets : Packets P M) → first_from from packets ≡ None
@@ -26,7 +26,7 @@ module _ {P M : Type 0} where
   lowest_from from least (entry ∷ packets) all number packet is above =
       let rest = lowest_from from least packets in grind (arith, rest, all, is, above)
 
-module _ {P M : Type 0} (look : Look) (from : ℕ) (packets : Packets P M) where
+module _ {P M : Type 0} (look : LossPass) (from : ℕ) (packets : Packets P M) where
   pub none_in : first_from from packets ≡ None → NoneFrom look packets from
   none_in none number packet below above = none_from from packets none number packet below.0 above
 
@@ -36,10 +36,10 @@ module _ {P M : Type 0} (look : Look) (from : ℕ) (packets : Packets P M) where
       let at_least = lowest_from from least packets all number packet below.0 above in
       absurd (omega (arith, at_least, large, below.1))
 
-  pub next_in : (packet : Packet P M) (candidate : Candidate) → IsOf packet candidate
+  pub next_in : (packet : Packet P M) (candidate : Candidate) → IsCandidateOf packet candidate
       → first_from from packets ≡ Some (candidate.number, packet)
       → AreFrom candidate.number (filter (is_from from) packets) → candidate.number < look.largest
-      → IsNext look packets from candidate
+      → IsNextLossCandidate look packets from candidate
   next_in packet candidate is first all small =
       let found = found_from from packets candidate.number packet first in
       record {

@@ -3,16 +3,17 @@ use Rattle.std.proofs.Common.{◌≡◌, ℕ, ◌+◌, ◌-◌, ◌<◌, ◌≤�
 use Rattle.std.specs.Option.{option_map_or}
 use Rattle.std.proofs.lemmas.Bool.Decides.{eqb_tells, leb_tells}
 use Rattle.std.proofs.lemmas.Option.{none-some, same_Some}
-use Rattle.recovery_losses.specs.declared.looks.Look.{Look}
+use Rattle.recovery_losses.specs.declared.looks.LossPass.{LossPass}
 use Rattle.recovery_losses.specs.declared.tally.Run.{Run}
 use Rattle.recovery_losses.specs.Losses.{ending, follows, going_on, no_run}
-use Rattle.recovery_losses.specs.Persisting.{IsInRun, Persists, RunIs}
+use Rattle.recovery_losses.specs.PersistentCongestion.{IsInRun, IsPersistentCongestion, IsLossRun}
 
 -- congestion that persists by some numbers persists by others, of which they are
 persists_like : (IsLostNow LostThen : ℕ → Type 0) (IsEnd EndThen : ℕ → ℕ → Type 0) (period : ℕ)
-    → (there : Persists IsLostNow IsEnd period)
+    → (there : IsPersistentCongestion IsLostNow IsEnd period)
     → EndThen there.first there.first_sent → EndThen there.last there.last_sent
-    → ((number : ℕ) → number ≤ there.last → IsLostNow number → LostThen number) → Persists LostThen EndThen period
+    → ((number : ℕ) → number ≤ there.last → IsLostNow number → LostThen number)
+        → IsPersistentCongestion LostThen EndThen period
 persists_like IsLostNow LostThen IsEnd EndThen period there begins ends lost = record {
   first = there.first;
   last = there.last;
@@ -28,7 +29,7 @@ persists_like IsLostNow LostThen IsEnd EndThen period there begins ends lost = r
 -- nothing is lost yet
 pub run_first : (IsLostNow : ℕ → Type 0) (IsEnd : ℕ → ℕ → Type 0) (period end : ℕ)
     → ((number : ℕ) → IsLostNow number → ⊥) → ((number sent : ℕ) → IsEnd number sent → ⊥)
-    → RunIs IsLostNow IsEnd period end no_run
+    → IsLossRun IsLostNow IsEnd period end no_run
 run_first IsLostNow IsEnd period end none no_end = record {
   previous = λ last is. absurd (none-some last is);
   last = λ number lost. absurd (none number lost);
@@ -40,7 +41,7 @@ run_first IsLostNow IsEnd period end none no_end = record {
 
 -- only what a run is of changes
 pub run_like : (IsLostNow : ℕ → Type 0) (IsEnd : ℕ → ℕ → Type 0) (period end wider : ℕ) (run : Run) → end ≤ wider
-    → RunIs IsLostNow IsEnd period end run → RunIs IsLostNow IsEnd period wider run
+    → IsLossRun IsLostNow IsEnd period end run → IsLossRun IsLostNow IsEnd period wider run
 run_like IsLostNow IsEnd period end wider run within is = record {
   previous = λ last told. (let was = is.previous last told in (was.0, omega (arith, was.1, within)));
   last = is.last;
@@ -53,7 +54,7 @@ run_like IsLostNow IsEnd period end wider run within is = record {
 -- ---- the next number is lost
 
 module _ (IsLostNow LostThen : ℕ → Type 0) (IsEnd EndThen : ℕ → ℕ → Type 0) (period end number : ℕ) (run : Run)
-    (is : RunIs IsLostNow IsEnd period end run) (above : end ≤ number) (lost : LostThen number)
+    (is : IsLossRun IsLostNow IsEnd period end run) (above : end ≤ number) (lost : LostThen number)
     (still : (other : ℕ) → IsLostNow other → LostThen other)
     (was : (other : ℕ) → LostThen other → IsLostNow other ⊎ (number ≡ other))
     (to : (other sent : ℕ) → IsEnd other sent → EndThen other sent)
@@ -102,11 +103,11 @@ module _ (IsLostNow LostThen : ℕ → Type 0) (IsEnd EndThen : ℕ → ℕ → 
             ),
       )
 
-  pub run_on : RunIs LostThen EndThen period (number + 1) (going_on number run)
+  pub run_on : IsLossRun LostThen EndThen period (number + 1) (going_on number run)
   run_on = by (follows run.previous number) refl
     where
       by : (test : Bool) → follows run.previous number ≡ test
-          → RunIs LostThen EndThen period (number + 1) (going_on number run)
+          → IsLossRun LostThen EndThen period (number + 1) (going_on number run)
       by test tested = record {
         previous = λ last told. (let same = same_Some number last told in
             (subst LostThen same lost, omega (arith, same)));
@@ -149,7 +150,7 @@ module _ (IsLostNow LostThen : ℕ → Type 0) (IsEnd EndThen : ℕ → ℕ → 
               let found = is.oldest other sent (from other sent ends) before.1 in
               (found.0, rw before.0 found.1, found.2)
 
-          persists : Decides run.is_persistent (Persists LostThen EndThen period)
+          persists : Decides run.is_persistent (IsPersistentCongestion LostThen EndThen period)
           persists = (
             (λ long. (let there = is.persists.0 long in persists_like IsLostNow LostThen IsEnd EndThen period there
                 (to there.first there.first_sent there.begins) (to there.last there.last_sent there.ends)
@@ -165,8 +166,8 @@ module _ (IsLostNow LostThen : ℕ → Type 0) (IsEnd EndThen : ℕ → ℕ → 
 
 -- ---- with the last number persistent congestion may end
 
-module _ (IsLostNow : ℕ → Type 0) (IsEnd EndThen : ℕ → ℕ → Type 0) (look : Look) (end number sent : ℕ) (run : Run)
-    (is : RunIs IsLostNow IsEnd look.period end run) (last : run.previous ≡ Some number)
+module _ (IsLostNow : ℕ → Type 0) (IsEnd EndThen : ℕ → ℕ → Type 0) (look : LossPass) (end number sent : ℕ) (run : Run)
+    (is : IsLossRun IsLostNow IsEnd look.period end run) (last : run.previous ≡ Some number)
     (below : (other time : ℕ) → IsEnd other time → other < number)
     (here : EndThen number sent)
     (to : (other time : ℕ) → IsEnd other time → EndThen other time)
@@ -234,7 +235,7 @@ module _ (IsLostNow : ℕ → Type 0) (IsEnd EndThen : ℕ → ℕ → Type 0) (
   -- so long after the oldest of the run
   long_now : (oldest : Option ℕ) → run.oldest ≡ oldest
       → option_map_or (λ before. nat_lt look.period (sent - before)) run.oldest false ≡ true
-      → Persists IsLostNow EndThen look.period
+      → IsPersistentCongestion IsLostNow EndThen look.period
   long_now None none long = absurd (true≢false (sym long
       ∙ ap (λ o. option_map_or (λ before. nat_lt look.period (sent - before)) o false) none))
   long_now (Some before) some long =
@@ -253,7 +254,8 @@ module _ (IsLostNow : ℕ → Type 0) (IsEnd EndThen : ℕ → ℕ → Type 0) (
         long = past;
       }
 
-  long_then : Persists IsLostNow EndThen look.period → (Persists IsLostNow IsEnd look.period)
+  long_then : IsPersistentCongestion IsLostNow EndThen look.period →
+      (IsPersistentCongestion IsLostNow IsEnd look.period)
       ⊎ (option_map_or (λ before. nat_lt look.period (sent - before)) run.oldest false ≡ true)
   long_then there = elim (from there.last there.last_sent there.ends) [
     | inl was ↦ elim (from there.first there.first_sent there.begins) [
@@ -272,7 +274,7 @@ module _ (IsLostNow : ℕ → Type 0) (IsEnd EndThen : ℕ → ℕ → Type 0) (
     ]
   ]
 
-  still_long : Persists IsLostNow IsEnd look.period → Persists IsLostNow EndThen look.period
+  still_long : IsPersistentCongestion IsLostNow IsEnd look.period → IsPersistentCongestion IsLostNow EndThen look.period
   still_long there = persists_like IsLostNow IsLostNow IsEnd EndThen look.period there
       (to there.first there.first_sent there.begins) (to there.last there.last_sent there.ends) (λ k up lost. lost)
 
@@ -284,7 +286,7 @@ module _ (IsLostNow : ℕ → Type 0) (IsEnd EndThen : ℕ → ℕ → Type 0) (
   or_right true other is_true = refl
   or_right false other is_true = is_true
 
-  pub run_end : RunIs IsLostNow EndThen look.period end now
+  pub run_end : IsLossRun IsLostNow EndThen look.period end now
   run_end = record {
     previous = is.previous;
     last = is.last;

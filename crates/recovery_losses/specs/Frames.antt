@@ -27,6 +27,6 @@ is_unsent None next = false
 is_unsent (Some largest) next = nat_le next largest
 
 -- a number lies in one of them
-abbrev pub IsWithin : ℕ → List (ℕ × ℕ) → Type 0
-IsWithin number [] = ⊥
-IsWithin number (range ∷ ranges) = (range.0 ≤ number) × (number ≤ range.1) ⊎ IsWithin number ranges
+abbrev pub IsInAckRanges : ℕ → List (ℕ × ℕ) → Type 0
+IsInAckRanges number [] = ⊥
+IsInAckRanges number (range ∷ ranges) = (range.0 ≤ number) × (number ≤ range.1) ⊎ IsInAckRanges number ranges

@@ -1,7 +1,7 @@
 pub mod Due
 pub mod Frames
-pub mod Looking
+pub mod DetectionPass
 pub mod Losses
-pub mod Persisting
+pub mod PersistentCongestion
 pub mod Timeouts
 pub mod Variables

@@ -4,9 +4,9 @@ use Rattle.std.specs.Option.{ForSome, option_map_or}
 use Rattle.recovery_base.specs.declared.below.SpaceId.{SpaceId}
 use Rattle.recovery_base.specs.Spaces.{same_space, space_index}
 use Rattle.recovery_base.specs.Timers.{earlier_of}
-use Rattle.recovery_ledger.specs.Packets.{Packet, Packets, packet_at, without}
+use Rattle.recovery_spaces.specs.Packets.{Packet, Packets, packet_at, without}
 use Rattle.recovery_losses.specs.declared.looks.Candidate.{Candidate}
-use Rattle.recovery_losses.specs.declared.looks.Look.{Look}
+use Rattle.recovery_losses.specs.declared.looks.LossPass.{LossPass}
 use Rattle.recovery_losses.specs.declared.tally.Run.{Run}
 use Rattle.recovery_losses.specs.declared.tally.Tally.{Tally}
 
@@ -17,9 +17,9 @@ IsOneOf number [] = ⊥
 IsOneOf number (first ∷ numbers) = (first ≡ number) ⊎ IsOneOf number numbers
 
 -- they rise, from the first on and below the end
-abbrev pub AreRising : ℕ → List ℕ → ℕ → Type 0
-AreRising first [] end = first ≤ end
-AreRising first (number ∷ numbers) end = (first ≤ number) × AreRising (number + 1) numbers end
+abbrev pub AreIncreasing : ℕ → List ℕ → ℕ → Type 0
+AreIncreasing first [] end = first ≤ end
+AreIncreasing first (number ∷ numbers) end = (first ≤ number) × AreIncreasing (number + 1) numbers end
 
 -- ---- which are lost (RFC 9002, 6.1)
 
@@ -31,20 +31,20 @@ first_of (Some mark) space = if nat_lt (space_index mark.0) (space_index space) 
     else if same_space mark.0 space then Some mark.1 else None
 
 -- when a packet that was sent then is lost by its age (RFC 9002, 6.1.2): it stops at the last moment of the clock
-abbrev pub lost_at : Look → ℕ → ℕ
+abbrev pub lost_at : LossPass → ℕ → ℕ
 lost_at look sent = min (sent + look.delay) (2 ^ 64 - 1)
 
 -- three numbers below the largest acknowledged, or sent long ago (RFC 9002, 6.1.1 and 6.1.2)
-abbrev pub IsLost : Look → ℕ → ℕ → Type 0
+abbrev pub IsLost : LossPass → ℕ → ℕ → Type 0
 IsLost look number sent = (number + 3 ≤ look.largest) ⊎ (lost_at look sent ≤ look.at)
 
 -- when it is to be looked at: once it is lost by its age, or now, where it is lost and memory was refused
-abbrev pub IsDueAt : Look → ℕ → ℕ → ℕ → Type 0
+abbrev pub IsDueAt : LossPass → ℕ → ℕ → ℕ → Type 0
 IsDueAt look number sent time = ((¬ IsLost look number sent) × (time ≡ lost_at look sent))
     ⊎ (IsLost look number sent × (time ≡ look.at))
 
 -- a packet with a size on the path in use: its loss is a sign of congestion (RFC 9002, 7; RFC 9000, 9.4)
-abbrev pub is_counted : Look → ℕ → ℕ → Bool
+abbrev pub is_counted : LossPass → ℕ → ℕ → Bool
 is_counted look size generation = nat_lt 0 size && (generation == look.generation)
 
 -- the later of two moments, where there are any
@@ -58,7 +58,7 @@ abbrev pub without_all : {P M : Type 0} → Packets P M → List ℕ → Packets
 without_all packets [] = packets
 without_all packets (number ∷ numbers) = without_all (without packets number) numbers
 
-module _ {P M : Type 0} (look : Look) (packets : Packets P M) where
+module _ {P M : Type 0} (look : LossPass) (packets : Packets P M) where
   -- tracked below the largest acknowledged
   abbrev pub IsBelow : ℕ → Packet P M → Type 0
   IsBelow number packet = (packet_at packets number ≡ Some packet) × (number < look.largest)
@@ -87,37 +87,38 @@ module _ {P M : Type 0} (look : Look) (packets : Packets P M) where
   last_counted (number ∷ numbers) = later_of (sent_counted (packet_at packets number)) (last_counted numbers)
 
   -- the least moment at which a packet below a number is to be looked at that was not told lost, where there is one
-  pub record IsEarliest (end : ℕ) (IsTold : ℕ → Type 0) (time : Option ℕ) : Type 0 where
+  pub record IsEarliest (end : ℕ) (IsDeclaredLost : ℕ → Type 0) (time : Option ℕ) : Type 0 where
     pub one : ForSome time (λ least. (number : ℕ) × (packet : Packet P M) × IsBelow number packet × (number < end)
-        × (IsTold number → ⊥) × IsDueAt look number packet.time_sent least)
+        × (IsDeclaredLost number → ⊥) × IsDueAt look number packet.time_sent least)
     pub least : (number : ℕ) (packet : Packet P M) (due : ℕ) → IsBelow number packet → number < end
-        → (IsTold number → ⊥) → IsDueAt look number packet.time_sent due → (t : ℕ) × (time ≡ Some t) × (t ≤ due)
+        → (IsDeclaredLost number → ⊥) → IsDueAt look number packet.time_sent due → (t : ℕ) × (time ≡ Some t) × (t ≤ due)
 
 -- these are told lost: rising, each of them lost, and no probe of the MTU
-pub record AreLost {P M : Type 0} (look : Look) (packets : Packets P M) (end : ℕ) (numbers : List ℕ) : Type 0 where
-  pub rising : AreRising 0 numbers end
+pub record AreLost {P M : Type 0} (look : LossPass) (packets : Packets P M) (end : ℕ) (numbers : List ℕ) : Type 0 where
+  pub rising : AreIncreasing 0 numbers end
   pub lost : (number : ℕ) → IsOneOf number numbers → IsLostBelow look packets number × (look.probe ≢ Some number)
 
 -- ---- how the look goes on from packet to packet
 
 -- a candidate is the packet of its number
-pub record IsOf {P M : Type 0} (packet : Packet P M) (candidate : Candidate) : Type 0 where
+pub record IsCandidateOf {P M : Type 0} (packet : Packet P M) (candidate : Candidate) : Type 0 where
   pub time_sent : candidate.time_sent ≡ packet.time_sent
   pub size : candidate.size ≡ packet.size
   pub ack_eliciting : candidate.ack_eliciting ≡ packet.ack_eliciting
   pub path_generation : candidate.path_generation ≡ packet.path_generation
 
 -- the first packet below the largest acknowledged from a number on
-pub record IsNext {P M : Type 0} (look : Look) (packets : Packets P M) (from : ℕ) (candidate : Candidate) : Type 0 where
+pub record IsNextLossCandidate {P M : Type 0} (look : LossPass) (packets : Packets P M) (from : ℕ)
+    (candidate : Candidate) : Type 0 where
   pub packet : Packet P M
-  pub is : IsOf packet candidate
+  pub is : IsCandidateOf packet candidate
   pub below : IsBelow look packets candidate.number packet
   pub from_on : from ≤ candidate.number
   pub first : (number : ℕ) (other : Packet P M) → packet_at packets number ≡ Some other → from ≤ number
       → candidate.number ≤ number
 
 -- there is none
-abbrev pub NoneFrom : {P M : Type 0} → Look → Packets P M → ℕ → Type 0
+abbrev pub NoneFrom : {P M : Type 0} → LossPass → Packets P M → ℕ → Type 0
 NoneFrom {P} {M} look packets from =
     (number : ℕ) (packet : Packet P M) → IsBelow look packets number packet → from ≤ number → ⊥
 
@@ -139,22 +140,22 @@ going_on number run = record {
 }
 
 -- a packet with which persistent congestion may begin or end (RFC 9002, 7.6.2)
-abbrev pub is_end : Look → ℕ → Bool → Bool
+abbrev pub is_end : LossPass → ℕ → Bool → Bool
 is_end look number eliciting = eliciting && option_map_or (λ first. nat_le first number) look.first_of_run false
 
 -- it was sent then: so long after the oldest of the run, congestion is persistent
-abbrev pub ending : Look → ℕ → Run → Run
+abbrev pub ending : LossPass → ℕ → Run → Run
 ending look sent run = record run {
   oldest = Some (option_map_or (λ oldest. min oldest sent) run.oldest sent);
   is_persistent = run.is_persistent || option_map_or (λ oldest. nat_lt look.period (sent - oldest)) run.oldest false;
 }
 
 -- where the probe of the MTU is lost
-abbrev pub finding_probe : Look → Candidate → Tally → Tally
+abbrev pub finding_probe : LossPass → Candidate → Tally → Tally
 finding_probe look packet tally = record tally { probe = look.probe; run = going_on packet.number tally.run }
 
 -- where a packet was told lost
-abbrev pub counting : Look → Candidate → Tally → Tally
+abbrev pub counting : LossPass → Candidate → Tally → Tally
 counting look packet tally = let run = going_on packet.number tally.run in
     if is_counted look packet.size packet.path_generation then record tally {
       last_sent = later_of tally.last_sent (Some packet.time_sent);
@@ -163,8 +164,8 @@ counting look packet tally = let run = going_on packet.number tally.run in
     } else record tally { run = run }
 
 -- a number was told lost, or is that of the probe, which is told last
-abbrev pub IsTold : List ℕ → Option ℕ → ℕ → Type 0
-IsTold numbers probe number = IsOneOf number numbers ⊎ (probe ≡ Some number)
+abbrev pub IsDeclaredLost : List ℕ → Option ℕ → ℕ → Type 0
+IsDeclaredLost numbers probe number = IsOneOf number numbers ⊎ (probe ≡ Some number)
 
 abbrev pub no_run : Run
 no_run = record { previous = None; oldest = None; is_persistent = false }

@@ -10,7 +10,7 @@ const PACKET_THRESHOLD: u64 = 3;
 
 /// What a look for losses goes by.
 #[derive(Clone, Copy)]
-pub struct Look {
+pub struct LossPass {
     /// The space whose packets are looked at.
     pub space: SpaceId,
     /// The moment of it.
@@ -44,7 +44,7 @@ pub struct Candidate {
     pub path_generation: u64,
 }
 
-impl Look {
+impl LossPass {
     /// When a packet is lost by its age (RFC 9002, 6.1.2).
     pub fn lost_at(&self, packet: &Candidate) -> Instant
         ensures { result ≡ lost_at self.now packet.now.time_sent }

@@ -2,7 +2,7 @@
 ghost use Rattle.std.specs.Prelude.{◌≡◌, option_map};
 ghost use Rattle.recovery_losses.specs.Losses.{no_run, going_on, ending, nothing_found, waiting, counting, finding_probe};
 
-use crate::looks::{Candidate, Look};
+use crate::looks::{Candidate, LossPass};
 use recovery_base::time::Instant;
 use recovery_base::timer::earlier;
 
@@ -59,7 +59,7 @@ impl Run {
     }
 
     /// With the packet that was sent then persistent congestion may begin or end.
-    fn end(&mut self, look: &Look, sent: Instant)
+    fn end(&mut self, look: &LossPass, sent: Instant)
         ensures { self.new ≡ ending look.now sent self.old }
     {
         self.oldest = Some(match self.oldest {
@@ -105,7 +105,7 @@ impl Tally {
     }
 
     /// The probe of the MTU is lost.
-    pub fn finds_probe(&mut self, look: &Look, packet: &Candidate)
+    pub fn finds_probe(&mut self, look: &LossPass, packet: &Candidate)
         ensures { self.new ≡ finding_probe look.now packet.now self.old }
     {
         self.probe = look.probe;
@@ -113,7 +113,7 @@ impl Tally {
     }
 
     /// A packet is lost: where it counts, that is a sign of congestion (RFC 9002, 7).
-    pub fn counts(&mut self, look: &Look, packet: &Candidate)
+    pub fn counts(&mut self, look: &LossPass, packet: &Candidate)
         ensures { self.new ≡ counting look.now packet.now self.old }
     {
         self.run.go_on(packet.number);

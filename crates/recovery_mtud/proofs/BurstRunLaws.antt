@@ -4,7 +4,7 @@ use Rattle.std.proofs.Common.{◌≡◌, ℕ, Bool, is_some, ◌||◌, nat_lt, f
 use Rattle.recovery_mtud.specs.Bursts.{LossBursts, bursts_acked, bursts_closed}
 use Rattle.recovery_mtud.specs.Discovery.{Discovery, reports}
 use Rattle.recovery_mtud.specs.DiscoveryLog.{MtuCall, polls, acks, loses, losses_end, discovery_after, discovery_by}
-use Rattle.recovery_mtud.specs.MtuEntries.{IsUntold, MtuEntry, losses_over, reported, probe_in_flight, size_at, entry_of, entries_by, min_mtu_in_use}
+use Rattle.recovery_mtud.specs.MtuEntries.{IsFreshDiscovery, MtuEntry, losses_over, reported, probe_in_flight, size_at, entry_of, entries_by, min_mtu_in_use}
 use Rattle.recovery_mtud.specs.BurstRuns.{Loss, is_above, open_run, standing, unanswered, larger_acked, acked_numbers, lost_numbers, AreFatesApart, AreFourStanding, AreFourUnanswered}
 use Rattle.recovery_mtud.proofs.MtuEntryLaws.{polled, Holds, holds_by, size_in_held}
 use Rattle.recovery_mtud.proofs.BurstCounts.{has}
@@ -82,7 +82,7 @@ module _ (made : Discovery) (entries : List MtuEntry) (old : Discovery) (holds :
 
 -- ---- all calls
 
-needy_by : (made : Discovery) → IsUntold made → (calls : List MtuCall) → AreFatesApart (entries_by made calls)
+needy_by : (made : Discovery) → IsFreshDiscovery made → (calls : List MtuCall) → AreFatesApart (entries_by made calls)
     → NeedyAt made (entries_by made calls) (discovery_by made calls).bursts
 needy_by made new [] _ =
     rw new.bursts (needy_made _ [] [])
@@ -90,7 +90,7 @@ needy_by made new (call ∷ earlier) apart =
     let before = apart_before _ (entries_by made earlier) apart in
     needy_after made _ _ (holds_by _ new earlier) call before (needy_by _ new earlier before)
 
-coming_by : (made : Discovery) → IsUntold made → (calls : List MtuCall)
+coming_by : (made : Discovery) → IsFreshDiscovery made → (calls : List MtuCall)
     → ComingAt made (entries_by made calls) (discovery_by made calls).bursts
 coming_by made new [] =
     rw new.bursts (coming_made _ [])
@@ -98,13 +98,14 @@ coming_by made new (call ∷ earlier) =
     coming_after made _ _ (holds_by _ new earlier) call (coming_by _ new earlier)
 
 -- where a black hole is reported, four bursts stand
-pub four_stand : (made : Discovery) → IsUntold made → (calls : List MtuCall) → AreFatesApart (entries_by made calls)
+pub four_stand : (made : Discovery) → IsFreshDiscovery made → (calls : List MtuCall) → AreFatesApart
+    (entries_by made calls)
     → reports (discovery_by made calls) ≡ true → AreFourStanding made (entries_by made calls)
 four_stand made new calls apart =
     needy_report _ _ _ _ _ _ (needy_by _ new calls apart) apart
 
 -- where four have closed unanswered, the end of losses reports a black hole
-pub four_report : (made : Discovery) → IsUntold made → (calls : List MtuCall)
+pub four_report : (made : Discovery) → IsFreshDiscovery made → (calls : List MtuCall)
     → AreFourUnanswered made (entries_by made calls) → reports (discovery_by made calls) ≡ true
 four_report made new calls =
     let entries = entries_by made calls in

@@ -6,7 +6,7 @@ use Rattle.recovery_mtud.specs.declared.config.MtuDiscoveryConfig.{MtuDiscoveryC
 use Rattle.recovery_mtud.specs.Search.{MtuSearch, probed_size}
 use Rattle.recovery_mtud.specs.Discovery.{Discovery, discovery_made, is_probe, is_searching_of}
 use Rattle.recovery_mtud.specs.DiscoveryLog.{MtuCall, polls, discovery_after, discovery_by, kept_limit}
-use Rattle.recovery_mtud.specs.MtuEntries.{probed, unprobed, poll_entry, IsUntold, search_settings, MtuEntry, entry_of, entries_by, MtuProbe, probe_in_flight, size_at, limit_in_use, min_mtu_in_use, mtu_in_use}
+use Rattle.recovery_mtud.specs.MtuEntries.{probed, unprobed, poll_entry, IsFreshDiscovery, search_settings, MtuEntry, entry_of, entries_by, MtuProbe, probe_in_flight, size_at, limit_in_use, min_mtu_in_use, mtu_in_use}
 use Rattle.recovery_mtud.specs.SearchRuns.{search_runs}
 
 -- ---- the probe that a discovery holds
@@ -42,25 +42,25 @@ holds_after _ _ _ _ holds = grind arith
 
 -- ---- all calls
 
-holds_made : (made : Discovery) → IsUntold made → Holds made [] made
+holds_made : (made : Discovery) → IsFreshDiscovery made → Holds made [] made
 holds_made _ new = grind arith
 
 -- whatever is told, a discovery holds what the entries say: the MTU in use is theirs, and so are the probe in flight
 -- and whether a search runs
-pub holds_by : (made : Discovery) → IsUntold made → (calls : List MtuCall)
+pub holds_by : (made : Discovery) → IsFreshDiscovery made → (calls : List MtuCall)
     → Holds made (entries_by made calls) (discovery_by made calls)
 holds_by made new [] = holds_made _ new
 holds_by made new (call ∷ earlier) =
     holds_after _ _ _ _ (holds_by _ new earlier)
 
 -- a number is that of the probe in flight exactly where the entries say so
-pub is_probe_by : (made : Discovery) → IsUntold made → (calls : List MtuCall) (number : ℕ)
+pub is_probe_by : (made : Discovery) → IsFreshDiscovery made → (calls : List MtuCall) (number : ℕ)
     → is_probe number (discovery_by made calls) ≡ is_some (size_at number (probe_in_flight (entries_by made calls)))
 is_probe_by made new calls _ = grind (arith, sym (holds_by made new calls).probe)
 
 -- a discovery that was made, enabled or not, was told nothing
 pub discovery_made_untold : (mtu min_mtu : ℕ) (limit : Option ℕ) (searched : Option MtuDiscoveryConfig)
-    → IsUntold (discovery_made mtu min_mtu limit searched)
+    → IsFreshDiscovery (discovery_made mtu min_mtu limit searched)
 discovery_made_untold _ _ _ None = record { search = tt; bursts = refl }
 discovery_made_untold _ _ _ (Some _) = record { search = (refl, refl); bursts = refl }
 

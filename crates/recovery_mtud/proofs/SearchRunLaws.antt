@@ -12,8 +12,8 @@ use Rattle.recovery_mtud.specs.Search.{MtuSearch, upper_from, search_begun, size
 use Rattle.recovery_mtud.specs.Bursts.{LossBursts}
 use Rattle.recovery_mtud.specs.Discovery.{Discovery, is_searching_of, limit_or_greatest}
 use Rattle.recovery_mtud.specs.DiscoveryLog.{MtuCall, polls, acks, is_limited, discovery_after, discovery_by}
-use Rattle.recovery_mtud.specs.MtuEntries.{IsUntold, search_settings, MtuEntry, unprobed, poll_entry, entry_of, entries_by, MtuProbe, probe_in_flight, limit_in_use, mtu_in_use}
-use Rattle.recovery_mtud.specs.SearchRuns.{search_runs, search_of, before_search, next_activation, is_searched, ProbesInSearch, probed_sizes, acked_sizes, lost_sizes, TakesFew, AreLimitsOutside, IsHonest, IsNearBest, EndsNearBest, start_upper}
+use Rattle.recovery_mtud.specs.MtuEntries.{IsFreshDiscovery, search_settings, MtuEntry, unprobed, poll_entry, entry_of, entries_by, MtuProbe, probe_in_flight, limit_in_use, mtu_in_use}
+use Rattle.recovery_mtud.specs.SearchRuns.{search_runs, search_of, before_search, next_activation, is_searched, ProbesInSearch, probed_sizes, acked_sizes, lost_sizes, UsesFewProbes, AreLimitsOutside, IsHonest, IsNearBest, EndsNearBest, start_upper}
 use Rattle.recovery_mtud.proofs.MtuEntryLaws.{held, Holds, holds_by}
 use Rattle.recovery_mtud.proofs.SearchTies.{Narrows, left, narrows_next, Fair, fair_next, fair_end, Within, within_begun, within_next}
 
@@ -168,7 +168,7 @@ module _ (made : Discovery) (link : ℕ) (settings : MtuDiscoveryConfig) (entrie
 
 -- ---- all calls
 
-module _ (made : Discovery) (link : ℕ) (settings : MtuDiscoveryConfig) (new : IsUntold made)
+module _ (made : Discovery) (link : ℕ) (settings : MtuDiscoveryConfig) (new : IsFreshDiscovery made)
     (is : search_settings made ≡ Some settings) where
   kept_first : (search : Option MtuSearch) → IfSome search (λ own. (own.probing ≡ None) × (own.activation ≡ 0))
       → option_map (λ own. own.settings) search ≡ Some settings → KeptIn made link settings 0 [] made.mtu search
@@ -204,7 +204,7 @@ module _ (made : Discovery) (link : ℕ) (settings : MtuDiscoveryConfig) (new : 
 few_in : (made : Discovery) (settings : MtuDiscoveryConfig) → IsWide settings → (further : ℕ) (entries : List MtuEntry)
     (mtu : ℕ) (search : Option MtuSearch)
     → is_some (option_and_then (λ own. own.probing) search) ≡ search_runs entries
-    → KeptIn made 0 settings further entries mtu search → TakesFew entries
+    → KeptIn made 0 settings further entries mtu search → UsesFewProbes entries
 few_in made settings wide further entries mtu search runs kept =
     grind (arith, idle_search entries)
 
@@ -223,7 +223,7 @@ IsInTurn (is_limited limit) old = is_searching_of old ≡ false
 IsInTurn call old = ⊤
 
 -- where each limit is told in turn, none is told while a search runs
-pub limits_outside_after : (made : Discovery) → IsUntold made → (call : MtuCall) (earlier : List MtuCall)
+pub limits_outside_after : (made : Discovery) → IsFreshDiscovery made → (call : MtuCall) (earlier : List MtuCall)
     → IsInTurn call (discovery_by made earlier)
     → AreLimitsOutside (entries_by made earlier) → AreLimitsOutside (entries_by made (call ∷ earlier))
 limits_outside_after made _ (polls now next) earlier _ outside = grind arith
@@ -245,20 +245,20 @@ between made settings further entries mtu probe search flies kept = grind arith
 -- ---- what whole runs promise
 
 -- the MTU in use is the one that the entries say
-pub mtu_by : (made : Discovery) → IsUntold made → (calls : List MtuCall)
+pub mtu_by : (made : Discovery) → IsFreshDiscovery made → (calls : List MtuCall)
     → (discovery_by made calls).mtu ≡ mtu_in_use made (entries_by made calls)
 mtu_by made new calls = (holds_by _ new calls).mtu
 
 -- a search runs exactly where the entries say so
-pub search_runs_by : (made : Discovery) → IsUntold made → (calls : List MtuCall)
+pub search_runs_by : (made : Discovery) → IsFreshDiscovery made → (calls : List MtuCall)
     → is_searching_of (discovery_by made calls) ≡ search_runs (entries_by made calls)
 search_runs_by made new calls = (holds_by _ new calls).runs
 
-module _ (made : Discovery) (settings : MtuDiscoveryConfig) (new : IsUntold made)
+module _ (made : Discovery) (settings : MtuDiscoveryConfig) (new : IsFreshDiscovery made)
     (is : search_settings made ≡ Some settings) where
   -- at every moment the search that runs has taken at most 16 sizes and 48 probes
   pub search_takes_few : 3 ≤ settings.minimum_change → settings.upper_bound < 2 ^ 16 → (calls : List MtuCall)
-      → TakesFew (entries_by made calls)
+      → UsesFewProbes (entries_by made calls)
   search_takes_few change bound calls =
       let kept = kept_by made 0 settings new is calls in
       few_in made settings (change, bound) kept.0 (entries_by made calls) _ _ (holds_by made new calls).runs kept.1

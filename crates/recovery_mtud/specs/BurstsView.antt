@@ -8,7 +8,7 @@ abbrev pub sizes_in : Inside → List ℕ
 sizes_in bursts = take bursts.count bursts.sizes
 
 -- there are at most four sizes, and zeros behind them
-pub record IsPadded (bursts : Inside) : Type 0 where
+pub record AreBurstSizesPadded (bursts : Inside) : Type 0 where
   pub few : bursts.count ≤ 4
   pub room : length bursts.sizes ≡ 4
   pub zeros : bursts.sizes ≡ take bursts.count bursts.sizes ++ replicate (4 - bursts.count) 0
@@ -18,7 +18,7 @@ abbrev pub padded : List ℕ → Inside
 padded sizes = record { sizes = sizes ++ replicate (4 - length sizes) 0; count = length sizes }
 
 -- they are told by the sizes alone
-pub padded-sizes_in : (bursts : Inside) → IsPadded bursts → padded (sizes_in bursts) ≡ bursts
+pub padded-sizes_in : (bursts : Inside) → AreBurstSizesPadded bursts → padded (sizes_in bursts) ≡ bursts
 padded-sizes_in bursts sound =
     let count : length (take bursts.count bursts.sizes) ≡ bursts.count =
     omega (arith, length-take bursts.count bursts.sizes, sound.few, sound.room) in

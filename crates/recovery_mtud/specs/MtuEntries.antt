@@ -8,7 +8,7 @@ use Rattle.recovery_mtud.specs.Discovery.{Discovery, poll_of, reports, within}
 use Rattle.recovery_mtud.specs.DiscoveryLog.{MtuCall, polls, is_limited, acks, loses_probe, loses, losses_end, resets, discovery_by, kept_limit}
 
 -- a discovery to which nothing was told yet
-pub record IsUntold (made : Discovery) : Type 0 where
+pub record IsFreshDiscovery (made : Discovery) : Type 0 where
   pub search : IfSome made.search (λ search. (search.probing ≡ None) × (search.activation ≡ 0))
   pub bursts : made.bursts ≡ bursts_made made.bursts.min_mtu
 

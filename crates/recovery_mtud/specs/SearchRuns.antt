@@ -81,7 +81,7 @@ lost_sizes (probe_lost ∷ earlier) =
 lost_sizes (entry ∷ earlier) = lost_sizes earlier
 
 -- the search that runs has taken at most 16 sizes and 48 probes
-pub record TakesFew (entries : List MtuEntry) : Type 0 where
+pub record UsesFewProbes (entries : List MtuEntry) : Type 0 where
   pub sizes : distinct_count nat_eq (probed_sizes (search_of entries)) ≤ 16
   pub probes : length (probed_sizes (search_of entries)) ≤ 48
 

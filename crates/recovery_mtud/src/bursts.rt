@@ -22,11 +22,11 @@ impl Model for Bursts {
 
     ghost Value = { List ℕ };
 
-    ghost use Rattle.recovery_mtud.specs.BurstsView.{sizes_in, IsPadded, padded, padded-sizes_in};
+    ghost use Rattle.recovery_mtud.specs.BurstsView.{sizes_in, AreBurstSizesPadded, padded, padded-sizes_in};
 
     ghost view = { sizes_in };
 
-    ghost invariant = { IsPadded };
+    ghost invariant = { AreBurstSizesPadded };
 
     ghost inverse = { padded };
 

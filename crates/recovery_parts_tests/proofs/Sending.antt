@@ -1,8 +1,8 @@
 -- Tracked packets stay below the next number when one is sent: the helper `tracked` of the tests rests on it.
 use Rattle.std.proofs.Common.{◌≡◌, ℕ, ◌+◌, ◌<◌, Bool, true, false, cond, [], Option, Some, sym, subst, arith}
 use Rattle.std.proofs.lemmas.Option.{none-some}
-use Rattle.recovery_ledger.specs.Packets.{Packet, Tracking, no_packets, AreBelow, IsAboveLast, forgotten_number, after_sending, without_some}
-use Rattle.recovery_ledger.proofs.PacketLaws.{all_below, are_below, AllBelow-push, AllBelow-without_some}
+use Rattle.recovery_spaces.specs.Packets.{Packet, Tracking, no_packets, AreBelow, IsAboveLast, forgotten_number, after_sending, without_some}
+use Rattle.recovery_spaces.proofs.PacketLaws.{all_below, are_below, AllBelow-push, AllBelow-without_some}
 
 pub record IsBelow {P M : Type 0} (tracking : Tracking P M) (number : ℕ) : Type 0 where
   pub packets : AreBelow tracking.packets number

@@ -2,7 +2,7 @@
 use Rattle.std.specs.Prelude.{ℕ, ◌*◌, ◌/◌, ◌<◌, max, None}
 use Rattle.std.proofs.Common.{arith}
 use Rattle.recovery_congestion.specs.Calls.{ControllerCall, congests, takes_mtu, IsPositive}
-use Rattle.recovery_congestion.specs.Controllers.{ControllerWords, ControllerLaws}
+use Rattle.recovery_congestion.specs.Controllers.{ControllerSemantics, ControllerLaws}
 use Rattle.recovery_parts_tests.specs.declared.halving.Halving.{Halving}
 
 abbrev pub halving_made : ℕ → ℕ → Halving
@@ -19,7 +19,7 @@ halving_after (congests now sent persistent lost) halving = halved halving
 halving_after (takes_mtu mtu) halving = record halving { current_mtu = mtu }
 halving_after call halving = halving
 
-abbrev pub halving_words : ControllerWords Halving
+abbrev pub halving_words : ControllerSemantics Halving
 halving_words = record {
   after = halving_after;
   window = λ halving. halving.window;

@@ -1,7 +1,7 @@
 //! What a packet adds to what is in flight on its path, and what is left when it is counted no more.
 use crate::rows::holds;
 use crate::slots::packet;
-use recovery_ledger::paths::InFlight;
+use recovery_spaces::paths::InFlight;
 
 #[test]
 fn a_packet_is_counted_and_leaves(rt: HostRuntime) {

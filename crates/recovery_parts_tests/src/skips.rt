@@ -3,7 +3,7 @@ use crate::rows::holds;
 use rand_core::{Rng, SeedableRng};
 use rand_pcg::{Pcg32, Pcg64};
 use recovery_base::below::{SpaceId, TransportError};
-use recovery_skips::{PacketNumberFilter, Skips};
+use recovery_packet_numbers::{PacketNumberFilter, Skips};
 use std::process::Abort;
 
 /// From a number on up to below another, the numbers that are left out.

@@ -5,25 +5,25 @@ use Rattle.std.proofs.lemmas.Iterator.Adapters.{option_map_id}
 use Rattle.std.proofs.lemmas.Option.{none-some}
 use Rattle.std.specs.Option.{option_map_or}
 use Rattle.recovery_base.specs.declared.below.SpaceId.{SpaceId}
-use Rattle.recovery_congestion.specs.Controllers.{ControllerWords}
-use Rattle.recovery_ledger.specs.Ledger.{tracked_by, IsBalancedOn, AreCoherent}
-use Rattle.recovery_ledger.specs.Packets.{IsAmong, Packet, Packets, Tracking, no_packets, packet_at, without, with_contents, forgotten_entry, IsTooLarge, after_sending}
-use Rattle.recovery_ledger.specs.Paths.{PathLedger, generation_of, counters_of, fresh_ledger, after_leaving, after_forgetting}
-use Rattle.recovery_ledger.specs.Probes.{ProbeFound}
-use Rattle.recovery_ledger.specs.Spaces.{Space, Spaces, space_of, with_space, tracking_of, packets_of, next_number_of, HasGreatestCome, IsCoherent, one_probe_more, space_finds, space_probes}
-use Rattle.recovery_ledger.proofs.AmongLaws.{OfAll, all_without, all_sent, all_carrying}
-use Rattle.recovery_ledger.proofs.CoherentLaws.{coherent_sent, coherent_probed}
-use Rattle.recovery_ledger.proofs.SpaceLaws.{each_with}
-use Rattle.recovery_ledger.specs.InFlight.{IsCountedIn}
-use Rattle.recovery_ledger.proofs.LedgerLaws.{Follows, carrying_follows, lost_follows, forgotten_counted, sent_follows, first_leaves, space_counted, balanced_by, none_balanced}
+use Rattle.recovery_congestion.specs.Controllers.{ControllerSemantics}
+use Rattle.recovery_spaces.specs.Ledger.{tracked_by, IsBalancedOn, AreCoherent}
+use Rattle.recovery_spaces.specs.Packets.{IsAmong, Packet, Packets, Tracking, no_packets, packet_at, without, with_contents, forgotten_entry, IsTooLarge, after_sending}
+use Rattle.recovery_spaces.specs.Paths.{PathLedger, generation_of, counters_of, fresh_ledger, after_leaving, after_forgetting}
+use Rattle.recovery_spaces.specs.Probes.{ProbeFound}
+use Rattle.recovery_spaces.specs.Spaces.{Space, Spaces, space_of, with_space, tracking_of, packets_of, next_number_of, HasGreatestCome, IsCoherent, one_probe_more, space_finds, space_probes}
+use Rattle.recovery_spaces.proofs.AmongLaws.{OfAll, all_without, all_sent, all_carrying}
+use Rattle.recovery_spaces.proofs.CoherentLaws.{coherent_sent, coherent_probed}
+use Rattle.recovery_spaces.proofs.SpaceLaws.{each_with}
+use Rattle.recovery_spaces.specs.InFlight.{IsCountedIn}
+use Rattle.recovery_spaces.proofs.LedgerLaws.{Follows, carrying_follows, lost_follows, forgotten_counted, sent_follows, first_leaves, space_counted, balanced_by, none_balanced}
 use Rattle.recovery_paths.proofs.PathLogLaws.{for_changed}
 use Rattle.recovery_paths.specs.Balance.{AreBalanced}
 use Rattle.recovery_paths.specs.declared.path_pair.PathName.{PathName}
 use Rattle.recovery_paths.specs.declared.path_pair.PathName.TheVariants.{Current, Previous}
 use Rattle.recovery_paths.specs.PathPair.{on_ledger, ledger_without, IsCountedOnEach, AreCountedOnEach, CanTrackOn, paths_after_sending, path_left_by, paths_without, paths_losing, paths_acking}
-use Rattle.recovery_paths.specs.PathLog.{OfPaths, on_path_of, moved_to, reverted}
+use Rattle.recovery_paths.specs.PathLog.{PerPath, on_path_of, moved_to, reverted}
 use Rattle.recovery_paths.specs.PathStates.{PathState, Path, on_state, path_lost}
-use Rattle.recovery_queue.specs.Queues.{QueueWords}
+use Rattle.recovery_queue.specs.Queues.{QueueSemantics}
 
 -- all packets of a space leave, one after another
 emptied_follows : {P M : Type 0} (ledger : PathLedger) (packets : Packets P M)
@@ -34,7 +34,7 @@ emptied_follows ledger (entry ∷ packets) counted =
     let first = first_leaves ledger entry packets counted in
     grind (arith, first, emptied_follows (after_leaving ledger entry.1) packets first.1)
 
-module _ {K P M : Type 0} (spaces : Spaces P M) (paths : OfPaths (Path K)) (balanced : AreBalanced spaces paths) where
+module _ {K P M : Type 0} (spaces : Spaces P M) (paths : PerPath (Path K)) (balanced : AreBalanced spaces paths) where
   abbrev ledger : PathLedger
   ledger = paths.current.ledger
 
@@ -95,7 +95,7 @@ module _ {K P M : Type 0} (spaces : Spaces P M) (paths : OfPaths (Path K)) (bala
         → ((path : Path K) → paths.previous ≡ Some path
         → Follows path.ledger all (packets_of here) (change path).ledger)
         → OfAll Is (packets_of here) → IsCoherent here
-        → AreBalanced (with_space spaces space here) (let both : OfPaths (Path K) = record paths {
+        → AreBalanced (with_space spaces space here) (let both : PerPath (Path K) = record paths {
           current = now;
           previous = option_map change paths.previous;
         } in both)
@@ -191,7 +191,7 @@ module _ {K P M : Type 0} (spaces : Spaces P M) (paths : OfPaths (Path K)) (bala
           (rw packets (all_without Is all number (balanced.up_to space)))
 
       pub paths_balanced_acked : packet_at all number ≡ Some packet → packets_of here ≡ without all number
-          → IsCoherent here → (words : ControllerWords K) (now : ℕ) (app_limited : Bool)
+          → IsCoherent here → (words : ControllerSemantics K) (now : ℕ) (app_limited : Bool)
           → AreBalanced (with_space spaces space here) (paths_acking words space number now app_limited packet paths)
       paths_balanced_acked found packets coherent words now app_limited =
           grind (arith, paths_balanced_lost packet.retransmits (rw found refl) packets coherent)
@@ -205,7 +205,7 @@ module _ {K P M : Type 0} (spaces : Spaces P M) (paths : OfPaths (Path K)) (bala
         (λ path is. rw none (emptied_follows path.ledger all (each_counted.1 path is)))
         (rw none (λ packet among. absurd among))
 
-  pub probed : {S : Type 0} → (words : QueueWords P S) (space : SpaceId) (immediate : Bool) (found : ProbeFound)
+  pub probed : {S : Type 0} → (words : QueueSemantics P S) (space : SpaceId) (immediate : Bool) (found : ProbeFound)
       → AreBalanced (with_space spaces space (space_probes words immediate found
       (one_probe_more (space_of space spaces)))) paths
   probed words space immediate found =
@@ -229,7 +229,7 @@ pub fresh : {K P M : Type 0} (spaces : Spaces P M) (path : Path K)
     → ((space : SpaceId) → tracking_of (space_of space spaces) ≡ no_packets) → AreCoherent spaces
     → counters_of path.ledger ≡ record { bytes = 0; ack_eliciting = 0 }
     → AreBalanced spaces
-    (let all : OfPaths (Path K) = record { current = path; previous = None; made = generation_of path.ledger } in all)
+    (let all : PerPath (Path K) = record { current = path; previous = None; made = generation_of path.ledger } in all)
 fresh {P = P} {M} spaces path none coherent zero =
     let nothing : (space : SpaceId) (packet : Packet P M) → IsAmong (tracked_by spaces space) packet → ⊥ =
     λ space packet among. subst (λ (t : Tracking P M). IsAmong t.packets packet) (none space) among in

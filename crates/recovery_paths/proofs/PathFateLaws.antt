@@ -4,14 +4,14 @@ use Rattle.std.proofs.Common.{◌≡◌, ℕ, ◌+◌, ◌≤◌, Bool, true, Li
 use Rattle.std.specs.Prelude.{nat_eq}
 use Rattle.std.specs.Set.{is_member}
 use Rattle.std.proofs.lemmas.Bool.Decides.{nat_tests}
-use Rattle.recovery_ledger.specs.Departures.{one_if_same}
+use Rattle.recovery_spaces.specs.Departures.{one_if_same}
 use Rattle.recovery_mtud.specs.BurstRuns.{AreFatesApart}
 use Rattle.recovery_mtud.specs.Discovery.{Discovery}
 use Rattle.recovery_mtud.specs.DiscoveryLog.{MtuCall, acks, loses}
 use Rattle.recovery_mtud.specs.MtuEntries.{entries_by}
 use Rattle.recovery_mtud.proofs.BurstRunLaws.{acked_in_calls, lost_in_calls, fates_apart_by}
 use Rattle.recovery_paths.specs.declared.path_pair.PathName.TheVariants.{Current, Previous}
-use Rattle.recovery_paths.specs.PathLog.{PathsEntry, PathEntry, PathPast, pasts_by, on, moves, drops_previous, reverts, searches}
+use Rattle.recovery_paths.specs.PathLog.{PathsEntry, PathEntry, PathHistory, pasts_by, on, moves, drops_previous, reverts, searches}
 use Rattle.recovery_paths.specs.PathMaking.{PathSettings}
 use Rattle.recovery_paths.specs.PathStates.{PathState}
 
@@ -86,7 +86,7 @@ told-append number [] log = omega arith
 told-append number (entry ∷ entries) log = omega (arith, told-append number entries log)
 
 module _ {K : Type 0} (settings : PathSettings K) (number : ℕ) where
-  abbrev fates_on : PathPast K → ℕ
+  abbrev fates_on : PathHistory K → ℕ
   fates_on past = fates number past.searched
 
   -- on the path in use a number has at most the fates that were told

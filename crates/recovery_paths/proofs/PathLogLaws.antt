@@ -4,7 +4,7 @@ use Rattle.std.proofs.Common.{◌≡◌, List, [], ◌∷◌, ◌++◌, Option, 
 use Rattle.std.specs.Option.{ForSome}
 use Rattle.recovery_paths.specs.declared.path_pair.PathName.TheVariants.{Current, Previous}
 use Rattle.recovery_paths.specs.PathMaking.{PathSettings}
-use Rattle.recovery_paths.specs.PathLog.{OfPaths, PathsEntry, PathEntry, PathPast, PathKnown, Following, paths_with, paths_after, pasts_by, each_path, past_with, past_following, known_of, path_known_with, known_following, PathsStep, PathsLeft, on, moves, drops_previous, reverts, fresh, extends, returns, receives}
+use Rattle.recovery_paths.specs.PathLog.{PerPath, PathsEntry, PathEntry, PathHistory, PathReplyInputs, PathOrigin, paths_with, paths_after, pasts_by, each_path, past_with, past_following, known_of, path_known_with, known_following, PathsStep, PathsAfter, on, moves, drops_previous, reverts, fresh, extends, returns, receives}
 use Rattle.recovery_paths.specs.PathStates.{PathState}
 
 pub some_same : {A : Type 0} {a b : A} → Some a ≡ Some b → a ≡ b
@@ -24,19 +24,19 @@ option-each f change changed same (Some path) = ap (λ q. Some q) (same path)
 
 module _ {K : Type 0} (settings : PathSettings K) where
   -- what is known after an entry is what the past with the entry gives
-  pub known_of-with : (entry : PathEntry) (past : PathPast K)
+  pub known_of-with : (entry : PathEntry) (past : PathHistory K)
       → path_known_with settings entry (known_of past) ≡ known_of (past_with settings entry past)
   known_of-with (receives bytes) past = refl
   known_of-with entry past = refl
 
-  known_of-following : (following : Following) (past : PathPast K)
+  known_of-following : (following : PathOrigin) (past : PathHistory K)
       → known_following settings following (known_of past)
       ≡ known_of (past_following settings following past)
   known_of-following (fresh generation remote limit now) past = refl
   known_of-following (extends generation remote now) past = refl
   known_of-following (returns limit) past = refl
 
-  each-with : (entry : PathsEntry) (pasts : OfPaths (PathPast K))
+  each-with : (entry : PathsEntry) (pasts : PerPath (PathHistory K))
       → paths_with (path_known_with settings) (known_following settings) entry (each_path known_of pasts)
       ≡ each_path known_of (paths_with (past_with settings) (past_following settings) entry pasts)
   each-with (on Current entry) pasts = rw (known_of-with entry pasts.current) refl
@@ -47,10 +47,10 @@ module _ {K : Type 0} (settings : PathSettings K) where
   each-with drops_previous pasts = refl
   each-with (reverts limit) pasts = returned pasts.previous
     where
-      with_previous : Option (PathPast K) → OfPaths (PathPast K)
+      with_previous : Option (PathHistory K) → PerPath (PathHistory K)
       with_previous previous = record pasts { previous = previous }
 
-      returned : (previous : Option (PathPast K))
+      returned : (previous : Option (PathHistory K))
           → paths_with (path_known_with settings) (known_following settings) (reverts limit)
           (each_path known_of (with_previous previous))
           ≡ each_path known_of
@@ -67,7 +67,7 @@ module _ {K : Type 0} (settings : PathSettings K) where
   each-after first (entry ∷ entries) log =
       rw (each-after first entries log) (each-with entry (pasts_by settings first (entries ++ log)))
 
-  pub paths_law : (first : PathState K) (entries log : List PathsEntry) (old new : OfPaths (PathKnown K))
-      → PathsLeft settings first log old → PathsStep settings entries old new
-      → PathsLeft settings first (entries ++ log) new
+  pub paths_law : (first : PathState K) (entries log : List PathsEntry) (old new : PerPath (PathReplyInputs K))
+      → PathsAfter settings first log old → PathsStep settings entries old new
+      → PathsAfter settings first (entries ++ log) new
   paths_law first entries log old new left step = step ∙ rw left (each-after first entries log)

@@ -7,22 +7,22 @@ use Rattle.recovery_config.specs.Settings.{initial_mtu_of}
 use Rattle.recovery_mtud.specs.declared.config.MtuDiscoveryConfig.{MtuDiscoveryConfig}
 use Rattle.recovery_mtud.specs.Discovery.{Discovery}
 use Rattle.recovery_mtud.specs.DiscoveryLog.{MtuCall, resets, discovery_by}
-use Rattle.recovery_mtud.specs.MtuEntries.{IsUntold, search_settings, entries_by}
+use Rattle.recovery_mtud.specs.MtuEntries.{IsFreshDiscovery, search_settings, entries_by}
 use Rattle.recovery_mtud.specs.SearchRuns.{AreLimitsOutside}
 use Rattle.recovery_mtud.proofs.MtuEntryLaws.{discovery_made_untold, made_settings}
 use Rattle.recovery_mtud.proofs.SearchRunLaws.{IsInTurn, limits_outside_after}
 use Rattle.recovery_paths.specs.PathMaking.{PathSettings, first_discovery}
-use Rattle.recovery_paths.specs.PathLog.{OnEachPath, PathsEntry, PathEntry, PathPast, Following, pasts_by, each_path, state_of, known_of, past_with, past_following, searches, is_reset}
+use Rattle.recovery_paths.specs.PathLog.{OnEachPath, PathsEntry, PathEntry, PathHistory, PathOrigin, pasts_by, each_path, path_state_of, known_of, past_with, past_following, searches, is_reset}
 use Rattle.recovery_paths.specs.PathStates.{PathState}
 use Rattle.recovery_paths.proofs.AllowedLaws.{IsAllowed, AreAllowed, kept_after}
 
 -- a discovery that was made so and called so is searched by these settings, if any
 pub record IsSearchedBy (settings : Option MtuDiscoveryConfig) (made : Discovery) (calls : List MtuCall) : Type 0 where
-  pub untold : IsUntold made
+  pub untold : IsFreshDiscovery made
   pub settings_are : search_settings made ≡ settings
   pub outside : AreLimitsOutside (entries_by made calls)
 
-abbrev pub IsPathSearchedBy : {K : Type 0} → Option MtuDiscoveryConfig → PathPast K → Type 0
+abbrev pub IsPathSearchedBy : {K : Type 0} → Option MtuDiscoveryConfig → PathHistory K → Type 0
 IsPathSearchedBy by past = IsSearchedBy by past.kept.discovery past.searched
 
 -- one more call that is in turn
@@ -45,7 +45,7 @@ first_searched allowed limit config =
 module _ {K : Type 0} (settings : PathSettings K) (by : Option MtuDiscoveryConfig)
     (fresh_is : (limit : Option ℕ) → IsSearchedBy by (settings.discovery limit) []) where
   -- an entry that is allowed keeps that
-  searched_law : (entry : PathEntry) (past : PathPast K) → IsAllowed settings.words (state_of past) entry
+  searched_law : (entry : PathEntry) (past : PathHistory K) → IsAllowed settings.words (path_state_of past) entry
       → IsPathSearchedBy by past → IsPathSearchedBy by (past_with settings entry past)
   searched_law (searches call) past allowed searched =
       searched_after by past.kept.discovery call past.searched allowed searched
@@ -54,7 +54,7 @@ module _ {K : Type 0} (settings : PathSettings K) (by : Option MtuDiscoveryConfi
   searched_law entry past allowed searched = searched
 
   -- a fresh path is searched from its making on, and one that goes on as the path before it
-  follows_searched : (following : Following) (past : PathPast K) → IsPathSearchedBy by past
+  follows_searched : (following : PathOrigin) (past : PathHistory K) → IsPathSearchedBy by past
       → IsPathSearchedBy by (past_following settings following past)
   follows_searched following past searched = grind (arith, fresh_is, searched)
 

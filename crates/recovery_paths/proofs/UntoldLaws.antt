@@ -1,24 +1,25 @@
 -- The search for the MTU of the path in use began with nothing told to it. The driver's `BurstLaws` rest on it.
 use Rattle.std.proofs.Common.{arith, ℕ, List, [], ◌∷◌, Option}
-use Rattle.recovery_mtud.specs.MtuEntries.{IsUntold}
+use Rattle.recovery_mtud.specs.MtuEntries.{IsFreshDiscovery}
 use Rattle.recovery_paths.specs.declared.path_pair.PathName.TheVariants.{Current}
-use Rattle.recovery_paths.specs.PathLog.{PathsEntry, PathEntry, PathPast, pasts_by, past_with, on, moves, reverts, fresh, returns, receives}
+use Rattle.recovery_paths.specs.PathLog.{PathsEntry, PathEntry, PathHistory, pasts_by, past_with, on, moves, reverts, fresh, returns, receives}
 use Rattle.recovery_paths.specs.PathMaking.{PathSettings}
 use Rattle.recovery_paths.specs.PathStates.{PathState}
 
 -- of one path
-abbrev pub WasUntold : {K : Type 0} → PathPast K → Type 0
-WasUntold past = IsUntold past.kept.discovery
+abbrev pub WasUntold : {K : Type 0} → PathHistory K → Type 0
+WasUntold past = IsFreshDiscovery past.kept.discovery
 
-module _ {K : Type 0} (settings : PathSettings K) (made : (limit : Option ℕ) → IsUntold (settings.discovery limit))
+module _ {K : Type 0} (settings : PathSettings K) (made : (limit : Option ℕ) → IsFreshDiscovery
+    (settings.discovery limit))
   where
     -- an entry leaves the search as it was made
-    untold_law : (entry : PathEntry) (past : PathPast K) → WasUntold past → WasUntold (past_with settings entry past)
+    untold_law : (entry : PathEntry) (past : PathHistory K) → WasUntold past → WasUntold (past_with settings entry past)
     untold_law (receives bytes) past untold = untold
     untold_law entry past untold = untold
 
     -- whatever happens, the path in use has one that was made so
-    pub untold_by : (first : PathState K) → IsUntold first.discovery → (log : List PathsEntry)
+    pub untold_by : (first : PathState K) → IsFreshDiscovery first.discovery → (log : List PathsEntry)
         → WasUntold (pasts_by settings first log).current
     untold_by first untold [] = untold
     untold_by first untold (on Current entry ∷ log) = untold_law entry _ (untold_by first untold log)

@@ -1,15 +1,15 @@
 -- What ties the paths to the packets that are tracked (RFC 9002, B.2).
 use Rattle.std.specs.Prelude.{◌<◌, ◌≤◌}
 use Rattle.std.specs.Option.{ForSome}
-use Rattle.recovery_ledger.specs.Ledger.{IsBalancedOn, AreCoherent, AreUpTo}
-use Rattle.recovery_ledger.specs.Paths.{generation_of}
-use Rattle.recovery_ledger.specs.Spaces.{Spaces}
-use Rattle.recovery_paths.specs.PathLog.{OfPaths}
+use Rattle.recovery_spaces.specs.Ledger.{IsBalancedOn, AreCoherent, AreUpTo}
+use Rattle.recovery_spaces.specs.Paths.{generation_of}
+use Rattle.recovery_spaces.specs.Spaces.{Spaces}
+use Rattle.recovery_paths.specs.PathLog.{PerPath}
 use Rattle.recovery_paths.specs.PathStates.{Path}
 
 -- Each path's counters are sums over the packets that the spaces track, the previous path is older than the one in use,
 -- no tracked packet is of one that was not made, and the parts of each space go together.
-pub record AreBalanced {K P M : Type 0} (spaces : Spaces P M) (paths : OfPaths (Path K)) : Type 0 where
+pub record AreBalanced {K P M : Type 0} (spaces : Spaces P M) (paths : PerPath (Path K)) : Type 0 where
   pub current : IsBalancedOn spaces paths.current.ledger
   pub previous : ForSome paths.previous (λ path. IsBalancedOn spaces path.ledger)
   pub older : ForSome paths.previous (λ path. generation_of path.ledger < generation_of paths.current.ledger)

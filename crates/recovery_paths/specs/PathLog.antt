@@ -13,35 +13,35 @@ use Rattle.recovery_paths.specs.PathStates.{PathState, PathMarks, Path, pacer_ca
 -- ---- the paths, whatever is kept for each
 
 -- at most two live: the one in use, and the one that was in use before it, until that is dropped (RFC 9000, 9.3)
-pub record OfPaths (P : Type 0) : Type 0 where
+pub record PerPath (P : Type 0) : Type 0 where
   pub current : P
   pub previous : Option P
   -- how many were made behind the first one, those that were dropped among them
   pub made : ℕ
 
 -- what is kept for the path of a name, where it lives
-abbrev pub path_of : {P : Type 0} → PathName → OfPaths P → Option P
+abbrev pub path_of : {P : Type 0} → PathName → PerPath P → Option P
 path_of Current paths = Some paths.current
 path_of Previous paths = paths.previous
 
-abbrev pub on_path_of : {P : Type 0} → PathName → (P → P) → OfPaths P → OfPaths P
+abbrev pub on_path_of : {P : Type 0} → PathName → (P → P) → PerPath P → PerPath P
 on_path_of Current change paths = record paths { current = change paths.current }
 on_path_of Previous change paths = record paths { previous = option_map change paths.previous }
 
 -- another path is in use, and the one that was is the previous one
-abbrev pub moved_to : {P : Type 0} → P → OfPaths P → OfPaths P
+abbrev pub moved_to : {P : Type 0} → P → PerPath P → PerPath P
 moved_to path paths = record { current = path; previous = Some paths.current; made = paths.made + 1 }
 
 -- the previous path, where it lives, is in use again, changed so, and the one that was in use is dropped (9.3.2)
-abbrev pub reverted : {P : Type 0} → (P → P) → OfPaths P → OfPaths P
+abbrev pub reverted : {P : Type 0} → (P → P) → PerPath P → PerPath P
 reverted change paths =
     option_map_or (λ path. record paths { current = change path; previous = None }) paths.previous paths
 
 -- it holds of each path that lives
-abbrev pub OnEachPath : {P : Type 0} → (P → Type 0) → OfPaths P → Type 0
+abbrev pub OnEachPath : {P : Type 0} → (P → Type 0) → PerPath P → Type 0
 OnEachPath Holds paths = Holds paths.current × ForSome paths.previous Holds
 
-abbrev pub each_path : {P Q : Type 0} → (P → Q) → OfPaths P → OfPaths Q
+abbrev pub each_path : {P Q : Type 0} → (P → Q) → PerPath P → PerPath Q
 each_path f paths = record { current = f paths.current; previous = option_map f paths.previous; made = paths.made }
 
 -- ---- what happens on one path
@@ -68,17 +68,17 @@ pub data PathEntry : Type 0 where
 
 -- how a path of a generation follows on another one: fresh, where the peer takes datagrams of at most so many bytes, or
 -- going on with RTT, controller and search
-pub data Following : Type 0 where
-  fresh : (generation : ℕ) (remote : SocketAddr) (limit : Option ℕ) (now : ℕ) → Following
-  extends : (generation : ℕ) (remote : SocketAddr) (now : ℕ) → Following
+pub data PathOrigin : Type 0 where
+  fresh : (generation : ℕ) (remote : SocketAddr) (limit : Option ℕ) (now : ℕ) → PathOrigin
+  extends : (generation : ℕ) (remote : SocketAddr) (now : ℕ) → PathOrigin
   -- or how one comes back into use, where the peer takes datagrams of at most so many bytes: as it was left
-  returns : (limit : Option ℕ) → Following
+  returns : (limit : Option ℕ) → PathOrigin
 
 pub data PathsEntry : Type 0 where
   -- something happens on a path that lives
   on : (name : PathName) (entry : PathEntry) → PathsEntry
   -- another path is used
-  moves : (following : Following) → PathsEntry
+  moves : (following : PathOrigin) → PathsEntry
   -- the previous path is dropped
   drops_previous : PathsEntry
   -- the previous path is used again, where the peer takes datagrams of at most so many bytes
@@ -88,21 +88,21 @@ abbrev pub on_current : PathEntry → PathsEntry
 on_current entry = on Current entry
 
 -- the paths after an entry, by what is kept for one after what happens on it, and for one that follows on it
-abbrev pub paths_with : {P : Type 0} → (PathEntry → P → P) → (Following → P → P) → PathsEntry → OfPaths P → OfPaths P
+abbrev pub paths_with : {P : Type 0} → (PathEntry → P → P) → (PathOrigin → P → P) → PathsEntry → PerPath P → PerPath P
 paths_with change follow (on name entry) old = on_path_of name (change entry) old
 paths_with change follow (moves following) old = moved_to (follow following old.current) old
 paths_with change follow drops_previous old = record old { previous = None }
 paths_with change follow (reverts limit) old = reverted (follow (returns limit)) old
 
 -- entries, the newest first, change the paths one after another
-abbrev pub paths_after : {P : Type 0} → (PathEntry → P → P) → (Following → P → P) → List PathsEntry → OfPaths P
-    → OfPaths P
+abbrev pub paths_after : {P : Type 0} → (PathEntry → P → P) → (PathOrigin → P → P) → List PathsEntry → PerPath P
+    → PerPath P
 paths_after change follow [] old = old
 paths_after change follow (entry ∷ earlier) old = paths_with change follow entry (paths_after change follow earlier old)
 
 -- ---- all that happened on one path since it was made; a path that goes on from another one has what was seen there
 
-pub record PathPast (K : Type 0) : Type 0 where
+pub record PathHistory (K : Type 0) : Type 0 where
   -- how many paths were made before it
   pub generation : ℕ
   -- what is kept for it, with search and pacer as they were made; a path that comes back has a search of its own
@@ -112,17 +112,17 @@ pub record PathPast (K : Type 0) : Type 0 where
   -- what the pacer was asked since, and what was taken off, the newest first (RFC 9002, 7.7)
   pub pacing : List PacerEntry
 
-abbrev pub past_made : {K : Type 0} → ℕ → PathState K → PathPast K
+abbrev pub past_made : {K : Type 0} → ℕ → PathState K → PathHistory K
 past_made generation kept = record { generation = generation; kept = kept; searched = []; pacing = [] }
 
 -- what is kept after all that
-abbrev pub state_of : {K : Type 0} → PathPast K → PathState K
-state_of past = record past.kept {
+abbrev pub path_state_of : {K : Type 0} → PathHistory K → PathState K
+path_state_of past = record past.kept {
   discovery = discovery_by past.kept.discovery past.searched;
   pacer = bucket_by past.kept.pacer past.pacing;
 }
 
-abbrev pub past_transmitting : {K : Type 0} → ℕ → Bool → PathPast K → PathPast K
+abbrev pub past_transmitting : {K : Type 0} → ℕ → Bool → PathHistory K → PathHistory K
 past_transmitting bytes checked past = record past {
   kept = record past.kept { total_sent = past.kept.total_sent + bytes };
   pacing = took bytes checked ∷ past.pacing;
@@ -130,11 +130,11 @@ past_transmitting bytes checked past = record past {
 
 module _ {K : Type 0} (settings : PathSettings K) where
   -- the pacer is asked with the RTT, MTU and window that all this gives
-  abbrev pub past_asking : ℕ → ℕ → PathPast K → PathPast K
+  abbrev pub past_asking : ℕ → ℕ → PathHistory K → PathHistory K
   past_asking now bytes past =
-      record past { pacing = asked (pacer_call settings.words (state_of past) now bytes) ∷ past.pacing }
+      record past { pacing = asked (pacer_call settings.words (path_state_of past) now bytes) ∷ past.pacing }
 
-  abbrev pub past_with : PathEntry → PathPast K → PathPast K
+  abbrev pub past_with : PathEntry → PathHistory K → PathHistory K
   past_with (searches call) past = record past { searched = call ∷ past.searched }
   past_with (asks now bytes) past = past_asking now bytes past
   past_with (transmits bytes) past = past_transmitting bytes false past
@@ -149,16 +149,16 @@ module _ {K : Type 0} (settings : PathSettings K) where
   past_with (tells call) past = record past { kept = after_telling settings.words call past.kept }
 
   -- the past of a path that follows on another one
-  abbrev pub past_following : Following → PathPast K → PathPast K
+  abbrev pub past_following : PathOrigin → PathHistory K → PathHistory K
   past_following (fresh generation remote limit now) past =
       past_made generation (state_fresh settings remote false limit now)
   past_following (extends generation remote now) past = record past {
     generation = generation;
-    kept = record (state_going_on settings.words remote now (state_of past)) { discovery = past.kept.discovery };
+    kept = record (state_going_on settings.words remote now (path_state_of past)) { discovery = past.kept.discovery };
     pacing = [];
   }
   past_following (returns limit) past =
-      let discovery = discovery_resumed settings limit (state_of past).discovery.mtu in
+      let discovery = discovery_resumed settings limit (path_state_of past).discovery.mtu in
       record past { kept = record past.kept { discovery = discovery }; searched = [] }
 
   -- ---- what an entry changes of what is kept
@@ -174,60 +174,60 @@ module _ {K : Type 0} (settings : PathSettings K) where
   state_with (passes now bytes) old = after_transmitting bytes (after_asking settings.words now bytes old)
   state_with (is_reset now) old = state_reset settings now old
 
-  abbrev pub state_following : Following → PathState K → PathState K
+  abbrev pub state_following : PathOrigin → PathState K → PathState K
   state_following (fresh generation remote limit now) old = state_fresh settings remote false limit now
   state_following (extends generation remote now) old = state_going_on settings.words remote now old
   state_following (returns limit) old = state_resumed settings limit old
 
 -- the generation of a path that follows on one
-abbrev pub generation_following : Following → ℕ → ℕ
+abbrev pub generation_following : PathOrigin → ℕ → ℕ
 generation_following (fresh generation remote limit now) old = generation
 generation_following (extends generation remote now) old = generation
 generation_following (returns limit) old = old
 
 -- ---- what is known of the paths
 
-pub record PathKnown (K : Type 0) : Type 0 where
+pub record PathReplyInputs (K : Type 0) : Type 0 where
   -- how many paths were made before it
   pub generation : ℕ
   pub state : PathState K
 
-abbrev pub known_of : {K : Type 0} → PathPast K → PathKnown K
-known_of past = record { generation = past.generation; state = state_of past }
+abbrev pub known_of : {K : Type 0} → PathHistory K → PathReplyInputs K
+known_of past = record { generation = past.generation; state = path_state_of past }
 
 module _ {K : Type 0} (settings : PathSettings K) where
-  abbrev pub path_known_with : PathEntry → PathKnown K → PathKnown K
+  abbrev pub path_known_with : PathEntry → PathReplyInputs K → PathReplyInputs K
   path_known_with entry old = record old { state = state_with settings entry old.state }
 
-  abbrev pub known_following : Following → PathKnown K → PathKnown K
+  abbrev pub known_following : PathOrigin → PathReplyInputs K → PathReplyInputs K
   known_following following old = record {
     generation = generation_following following old.generation;
     state = state_following settings following old.state;
   }
 
   -- the past of each path, where the first is made so
-  abbrev pub pasts_by : PathState K → List PathsEntry → OfPaths (PathPast K)
+  abbrev pub pasts_by : PathState K → List PathsEntry → PerPath (PathHistory K)
   pasts_by first log = paths_after (past_with settings) (past_following settings) log
       (record { current = past_made 0 first; previous = None; made = 0 })
 
-  abbrev pub paths_known_by : PathState K → List PathsEntry → OfPaths (PathKnown K)
+  abbrev pub paths_known_by : PathState K → List PathsEntry → PerPath (PathReplyInputs K)
   paths_known_by first log = each_path known_of (pasts_by first log)
 
   -- an event may be several entries to the paths, the newest first
-  abbrev pub PathsStep : List PathsEntry → OfPaths (PathKnown K) → OfPaths (PathKnown K) → Type 0
+  abbrev pub PathsStep : List PathsEntry → PerPath (PathReplyInputs K) → PerPath (PathReplyInputs K) → Type 0
   PathsStep entries old new = new ≡ paths_after path_known_with known_following entries old
 
-  abbrev pub PathsLeft : PathState K → List PathsEntry → OfPaths (PathKnown K) → Type 0
-  PathsLeft first log paths = paths ≡ paths_known_by first log
+  abbrev pub PathsAfter : PathState K → List PathsEntry → PerPath (PathReplyInputs K) → Type 0
+  PathsAfter first log paths = paths ≡ paths_known_by first log
 
 -- ---- what the paths hold, and what is known of them
 
-abbrev pub path_known : {K : Type 0} → Path K → PathKnown K
+abbrev pub path_known : {K : Type 0} → Path K → PathReplyInputs K
 path_known path = record { generation = path.ledger.generation; state = path.state }
 
-abbrev pub paths_known : {K : Type 0} → OfPaths (Path K) → OfPaths (PathKnown K)
+abbrev pub paths_known : {K : Type 0} → PerPath (Path K) → PerPath (PathReplyInputs K)
 paths_known paths = each_path path_known paths
 
 -- what the layer above keeps with them
-abbrev pub paths_marks : {K : Type 0} → OfPaths (Path K) → OfPaths PathMarks
+abbrev pub paths_marks : {K : Type 0} → PerPath (Path K) → PerPath PathMarks
 paths_marks paths = each_path (λ path. path.marks) paths

@@ -2,7 +2,7 @@
 use Rattle.std.specs.Prelude.{ℕ, Bool, true, false, Option, None, [], if◌then◌else◌}
 use Rattle.std.specs.declared.net.socket_addr.SocketAddr.{SocketAddr}
 use Rattle.recovery_base.specs.declared.below.SpaceId.{SpaceId}
-use Rattle.recovery_congestion.specs.Controllers.{ControllerWords}
+use Rattle.recovery_congestion.specs.Controllers.{ControllerSemantics}
 use Rattle.recovery_config.specs.declared.config.TransportConfig.{TransportConfig}
 use Rattle.recovery_config.specs.Settings.{initial_mtu_of}
 use Rattle.recovery_mtud.specs.Discovery.{Discovery, discovery_made, within}
@@ -23,7 +23,7 @@ marks_made first = record {
 
 -- the settings of all paths, and what their controllers do
 pub record PathSettings (K : Type 0) : Type 0 where
-  pub words : ControllerWords K
+  pub words : ControllerSemantics K
   -- the controller that is built at a moment, for the MTU at first
   pub built : ℕ → K
   -- the MTU at first, and the least one
@@ -39,7 +39,7 @@ abbrev pub first_discovery : {F : Type 0} → Bool → Option ℕ → TransportC
 first_discovery allowed limit config =
     discovery_made (initial_mtu_of config) config.min_mtu limit (if allowed then config.mtu_discovery_config else None)
 
-abbrev pub path_settings : {F K : Type 0} → (F → ℕ → ℕ → K) → ControllerWords K → Bool → TransportConfig F
+abbrev pub path_settings : {F K : Type 0} → (F → ℕ → ℕ → K) → ControllerSemantics K → Bool → TransportConfig F
     → PathSettings K
 path_settings built words allowed config = record {
   words = words;
@@ -52,7 +52,7 @@ path_settings built words allowed config = record {
 
 -- ---- a path that goes on from another one
 
-module _ {K : Type 0} (words : ControllerWords K) where
+module _ {K : Type 0} (words : ControllerSemantics K) where
   -- a path to another address goes on with RTT, controller and search (RFC 9000, 9.4); its pacer is full, for the RTT,
   -- window and MTU of that one
   abbrev pub state_going_on : SocketAddr → ℕ → PathState K → PathState K

@@ -5,9 +5,9 @@ use Rattle.recovery_base.specs.declared.below.SpaceId.{SpaceId}
 use Rattle.recovery_base.specs.declared.below.SpaceId.TheVariants.{Data}
 use Rattle.recovery_base.specs.Spaces.{same_space}
 use Rattle.recovery_congestion.specs.Calls.{ControllerCall, acks, takes_mtu}
-use Rattle.recovery_congestion.specs.Controllers.{ControllerWords}
-use Rattle.recovery_ledger.specs.Packets.{Packet}
-use Rattle.recovery_ledger.specs.Paths.{PathLedger, generation_of, after_leaving}
+use Rattle.recovery_congestion.specs.Controllers.{ControllerSemantics}
+use Rattle.recovery_spaces.specs.Packets.{Packet}
+use Rattle.recovery_spaces.specs.Paths.{PathLedger, generation_of, after_leaving}
 use Rattle.recovery_mtud.specs.Discovery.{Discovery, is_probe}
 use Rattle.recovery_mtud.specs.DiscoveryLog.{MtuCall, acks as acks_packet, loses_probe, loses, discovery_after}
 use Rattle.recovery_congestion.specs.Pacing.{Bucket, PacerCall, paced, pacer_delay, less_tokens}
@@ -99,7 +99,7 @@ module _ {K : Type 0} where
         then after_searching (loss_call number packet.size path.state.discovery) path.state else path.state);
   }
 
-module _ {K : Type 0} (words : ControllerWords K) where
+module _ {K : Type 0} (words : ControllerSemantics K) where
   -- the controller is told of something (RFC 9002, 7)
   abbrev pub after_telling : ControllerCall → PathState K → PathState K
   after_telling call path = record path { controller = words.after call path.controller }

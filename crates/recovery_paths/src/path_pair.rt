@@ -2,10 +2,10 @@
 ghost use Rattle.std.specs.Prelude.{◌≡◌, ◌↔◌, ◌<◌, ◌≤◌, ◌+◌, ◌^◌, None, OnOk, OnErr, IfOk, IsErrOf, IsSomeAnd, is_some, option_map, option_copied};
 ghost use Rattle.std.specs.Option.{ForSome, IfSome, SomeIff};
 ghost use Rattle.recovery_congestion.specs.Calls.{sends};
-ghost use Rattle.recovery_ledger.specs.InFlight.{Overflows};
-ghost use Rattle.recovery_ledger.specs.Packets.{forgotten_entry, after_sending};
-ghost use Rattle.recovery_ledger.specs.Paths.{generation_of, counters_of, IsCountedOn};
-ghost use Rattle.recovery_ledger.specs.Spaces.{tracking_of, with_tracking, packets_of, space_empties};
+ghost use Rattle.recovery_spaces.specs.InFlight.{Overflows};
+ghost use Rattle.recovery_spaces.specs.Packets.{forgotten_entry, after_sending};
+ghost use Rattle.recovery_spaces.specs.Paths.{generation_of, counters_of, IsCountedOn};
+ghost use Rattle.recovery_spaces.specs.Spaces.{tracking_of, with_tracking, packets_of, space_empties};
 ghost use Rattle.recovery_paths.specs.PathPair.{IsCountedOnEach, AreCountedOnEach, CanTrackOn, paths_after_sending, paths_without, paths_losing, paths_acking, path_left_by};
 ghost use Rattle.recovery_paths.specs.PathLog.{path_of, on_path_of, moved_to, reverted, each_path};
 ghost use Rattle.recovery_paths.specs.PathMaking.{path_settings, state_resumed};
@@ -17,7 +17,7 @@ use recovery_base::below::SpaceId;
 use recovery_base::time::Instant;
 use recovery_config::config::TransportConfig;
 use recovery_congestion::congestion::{Controller, ControllerFactory};
-use recovery_ledger::spaces::{PacketSpace, SentPacket};
+use recovery_spaces::spaces::{PacketSpace, SentPacket};
 use recovery_queue::queue::RetransmitQueue;
 use std::marker::Model;
 use std::mem;
@@ -53,10 +53,10 @@ pub struct PathPair<C: Controller> {
 }
 
 impl<C: Controller> Model for PathPair<C> {
-    ghost use Rattle.recovery_paths.specs.PathLog.{OfPaths};
+    ghost use Rattle.recovery_paths.specs.PathLog.{PerPath};
     ghost use Rattle.recovery_paths.specs.PathStates.{Path};
 
-    ghost Value = { OfPaths (Path C.Content) };
+    ghost Value = { PerPath (Path C.Content) };
 
     ghost view = { λ paths. record {
       current = paths.current;

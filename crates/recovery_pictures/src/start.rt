@@ -1,6 +1,6 @@
 //! How a connection starts: which window its controllers have, and its settings.
 ghost use Rattle.std.specs.Prelude.{◌≡◌};
-ghost use Rattle.recovery_skips.specs.Skips.{IsSkips};
+ghost use Rattle.recovery_packet_numbers.specs.Skips.{IsSkips};
 
 use quic_recovery::RecoveryConfig;
 use quic_recovery::below::ConnectionId;

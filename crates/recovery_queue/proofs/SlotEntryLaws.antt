@@ -10,7 +10,7 @@ use Rattle.std.proofs.lemmas.List.{length-drop, same_from_push}
 use Rattle.std.proofs.Math.Seq.{set-append_seam}
 use Rattle.std.proofs.lemmas.List.Filters.{length-filter_both}
 use Rattle.recovery_queue.specs.declared.slots.Slot.{Slot}
-use Rattle.recovery_queue.specs.Slots.{entries_in, item_at, AreRising, IsSlotAt, Divides, IsHeldAt, IsAboveAll, IsFirst, IsFirstWith, IsLast, IsSound, IsClosedUp, IsFrontEmpty, IsBackFrom, Replaces, Finds, ClosesUp, TakesOut, trimmed, is_filled, is_below, is_from, first_number, AreFrom}
+use Rattle.recovery_queue.specs.Slots.{entries_in, item_at, AreSlotsIncreasing, IsSlotAt, Divides, IsHeldAt, IsAboveAll, IsFirst, IsFirstWith, IsLast, IsSlotQueueSound, IsClosedUp, IsFrontEmpty, IsBackFrom, Replaces, FindsSlot, CompactsSlots, RemovesSlot, trimmed, is_filled, is_below, is_from, first_number, AreFrom}
 use Rattle.recovery_queue.proofs.SlotLaws.{Slots, at_itself}
 
 pub not_both : {b : Bool} → b ≡ true → b ≡ false → ⊥
@@ -37,10 +37,10 @@ module _ {T : Type 0} where
   -- ---- one slot replaced
 
   pub replaced_sound : (slots : Slots T) (first end place : ℕ) (slot : Slot T) (item : Option T)
-      → AreRising first slots end → IsSlotAt slots place slot
+      → AreSlotsIncreasing first slots end → IsSlotAt slots place slot
       → (let new = set slots place (slot_of slot.number item) in
       (length (entries_in new) + one_if (is_some slot.item) ≡ length (entries_in slots) + one_if (is_some item))
-      × AreRising first new end)
+      × AreSlotsIncreasing first new end)
   replaced_sound (head ∷ slots) first end (suc place) slot item rising at =
       grind (arith, replaced_sound slots (head.number + 1) end place slot item rising.2 at)
   replaced_sound slots first end place slot item rising at = grind (arith, at)
@@ -101,7 +101,7 @@ module _ {T : Type 0} where
       rw (held.is, ← held.place_is) (its.0, its.3)
 
   module _ {old mid : Slots T} {number place : ℕ} {at : Option ℕ × ℕ} {found : Option T}
-      (finds : Finds old number at) (is : at.0 ≡ Some place) (first : Replaces old place None found mid) where
+      (finds : FindsSlot old number at) (is : at.0 ≡ Some place) (first : Replaces old place None found mid) where
     held : (item : T) × IsHeldAt old number place item
     held = grind (arith, finds.place, is)
 
@@ -140,20 +140,20 @@ module _ {T : Type 0} where
   -- ---- slots closed up
 
   pub rises_within : (slots : Slots T) (first lower end upper : ℕ) → lower ≤ first → end ≤ upper
-      → AreRising first slots end → AreRising lower slots upper
+      → AreSlotsIncreasing first slots end → AreSlotsIncreasing lower slots upper
   rises_within [] first lower end upper low high rising = tt
   rises_within (slot ∷ slots) first lower end upper low high rising =
       grind (arith, rises_within slots (slot.number + 1) (slot.number + 1) end upper)
 
   pub kept : (slots : Slots T) (first end : ℕ) → (entries_in (filter is_filled slots) ≡ entries_in slots)
       × (length (filter is_filled slots) ≡ length (entries_in slots))
-      × (AreRising first slots end → AreRising first (filter is_filled slots) end)
+      × (AreSlotsIncreasing first slots end → AreSlotsIncreasing first (filter is_filled slots) end)
   kept [] first end = grind arith
   kept (slot ∷ slots) first end = grind (arith, kept slots (slot.number + 1) end, rises_within)
 
   -- the first number and the last bound the others
-  pub from_first : (slots : Slots T) (first front end : ℕ) → IsFirst front slots → AreRising first slots end
-      → AreRising front slots end
+  pub from_first : (slots : Slots T) (first front end : ℕ) → IsFirst front slots → AreSlotsIncreasing first slots end
+      → AreSlotsIncreasing front slots end
   from_first [] first front end is rising = tt
   from_first (slot ∷ slots) first front end is rising = grind (arith, is, rising)
 
@@ -178,8 +178,8 @@ module _ {T : Type 0} where
   last_read (first ∷ next ∷ slots) slot count all some is =
       last_read (next ∷ slots) slot (count - 1) (omega arith) (omega arith) (grind (arith, all, is))
 
-  pub to_last : (slots : Slots T) (first last end : ℕ) → IsLast last slots → AreRising first slots end
-      → AreRising first slots (last + 1)
+  pub to_last : (slots : Slots T) (first last end : ℕ) → IsLast last slots → AreSlotsIncreasing first slots end
+      → AreSlotsIncreasing first slots (last + 1)
   to_last [] first last end is rising = tt
   to_last (slot ∷ []) first last end is rising = grind (arith, is, rising)
   to_last (slot ∷ next ∷ slots) first last end is rising =
@@ -192,7 +192,7 @@ module _ {T : Type 0} where
 
   -- without the empty slots in front
   pub trimmed_kept : (slots : Slots T) (first end last : ℕ) → (entries_in (trimmed slots) ≡ entries_in slots)
-      × (AreRising first slots end → AreRising first (trimmed slots) end)
+      × (AreSlotsIncreasing first slots end → AreSlotsIncreasing first (trimmed slots) end)
       × (IsLast last slots → IsLast last (trimmed slots))
       × ¬ IsFrontEmpty (trimmed slots)
   trimmed_kept [] first end last = (refl, λ rising. tt, λ is. tt, λ empty. empty)
@@ -221,8 +221,8 @@ module _ {T : Type 0} where
   filled_first (slot ∷ slots) first filled = grind (arith, filled)
 
   -- empty slots in front are gone
-  pub trimmed_sound : {old new : Slots T} {filled first last front : ℕ} → IsSound old filled first last
-      → new ≡ trimmed old → IsFirst front new → IsSound new filled front last
+  pub trimmed_sound : {old new : Slots T} {filled first last front : ℕ} → IsSlotQueueSound old filled first last
+      → new ≡ trimmed old → IsFirst front new → IsSlotQueueSound new filled front last
   trimmed_sound {old} {new} {filled} {first} {last} {front} sound is front_is =
       let its = trimmed_kept old first (last + 1) last in record {
         count = grind (arith, sound.count, is, its.0);
@@ -231,7 +231,7 @@ module _ {T : Type 0} where
         last_is = rw is (its.2 sound.last_is);
       }
 
-  pub only_trimmed : {old new : Slots T} → new ≡ trimmed old → IsClosedUp new → ClosesUp old new
+  pub only_trimmed : {old new : Slots T} → new ≡ trimmed old → IsClosedUp new → CompactsSlots old new
   only_trimmed {old} is few = record {
     front = rw is (trimmed_kept old 0 0 0).3;
     few = few;
@@ -239,8 +239,8 @@ module _ {T : Type 0} where
   }
 
   -- and the others too
-  pub filtered_sound : {old new : Slots T} {filled first last back : ℕ} → IsSound old filled first last
-      → ¬ IsFrontEmpty old → new ≡ filter is_filled old → IsLast back new → IsSound new filled first back
+  pub filtered_sound : {old new : Slots T} {filled first last back : ℕ} → IsSlotQueueSound old filled first last
+      → ¬ IsFrontEmpty old → new ≡ filter is_filled old → IsLast back new → IsSlotQueueSound new filled first back
   filtered_sound {old} {new} {filled} {first} {last} {back} sound full is back_is =
       let its = kept old first (last + 1) in record {
         count = grind (arith, sound.count, is, its.0);
@@ -250,7 +250,7 @@ module _ {T : Type 0} where
       }
 
   pub all_filled : {old mid new : Slots T} → mid ≡ trimmed old → new ≡ filter is_filled mid → ¬ IsClosedUp mid
-      → ClosesUp old new
+      → CompactsSlots old new
   all_filled {old} {mid} {new} trim is many = record {
     front = rw is (filled_first mid 0 (rw trim (trimmed_kept old 0 0 0).3)).1;
     few = grind (arith, is, kept mid 0 0);
@@ -258,7 +258,7 @@ module _ {T : Type 0} where
   }
 
   pub takes_out : {old emptied new : Slots T} {place : ℕ} {found : Option T} → Replaces old place None found emptied
-      → ClosesUp emptied new → IfSome found (λ item. TakesOut old item new)
+      → CompactsSlots emptied new → IfSome found (λ item. RemovesSlot old item new)
   takes_out {found = None} empties closes = tt
   takes_out {found = Some item} empties closes = record {
     place = _;
@@ -270,7 +270,7 @@ module _ {T : Type 0} where
   -- slots are dropped at the end of which none was filled
   pub record Keeps (start slots : Slots T) : Type 0 where
     pub entries : entries_in slots ≡ entries_in start
-    pub rising : (first end : ℕ) → AreRising first start end → AreRising first slots end
+    pub rising : (first end : ℕ) → AreSlotsIncreasing first start end → AreSlotsIncreasing first slots end
     pub front : (first : ℕ) → IsFirst first start → IsFirst first slots
 
   -- ---- one slot more at the end
@@ -288,7 +288,7 @@ module _ {T : Type 0} where
 
   -- a slot at the end with too high a number is empty
   cut_last : (before : Slots T) (slot : Slot T) (first end number : ℕ)
-      → (AreRising first (before ++ slot ∷ []) end → AreRising first before end)
+      → (AreSlotsIncreasing first (before ++ slot ∷ []) end → AreSlotsIncreasing first before end)
       × (AllBelow (entries_in (before ++ slot ∷ [])) number → number ≤ slot.number
       → entries_in before ≡ entries_in (before ++ slot ∷ []))
       × (IsFirst first (before ++ slot ∷ []) → IsFirst first before)
@@ -309,8 +309,8 @@ module _ {T : Type 0} where
       }
 
   -- where the last number is below another, all are
-  pub rises_to : (slots : Slots T) (first end number : ℕ) → AreRising first slots end
-      → ¬ IsBackFrom number slots → AreRising first slots number
+  pub rises_to : (slots : Slots T) (first end number : ℕ) → AreSlotsIncreasing first slots end
+      → ¬ IsBackFrom number slots → AreSlotsIncreasing first slots number
   rises_to [] first end number rising below = tt
   rises_to (slot ∷ []) first end number rising below =
       grind (arith, λ (high : number ≤ slot.number). below ([], slot, refl, high))
@@ -322,7 +322,8 @@ module _ {T : Type 0} where
       )
 
   pub rises_pushed : (slots : Slots T) (first number : ℕ) (item : Option T) → first ≤ number
-      → AreRising first slots number → AreRising first (slots ++ slot_of number item ∷ []) (number + 1)
+      → AreSlotsIncreasing first slots number → AreSlotsIncreasing first (slots ++ slot_of number item ∷ [])
+          (number + 1)
   rises_pushed [] first number item low rising = (low, omega arith, tt)
   rises_pushed (slot ∷ slots) first number item low rising =
       grind (arith, rises_pushed slots (slot.number + 1) number item)

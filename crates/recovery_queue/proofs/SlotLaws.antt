@@ -7,7 +7,7 @@ use Rattle.std.specs.BTreeMap.{is_at}
 use Rattle.std.proofs.lemmas.Bool.Decides.{nat_tests}
 use Rattle.std.proofs.Math.Nat.{pow-suc}
 use Rattle.recovery_queue.specs.declared.slots.Slot.{Slot}
-use Rattle.recovery_queue.specs.Slots.{item_at, AreRising, IsSlotAt, Divides, Encloses, IsHeldAt, Rises, FollowOn, IsFirst, IsLast}
+use Rattle.recovery_queue.specs.Slots.{item_at, AreSlotsIncreasing, IsSlotAt, Divides, Encloses, IsHeldAt, IsIncreasing, AreConsecutive, IsFirst, IsLast}
 
 pub at_itself : (number : ℕ) → is_at (nat_cmp number) number ≡ true
 at_itself number = ap is_eq (tied_itself nat_cmp_total number)
@@ -58,20 +58,20 @@ module _ {T : Type 0} where
   -- ---- numbers that rise
 
   -- there is room for them
-  pub rises_room : (slots : Slots T) (first end : ℕ) → AreRising first slots end → 0 < length slots
+  pub rises_room : (slots : Slots T) (first end : ℕ) → AreSlotsIncreasing first slots end → 0 < length slots
       → first + length slots ≤ end
   rises_room [] first end rising some = absurd (omega arith)
   rises_room (slot ∷ slots) first end rising some = grind (arith, rises_room slots (slot.number + 1) end)
 
   -- a number is at least as far from the first as its place, and from the end as there are places behind it
-  stands : (slots : Slots T) (first end place : ℕ) (slot : Slot T) → AreRising first slots end
+  stands : (slots : Slots T) (first end place : ℕ) (slot : Slot T) → AreSlotsIncreasing first slots end
       → IsSlotAt slots place slot → (first + place ≤ slot.number) × (slot.number + length slots ≤ end + place)
   stands (head ∷ slots) first end (suc place) slot rising at =
       grind (arith, stands slots (head.number + 1) end place slot rising.2 at)
   stands slots first end place slot rising at = grind (arith, at, rises_room)
 
   -- numbers are at least as far from one another as their places
-  apart : (slots : Slots T) (place other : ℕ) (slot later : Slot T) → Rises slots → IsSlotAt slots place slot
+  apart : (slots : Slots T) (place other : ℕ) (slot later : Slot T) → IsIncreasing slots → IsSlotAt slots place slot
       → IsSlotAt slots other later → place ≤ other → slot.number + other ≤ later.number + place
   apart (head ∷ slots) zero zero slot later rises at there upto = grind (arith, at, there)
   apart (head ∷ slots) zero (suc other) slot later rises at there upto =
@@ -90,7 +90,7 @@ module _ {T : Type 0} where
       grind (arith, nat_tests, none zero slot refl, none_filed slots number (λ place s at. none (suc place) s at))
 
   -- the slot of a number holds what is filed under it
-  pub held_at : (slots : Slots T) (place number : ℕ) (item : Option T) → Rises slots
+  pub held_at : (slots : Slots T) (place number : ℕ) (item : Option T) → IsIncreasing slots
       → IsSlotAt slots place (record { number = number; item = item })
       → MatchOption item (item_at slots number ≡ None) (IsHeldAt slots number place)
   held_at slots place number None rises at = none_filed slots number (λ p slot there same.
@@ -126,7 +126,7 @@ module _ {T : Type 0} where
   -- ---- between which places a number stands
 
   -- slots before one place stand so near the end, and those from another on so far from the first
-  pub enclosed : (slots : Slots T) (first end number low high : ℕ) → AreRising first slots end
+  pub enclosed : (slots : Slots T) (first end number low high : ℕ) → AreSlotsIncreasing first slots end
       → high ≤ length slots → (0 < low → end + low ≤ number + length slots)
       → (high < length slots → number < first + high) → Encloses slots number low high
   enclosed slots first end number low high rising within lower upper = record {
@@ -137,7 +137,7 @@ module _ {T : Type 0} where
   }
 
   -- where every number follows the one before it, the first and the last tell how many there are
-  pub follow_to : (slots : Slots T) (from first last : ℕ) → FollowOn from slots → IsFirst first slots
+  pub follow_to : (slots : Slots T) (from first last : ℕ) → AreConsecutive from slots → IsFirst first slots
       → IsLast last slots → 0 < length slots → (first ≡ from) × (last + 1 ≡ from + length slots)
   follow_to [] from first last follow is_first is_last some = absurd (omega arith)
   follow_to (slot ∷ []) from first last follow is_first is_last some = grind (arith, follow, is_first, is_last)
@@ -151,7 +151,7 @@ module _ {T : Type 0} where
   -- ---- a search
 
   -- a slot of the number divides the others
-  pub divides_at : (slots : Slots T) (number place : ℕ) (slot : Slot T) → Rises slots
+  pub divides_at : (slots : Slots T) (number place : ℕ) (slot : Slot T) → IsIncreasing slots
       → IsSlotAt slots place slot → slot.number ≡ number → Divides slots number place
   divides_at slots number place slot rises at same = record {
     below = λ p other there under. omega (arith, apart slots p place other slot rises there at);
@@ -160,7 +160,7 @@ module _ {T : Type 0} where
 
   -- between two places of a range a number is sought, after so many looks
   pub record Seeks (range : ℕ) (slots : Slots T) (number low high looks : ℕ) : Type 0 where
-    pub rises : Rises slots
+    pub rises : IsIncreasing slots
     pub encloses : Encloses slots number low high
     pub halves : Halves looks (high - low) range
 

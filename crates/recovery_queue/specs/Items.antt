@@ -1,9 +1,9 @@
 -- The contents of a queue of item numbers: the items, in the order in which they came (RFC 9000, 13.3).
 use Rattle.std.specs.Prelude.{ℕ, List, [], ◌++◌, length, ◌==◌}
-use Rattle.recovery_queue.specs.Queues.{QueueWords}
+use Rattle.recovery_queue.specs.Queues.{QueueSemantics}
 
 -- those that come are put behind those that were there; streams are not asked
-abbrev pub item_words : {S : Type 0} → QueueWords (List ℕ) S
+abbrev pub item_words : {S : Type 0} → QueueSemantics (List ℕ) S
 item_words = record {
   empty = [];
   joined = λ items others. items ++ others;

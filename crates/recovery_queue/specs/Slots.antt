@@ -21,21 +21,21 @@ abbrev pub item_at : {T : Type 0} → List (Slot T) → ℕ → Option T
 item_at slots number = lookup (is_at (nat_cmp number)) (entries_in slots)
 
 -- the numbers rise, from the first on and below the end
-abbrev pub AreRising : {T : Type 0} → ℕ → List (Slot T) → ℕ → Type 0
-AreRising first [] end = Unit {0}
-AreRising first (slot ∷ slots) end =
-    (first ≤ slot.number) × (slot.number < end) × AreRising (slot.number + 1) slots end
+abbrev pub AreSlotsIncreasing : {T : Type 0} → ℕ → List (Slot T) → ℕ → Type 0
+AreSlotsIncreasing first [] end = Unit {0}
+AreSlotsIncreasing first (slot ∷ slots) end =
+    (first ≤ slot.number) × (slot.number < end) × AreSlotsIncreasing (slot.number + 1) slots end
 
-abbrev pub Rises : {T : Type 0} → List (Slot T) → Type 0
-Rises slots = (first : ℕ) × (end : ℕ) × AreRising first slots end
+abbrev pub IsIncreasing : {T : Type 0} → List (Slot T) → Type 0
+IsIncreasing slots = (first : ℕ) × (end : ℕ) × AreSlotsIncreasing first slots end
 
 -- every number follows the one before it
-abbrev pub FollowOn : {T : Type 0} → ℕ → List (Slot T) → Type 0
-FollowOn first [] = Unit {0}
-FollowOn first (slot ∷ slots) = (slot.number ≡ first) × FollowOn (first + 1) slots
+abbrev pub AreConsecutive : {T : Type 0} → ℕ → List (Slot T) → Type 0
+AreConsecutive first [] = Unit {0}
+AreConsecutive first (slot ∷ slots) = (slot.number ≡ first) × AreConsecutive (first + 1) slots
 
 abbrev pub LeavesNoneOut : {T : Type 0} → List (Slot T) → Type 0
-LeavesNoneOut slots = (first : ℕ) × FollowOn first slots
+LeavesNoneOut slots = (first : ℕ) × AreConsecutive first slots
 
 -- the number of the first slot, if there is one
 abbrev pub IsFirst : {T : Type 0} → ℕ → List (Slot T) → Type 0
@@ -54,9 +54,9 @@ IsLast last (slot ∷ []) = slot.number ≡ last
 IsLast last (slot ∷ next ∷ slots) = IsLast last (next ∷ slots)
 
 -- so many slots are filled, and the numbers rise from the first to the last
-pub record IsSound {T : Type 0} (slots : List (Slot T)) (filled first last : ℕ) : Type 0 where
+pub record IsSlotQueueSound {T : Type 0} (slots : List (Slot T)) (filled first last : ℕ) : Type 0 where
   pub count : filled ≡ length (entries_in slots)
-  pub rising : AreRising first slots (last + 1)
+  pub rising : AreSlotsIncreasing first slots (last + 1)
   pub first_is : IsFirst first slots
   pub last_is : IsLast last slots
 
@@ -96,7 +96,7 @@ IsWithinDigits looks slots = (digits : ℕ) → slots < 2 ^ digits → looks ≤
 
 -- a number's place among the slots, and how many were looked at for it: one at least, where it was found, and no more
 -- where no number is left out
-pub record Finds {T : Type 0} (slots : List (Slot T)) (number : ℕ) (found : Option ℕ × ℕ) : Type 0 where
+pub record FindsSlot {T : Type 0} (slots : List (Slot T)) (number : ℕ) (found : Option ℕ × ℕ) : Type 0 where
   pub place : MatchOption found.0 (item_at slots number ≡ None)
       (λ place. (item : T) × IsHeldAt slots number place item)
   pub divides : IfSome found.0 (Divides slots number)
@@ -137,17 +137,17 @@ trimmed [] = []
 trimmed (slot ∷ slots) = if is_some slot.item then slot ∷ slots else trimmed slots
 
 -- empty slots in front are gone, and few others are left; where few are to be, no other slot is moved
-pub record ClosesUp {T : Type 0} (old new : List (Slot T)) : Type 0 where
+pub record CompactsSlots {T : Type 0} (old new : List (Slot T)) : Type 0 where
   pub front : ¬ IsFrontEmpty new
   pub few : IsClosedUp new
   pub others : IsClosedUp (trimmed old) → new ≡ trimmed old
 
 -- an item is taken out of its slot, and slots are closed up
-pub record TakesOut {T : Type 0} (old : List (Slot T)) (item : T) (new : List (Slot T)) : Type 0 where
+pub record RemovesSlot {T : Type 0} (old : List (Slot T)) (item : T) (new : List (Slot T)) : Type 0 where
   pub place : ℕ
   pub emptied : List (Slot T)
   pub empties : Replaces old place None (Some item) emptied
-  pub closes : ClosesUp emptied new
+  pub closes : CompactsSlots emptied new
 
 -- the last slot has this number or one above
 abbrev pub IsBackFrom : {T : Type 0} → ℕ → List (Slot T) → Type 0

@@ -1,6 +1,6 @@
 //! Queues of what is sent again.
 ghost use Rattle.std.specs.Prelude.{◌≡◌, IsTrue, OnOk, OnErr, IfErr};
-ghost use Rattle.recovery_queue.specs.Queues.{QueueWords, QueueLaws, IsVoid};
+ghost use Rattle.recovery_queue.specs.Queues.{QueueSemantics, QueueLaws, IsVoid};
 
 use std::alloc::Global;
 
@@ -21,7 +21,7 @@ pub trait RetransmitQueue: Sized {
     ghost contents: { Self → Self.Contents };
 
     /// What each call does to the contents.
-    ghost words: { QueueWords Self.Contents Self.Streams };
+    ghost words: { QueueSemantics Self.Contents Self.Streams };
 
     /// What a packet says of itself where nobody says what: every default value is this one.
     ghost blank: { Self.Meta };

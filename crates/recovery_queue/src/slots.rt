@@ -4,7 +4,7 @@ ghost use Rattle.std.specs.VecDeque.{deque_len, deque_capacity};
 ghost use Rattle.std.specs.Ordering.{nat_cmp};
 ghost use Rattle.std.specs.BTreeMap.{is_at};
 ghost use Rattle.std.specs.Map.{remove_entry};
-ghost use Rattle.recovery_queue.specs.Slots.{entries_in, item_at, AreRising, IsFiledAt, Divides, Encloses, IsHeldAt, IsEmptyAt, IsAboveAll, IsClosedUp, IsFrontEmpty, IsBackFrom, Replaces, Rises, LeavesNoneOut, IsFirst, IsFirstWith, IsLast, Finds, IsWithinDigits, ClosesUp, TakesOut, trimmed, AreFrom, entries_from, first_entry, first_number, is_filled};
+ghost use Rattle.recovery_queue.specs.Slots.{entries_in, item_at, AreSlotsIncreasing, IsFiledAt, Divides, Encloses, IsHeldAt, IsEmptyAt, IsAboveAll, IsClosedUp, IsFrontEmpty, IsBackFrom, Replaces, IsIncreasing, LeavesNoneOut, IsFirst, IsFirstWith, IsLast, FindsSlot, IsWithinDigits, CompactsSlots, RemovesSlot, trimmed, AreFrom, entries_from, first_entry, first_number, is_filled};
 
 mod looks;
 
@@ -38,13 +38,13 @@ pub struct SlotQueue<T> {
 impl<T> Model for SlotQueue<T> {
     ghost use Rattle.std.specs.Prelude.{List};
     ghost use Rattle.recovery_queue.specs.declared.slots.Slot.{Slot};
-    ghost use Rattle.recovery_queue.specs.Slots.{IsSound};
+    ghost use Rattle.recovery_queue.specs.Slots.{IsSlotQueueSound};
 
     ghost Value = { List (Slot T) };
 
     ghost view = { λ a. a.slots.items };
 
-    ghost invariant = { λ a. IsSound a.slots.items a.filled a.first a.last };
+    ghost invariant = { λ a. IsSlotQueueSound a.slots.items a.filled a.first a.last };
 }
 
 impl<T: Drop> SlotQueue<T> {
@@ -94,7 +94,7 @@ impl<T: Drop> SlotQueue<T> {
     fn range_of(&self, number: u64) -> (usize, usize)
         ensures encloses { Encloses self.now number result.0 result.1 }
         ensures one { LeavesNoneOut self.now → result.1 ≤ result.0 + 1 }
-        ensures rises { Rises self.now }
+        ensures rises { IsIncreasing self.now }
         ensures few { length self.now < 2 ^ 63 }
     {
         let len = self.len();
@@ -132,7 +132,7 @@ impl<T: Drop> SlotQueue<T> {
     /// The place of what is filed under a number, and how many slots were looked at for it: at most as many as the
     /// count of slots has binary digits, and at most one where no number is left out.
     pub fn find(&self, number: u64) -> (Option<usize>, u32)
-        ensures { Finds self.now number result }
+        ensures { FindsSlot self.now number result }
     {
         let (place, looks) = self.search(number);
         (place.ok(), looks)
@@ -206,7 +206,7 @@ impl<T: Drop> SlotQueue<T> {
         ensures entries { entries_in self.new
             ≡ remove_entry (is_at (nat_cmp number)) (entries_in self.old) }
         ensures bound { IfSome result (λ _. IsClosedUp self.new) }
-        ensures closes { IfSome result (λ item. TakesOut self.old item self.new) }
+        ensures closes { IfSome result (λ item. RemovesSlot self.old item self.new) }
         ensures none { IfNone result (self.new ≡ self.old) }
     {
         let (place, _) = self.find(number);
@@ -220,7 +220,7 @@ impl<T: Drop> SlotQueue<T> {
         ensures entries { MatchOption result (entries_in self.old ≡ [])
             (λ entry. entries_in self.old ≡ entry ∷ entries_in self.new) }
         ensures bound { IfSome result (λ _. IsClosedUp self.new) }
-        ensures closes { IfSome result (λ entry. TakesOut self.old entry.1 self.new) }
+        ensures closes { IfSome result (λ entry. RemovesSlot self.old entry.1 self.new) }
         ensures none { IfNone result (self.new ≡ self.old) }
     {
         let number = self.first_from(0)?;
@@ -258,7 +258,7 @@ impl<T: Drop> SlotQueue<T> {
     #[inline(always)]
     fn close_up(&mut self)
         ensures entries { entries_in self.new ≡ entries_in self.old }
-        ensures closes { ClosesUp self.old self.new }
+        ensures closes { CompactsSlots self.old self.new }
     {
         trim(&mut self.slots);
         self.first = first_of(&self.slots, self.first);
@@ -275,7 +275,7 @@ impl<T: Drop> SlotQueue<T> {
 fn halve<T>(looks: &mut Looks<'_, T>, number: u64, from: usize, to: usize) -> Result<usize, usize>
     requires fresh { looks.old.count ≡ 0 }
     requires encloses { Encloses looks.old.slots.now.items number from to }
-    requires rises { Rises looks.old.slots.now.items }
+    requires rises { IsIncreasing looks.old.slots.now.items }
     requires few { length looks.old.slots.now.items < 2 ^ 63 }
     ensures held { MatchResult result
         (λ place. (item : T) × IsHeldAt looks.old.slots.now.items number place item)
@@ -350,8 +350,8 @@ fn last_of<T>(slots: &VecDeque<Slot<T>>, last: u64) -> u64
 
 /// From which number on slots stand, once one more stands behind them.
 fn first_with<T>(slots: &VecDeque<Slot<T>>, first: u64, number: u64) -> u64
-    ensures rising { AreRising first slots.now.items number
-        → (result ≤ number) × AreRising result slots.now.items number }
+    ensures rising { AreSlotsIncreasing first slots.now.items number
+        → (result ≤ number) × AreSlotsIncreasing result slots.now.items number }
     ensures first { IsFirst first slots.now.items → IsFirstWith result slots.now.items number }
 {
     if slots.is_empty() { number } else { first }
@@ -361,8 +361,8 @@ fn first_with<T>(slots: &VecDeque<Slot<T>>, first: u64, number: u64) -> u64
 fn cut<T: Drop>(slots: &mut VecDeque<Slot<T>>, last: u64, number: u64)
     requires { IsAboveAll (entries_in slots.old.items) number }
     ensures entries { entries_in slots.new.items ≡ entries_in slots.old.items }
-    ensures rising { (first : ℕ) → AreRising first slots.old.items (last + 1)
-        → AreRising first slots.new.items number }
+    ensures rising { (first : ℕ) → AreSlotsIncreasing first slots.old.items (last + 1)
+        → AreSlotsIncreasing first slots.new.items number }
     ensures first { (first : ℕ) → IsFirst first slots.old.items → IsFirst first slots.new.items }
     ensures fewer { deque_len slots.new ≤ deque_len slots.old }
     ensures capacity { deque_capacity slots.new ≡ deque_capacity slots.old }
@@ -376,8 +376,8 @@ fn cut<T: Drop>(slots: &mut VecDeque<Slot<T>>, last: u64, number: u64)
 fn cut_back<T: Drop>(slots: &mut VecDeque<Slot<T>>, number: u64)
     requires { IsAboveAll (entries_in slots.old.items) number }
     ensures entries { entries_in slots.new.items ≡ entries_in slots.old.items }
-    ensures rising { (first end : ℕ) → AreRising first slots.old.items end
-        → AreRising first slots.new.items number }
+    ensures rising { (first end : ℕ) → AreSlotsIncreasing first slots.old.items end
+        → AreSlotsIncreasing first slots.new.items number }
     ensures first { (first : ℕ) → IsFirst first slots.old.items → IsFirst first slots.new.items }
     ensures fewer { deque_len slots.new ≤ deque_len slots.old }
     ensures capacity { deque_capacity slots.new ≡ deque_capacity slots.old }

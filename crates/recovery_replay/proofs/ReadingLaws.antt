@@ -3,16 +3,16 @@ use Rattle.std.proofs.Common.{◌≡◌, ◌≢◌, ℕ, zero, suc, ◌≤◌, �
 use Rattle.std.proofs.lemmas.List.Elements.{All-nil, All-append, All-cons}
 use Rattle.std.specs.Io.KnownBytes.{Consumes}
 use Rattle.std.proofs.KnownBytes.{Consumes-trans}
-use Rattle.recovery_lines.specs.Lines.{ItemEvent, Spells}
+use Rattle.recovery_script_syntax.specs.Lines.{ItemEvent, EncodesEvent}
 use Rattle.recovery_replay.specs.declared.reading.Next.TheVariants.{Line}
 use Rattle.recovery_replay.specs.declared.reading.Unread.{Unread}
 use Rattle.recovery_replay.specs.declared.reading.Unread.TheVariants.{OutOfMemory, ReadFailed}
-use Rattle.recovery_replay.specs.Reading.{BreaksOff, IsLine, Kept}
+use Rattle.recovery_replay.specs.Reading.{BreaksOff, IsLine, TruncatedLine}
 use Rattle.recovery_replay.proofs.ScriptLaws.{IsNoFeed}
 
 -- what was taken of a line so far, and what is kept of it
 abbrev pub Taken : Option (List ℕ) → Option (List ℕ) → List ℕ → Type 0
-Taken before now kept = (line : List ℕ) × Kept line kept × Consumes before now line
+Taken before now kept = (line : List ℕ) × TruncatedLine line kept × Consumes before now line
 
 take_front : (n : ℕ) (xs ys : List ℕ) → take n (take n xs ++ ys) ≡ take n (xs ++ ys)
 take_front zero xs ys = refl
@@ -65,12 +65,13 @@ stopped before now after kept byte unread taken no_feed one is =
 
 -- ---- a line and what is kept of it
 
-pub same_line : (line kept : List ℕ) → Kept line kept → length kept ≤ 4096 → kept ≡ line
+pub same_line : (line kept : List ℕ) → TruncatedLine line kept → length kept ≤ 4096 → kept ≡ line
 same_line line kept k short =
     k.is ∙ take_all 4097 line (omega (arith, short, ap length k.is, length-take 4097 line))
 
-pub same_short : (line kept : List ℕ) → Kept line kept → length line ≤ 4096 → kept ≡ line
+pub same_short : (line kept : List ℕ) → TruncatedLine line kept → length line ≤ 4096 → kept ≡ line
 same_short line kept k short = k.is ∙ take_all 4097 line (omega (arith, short))
 
-pub kept_spells : (line kept : List ℕ) (event : ItemEvent) → Kept line kept → Spells kept event → Spells line event
-kept_spells line kept event k spells = subst (λ l. Spells l event) (same_line line kept k spells.short) spells
+pub kept_spells : (line kept : List ℕ) (event : ItemEvent) → TruncatedLine line kept → EncodesEvent kept event
+    → EncodesEvent line event
+kept_spells line kept event k spells = subst (λ l. EncodesEvent l event) (same_line line kept k spells.short) spells

@@ -6,16 +6,16 @@ use Rattle.rand_core.specs.Pcg32Seed.{pcg32_seed}
 use Rattle.rand_core.specs.Steps.{stream_of, steps_u32}
 use Rattle.rand_core.specs.Stream.{Stream}
 use Rattle.rand_pcg.specs.Pcg.{pcg32, pcg32_of_seed}
-use Rattle.recovery_answers.specs.Answers.{Reply, answer_line, answer_lines}
-use Rattle.recovery_congestion.specs.Controllers.{ControllerWords}
-use Rattle.recovery_lines.specs.Lines.{ItemEvent, IsAt}
+use Rattle.recovery_reply_text.specs.Answers.{ScriptReply, answer_line, answer_lines}
+use Rattle.recovery_congestion.specs.Controllers.{ControllerSemantics}
+use Rattle.recovery_script_syntax.specs.Lines.{ItemEvent, IsDocumentationAddress}
 use Rattle.recovery_queue.specs.Items.{item_words}
 use Rattle.recovery_history.specs.declared.config.RecoveryConfig.{RecoveryConfig}
 use Rattle.recovery_events.specs.Feeding.{TakesAll}
-use Rattle.recovery_history.specs.History.{begins, queue_meaning, Throughout}
-use Rattle.quic_recovery.specs.Over.{RunsFrom}
-use Rattle.recovery_history.specs.Parts.{Parts}
-use Rattle.recovery_history.specs.Told.{Told}
+use Rattle.recovery_history.specs.History.{begins, queue_model, Throughout}
+use Rattle.quic_recovery.specs.Over.{RunOverSource}
+use Rattle.recovery_history.specs.RecoveryState.{RecoveryState}
+use Rattle.recovery_history.specs.RepliesAfter.{RepliesAfter}
 use Rattle.recovery_replay.specs.declared.text.AnswerText.{AnswerText}
 use Rattle.recovery_replay.specs.Replay.{begun_over, settings, skips_with, words_with, RunsOver, Session}
 use Rattle.recovery_replay.specs.Text.{TakesLine}
@@ -27,10 +27,11 @@ words_of_seed None = refl
 words_of_seed (Some seed) = refl
 
 -- a text for whose last line there was memory has all lines
-abbrev pub TakesText : AnswerText → Reply → AnswerText → Type 0
+abbrev pub TakesText : AnswerText → ScriptReply → AnswerText → Type 0
 TakesText old reply new = TakesLine old.text old.whole reply new.text new.whole
 
-pub all_lines : (old new : AnswerText) (replies : List Reply) → TakesAll TakesText old replies new → new.whole ≡ true
+pub all_lines : (old new : AnswerText) (replies : List ScriptReply) → TakesAll TakesText old replies new → new.whole
+    ≡ true
     → (old.whole ≡ true) × (string_bytes new.text ≡ string_bytes old.text ++ answer_lines replies)
 all_lines old new [] taken whole = (
   rw taken at whole,
@@ -45,18 +46,18 @@ all_lines old new (reply ∷ replies) taken whole =
     )
 
 -- a run that begins so, whose replies a text took, is a session
-pub session_of : {F K : Type 0} (built : F → ℕ → ℕ → K) (words : ControllerWords K) (factory : F) (seed : Option ℕ)
+pub session_of : {F K : Type 0} (built : F → ℕ → ℕ → K) (words : ControllerSemantics K) (factory : F) (seed : Option ℕ)
     (config : RecoveryConfig F) (start : ℕ) (random : Stream) (IsSaid : List ItemEvent → Type 0)
-    (recovery : Parts K (List ℕ) (Unit {0})) (remote : SocketAddr) (empty new : AnswerText) (bytes : List ℕ)
+    (recovery : RecoveryState K (List ℕ) (Unit {0})) (remote : SocketAddr) (empty new : AnswerText) (bytes : List ℕ)
     → config ≡ settings factory remote (skips_with seed) → start ≡ 0
-    → random ≡ words_with seed → IsAt 4433 remote → string_bytes empty.text ≡ [] → new.whole ≡ true
+    → random ≡ words_with seed → IsDocumentationAddress 4433 remote → string_bytes empty.text ≡ [] → new.whole ≡ true
     → bytes ≡ string_bytes new.text
-    → RunsFrom (begins built words (queue_meaning (λ items. items) item_words tt) config start random) IsSaid
+    → RunOverSource (begins built words (queue_model (λ items. items) item_words tt) config start random) IsSaid
     (λ replies. TakesAll TakesText empty replies new) recovery
     → Session (RunsOver built words factory seed) IsSaid (λ lines. bytes ≡ lines)
 session_of built words factory seed config start random IsSaid recovery remote empty new bytes is_config is_start
     is_random at none whole is run =
-    let told : Throughout (Told (begun_over built words factory seed remote)) run.events run.replies =
+    let told : Throughout (RepliesAfter (begun_over built words factory seed remote)) run.events run.replies =
     (run.keeps.0, rw (is_config, is_start, is_random) at run.came.told) in
     record {
       events = run.events;

@@ -13,15 +13,16 @@ IsByte before after None = Consumes before after [] × IsAtEnd after
 IsByte before after (Some byte) = Consumes before after (byte ∷ [])
 
 -- a line of which this is kept: all of it, but of a long one no more than tells that it is long
-pub record Kept (line kept : List ℕ) : Type 0 where
+pub record TruncatedLine (line kept : List ℕ) : Type 0 where
   pub no_feed : NoFeed line
   pub is : kept ≡ take 4097 line
 
 -- a line was taken and its line feed, or the last line without one, or nothing was left
 abbrev pub IsLine : Option (List ℕ) → Option (List ℕ) → List ℕ → Option Next → Type 0
-IsLine before after kept (Some Line) = (line : List ℕ) × Kept line kept × Consumes before after (line ++ 10 ∷ [])
+IsLine before after kept (Some Line) = (line : List ℕ) × TruncatedLine line kept × Consumes before after
+    (line ++ 10 ∷ [])
 IsLine before after kept (Some Last) =
-    (line : List ℕ) × Kept line kept × (0 < length line) × Consumes before after line × IsAtEnd after
+    (line : List ℕ) × TruncatedLine line kept × (0 < length line) × Consumes before after line × IsAtEnd after
 IsLine before after kept None = Consumes before after [] × IsAtEnd after
 
 -- a read failed, or memory was refused, behind bytes of a line that goes on

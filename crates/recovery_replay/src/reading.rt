@@ -4,7 +4,7 @@ ghost use Rattle.std.specs.Io.KnownBytes.{Keeps};
 ghost use Rattle.recovery_replay.specs.declared.reading.Unread.TheVariants.{OutOfMemory, ReadFailed};
 ghost use Rattle.recovery_replay.specs.Reading.{BreaksOff, IsByte, IsLine};
 
-use recovery_lines::lines::LINE_LIMIT;
+use recovery_script_syntax::lines::LINE_LIMIT;
 use std::io::{ErrorKind, Read};
 
 /// How a line that was read ended.

@@ -1,10 +1,10 @@
 //! Events in, answers out.
 ghost use Rattle.std.specs.Prelude.{◌≡◌, ℕ, Option, IfOk, OnOk, OnErr, MatchOption, string_bytes};
 ghost use Rattle.std.specs.Io.KnownBytes.{Appends};
-ghost use Rattle.recovery_replay.specs.Script.{Hears};
+ghost use Rattle.recovery_replay.specs.Script.{ReaderParses};
 ghost use Rattle.recovery_replay.specs.Replay.{status_of, error_text, settings, skips_with};
 ghost use Rattle.recovery_replay.specs.Replay.{AreArguments, AreRead, IsSeed, IsWindow};
-ghost use Rattle.recovery_replay.specs.Replay.{Runs, RunsOver, Session, PlaysBytes, Plays};
+ghost use Rattle.recovery_replay.specs.Replay.{RunsProgram, RunsOver, Session, ProgramOutcomeOnBytes, ProgramOutcome};
 ghost use Rattle.recovery_replay.specs.Replay.{TellsOutcome, EndsSo};
 
 use crate::fixed_window::FixedWindowConfig;
@@ -22,10 +22,10 @@ use rand_pcg::Pcg32;
 use recovery_base::below::{ConnectionId, NoMemory};
 use recovery_base::time::Instant;
 use recovery_events::feeding::Source;
-use recovery_lines::lines::peer_at;
-use recovery_lines::number_in;
+use recovery_script_syntax::lines::peer_at;
+use recovery_script_syntax::number_in;
 use recovery_queue::items::ItemQueue;
-use recovery_skips::Skips;
+use recovery_packet_numbers::Skips;
 use std::alloc::Global;
 use std::io;
 use std::io::{ErrorKind, Read, Write};
@@ -152,7 +152,7 @@ fn answers<E: Source<Event<ItemQueue>>>(
     choice: Choice,
     script: &mut E,
 ) -> Result<String, NoMemory>
-    ensures { IfOk result (λ text. Session (Runs choice)
+    ensures { IfOk result (λ text. Session (RunsProgram choice)
         (λ events. E.gives script.old events script.new) (λ lines. string_bytes text ≡ lines)) }
 {
     match choice.fixed {
@@ -216,7 +216,7 @@ pub fn play_bytes(
     input: &[u8],
 ) -> Result<(Outcome, String), NoMemory>
     ensures played { IfOk result (λ played.
-        PlaysBytes words.now input.now played.0 (string_bytes played.1)) }
+        ProgramOutcomeOnBytes words.now input.now played.0 (string_bytes played.1)) }
     ensures memory { OnErr result (AreArguments words.now) }
 {
     let Some(choice) = choice_in(words) else {
@@ -237,7 +237,7 @@ fn play<R: Read, W: Write>(
     input: &mut R,
     output: &mut W,
 ) -> Outcome
-    ensures { Plays words.now (R.remaining input.old) (R.remaining input.new)
+    ensures { ProgramOutcome words.now (R.remaining input.old) (R.remaining input.new)
         (W.contents output.old) (W.contents output.new) result }
 {
     let Some(choice) = choice_in(words) else {
@@ -265,7 +265,7 @@ pub fn replay_and_tell<R: Read, W: Write, E: Write>(
     output: &mut W,
     errors: &mut E,
 ) -> (Outcome, io::Result<()>)
-    ensures outcome { Plays words.now (R.remaining input.old) (R.remaining input.new)
+    ensures outcome { ProgramOutcome words.now (R.remaining input.old) (R.remaining input.new)
         (W.contents output.old) (W.contents output.new) result.0 }
     ensures told { OnOk result.1
         (Appends (E.contents errors.old) (E.contents errors.new) (error_text result.0)) }
@@ -286,7 +286,7 @@ pub fn replay<R: Read, W: Write, E: Write>(
     errors: &mut E,
 ) -> u8
     ensures { EndsSo result (λ outcome.
-        Plays words.now (R.remaining input.old) (R.remaining input.new)
+        ProgramOutcome words.now (R.remaining input.old) (R.remaining input.new)
         (W.contents output.old) (W.contents output.new) outcome
         × TellsOutcome outcome (E.contents errors.old) (E.contents errors.new)) }
 {

@@ -3,7 +3,7 @@ ghost use Rattle.std.specs.Prelude.{◌≡◌, [], true, IfOk, string_bytes};
 ghost use Rattle.recovery_replay.specs.Text.{TakesLine};
 
 use quic_recovery::event::{Answer, Refusal};
-use recovery_answers::answers::write_reply;
+use recovery_reply_text::answers::write_reply;
 use recovery_base::below::NoMemory;
 use recovery_events::feeding::Sink;
 use recovery_queue::items::ItemQueue;

@@ -3,22 +3,22 @@ use Rattle.std.proofs.Common.{◌≡◌, ◌≢◌, ℕ, ◌+◌, ◌≤◌, ◌
 use Rattle.std.proofs.lemmas.Bool.Decides.{leb_tells}
 use Rattle.std.proofs.lemmas.List.{drop_more}
 use Rattle.std.proofs.lemmas.Option.{none-some, same_Some}
-use Rattle.recovery_ledger.specs.Packets.{Packet, Packets, packet_at, first_from}
-use Rattle.recovery_ledger.proofs.PacketLaws.{some_of}
+use Rattle.recovery_spaces.specs.Packets.{Packet, Packets, packet_at, first_from}
+use Rattle.recovery_spaces.proofs.PacketLaws.{some_of}
 use Rattle.recovery_queue.specs.Slots.{is_from, AreFrom}
-use Rattle.recovery_losses.specs.Losses.{AreRising, IsOneOf}
+use Rattle.recovery_losses.specs.Losses.{AreIncreasing, IsOneOf}
 use Rattle.recovery_losses.proofs.LookLaws.{among_more, last_among, one_more, rising_more, rising_wider}
 use Rattle.recovery_losses.proofs.LossLaws.{found_from, lowest_from, none_from}
-use Rattle.recovery_sender.specs.Acks.{AreNewly, IsFirstIn, NoneIn, SomeElicits, TakesFrom}
+use Rattle.recovery_sender.specs.Acks.{AreNewlyAcked, IsFirstIn, HasNoneTracked, HasAckEliciting, TrackedInRange}
 use Rattle.recovery_losses.proofs.FrameLaws.{AreFine}
-use Rattle.recovery_losses.specs.Frames.{IsWithin}
+use Rattle.recovery_losses.specs.Frames.{IsInAckRanges}
 
 module _ {P M : Type 0} (from last : ℕ) (packets : Packets P M) where
-  pub none_in_range : first_from from packets ≡ None → NoneIn packets from last
+  pub none_in_range : first_from from packets ≡ None → HasNoneTracked packets from last
   none_in_range none number packet there above below = none_from from packets none number packet there above
 
   pub none_of_range : (least : ℕ) → AreFrom least (filter (is_from from) packets) → last < least
-      → NoneIn packets from last
+      → HasNoneTracked packets from last
   none_of_range least all beyond number packet there above below =
       absurd (omega (arith, beyond, below, lowest_from from least packets all number packet there above))
 
@@ -40,36 +40,36 @@ module _ {P M : Type 0} (from last : ℕ) (packets : Packets P M) where
 
 module _ {P M : Type 0} (packets : Packets P M) where
   one_before : (first : ℕ) (numbers : List ℕ) (last : ℕ) (packet : Packet P M)
-      → (SomeElicits packets (numbers ++ last ∷ []) → SomeElicits packets numbers ⊎ IsTrue packet.ack_eliciting)
-      × (SomeElicits packets numbers ⊎ IsTrue packet.ack_eliciting → SomeElicits packets (numbers ++ last ∷ []))
-      → (SomeElicits packets (first ∷ (numbers ++ last ∷ [])) → SomeElicits packets (first ∷ numbers)
+      → (HasAckEliciting packets (numbers ++ last ∷ []) → HasAckEliciting packets numbers ⊎ IsTrue packet.ack_eliciting)
+      × (HasAckEliciting packets numbers ⊎ IsTrue packet.ack_eliciting → HasAckEliciting packets (numbers ++ last ∷ []))
+      → (HasAckEliciting packets (first ∷ (numbers ++ last ∷ [])) → HasAckEliciting packets (first ∷ numbers)
       ⊎ IsTrue packet.ack_eliciting)
-      × (SomeElicits packets (first ∷ numbers) ⊎ IsTrue packet.ack_eliciting
-      → SomeElicits packets (first ∷ (numbers ++ last ∷ [])))
+      × (HasAckEliciting packets (first ∷ numbers) ⊎ IsTrue packet.ack_eliciting
+      → HasAckEliciting packets (first ∷ (numbers ++ last ∷ [])))
   one_before first numbers last packet rest = (to, from)
     where
-      to : SomeElicits packets (first ∷ (numbers ++ last ∷ [])) → SomeElicits packets (first ∷ numbers)
+      to : HasAckEliciting packets (first ∷ (numbers ++ last ∷ [])) → HasAckEliciting packets (first ∷ numbers)
           ⊎ IsTrue packet.ack_eliciting
       to (inl found) = inl (inl found)
       to (inr there) = elim (rest.0 there) [ inl before ↦ inl (inr before) | inr now ↦ inr now ]
 
-      from : SomeElicits packets (first ∷ numbers) ⊎ IsTrue packet.ack_eliciting
-          → SomeElicits packets (first ∷ (numbers ++ last ∷ []))
+      from : HasAckEliciting packets (first ∷ numbers) ⊎ IsTrue packet.ack_eliciting
+          → HasAckEliciting packets (first ∷ (numbers ++ last ∷ []))
       from (inl (inl found)) = inl found
       from (inl (inr there)) = inr (rest.1 (inl there))
       from (inr now) = inr (rest.1 (inr now))
 
   elicits_more : (numbers : List ℕ) (last : ℕ) (packet : Packet P M) → packet_at packets last ≡ Some packet
-      → (SomeElicits packets (numbers ++ last ∷ []) → SomeElicits packets numbers ⊎ IsTrue packet.ack_eliciting)
-      × (SomeElicits packets numbers ⊎ IsTrue packet.ack_eliciting → SomeElicits packets (numbers ++ last ∷ []))
+      → (HasAckEliciting packets (numbers ++ last ∷ []) → HasAckEliciting packets numbers ⊎ IsTrue packet.ack_eliciting)
+      × (HasAckEliciting packets numbers ⊎ IsTrue packet.ack_eliciting → HasAckEliciting packets (numbers ++ last ∷ []))
   elicits_more [] last packet is = (to, from)
     where
-      to : SomeElicits packets (last ∷ []) → ⊥ ⊎ IsTrue packet.ack_eliciting
+      to : HasAckEliciting packets (last ∷ []) → ⊥ ⊎ IsTrue packet.ack_eliciting
       to (inl found) = inr (ap (λ (p : Packet P M). p.ack_eliciting)
           (same_Some packet found.0 (sym is ∙ found.1)) ∙ found.2)
       to (inr never) = absurd never
 
-      from : ⊥ ⊎ IsTrue packet.ack_eliciting → SomeElicits packets (last ∷ [])
+      from : ⊥ ⊎ IsTrue packet.ack_eliciting → HasAckEliciting packets (last ∷ [])
       from (inl never) = absurd never
       from (inr elicits) = inl (packet, is, elicits)
   elicits_more (first ∷ numbers) last packet is = one_before first numbers last packet
@@ -77,8 +77,8 @@ module _ {P M : Type 0} (packets : Packets P M) where
 
   decided_more : (numbers : List ℕ) (last : ℕ) (packet : Packet P M) (before elicits : Bool)
       → packet_at packets last ≡ Some packet → packet.ack_eliciting ≡ elicits
-      → Decides before (SomeElicits packets numbers)
-      → Decides (before || elicits) (SomeElicits packets (numbers ++ last ∷ []))
+      → Decides before (HasAckEliciting packets numbers)
+      → Decides (before || elicits) (HasAckEliciting packets (numbers ++ last ∷ []))
   decided_more numbers last packet true elicits is same decides =
       (λ yes. (elicits_more numbers last packet is).1 (inl (decides.0 refl)), λ there. refl)
   decided_more numbers last packet false elicits is same decides = (
@@ -93,8 +93,8 @@ module _ {P M : Type 0} (packets : Packets P M) where
 -- ---- a range is gone over
 
 module _ {P M : Type 0} (packets : Packets P M) (first last : ℕ) (before : List ℕ) where
-  pub takes_none : (elicits : Bool) → AreRising 0 before first → Decides elicits (SomeElicits packets before)
-      → TakesFrom packets first first before before elicits
+  pub takes_none : (elicits : Bool) → AreIncreasing 0 before first → Decides elicits (HasAckEliciting packets before)
+      → TrackedInRange packets first first before before elicits
   takes_none elicits rising decides = record {
     rising = rising;
     each = λ number. (
@@ -108,8 +108,8 @@ module _ {P M : Type 0} (packets : Packets P M) (first last : ℕ) (before : Lis
   }
 
   pub takes_one : (from : ℕ) (numbers : List ℕ) (elicits : Bool) (found : ℕ × Bool) → first ≤ from
-      → TakesFrom packets first from before numbers elicits → IsFirstIn packets from last found
-      → TakesFrom packets first (found.0 + 1) before (numbers ++ found.0 ∷ []) (elicits || found.1)
+      → TrackedInRange packets first from before numbers elicits → IsFirstIn packets from last found
+      → TrackedInRange packets first (found.0 + 1) before (numbers ++ found.0 ∷ []) (elicits || found.1)
   takes_one from numbers elicits found on takes is = record {
     rising = rising_more 0 from found.0 numbers takes.rising is.from_on;
     each = λ number. (to number, back number);
@@ -145,8 +145,8 @@ module _ {P M : Type 0} (packets : Packets P M) (first last : ℕ) (before : Lis
       ]
 
   pub takes_all : (from : ℕ) (numbers : List ℕ) (elicits : Bool) → from ≤ last + 1
-      → TakesFrom packets first from before numbers elicits → NoneIn packets from last
-      → TakesFrom packets first (last + 1) before numbers elicits
+      → TrackedInRange packets first from before numbers elicits → HasNoneTracked packets from last
+      → TrackedInRange packets first (last + 1) before numbers elicits
   takes_all from numbers elicits within takes none = record {
     rising = rising_wider 0 from (last + 1) numbers takes.rising within;
     each = λ number. (to number, back number);
@@ -178,25 +178,26 @@ module _ {P M : Type 0} (packets : Packets P M) (ranges : List (ℕ × ℕ)) (fi
   abbrev range : ℕ × ℕ
   range = get_or ranges at (0, 0)
 
-  pub newly_on : AreNewly packets ranges (at + 1) numbers found
-      → TakesFrom packets range.0 (range.1 + 1) numbers more elicits → AreNewly packets ranges at more elicits
+  pub newly_on : AreNewlyAcked packets ranges (at + 1) numbers found
+      → TrackedInRange packets range.0 (range.1 + 1) numbers more elicits → AreNewlyAcked packets ranges at more elicits
   newly_on newly takes = record {
     rising = (range.1 + 1, takes.rising);
     below = λ i less. rising_wider 0 (range.1 + 1) (get_or ranges i (0, 0)).0 more takes.rising
         (omega (arith, fine.apart i at less within));
-    each = λ number. subst (λ rest. IsOneOf number more ↔ (IsWithin number rest × (packet_at packets number ≢ None)))
+    each = λ number. subst (λ rest. IsOneOf number more ↔ (IsInAckRanges number rest ×
+        (packet_at packets number ≢ None)))
         (sym (drop_more ranges at (0, 0) within)) (to number, back number);
     elicits = takes.elicits;
   }
     where
-      to : (number : ℕ) → IsOneOf number more → IsWithin number (range ∷ drop (at + 1) ranges)
+      to : (number : ℕ) → IsOneOf number more → IsInAckRanges number (range ∷ drop (at + 1) ranges)
           × (packet_at packets number ≢ None)
       to number there = elim ((takes.each number).0 there) [
         | inl before ↦ (let was = (newly.each number).0 before in (inr was.0, was.1))
         | inr inside ↦ (inl (inside.0, omega (arith, inside.1)), inside.2)
       ]
 
-      back : (number : ℕ) → IsWithin number (range ∷ drop (at + 1) ranges) × (packet_at packets number ≢ None)
+      back : (number : ℕ) → IsInAckRanges number (range ∷ drop (at + 1) ranges) × (packet_at packets number ≢ None)
           → IsOneOf number more
       back number (inl inside, tracked) = (takes.each number).1 (inr (inside.0, omega (arith, inside.1), tracked))
       back number (inr there, tracked) = (takes.each number).1 (inl ((newly.each number).1 (there, tracked)))

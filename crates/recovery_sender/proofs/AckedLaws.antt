@@ -8,24 +8,24 @@ use Rattle.recovery_events.specs.declared.event.Answer.{Answer}
 use Rattle.recovery_events.specs.declared.event.Event.TheVariants.{Acked}
 use Rattle.recovery_events.specs.declared.event.Refusal.{Refusal}
 use Rattle.recovery_events.specs.declared.event.Refusal.TheVariants.{NoMemory, NotTracked, SpaceDiscarded}
-use Rattle.recovery_ledger.specs.Discarded.{is_discarded}
-use Rattle.recovery_ledger.specs.Packets.{Packet, Packets, packet_at, without, first_from}
-use Rattle.recovery_ledger.specs.Spaces.{space_of, packets_of}
+use Rattle.recovery_spaces.specs.Discarded.{is_discarded}
+use Rattle.recovery_spaces.specs.Packets.{Packet, Packets, packet_at, without, first_from}
+use Rattle.recovery_spaces.specs.Spaces.{space_of, packets_of}
 use Rattle.recovery_queue.specs.Slots.{is_from, AreFrom}
-use Rattle.recovery_losses.specs.Losses.{AreRising, IsOneOf, without_all}
+use Rattle.recovery_losses.specs.Losses.{AreIncreasing, IsOneOf, without_all}
 use Rattle.recovery_losses.proofs.LookLaws.{all_other, without_more}
 use Rattle.recovery_losses.proofs.LossLaws.{lowest_from, none_from}
 use Rattle.quic_recovery.specs.declared.driver.Recovery.{Recovery}
-use Rattle.recovery_history.specs.History.{QueueMeaning, queue_meaning}
-use Rattle.recovery_history.specs.Parts.{Parts}
-use Rattle.recovery_history.specs.Plain.{Plain}
-use Rattle.recovery_history.specs.Changes.{Changes}
-use Rattle.quic_recovery.specs.State.{OnlyTells, parts_of}
+use Rattle.recovery_history.specs.History.{QueueModel, queue_model}
+use Rattle.recovery_history.specs.RecoveryState.{RecoveryState}
+use Rattle.recovery_history.specs.Unlogged.{UnloggedState}
+use Rattle.recovery_history.specs.Transitions.{StateTransition}
+use Rattle.quic_recovery.specs.State.{ReadOnlyTransition, state_of}
 use Rattle.recovery_sender.specs.declared.sender.Sender.{Sender}
 use Rattle.recovery_sender.specs.Acking.{acking, sent_here}
-use Rattle.recovery_sender.specs.Senders.{parts_in}
+use Rattle.recovery_sender.specs.Senders.{state_in}
 use Rattle.recovery_sender.specs.Spaces.{packets_in}
-use Rattle.recovery_sender.specs.Steps.{Goes, occurs}
+use Rattle.recovery_sender.specs.Steps.{TakesSteps, occurs}
 use Rattle.recovery_sender.proofs.LeadLaws.{leads_on}
 
 -- ---- look-ups
@@ -54,26 +54,27 @@ at_same packets found number packet same is = ap (λ n. packet_at packets n) (sy
 
 module _ {F Q R C K S M P : Type 0} {f : _} {c : _} {q : _} {m : _} {r : _} (space : SpaceId) (now number : ℕ)
     (app_limited : Bool) (recovery : Recovery F Q R C K S M P f c q m r)
-    (tracked : packet_at (packets_in (parts_of recovery) space) number ≢ None) where
-  not_discarded : is_discarded space (parts_of recovery).discarded ≡ true → ⊥
+    (tracked : packet_at (packets_in (state_of recovery) space) number ≢ None) where
+  not_discarded : is_discarded space (state_of recovery).discarded ≡ true → ⊥
   not_discarded gone = tracked (grind (arith, gone))
 
-  is_there : packet_at (packets_of (space_of space (parts_of recovery).spaces)) number ≡ None → ⊥
-  is_there none = by (is_discarded space (parts_of recovery).discarded) refl
+  is_there : packet_at (packets_of (space_of space (state_of recovery).spaces)) number ≡ None → ⊥
+  is_there none = by (is_discarded space (state_of recovery).discarded) refl
     where
-      by : (test : Bool) → is_discarded space (parts_of recovery).discarded ≡ test → ⊥
+      by : (test : Bool) → is_discarded space (state_of recovery).discarded ≡ test → ⊥
       by true gone = not_discarded gone
       by false kept = tracked (rw kept none)
 
-  pub acked_answered : (refusal : Refusal) → OnlyTells (Acked space now number app_limited) recovery (Err refusal) → ⊥
+  pub acked_answered : (refusal : Refusal) → ReadOnlyTransition (Acked space now number app_limited) recovery
+      (Err refusal) → ⊥
   acked_answered SpaceDiscarded told = not_discarded told
   acked_answered NotTracked (kept, none) = is_there none
   acked_answered NoMemory (kept, (found, never)) = never
   acked_answered refusal (kept, (found, never)) = never
 
-module _ {K Q S M P : Type 0} (queue : QueueMeaning Q S M P) where
-  taken_in : (space : SpaceId) (now number : ℕ) (app_limited : Bool) (answer : Answer Q) (old new : Parts K P M)
-      → Changes queue old (Acked space now number app_limited) (Ok answer) new
+module _ {K Q S M P : Type 0} (queue : QueueModel Q S M P) where
+  taken_in : (space : SpaceId) (now number : ℕ) (app_limited : Bool) (answer : Answer Q) (old new : RecoveryState K P M)
+      → StateTransition queue old (Acked space now number app_limited) (Ok answer) new
       → packets_of (space_of space new.spaces) ≡ without (packets_of (space_of space old.spaces)) number
   taken_in Initial now number app_limited answer old new changes = ap packets_of (changes.steps.spaces Initial).others
   taken_in Handshake now number app_limited answer old new changes =
@@ -81,15 +82,15 @@ module _ {K Q S M P : Type 0} (queue : QueueMeaning Q S M P) where
   taken_in Data now number app_limited answer old new changes = ap packets_of (changes.steps.spaces Data).others
 
   pub packets_acked : (space : SpaceId) (now number : ℕ) (app_limited : Bool) (answer : Answer Q)
-      (old new : Parts K P M)
-      → Changes queue old (Acked space now number app_limited) (Ok answer) new
+      (old new : RecoveryState K P M)
+      → StateTransition queue old (Acked space now number app_limited) (Ok answer) new
       → packet_at (packets_in old space) number ≢ None
       → packets_in new space ≡ without (packets_in old space) number
   packets_acked space now number app_limited answer old new changes tracked =
       by_test (is_discarded space old.discarded) refl
     where
       same : is_discarded space new.discarded ≡ is_discarded space old.discarded
-      same = ap (λ (plain : Plain). is_discarded space plain.discarded) changes.plain
+      same = ap (λ (plain : UnloggedState). is_discarded space plain.discarded) changes.plain
 
       by_test : (test : Bool) → is_discarded space old.discarded ≡ test
           → packets_in new space ≡ without (packets_in old space) number
@@ -98,7 +99,7 @@ module _ {K Q S M P : Type 0} (queue : QueueMeaning Q S M P) where
 
 -- ---- numbers that rise, one after another
 
-first_rises : (first end : ℕ) (numbers : List ℕ) (number : ℕ) → AreRising first numbers end → IsOneOf number numbers
+first_rises : (first end : ℕ) (numbers : List ℕ) (number : ℕ) → AreIncreasing first numbers end → IsOneOf number numbers
     → first ≤ number
 first_rises first end [] number rising never = absurd never
 first_rises first end (one ∷ numbers) number rising (inl is) = omega (arith, is, rising.0)
@@ -110,7 +111,7 @@ one_at [] at within = absurd (omega (arith, within))
 one_at (number ∷ numbers) zero within = inl refl
 one_at (number ∷ numbers) (suc at) within = inr (one_at numbers at (omega (arith, within)))
 
-pub not_before : (first end : ℕ) (numbers : List ℕ) (at : ℕ) → AreRising first numbers end → at < length numbers
+pub not_before : (first end : ℕ) (numbers : List ℕ) (at : ℕ) → AreIncreasing first numbers end → at < length numbers
     → IsOneOf (get_or numbers at 0) (take at numbers) → ⊥
 not_before first end [] at rising within there = absurd (omega (arith, within))
 not_before first end (number ∷ numbers) zero rising within there = there
@@ -126,7 +127,7 @@ not_before first end (number ∷ numbers) (suc at) rising within (inr there) =
 
 -- ---- when a packet was sent on the path in use
 
-module _ {K P M : Type 0} (recovery : Parts K P M) (packet : Packet P M) where
+module _ {K P M : Type 0} (recovery : RecoveryState K P M) (packet : Packet P M) where
   pub sent_elsewhere : (packet.path_generation ≡ recovery.paths.current.ledger.generation → ⊥)
       → None ≡ sent_here recovery (Some packet)
   sent_elsewhere other = elim (eqb_tells packet.path_generation recovery.paths.current.ledger.generation) [
@@ -146,35 +147,35 @@ module _ {K P M : Type 0} (recovery : Parts K P M) (packet : Packet P M) where
 module _ {F Q R C K S M P : Type 0} {f : _} {c : _} {q : _} {m : _} {r : _} (space : SpaceId) (now : ℕ)
     (app_limited : Bool) (numbers : List ℕ) (start between : Sender F Q R C K S M P f c q m r) (at : ℕ)
     (within : at < length numbers)
-    (tracked : (number : ℕ) → IsOneOf number numbers → packet_at (packets_in (parts_in start) space) number ≢ None)
-    (rising : (end : ℕ) × AreRising 0 numbers end)
-    (packets : packets_in (parts_in between) space
-    ≡ without_all (packets_in (parts_in start) space) (take at numbers)) where
+    (tracked : (number : ℕ) → IsOneOf number numbers → packet_at (packets_in (state_in start) space) number ≢ None)
+    (rising : (end : ℕ) × AreIncreasing 0 numbers end)
+    (packets : packets_in (state_in between) space
+    ≡ without_all (packets_in (state_in start) space) (take at numbers)) where
   abbrev number : ℕ
   number = get_or numbers at 0
 
-  pub still_tracked : packet_at (packets_in (parts_in between) space) number ≢ None
+  pub still_tracked : packet_at (packets_in (state_in between) space) number ≢ None
   still_tracked none = tracked number (one_at numbers at within)
-      (sym (ap (λ there. packet_at there number) packets ∙ all_other (packets_in (parts_in start) space)
+      (sym (ap (λ there. packet_at there number) packets ∙ all_other (packets_in (state_in start) space)
       (take at numbers) number (not_before 0 rising.0 numbers at rising.1 within)) ∙ none)
 
   pub acked_on : (new : Sender F Q R C K S M P f c q m r)
-      → Goes (acking space now app_limited (take at numbers)) start between
-      → Goes (occurs (Acked space now number app_limited) ∷ []) between new
-      → Goes (acking space now app_limited (take (at + 1) numbers)) start new
-      × (packets_in (parts_in new) space ≡ without_all (packets_in (parts_in start) space) (take (at + 1) numbers))
+      → TakesSteps (acking space now app_limited (take at numbers)) start between
+      → TakesSteps (occurs (Acked space now number app_limited) ∷ []) between new
+      → TakesSteps (acking space now app_limited (take (at + 1) numbers)) start new
+      × (packets_in (state_in new) space ≡ without_all (packets_in (state_in start) space) (take (at + 1) numbers))
   acked_on new goes one =
       let more = take_more numbers at 0 within in let leads = one.leads in (
         rw (more, map-append _ (take at numbers) (number ∷ [])) (record {
-          leads = leads_on f.built c.words (queue_meaning q.contents q.words q.blank)
-              (acking space now app_limited (take at numbers)) _ (parts_in start) (parts_in between) (parts_in new)
+          leads = leads_on f.built c.words (queue_model q.contents q.words q.blank)
+              (acking space now app_limited (take at numbers)) _ (state_in start) (state_in between) (state_in new)
               goes.leads leads;
           variables = one.variables ∙ goes.variables;
         }),
         ap (λ recovery. packets_in recovery space) leads.4
-            ∙ packets_acked (queue_meaning q.contents q.words q.blank) space now number app_limited leads.0
-            (parts_in between) leads.1 leads.2 still_tracked
+            ∙ packets_acked (queue_model q.contents q.words q.blank) space now number app_limited leads.0
+            (state_in between) leads.1 leads.2 still_tracked
             ∙ ap (λ there. without there number) packets
-            ∙ sym (without_more (packets_in (parts_in start) space) (take at numbers) number)
-            ∙ ap (λ list. without_all (packets_in (parts_in start) space) list) (sym more),
+            ∙ sym (without_more (packets_in (state_in start) space) (take at numbers) number)
+            ∙ ap (λ list. without_all (packets_in (state_in start) space) list) (sym more),
       )

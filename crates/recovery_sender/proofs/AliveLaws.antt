@@ -6,26 +6,26 @@ use Rattle.recovery_base.specs.declared.below.SpaceId.{SpaceId}
 use Rattle.recovery_base.specs.declared.below.SpaceId.TheVariants.{Initial, Handshake, Data}
 use Rattle.recovery_base.specs.declared.timer.Timer.TheVariants.{LossDetection}
 use Rattle.recovery_base.specs.Timers.{moment}
-use Rattle.recovery_ledger.specs.Discarded.{is_discarded}
-use Rattle.recovery_ledger.specs.Kept.{last_eliciting_sent}
-use Rattle.recovery_ledger.specs.Packets.{Packet, Packets, carrying, replaced, with_contents, packet_at, without, without_some}
-use Rattle.recovery_ledger.specs.SpaceLog.{SpaceEntry, sends, acknowledged, loses, probes, emptied}
-use Rattle.recovery_ledger.specs.Spaces.{Space, packets_of, space_of}
-use Rattle.recovery_ledger.specs.Tracked.{Sent, sent_by, forgotten_by}
-use Rattle.recovery_ledger.proofs.PacketLaws.{number_at}
+use Rattle.recovery_spaces.specs.Discarded.{is_discarded}
+use Rattle.recovery_spaces.specs.Kept.{last_eliciting_sent}
+use Rattle.recovery_spaces.specs.Packets.{Packet, Packets, carrying, replaced, with_contents, packet_at, without, without_some}
+use Rattle.recovery_spaces.specs.SpaceLog.{SpaceEntry, sends, acknowledged, loses, probes, emptied}
+use Rattle.recovery_spaces.specs.Spaces.{Space, packets_of, space_of}
+use Rattle.recovery_spaces.specs.Tracked.{SentState, sent_by, forgotten_by}
+use Rattle.recovery_spaces.proofs.PacketLaws.{number_at}
 use Rattle.recovery_paths.specs.PathStates.{is_blocked}
-use Rattle.recovery_queue.specs.Queues.{QueueWords}
-use Rattle.recovery_history.specs.History.{begins, queue_meaning}
-use Rattle.recovery_history.specs.Parts.{Parts}
-use Rattle.recovery_history.specs.Told.{logs_of}
+use Rattle.recovery_queue.specs.Queues.{QueueSemantics}
+use Rattle.recovery_history.specs.History.{begins, queue_model}
+use Rattle.recovery_history.specs.RecoveryState.{RecoveryState}
+use Rattle.recovery_history.specs.RepliesAfter.{logs_of}
 use Rattle.recovery_sender.specs.declared.sender.Sender.{Sender}
 use Rattle.recovery_losses.specs.declared.due.Due.{Due}
 use Rattle.recovery_losses.specs.declared.due.Due.TheVariants.{Losses, Probes}
 use Rattle.recovery_losses.specs.Due.{sooner}
 use Rattle.recovery_losses.specs.declared.variables.Variables.{Variables}
-use Rattle.recovery_sender.specs.Promises.Alive.{IsOwed, IsSetFor, NeverStalls}
-use Rattle.recovery_sender.specs.Promises.Pasts.{ByPasts}
-use Rattle.recovery_sender.specs.Senders.{parts_in}
+use Rattle.recovery_sender.specs.Promises.Liveness.{IsAckOwed, IsSetFor, NeverStalls}
+use Rattle.recovery_sender.specs.Promises.Pasts.{ForEveryPast}
+use Rattle.recovery_sender.specs.Senders.{state_in}
 use Rattle.recovery_sender.specs.Spaces.{space_in}
 use Rattle.recovery_losses.specs.Variables.{is_address_validated}
 use Rattle.recovery_sender.specs.Timer.{TimerIsSet, behind, deadlock_due, deadlock_space, due_of, has_eliciting, loss_due, probe_due, probes_due, pto_of, soonest}
@@ -82,7 +82,7 @@ module _ {P M : Type 0} where
       go None none is = is
       go (Some packet) found is = eliciting_replaced packets number packet contents found is
 
-module _ {P M S : Type 0} (words : QueueWords P S) where
+module _ {P M S : Type 0} (words : QueueSemantics P S) where
   abbrev elicits_by : List (SpaceEntry P M) → Type 0
   elicits_by log = has_eliciting (sent_by words log).tracked ≡ true
 
@@ -173,7 +173,7 @@ soonest_than due Data time found = sooner_than _ _ time (inr found)
 
 -- ---- the timer
 
-module _ {K P M : Type 0} (recovery : Parts K P M) (variables : Variables)
+module _ {K P M : Type 0} (recovery : RecoveryState K P M) (variables : Variables)
     (set : TimerIsSet recovery variables) where
   -- it is set to what is due
   set_to : (due : ℕ × Due) → due_of recovery variables ≡ Some due → moment LossDetection recovery.timers ≡ Some due.0
@@ -181,7 +181,7 @@ module _ {K P M : Type 0} (recovery : Parts K P M) (variables : Variables)
 
   module _ (unblocked : is_blocked recovery.paths.current.state 1 ≡ false) where
     -- where a space is owed an answer, a probe of it is due
-    module _ (space : SpaceId) (owed : IsOwed recovery variables space) (sent : ℕ)
+    module _ (space : SpaceId) (owed : IsAckOwed recovery variables space) (sent : ℕ)
         (last : owed.here.time_of_last_ack_eliciting_packet ≡ Some sent) where
       probe_is : probe_due recovery variables space
           ≡ Some (behind sent (pto_of recovery variables space), Probes space)
@@ -245,39 +245,39 @@ module _ {K P M : Type 0} (recovery : Parts K P M) (variables : Variables)
 
 module _ {F Q R C K S M P : Type 0} {f : _} {c : _} {q : _} {m : _} {r : _} where
   pub never_stalls : (sender : Sender F Q R C K S M P f c q m r) (variables : Variables)
-      → TimerIsSet (parts_in sender) variables → ByPasts sender (λ past. NeverStalls (parts_in sender) variables)
+      → TimerIsSet (state_in sender) variables → ForEveryPast sender (λ past. NeverStalls (state_in sender) variables)
   never_stalls sender variables set config start random past came = record {
     probes = probes;
-    deadlock = λ unblocked unknown kept. deadlock_set (parts_in sender) variables set unblocked unknown kept;
+    deadlock = λ unblocked unknown kept. deadlock_set (state_in sender) variables set unblocked unknown kept;
   }
     where
-      probes : is_blocked (parts_in sender).paths.current.state 1 ≡ false → (space : SpaceId)
-          → IsOwed (parts_in sender) variables space → IsSetFor (parts_in sender) variables space
+      probes : is_blocked (state_in sender).paths.current.state 1 ≡ false → (space : SpaceId)
+          → IsAckOwed (state_in sender) variables space → IsSetFor (state_in sender) variables space
       probes unblocked space owed = by owed.here.time_of_last_ack_eliciting_packet refl
         where
-          here_is : space_of space (parts_in sender).spaces ≡ owed.here
-          here_is = by_test (is_discarded space (parts_in sender).discarded) refl
+          here_is : space_of space (state_in sender).spaces ≡ owed.here
+          here_is = by_test (is_discarded space (state_in sender).discarded) refl
             where
-              by_test : (test : Bool) → is_discarded space (parts_in sender).discarded ≡ test
-                  → space_of space (parts_in sender).spaces ≡ owed.here
+              by_test : (test : Bool) → is_discarded space (state_in sender).discarded ≡ test
+                  → space_of space (state_in sender).spaces ≡ owed.here
               by_test true gone = absurd (none-some owed.here (rw gone at owed.lives))
               by_test false kept = same_Some _ owed.here (rw kept at owed.lives)
 
-          log_elicits : has_eliciting (packets_of (space_of space (parts_in sender).spaces)) ≡ true
+          log_elicits : has_eliciting (packets_of (space_of space (state_in sender).spaces)) ≡ true
           log_elicits = rw here_is owed.elicits
 
           some : owed.here.time_of_last_ack_eliciting_packet ≢ None
           some none =
-              let log = (logs_of (begins f.built c.words (queue_meaning q.contents q.words q.blank) config start random)
+              let log = (logs_of (begins f.built c.words (queue_model q.contents q.words q.blank) config start random)
               past).spaces space in
-              let same : packets_of (space_of space (parts_in sender).spaces) ≡ (sent_by q.words log).tracked =
-              ap (λ (sent : Sent P M). sent.tracked) (came.left.spaces space).sent in
+              let same : packets_of (space_of space (state_in sender).spaces) ≡ (sent_by q.words log).tracked =
+              ap (λ (sent : SentState P M). sent.tracked) (came.left.spaces space).sent in
               let elicits : has_eliciting (sent_by q.words log).tracked ≡ true =
               ap (λ (packets : Packets P M). has_eliciting packets) (sym same) ∙ log_elicits in
               some_sent q.words log elicits (sym (came.left.spaces space).last_sent
               ∙ ap (λ (here : Space P M). here.time_of_last_ack_eliciting_packet) here_is ∙ none)
 
           by : (last : Option ℕ) → owed.here.time_of_last_ack_eliciting_packet ≡ last
-              → IsSetFor (parts_in sender) variables space
+              → IsSetFor (state_in sender) variables space
           by None none = absurd (some none)
-          by (Some sent) last = set_for (parts_in sender) variables set unblocked space owed sent last
+          by (Some sent) last = set_for (state_in sender) variables set unblocked space owed sent last

@@ -2,30 +2,30 @@
 use Rattle.std.proofs.Common.{◌≡◌, ℕ, ◌∷◌, [], ◌+◌, ◌<◌, ◌≤◌, ◌^◌, true, false, Bool, Option, None, Some, Ok, Err, Result, arith, refl, sym, ap, ◌∙◌}
 use Rattle.std.specs.Prelude.{if◌then◌else◌, nat_lt}
 use Rattle.recovery_base.specs.declared.below.SpaceId.{SpaceId}
-use Rattle.recovery_congestion.specs.Controllers.{ControllerWords}
+use Rattle.recovery_congestion.specs.Controllers.{ControllerSemantics}
 use Rattle.recovery_events.specs.declared.event.Answer.{Answer}
 use Rattle.recovery_events.specs.declared.event.Answer.TheVariants as answers
 use Rattle.recovery_events.specs.declared.event.Event.TheVariants.{QueueProbe}
 use Rattle.recovery_events.specs.declared.event.Refusal.{Refusal}
 use Rattle.recovery_events.specs.declared.event.Refusal.TheVariants.{NoMemory, SpaceDiscarded}
-use Rattle.recovery_ledger.specs.Acks.{AckState}
-use Rattle.recovery_ledger.specs.Discarded.{is_discarded}
-use Rattle.recovery_ledger.specs.Spaces.{space_of}
+use Rattle.recovery_spaces.specs.Acks.{AckState}
+use Rattle.recovery_spaces.specs.Discarded.{is_discarded}
+use Rattle.recovery_spaces.specs.Spaces.{space_of}
 use Rattle.recovery_paths.specs.PathStates.{PathState, is_blocked, path_delay}
-use Rattle.recovery_history.specs.History.{QueueMeaning, Reply, queue_meaning}
-use Rattle.recovery_history.specs.Known.{Known}
-use Rattle.recovery_history.specs.Parts.{Parts}
+use Rattle.recovery_history.specs.History.{QueueModel, Reply, queue_model}
+use Rattle.recovery_history.specs.ReplyInputs.{ReplyInputs}
+use Rattle.recovery_history.specs.RecoveryState.{RecoveryState}
 use Rattle.recovery_history.specs.PartReplies.{delayed_or, transmit_answer}
-use Rattle.recovery_history.specs.Plain.{Plain}
-use Rattle.recovery_history.specs.Changes.{acks_to, known_to}
-use Rattle.recovery_history.specs.Table.{ToldBy}
-use Rattle.recovery_sender.specs.declared.sender.Refused.{Refused}
-use Rattle.recovery_sender.specs.declared.sender.Refused.TheVariants.{Event}
+use Rattle.recovery_history.specs.Unlogged.{UnloggedState}
+use Rattle.recovery_history.specs.Transitions.{acks_to, inputs_of}
+use Rattle.recovery_history.specs.Table.{ReplyTable}
+use Rattle.recovery_sender.specs.declared.sender.SenderError.{SenderError}
+use Rattle.recovery_sender.specs.declared.sender.SenderError.TheVariants.{Event}
 use Rattle.recovery_sender.specs.declared.sender.Sender.{Sender}
 use Rattle.recovery_sender.specs.declared.sender.packets.Transmission.{Transmission}
 use Rattle.recovery_sender.specs.declared.sender.packets.Transmission.TheVariants.{Transmitted, Blocked, Full}
-use Rattle.recovery_sender.specs.Senders.{parts_in}
-use Rattle.recovery_sender.specs.Steps.{told, Goes}
+use Rattle.recovery_sender.specs.Senders.{state_in}
+use Rattle.recovery_sender.specs.Steps.{told, TakesSteps}
 use Rattle.recovery_sender.specs.Calls.{done_of, QueuesProbe, paced_to, bytes_in_flight, is_checked, is_full, window_of, transmission, transmit_reply}
 
 -- ---- a datagram
@@ -43,7 +43,7 @@ within true full delay window wanted is goes = absurd cc
 within false true delay window wanted is goes = absurd cc
 within false false delay window wanted is goes = grind (arith, is)
 
-module _ {K P M : Type 0} (words : ControllerWords K) (recovery : Parts K P M) (now bytes : ℕ) where
+module _ {K P M : Type 0} (words : ControllerSemantics K) (recovery : RecoveryState K P M) (now bytes : ℕ) where
   pub transmit_answered : (space : SpaceId) (in_flight checked : Bool) (sent : Transmission)
       → (if is_discarded space recovery.discarded then None else Some (is_checked recovery space in_flight))
       ≡ Some checked → recovery.paths.current.state.total_sent + bytes < 2 ^ 64
@@ -56,7 +56,7 @@ module _ {K P M : Type 0} (words : ControllerWords K) (recovery : Parts K P M) (
   pub window_kept : (space : SpaceId) (in_flight checked : Bool) (sent : Transmission)
       → (if is_discarded space recovery.discarded then None else Some (is_checked recovery space in_flight))
       ≡ Some checked → sent ≡ transmission words recovery now bytes checked
-      → ◌≡◌ {A = Result Transmission Refused} (Ok sent) (Ok Transmitted) → in_flight ≡ true
+      → ◌≡◌ {A = Result Transmission SenderError} (Ok sent) (Ok Transmitted) → in_flight ≡ true
       → (space_of space recovery.spaces).loss_probes ≡ 0
       → bytes_in_flight recovery + bytes ≤ window_of words recovery
   window_kept space in_flight checked sent is sends goes counts none =
@@ -67,7 +67,7 @@ module _ {K P M : Type 0} (words : ControllerWords K) (recovery : Parts K P M) (
       (rw is_asked at (sym is_sent ∙ sends))
 
 -- what the limit lets pass is transmitted or delayed
-pub always_told : {K Q : Type 0} (words : ControllerWords K) (now bytes : ℕ) (checked : Bool) (path : PathState K)
+pub always_told : {K Q : Type 0} (words : ControllerSemantics K) (now bytes : ℕ) (checked : Bool) (path : PathState K)
     → is_blocked path bytes ≡ false → (given : Answer Q) → given ≡ transmit_answer words now bytes checked path
     → (given ≡ answers.Transmitted → ⊥) → ((until : ℕ) → given ≡ answers.Delayed until → ⊥) → ⊥
 always_told words now bytes false path limit given is sent delayed = sent is
@@ -81,10 +81,10 @@ always_told {Q = Q} words now bytes true path limit given is sent delayed =
 -- ---- probes
 
 -- in a space that is not discarded a probe is refused for want of memory alone
-memory_alone : {K Q S M P : Type 0} (queue : QueueMeaning Q S M P) (words : ControllerWords K)
-    (heard : SpaceId → AckState) (known : Known K P M) (space : SpaceId) (immediate : Bool) (streams : S)
+memory_alone : {K Q S M P : Type 0} (queue : QueueModel Q S M P) (words : ControllerSemantics K)
+    (heard : SpaceId → AckState) (known : ReplyInputs K P M) (space : SpaceId) (immediate : Bool) (streams : S)
     (refusal : Refusal) → (known.spaces space).discarded ≡ false
-    → ToldBy queue words heard known (QueueProbe space immediate streams) (Err refusal) → refusal ≡ NoMemory
+    → ReplyTable queue words heard known (QueueProbe space immediate streams) (Err refusal) → refusal ≡ NoMemory
 memory_alone queue words heard known space immediate streams NoMemory kept said = refl
 memory_alone queue words heard known space immediate streams SpaceDiscarded kept said = absurd cc
 memory_alone queue words heard known space immediate streams refusal kept said = absurd said.1
@@ -92,26 +92,26 @@ memory_alone queue words heard known space immediate streams refusal kept said =
 module _ {F Q R C K S M P : Type 0} {f : _} {c : _} {q : _} {m : _} {r : _} (space : SpaceId) (immediate : Bool)
     (streams : S) (old new : Sender F Q R C K S M P f c q m r) where
   refused_so : (refusal : Refusal) → refusal ≡ NoMemory
-      → Goes (told (QueueProbe space immediate streams) (Err refusal) ∷ []) old new
+      → TakesSteps (told (QueueProbe space immediate streams) (Err refusal) ∷ []) old new
       → QueuesProbe space immediate streams old new (Err (Event refusal))
   refused_so NoMemory is goes = goes
   refused_so refusal is goes = absurd cc
 
-  pub queued_by : (reply : Reply Q) → is_discarded space (parts_in old).discarded ≡ false
-      → Goes (told (QueueProbe space immediate streams) reply ∷ []) old new
+  pub queued_by : (reply : Reply Q) → is_discarded space (state_in old).discarded ≡ false
+      → TakesSteps (told (QueueProbe space immediate streams) reply ∷ []) old new
       → QueuesProbe space immediate streams old new (done_of reply)
   queued_by (Ok answer) kept goes = (answer, goes)
   queued_by (Err refusal) kept goes =
-      let recovery = parts_in old in
-      refused_so refusal (memory_alone (queue_meaning q.contents q.words q.blank) recovery.settings.words
-      (acks_to recovery) (known_to recovery) space immediate streams refusal kept goes.leads.1.told) goes
+      let recovery = state_in old in
+      refused_so refusal (memory_alone (queue_model q.contents q.words q.blank) recovery.settings.words
+      (acks_to recovery) (inputs_of recovery) space immediate streams refusal kept goes.leads.1.told) goes
 
   -- a probe discards no space
-  pub kept_by : (answer : Answer Q) → is_discarded space (parts_in old).discarded ≡ false
-      → Goes (told (QueueProbe space immediate streams) (Ok answer) ∷ []) old new
-      → is_discarded space (parts_in new).discarded ≡ false
+  pub kept_by : (answer : Answer Q) → is_discarded space (state_in old).discarded ≡ false
+      → TakesSteps (told (QueueProbe space immediate streams) (Ok answer) ∷ []) old new
+      → is_discarded space (state_in new).discarded ≡ false
   kept_by answer kept goes =
-      let same : (parts_in new).discarded ≡ (parts_in old).discarded =
-      ap (λ (parts : Parts K P M). parts.discarded) goes.leads.3
-      ∙ ap (λ (plain : Plain). plain.discarded) goes.leads.1.plain in
+      let same : (state_in new).discarded ≡ (state_in old).discarded =
+      ap (λ (parts : RecoveryState K P M). parts.discarded) goes.leads.3
+      ∙ ap (λ (plain : UnloggedState). plain.discarded) goes.leads.1.plain in
       ap (is_discarded space) same ∙ kept

@@ -4,11 +4,11 @@ use Rattle.std.specs.Prelude.{if◌then◌else◌, nat_lt}
 use Rattle.std.specs.Option.{option_and_then, option_or}
 use Rattle.recovery_base.specs.declared.below.SpaceId.{SpaceId}
 use Rattle.recovery_base.specs.declared.below.SpaceId.TheVariants.{Initial, Handshake, Data}
-use Rattle.recovery_ledger.specs.declared.discarded.DiscardedSpaces.{DiscardedSpaces}
-use Rattle.recovery_ledger.specs.Discarded.{is_discarded}
-use Rattle.recovery_ledger.specs.Spaces.{Space, space_of}
+use Rattle.recovery_spaces.specs.declared.discarded.DiscardedSpaces.{DiscardedSpaces}
+use Rattle.recovery_spaces.specs.Discarded.{is_discarded}
+use Rattle.recovery_spaces.specs.Spaces.{Space, space_of}
 use Rattle.recovery_paths.specs.PathStates.{is_blocked}
-use Rattle.recovery_history.specs.Parts.{Parts}
+use Rattle.recovery_history.specs.RecoveryState.{RecoveryState}
 use Rattle.recovery_losses.specs.declared.due.Due.{Due}
 use Rattle.recovery_losses.specs.declared.due.Due.TheVariants.{Losses, Probes, AntiDeadlock}
 use Rattle.recovery_losses.specs.Due.{sooner}
@@ -77,7 +77,7 @@ module _ (discarded : DiscardedSpaces) where
   ended space false true time is = tt {0}
   ended space false false time is = is
 
-module _ {K P M : Type 0} (recovery : Parts K P M) (variables : Variables) where
+module _ {K P M : Type 0} (recovery : RecoveryState K P M) (variables : Variables) where
   probe_there : (space : SpaceId) → IsThere recovery.discarded (probe_due recovery variables space)
   probe_there space =
       let here = space_of space recovery.spaces in

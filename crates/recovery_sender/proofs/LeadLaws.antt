@@ -2,30 +2,31 @@
 use Rattle.std.proofs.Common.{◌≡◌, ◌≢◌, ℕ, true, false, Bool, List, [], ◌∷◌, ◌++◌, length, ◌==◌, Option, None, Some, Ok, refl, sym, ap, subst, ◌∙◌, true≢false, arith}
 use Rattle.recovery_base.specs.declared.below.SpaceId.{SpaceId}
 use Rattle.recovery_base.specs.declared.below.SpaceId.TheVariants.{Initial, Handshake, Data}
-use Rattle.recovery_congestion.specs.Controllers.{ControllerWords}
+use Rattle.recovery_congestion.specs.Controllers.{ControllerSemantics}
 use Rattle.recovery_events.specs.declared.event.Answer.{Answer}
 use Rattle.recovery_events.specs.declared.event.Answer.TheVariants.{BlackHole}
 use Rattle.recovery_events.specs.declared.event.Event.{Event}
 use Rattle.recovery_events.specs.declared.event.Event.TheVariants.{Lost, LossesDone, Congestion}
-use Rattle.recovery_ledger.specs.Discarded.{is_discarded}
-use Rattle.recovery_ledger.specs.Packets.{Packets, packet_at, without}
-use Rattle.recovery_ledger.specs.Spaces.{space_of, packets_of}
-use Rattle.recovery_history.specs.History.{QueueMeaning, queue_meaning}
-use Rattle.recovery_history.specs.Parts.{Parts}
-use Rattle.recovery_history.specs.Plain.{Plain, plain_of}
-use Rattle.recovery_history.specs.Changes.{Changes}
-use Rattle.recovery_sender.specs.Senders.{parts_in}
+use Rattle.recovery_spaces.specs.Discarded.{is_discarded}
+use Rattle.recovery_spaces.specs.Packets.{Packets, packet_at, without}
+use Rattle.recovery_spaces.specs.Spaces.{space_of, packets_of}
+use Rattle.recovery_history.specs.History.{QueueModel, queue_model}
+use Rattle.recovery_history.specs.RecoveryState.{RecoveryState}
+use Rattle.recovery_history.specs.Unlogged.{UnloggedState, plain_of}
+use Rattle.recovery_history.specs.Transitions.{StateTransition}
+use Rattle.recovery_sender.specs.Senders.{state_in}
 use Rattle.recovery_sender.specs.Spaces.{packets_in}
 use Rattle.recovery_sender.specs.declared.sender.Sender.{Sender}
-use Rattle.recovery_sender.specs.Judging.{ended, congested, is_reported}
-use Rattle.recovery_sender.specs.Steps.{Step, Leads, Goes, told, occurs, loss_time, marked}
+use Rattle.recovery_sender.specs.Detection.{ended, congested, is_reported}
+use Rattle.recovery_sender.specs.Steps.{SenderStep, StepsLeadTo, TakesSteps, told, occurs, loss_time, marked}
 
-module _ {F K Q S M P : Type 0} (built : F → ℕ → ℕ → K) (words : ControllerWords K) (queue : QueueMeaning Q S M P) where
+module _ {F K Q S M P : Type 0} (built : F → ℕ → ℕ → K) (words : ControllerSemantics K)
+    (queue : QueueModel Q S M P) where
   -- steps behind steps
-  pub leads_on : (steps more : List (Step Q S M P)) (old between new : Parts K P M)
-      → Leads built words queue steps old between → Leads built words queue more between new
-      → Leads built words queue (steps ++ more) old new
-  leads_on [] more old between new first second = subst (λ at. Leads built words queue more at new) first second
+  pub leads_on : (steps more : List (SenderStep Q S M P)) (old between new : RecoveryState K P M)
+      → StepsLeadTo built words queue steps old between → StepsLeadTo built words queue more between new
+      → StepsLeadTo built words queue (steps ++ more) old new
+  leads_on [] more old between new first second = subst (λ at. StepsLeadTo built words queue more at new) first second
   leads_on (told event reply ∷ steps) more old between new first second =
       (first.0, first.1, first.2, leads_on steps more first.0 between new first.3 second)
   leads_on (occurs event ∷ steps) more old between new first second =
@@ -36,20 +37,20 @@ module _ {F K Q S M P : Type 0} (built : F → ℕ → ℕ → K) (words : Contr
       leads_on steps more _ between new first second
 
   -- a packet was told lost: it is tracked no more
-  taken_in : (space : SpaceId) (number : ℕ) (answer : Answer Q) (old new : Parts K P M)
-      → Changes queue old (Lost space number) (Ok answer) new
+  taken_in : (space : SpaceId) (number : ℕ) (answer : Answer Q) (old new : RecoveryState K P M)
+      → StateTransition queue old (Lost space number) (Ok answer) new
       → packets_of (space_of space new.spaces) ≡ without (packets_of (space_of space old.spaces)) number
   taken_in Initial number answer old new changes = ap packets_of (changes.steps.spaces Initial)
   taken_in Handshake number answer old new changes = ap packets_of (changes.steps.spaces Handshake)
   taken_in Data number answer old new changes = ap packets_of (changes.steps.spaces Data)
 
-  pub packets_lost : (space : SpaceId) (number : ℕ) (answer : Answer Q) (old new : Parts K P M)
-      → Changes queue old (Lost space number) (Ok answer) new → packet_at (packets_in old space) number ≢ None
+  pub packets_lost : (space : SpaceId) (number : ℕ) (answer : Answer Q) (old new : RecoveryState K P M)
+      → StateTransition queue old (Lost space number) (Ok answer) new → packet_at (packets_in old space) number ≢ None
       → packets_in new space ≡ without (packets_in old space) number
   packets_lost space number answer old new changes tracked = by_test (is_discarded space old.discarded) refl
     where
       same : is_discarded space new.discarded ≡ is_discarded space old.discarded
-      same = ap (λ (plain : Plain). is_discarded space plain.discarded) changes.plain
+      same = ap (λ (plain : UnloggedState). is_discarded space plain.discarded) changes.plain
 
       by_test : (test : Bool) → is_discarded space old.discarded ≡ test
           → packets_in new space ≡ without (packets_in old space) number
@@ -63,7 +64,7 @@ none_ended (number ∷ numbers) some none = absurd cc
 -- an event that was answered so occurred
 module _ {F Q R C K S M P : Type 0} {f : _} {c : _} {q : _} {m : _} {r : _} where
   pub occurred : (event : Event Q S M P) (answer : Answer Q) (old new : Sender F Q R C K S M P f c q m r)
-      → Goes (told event (Ok answer) ∷ []) old new → Goes (occurs event ∷ []) old new
+      → TakesSteps (told event (Ok answer) ∷ []) old new → TakesSteps (occurs event ∷ []) old new
   occurred event answer old new goes = let leads = goes.leads in record {
     leads = (answer, leads.0, leads.1, leads.2, leads.3);
     variables = goes.variables;
@@ -71,48 +72,48 @@ module _ {F Q R C K S M P : Type 0} {f : _} {c : _} {q : _} {m : _} {r : _} wher
 
   -- that all losses were told is answered with whether a black hole is reported
   pub some_ended : (now : ℕ) (answer : Answer Q) (numbers : List ℕ) (old new : Sender F Q R C K S M P f c q m r)
-      → false ≡ (length numbers == 0) → Goes (told (LossesDone now) (Ok answer) ∷ []) old new
-      → Goes (ended now (is_reported answer) numbers) old new
+      → false ≡ (length numbers == 0) → TakesSteps (told (LossesDone now) (Ok answer) ∷ []) old new
+      → TakesSteps (ended now (is_reported answer) numbers) old new
   some_ended now answer [] old new some goes = absurd (true≢false (sym some))
   some_ended now answer (number ∷ numbers) old new some goes =
       let is = goes.leads.1.told in
-      subst (λ (a : Answer Q). Goes (told (LossesDone now) (Ok a) ∷ []) old new)
+      subst (λ (a : Answer Q). TakesSteps (told (LossesDone now) (Ok a) ∷ []) old new)
       (is ∙ ap (λ (a : Answer Q). BlackHole (is_reported a)) (sym is)) goes
 
 -- ---- what leaves the packets of the spaces as they are
 
-module _ {K Q S M P : Type 0} (queue : QueueMeaning Q S M P) (space : SpaceId) (answer : Answer Q)
-    (old new : Parts K P M) where
+module _ {K Q S M P : Type 0} (queue : QueueModel Q S M P) (space : SpaceId) (answer : Answer Q)
+    (old new : RecoveryState K P M) where
   packets_same : ((at : SpaceId) → space_of at new.spaces ≡ space_of at old.spaces) → plain_of new ≡ plain_of old
       → packets_in new space ≡ packets_in old space
   packets_same spaces plain =
-      let here = spaces space in let there = ap (λ (p : Plain). is_discarded space p.discarded) plain in
+      let here = spaces space in let there = ap (λ (p : UnloggedState). is_discarded space p.discarded) plain in
       grind (arith, here, there)
 
-  done_same : (now : ℕ) → Changes queue old (LossesDone now) (Ok answer) new
+  done_same : (now : ℕ) → StateTransition queue old (LossesDone now) (Ok answer) new
       → packets_in new space ≡ packets_in old space
   done_same now changes = packets_same changes.steps.spaces changes.plain
 
   congestion_same : (now sent : ℕ) (persistent : Bool) (bytes : ℕ)
-      → Changes queue old (Congestion now sent persistent bytes) (Ok answer) new
+      → StateTransition queue old (Congestion now sent persistent bytes) (Ok answer) new
       → packets_in new space ≡ packets_in old space
   congestion_same now sent persistent bytes changes = packets_same changes.steps.spaces changes.plain
 
 module _ {F Q R C K S M P : Type 0} {f : _} {c : _} {q : _} {m : _} {r : _} (space : SpaceId)
     (old new : Sender F Q R C K S M P f c q m r) where
-  abbrev tracked : Parts K P M → Packets P M
+  abbrev tracked : RecoveryState K P M → Packets P M
   tracked recovery = packets_in recovery space
 
-  pub packets_ended : (now : ℕ) (reported : Bool) (numbers : List ℕ) → Goes (ended now reported numbers) old new
-      → tracked (parts_in new) ≡ tracked (parts_in old)
+  pub packets_ended : (now : ℕ) (reported : Bool) (numbers : List ℕ) → TakesSteps (ended now reported numbers) old new
+      → tracked (state_in new) ≡ tracked (state_in old)
   packets_ended now reported [] goes = ap tracked goes.leads
   packets_ended now reported (number ∷ numbers) goes = let leads = goes.leads in ap tracked leads.3
-      ∙ done_same (queue_meaning q.contents q.words q.blank) space (BlackHole reported) (parts_in old) leads.0 now
+      ∙ done_same (queue_model q.contents q.words q.blank) space (BlackHole reported) (state_in old) leads.0 now
       leads.1
 
   pub packets_congested : (now : ℕ) (persistent : Bool) (bytes : ℕ) (sent : Option ℕ)
-      → Goes (congested now persistent bytes sent) old new → tracked (parts_in new) ≡ tracked (parts_in old)
+      → TakesSteps (congested now persistent bytes sent) old new → tracked (state_in new) ≡ tracked (state_in old)
   packets_congested now persistent bytes None goes = ap tracked goes.leads
   packets_congested now persistent bytes (Some sent) goes = let leads = goes.leads in ap tracked leads.4
-      ∙ congestion_same (queue_meaning q.contents q.words q.blank) space leads.0 (parts_in old) leads.1 now sent
+      ∙ congestion_same (queue_model q.contents q.words q.blank) space leads.0 (state_in old) leads.1 now sent
       persistent bytes leads.2

@@ -8,36 +8,36 @@ use Rattle.recovery_base.specs.declared.timer.Timer.TheVariants.{LossDetection}
 use Rattle.recovery_base.specs.declared.timer.TimerTable.{TimerTable}
 use Rattle.recovery_base.specs.Spaces.{same_space}
 use Rattle.recovery_base.specs.Timers.{moment}
-use Rattle.recovery_congestion.specs.Controllers.{ControllerWords}
+use Rattle.recovery_congestion.specs.Controllers.{ControllerSemantics}
 use Rattle.recovery_congestion.specs.Rtt.{Rtt, pto_base_of}
 use Rattle.recovery_events.specs.declared.event.Answer.{Answer}
 use Rattle.recovery_events.specs.declared.event.Answer.TheVariants as answers
 use Rattle.recovery_events.specs.declared.event.Event.{Event}
 use Rattle.recovery_events.specs.declared.event.Event.TheVariants.{Received, AcksSent, AckDelayTimeout, TakePending, PacerCheck, NewId, NextId, InitialId, IssueIds, IdTimeout, PeerRetired, NextTimeout, InFlight, CheckAck, DatagramIn, Transmit}
-use Rattle.recovery_ledger.specs.declared.discarded.DiscardedSpaces.{DiscardedSpaces}
-use Rattle.recovery_ledger.specs.Discarded.{is_discarded}
-use Rattle.recovery_ledger.specs.Packets.{Packets}
-use Rattle.recovery_ledger.specs.SpaceLog.{SpaceEntry, heard, heard_again, takes_pending, ack_goes, ack_is_late}
-use Rattle.recovery_ledger.specs.Spaces.{Space, SpaceStep, space_of, packets_of}
+use Rattle.recovery_spaces.specs.declared.discarded.DiscardedSpaces.{DiscardedSpaces}
+use Rattle.recovery_spaces.specs.Discarded.{is_discarded}
+use Rattle.recovery_spaces.specs.Packets.{Packets}
+use Rattle.recovery_spaces.specs.SpaceLog.{SpaceEntry, heard, heard_again, takes_pending, ack_goes, ack_is_late}
+use Rattle.recovery_spaces.specs.Spaces.{Space, SpaceStep, space_of, packets_of}
 use Rattle.recovery_losses.specs.declared.due.Due.{Due}
 use Rattle.recovery_losses.specs.declared.due.Due.TheVariants.{Losses, Probes}
 use Rattle.recovery_losses.specs.Timeouts.{probe_timeout_of}
 use Rattle.recovery_paths.specs.declared.path_pair.PathName.TheVariants.{Current}
-use Rattle.recovery_paths.specs.PathLog.{OfPaths, PathKnown, paths_known}
+use Rattle.recovery_paths.specs.PathLog.{PerPath, PathReplyInputs, paths_known}
 use Rattle.recovery_paths.specs.PathStates.{PathState, is_blocked}
-use Rattle.recovery_queue.specs.Queues.{QueueWords}
+use Rattle.recovery_queue.specs.Queues.{QueueSemantics}
 use Rattle.recovery_history.specs.Entries.{here}
-use Rattle.recovery_history.specs.History.{QueueMeaning}
-use Rattle.recovery_history.specs.Logs.{StepBy}
-use Rattle.recovery_history.specs.Parts.{Parts}
-use Rattle.recovery_history.specs.Plain.{Plain, plain_of}
-use Rattle.recovery_history.specs.Changes.{Changes}
+use Rattle.recovery_history.specs.History.{QueueModel}
+use Rattle.recovery_history.specs.Logs.{OptionalStep}
+use Rattle.recovery_history.specs.RecoveryState.{RecoveryState}
+use Rattle.recovery_history.specs.Unlogged.{UnloggedState, plain_of}
+use Rattle.recovery_history.specs.Transitions.{StateTransition}
 use Rattle.recovery_losses.specs.declared.variables.Variables.{Variables}
 use Rattle.recovery_sender.specs.declared.sender.packets.Transmission.{Transmission}
 use Rattle.recovery_sender.specs.declared.sender.packets.Transmission.TheVariants as transmissions
 use Rattle.recovery_sender.specs.Calls.{transmit_steps}
-use Rattle.recovery_sender.specs.Leaving.{leaves_timer}
-use Rattle.recovery_sender.specs.Steps.{Leads}
+use Rattle.recovery_sender.specs.TimerUnchanged.{leaves_timer}
+use Rattle.recovery_sender.specs.Steps.{StepsLeadTo}
 use Rattle.recovery_losses.specs.Variables.{ack_delay_in}
 use Rattle.recovery_sender.specs.Timer.{behind, deadlock_due, due_of, has_eliciting, loss_due, probe_due, probe_in, pto_of, soonest, waits, TimerIsSet}
 
@@ -58,7 +58,7 @@ IsQuiet ack_goes = Unit {0}
 IsQuiet ack_is_late = Unit {0}
 IsQuiet entry = ⊥
 
-module _ {P M S : Type 0} (words : QueueWords P S) (old new : Space P M) where
+module _ {P M S : Type 0} (words : QueueSemantics P S) (old new : Space P M) where
   quiet_step : (entry : SpaceEntry P M) → IsQuiet entry → SpaceStep words entry old new → read_of new ≡ read_of old
   quiet_step (heard now number eliciting) quiet step = ap read_of step.others
   quiet_step (heard_again number) quiet step = ap read_of step.1
@@ -68,7 +68,7 @@ module _ {P M S : Type 0} (words : QueueWords P S) (old new : Space P M) where
   quiet_step entry quiet step = absurd quiet
 
   quiet_where : (entry : SpaceEntry P M) → IsQuiet entry → (there : Bool)
-      → StepBy (SpaceStep words) (if there then Some entry else None) old new → read_of new ≡ read_of old
+      → OptionalStep (SpaceStep words) (if there then Some entry else None) old new → read_of new ≡ read_of old
   quiet_where entry quiet true step = quiet_step entry quiet step
   quiet_where entry quiet false step = ap read_of step
 
@@ -103,7 +103,7 @@ soonest_same one other same = rw (same Initial, same Handshake, same Data) refl
 abbrev either_due : Option (ℕ × Due) → Bool → Option (ℕ × Due) → Option (ℕ × Due) → Option (ℕ × Due)
 either_due losses blocked probes deadlock = option_or losses (if blocked then None else option_or probes deadlock)
 
-module _ {K P M : Type 0} (variables : Variables) (old new : Parts K P M)
+module _ {K P M : Type 0} (variables : Variables) (old new : RecoveryState K P M)
     (spaces : (space : SpaceId) → read_of (space_of space new.spaces) ≡ read_of (space_of space old.spaces))
     (discarded : new.discarded ≡ old.discarded)
     (rtt : new.paths.current.state.rtt ≡ old.paths.current.state.rtt)
@@ -129,7 +129,7 @@ module _ {K P M : Type 0} (variables : Variables) (old new : Parts K P M)
       go false false =
           probe_same (space_of space new.spaces) (space_of space old.spaces) (spaces space) space _ _ (pto_same space)
 
-  abbrev with_seen : DiscardedSpaces × Rtt → Parts K P M
+  abbrev with_seen : DiscardedSpaces × Rtt → RecoveryState K P M
   with_seen seen = record old {
     discarded = seen.0;
     paths = record old.paths {
@@ -162,10 +162,10 @@ module _ {K P M : Type 0} (variables : Variables) (old new : Parts K P M)
 
 -- ---- by events
 
-abbrev plain_same : Plain → DiscardedSpaces × TimerTable
+abbrev plain_same : UnloggedState → DiscardedSpaces × TimerTable
 plain_same plain = (plain.discarded, plain.timers)
 
-module _ {K P M : Type 0} (variables : Variables) (old new : Parts K P M) where
+module _ {K P M : Type 0} (variables : Variables) (old new : RecoveryState K P M) where
   same_set : ((space : SpaceId) → read_of (space_of space new.spaces) ≡ read_of (space_of space old.spaces))
       → new.paths.current.state.rtt ≡ old.paths.current.state.rtt
       → is_blocked new.paths.current.state 1 ≡ is_blocked old.paths.current.state 1
@@ -179,7 +179,7 @@ module _ {K P M : Type 0} (variables : Variables) (old new : Parts K P M) where
       → TimerIsSet old variables → TimerIsSet new variables
   by_spaces spaces paths plain =
       let state : new.paths.current.state ≡ old.paths.current.state =
-      ap (λ (known : OfPaths (PathKnown K)). known.current.state) paths in
+      ap (λ (known : PerPath (PathReplyInputs K)). known.current.state) paths in
       same_set spaces (ap (λ (state : PathState K). state.rtt) state)
       (ap (λ (state : PathState K). is_blocked state 1) state) plain
 
@@ -188,15 +188,16 @@ module _ {K P M : Type 0} (variables : Variables) (old new : Parts K P M) where
       → is_blocked new.paths.current.state 1 ≡ is_blocked old.paths.current.state 1
   unblocked before after = rw (before, after) refl
 
-module _ {K Q S M P : Type 0} (queue : QueueMeaning Q S M P) (variables : Variables) (old new : Parts K P M) where
+module _ {K Q S M P : Type 0} (queue : QueueModel Q S M P) (variables : Variables) (old new : RecoveryState K P M) where
   quietly : (space : SpaceId) (entry : SpaceEntry P M) → IsQuiet entry → ((there : SpaceId)
-      → StepBy (SpaceStep queue.words) (here space there entry) (space_of there old.spaces) (space_of there new.spaces))
+      → OptionalStep (SpaceStep queue.words) (here space there entry) (space_of there old.spaces)
+          (space_of there new.spaces))
       → (there : SpaceId) → read_of (space_of there new.spaces) ≡ read_of (space_of there old.spaces)
   quietly space entry quiet steps there = quiet_where queue.words (space_of there old.spaces)
       (space_of there new.spaces) entry quiet (same_space space there) (steps there)
 
   pub left_by : (event : Event Q S M P) (answer : Answer Q) → leaves_timer event ≡ true
-      → Changes queue old event (Ok answer) new → TimerIsSet old variables → TimerIsSet new variables
+      → StateTransition queue old event (Ok answer) new → TimerIsSet old variables → TimerIsSet new variables
   left_by (Received space now number eliciting) (answers.New arm) is changes =
       by_spaces variables old new (quietly space (heard now number eliciting) tt changes.steps.spaces)
       changes.steps.paths (ap plain_same changes.plain)
@@ -213,7 +214,7 @@ module _ {K Q S M P : Type 0} (queue : QueueMeaning Q S M P) (variables : Variab
       by_spaces variables old new (quietly space takes_pending tt changes.steps.spaces) changes.steps.paths
       (ap plain_same changes.plain)
   left_by (PacerCheck now bytes) answer is changes =
-      let asked = ap (λ (known : OfPaths (PathKnown K)). known.current.state) changes.steps.paths in
+      let asked = ap (λ (known : PerPath (PathReplyInputs K)). known.current.state) changes.steps.paths in
       same_set variables old new (λ there. ap read_of (changes.steps.spaces there))
       (ap (λ (state : PathState K). state.rtt) asked) (ap (λ (state : PathState K). is_blocked state 1) asked)
       (ap plain_same changes.plain)
@@ -247,10 +248,11 @@ module _ {K Q S M P : Type 0} (queue : QueueMeaning Q S M P) (variables : Variab
         same_set variables old new (λ there. ap read_of (spaces there)) rtt
         (unblocked variables old new unlimited (validated ∙ unlimited)) (ap plain_same plain)
 
-    abbrev current_of : OfPaths (PathKnown K) → PathState K
+    abbrev current_of : PerPath (PathReplyInputs K) → PathState K
     current_of known = known.current.state
 
-    pub received_in : (bytes : ℕ) (answer : Answer Q) → Changes queue old (DatagramIn Current bytes) (Ok answer) new
+    pub received_in : (bytes : ℕ) (answer : Answer Q) → StateTransition queue old (DatagramIn Current bytes)
+        (Ok answer) new
         → TimerIsSet old variables → TimerIsSet new variables
     received_in bytes answer changes =
         let state = ap current_of changes.steps.paths in
@@ -259,7 +261,7 @@ module _ {K Q S M P : Type 0} (queue : QueueMeaning Q S M P) (variables : Variab
 
     transmitted_in : (now bytes : ℕ) (checked : Bool) (answer : Answer Q)
         → (answer ≡ answers.Transmitted) ⊎ ((until : ℕ) × (answer ≡ answers.Delayed until))
-        → Changes queue old (Transmit now bytes checked) (Ok answer) new
+        → StateTransition queue old (Transmit now bytes checked) (Ok answer) new
         → TimerIsSet old variables → TimerIsSet new variables
     transmitted_in now bytes true answers.Transmitted either changes =
         let state = ap current_of changes.steps.paths in
@@ -277,10 +279,10 @@ module _ {K Q S M P : Type 0} (queue : QueueMeaning Q S M P) (variables : Variab
     transmitted_in now bytes true answer (inr delayed) changes =
         let is = delayed.1 in absurd cc
 
-module _ {F K Q S M P : Type 0} (built : F → ℕ → ℕ → K) (words : ControllerWords K) (queue : QueueMeaning Q S M P)
-    (variables : Variables) (old new : Parts K P M) (unlimited : old.paths.current.state.validated ≡ true) where
+module _ {F K Q S M P : Type 0} (built : F → ℕ → ℕ → K) (words : ControllerSemantics K) (queue : QueueModel Q S M P)
+    (variables : Variables) (old new : RecoveryState K P M) (unlimited : old.paths.current.state.validated ≡ true) where
   pub transmitted_left : (now bytes : ℕ) (checked : Bool) (sent : Transmission)
-      → Leads built words queue (transmit_steps now bytes checked sent) old new
+      → StepsLeadTo built words queue (transmit_steps now bytes checked sent) old new
       → TimerIsSet old variables → TimerIsSet new variables
   transmitted_left now bytes checked transmissions.Transmitted (between, changes, extends, is) set = rw is
       (transmitted_in queue variables old between unlimited now bytes checked _ (inl refl) changes set)

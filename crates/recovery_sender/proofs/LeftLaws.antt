@@ -6,17 +6,17 @@ use Rattle.recovery_events.specs.declared.event.Answer.TheVariants.{Done}
 use Rattle.recovery_events.specs.declared.event.Event.{Event}
 use Rattle.recovery_events.specs.declared.event.Event.TheVariants.{DatagramIn, PollMtu, Send}
 use Rattle.recovery_paths.specs.declared.path_pair.PathName.TheVariants.{Current}
-use Rattle.recovery_history.specs.Changes.{Changes}
-use Rattle.recovery_history.specs.History.{QueueMeaning, queue_meaning}
-use Rattle.recovery_history.specs.Parts.{Parts}
+use Rattle.recovery_history.specs.Transitions.{StateTransition}
+use Rattle.recovery_history.specs.History.{QueueModel, queue_model}
+use Rattle.recovery_history.specs.RecoveryState.{RecoveryState}
 use Rattle.recovery_sender.specs.declared.sender.Sender.{Sender}
 use Rattle.recovery_losses.specs.declared.variables.Variables.{Variables}
 use Rattle.recovery_sender.specs.declared.sender.packets.Transmission.{Transmission}
 use Rattle.recovery_losses.specs.Variables.{based}
 use Rattle.recovery_sender.specs.Calls.{goes_out, sent_at, to_send, transmit_steps}
-use Rattle.recovery_sender.specs.Leaving.{leaves_timer}
-use Rattle.recovery_sender.specs.Senders.{parts_in}
-use Rattle.recovery_sender.specs.Steps.{told, Goes}
+use Rattle.recovery_sender.specs.TimerUnchanged.{leaves_timer}
+use Rattle.recovery_sender.specs.Senders.{state_in}
+use Rattle.recovery_sender.specs.Steps.{told, TakesSteps}
 use Rattle.recovery_sender.specs.Timer.{TimerIsSet}
 use Rattle.recovery_sender.proofs.LeavingLaws.{left_by, received_in, transmitted_left}
 
@@ -27,9 +27,9 @@ none_sent (Send space now size eliciting largest queue frames) is = absurd (true
 none_sent (PollMtu now) is = absurd (true≢false (sym is))
 none_sent event is = refl
 
-module _ {K Q S M P : Type 0} (queue : QueueMeaning Q S M P) (variables : Variables) (old new : Parts K P M) where
+module _ {K Q S M P : Type 0} (queue : QueueModel Q S M P) (variables : Variables) (old new : RecoveryState K P M) where
   pub event_left : (event : Event Q S M P) (answer : Answer Q) → leaves_timer event ≡ true
-      → Changes queue old event (Ok answer) new → TimerIsSet old variables
+      → StateTransition queue old event (Ok answer) new → TimerIsSet old variables
       → TimerIsSet new (based (sent_at (to_send event) answer) variables)
   event_left event answer leaves changes set = rw (none_sent event leaves) (go (goes_out answer))
     where
@@ -41,19 +41,19 @@ module _ {K Q S M P : Type 0} (queue : QueueMeaning Q S M P) (variables : Variab
 
 module _ {F Q R C K S M P : Type 0} {f : _} {c : _} {q : _} {m : _} {r : _}
     (old new : Sender F Q R C K S M P f c q m r) where
-  pub receives_left : (bytes : ℕ) → Goes (told (DatagramIn Current bytes) (Ok Done) ∷ []) old new
-      → (parts_in old).paths.current.state.validated ≡ true → TimerIsSet (parts_in old) old.variables
-      → TimerIsSet (parts_in new) new.variables
+  pub receives_left : (bytes : ℕ) → TakesSteps (told (DatagramIn Current bytes) (Ok Done) ∷ []) old new
+      → (state_in old).paths.current.state.validated ≡ true → TimerIsSet (state_in old) old.variables
+      → TimerIsSet (state_in new) new.variables
   receives_left bytes goes unlimited set =
       let leads = goes.leads in
-      subst (λ (parts : Parts K P M). TimerIsSet parts new.variables) (sym leads.3)
-      (rw goes.variables (received_in (queue_meaning q.contents q.words q.blank) old.variables (parts_in old)
+      subst (λ (parts : RecoveryState K P M). TimerIsSet parts new.variables) (sym leads.3)
+      (rw goes.variables (received_in (queue_model q.contents q.words q.blank) old.variables (state_in old)
       leads.0 unlimited bytes Done leads.1 set))
 
   pub transmits_left : (now bytes : ℕ) (checked : Bool) (sent : Transmission)
-      → Goes (transmit_steps now bytes checked sent) old new
-      → (parts_in old).paths.current.state.validated ≡ true → TimerIsSet (parts_in old) old.variables
-      → TimerIsSet (parts_in new) new.variables
+      → TakesSteps (transmit_steps now bytes checked sent) old new
+      → (state_in old).paths.current.state.validated ≡ true → TimerIsSet (state_in old) old.variables
+      → TimerIsSet (state_in new) new.variables
   transmits_left now bytes checked sent goes unlimited set =
-      rw goes.variables (transmitted_left f.built c.words (queue_meaning q.contents q.words q.blank) old.variables
-      (parts_in old) (parts_in new) unlimited now bytes checked sent goes.leads set)
+      rw goes.variables (transmitted_left f.built c.words (queue_model q.contents q.words q.blank) old.variables
+      (state_in old) (state_in new) unlimited now bytes checked sent goes.leads set)

@@ -10,20 +10,20 @@ use Rattle.recovery_events.specs.declared.event.Answer.TheVariants as answers
 use Rattle.recovery_events.specs.declared.event.Answer.TheVariants.{Probe}
 use Rattle.recovery_events.specs.declared.event.Event.{Event}
 use Rattle.recovery_events.specs.declared.event.Event.TheVariants.{Send, PollMtu}
-use Rattle.recovery_ledger.specs.Discarded.{is_discarded}
-use Rattle.recovery_ledger.specs.Packets.{Packet, packet_at}
-use Rattle.recovery_ledger.specs.Tracked.{Sent}
+use Rattle.recovery_spaces.specs.Discarded.{is_discarded}
+use Rattle.recovery_spaces.specs.Packets.{Packet, packet_at}
+use Rattle.recovery_spaces.specs.Tracked.{SentState}
 use Rattle.recovery_history.specs.declared.config.RecoveryConfig.{RecoveryConfig}
-use Rattle.recovery_history.specs.History.{AtEach, Beginning, History, Reply, begins, queue_meaning}
-use Rattle.recovery_history.specs.Past.{Reached}
+use Rattle.recovery_history.specs.History.{AtEach, Beginning, History, Reply, begins, queue_model}
+use Rattle.recovery_history.specs.Reachability.{ReachedBy}
 use Rattle.recovery_history.specs.Promises.Tracked.{is_tracked}
-use Rattle.recovery_history.specs.Told.{Told}
+use Rattle.recovery_history.specs.RepliesAfter.{RepliesAfter}
 use Rattle.recovery_history.proofs.FieldLaws.{IsSaid, said_found, said_then, said_told}
 use Rattle.recovery_history.proofs.Runs.{kept_after}
 use Rattle.recovery_history.proofs.TrackedLaws.{AllTracked, keeps_tracked, none_tracked, sent_in, tracked_found}
 use Rattle.recovery_sender.specs.declared.sender.Sender.{Sender}
 use Rattle.recovery_sender.specs.Promises.Lost.{sent_at}
-use Rattle.recovery_sender.specs.Senders.{parts_in}
+use Rattle.recovery_sender.specs.Senders.{state_in}
 use Rattle.recovery_sender.specs.Spaces.{packets_in}
 
 -- ---- when a packet went out goes with its number
@@ -36,7 +36,7 @@ module _ {F K Q S M P : Type 0} (beginning : Beginning F K Q S M P) (space : Spa
   Timed history = IsSaid time_in (sent_at space history) (sent_in beginning history space)
 
   timed_after : (history : History Q S M P) (event : Event Q S M P) (reply : Reply Q)
-      → Told beginning history event reply → Timed history → Timed ((event, reply) ∷ history)
+      → RepliesAfter beginning history event reply → Timed history → Timed ((event, reply) ∷ history)
   timed_after history event reply told timed =
       said_told beginning space time_in (λ contents packet. refl) history (sent_at space history) timed event reply
       (sent_at space ((event, reply) ∷ history)) told (same event reply)
@@ -50,8 +50,8 @@ module _ {F K Q S M P : Type 0} (beginning : Beginning F K Q S M P) (space : Spa
       same (PollMtu now) (Ok (Probe number size)) n = grind (arith, nat_tests)
       same event reply n = refl
 
-  pub all_timed : (history : History Q S M P) → AtEach (Told beginning) history → Timed history
-  all_timed = kept_after (Told beginning) Timed timed_after tt
+  pub all_timed : (history : History Q S M P) → AtEach (RepliesAfter beginning) history → Timed history
+  all_timed = kept_after (RepliesAfter beginning) Timed timed_after tt
 
 -- ---- what is tracked
 
@@ -62,21 +62,22 @@ some_iff (Some found) tracked is = ((λ other. sym is), λ holds none. none-some
 
 module _ {F Q R C K S M P : Type 0} {f : _} {c : _} {q : _} {m : _} {r : _} (sender : Sender F Q R C K S M P f c q m r)
     (config : RecoveryConfig F) (start : ℕ) (random : Stream) (past : History Q S M P)
-    (came : Reached (begins f.built c.words (queue_meaning q.contents q.words q.blank) config start random) past
-    (parts_in sender)) (space : SpaceId) (kept : is_discarded space (parts_in sender).discarded ≡ false) where
+    (came : ReachedBy (begins f.built c.words (queue_model q.contents q.words q.blank) config start random) past
+    (state_in sender)) (space : SpaceId) (kept : is_discarded space (state_in sender).discarded ≡ false) where
   abbrev beginning : Beginning F K Q S M P
-  beginning = begins f.built c.words (queue_meaning q.contents q.words q.blank) config start random
+  beginning = begins f.built c.words (queue_model q.contents q.words q.blank) config start random
 
-  packets_by : packets_in (parts_in sender) space ≡ (sent_in beginning past space).tracked
-  packets_by = rw kept (ap (λ (sent : Sent P M). sent.tracked) (came.left.spaces space).sent)
+  packets_by : packets_in (state_in sender) space ≡ (sent_in beginning past space).tracked
+  packets_by = rw kept (ap (λ (sent : SentState P M). sent.tracked) (came.left.spaces space).sent)
 
-  pub tracked_by : (n : ℕ) → (packet_at (packets_in (parts_in sender) space) n ≢ None)
+  pub tracked_by : (n : ℕ) → (packet_at (packets_in (state_in sender) space) n ≢ None)
       ↔ (is_tracked space n past ≡ true)
-  tracked_by n = some_iff (packet_at (packets_in (parts_in sender) space) n) (is_tracked space n past) (rw packets_by
-      (tracked_found beginning past (kept_after (Told beginning) (AllTracked beginning) (keeps_tracked beginning)
+  tracked_by n = some_iff (packet_at (packets_in (state_in sender) space) n) (is_tracked space n past) (rw packets_by
+      (tracked_found beginning past (kept_after (RepliesAfter beginning) (AllTracked beginning)
+          (keeps_tracked beginning)
       (none_tracked beginning) past came.told) space n))
 
-  pub sent_by_past : (n : ℕ) (packet : Packet P M) → packet_at (packets_in (parts_in sender) space) n ≡ Some packet
+  pub sent_by_past : (n : ℕ) (packet : Packet P M) → packet_at (packets_in (state_in sender) space) n ≡ Some packet
       → packet.time_sent ≡ sent_at space past n
   sent_by_past n packet is = said_found time_in (sent_at space past) (sent_in beginning past space).next
       (sent_in beginning past space).tracked (all_timed beginning space past came.told) n packet

@@ -4,23 +4,23 @@ use Rattle.std.proofs.lemmas.Bool.Decides.{eqb_tells}
 use Rattle.std.proofs.lemmas.Option.{none-some, same_Some}
 use Rattle.std.specs.Global.{Vec}
 use Rattle.recovery_base.specs.declared.below.SpaceId.{SpaceId}
-use Rattle.recovery_ledger.specs.Discarded.{is_discarded}
-use Rattle.recovery_ledger.specs.Packets.{Packet, Packets, packet_at}
-use Rattle.recovery_losses.specs.declared.looks.Look.{Look}
-use Rattle.recovery_losses.specs.Losses.{IsLost, IsLostBelow, IsOneOf, IsTold, without_all}
+use Rattle.recovery_spaces.specs.Discarded.{is_discarded}
+use Rattle.recovery_spaces.specs.Packets.{Packet, Packets, packet_at}
+use Rattle.recovery_losses.specs.declared.looks.LossPass.{LossPass}
+use Rattle.recovery_losses.specs.Losses.{IsLost, IsLostBelow, IsOneOf, IsDeclaredLost, without_all}
 use Rattle.recovery_losses.proofs.LookLaws.{all_other}
 use Rattle.recovery_losses.specs.declared.frames.Ack.{Ack}
 use Rattle.recovery_sender.specs.declared.sender.acks.Acknowledged.{Acknowledged}
-use Rattle.recovery_sender.specs.declared.sender.acks.Newly.{Newly}
+use Rattle.recovery_sender.specs.declared.sender.acks.NewlyAcked.{NewlyAcked}
 use Rattle.recovery_sender.specs.declared.sender.losses.Losses.{Losses}
 use Rattle.recovery_sender.specs.declared.sender.Sender.{Sender}
-use Rattle.recovery_sender.specs.Acking.{MayTake, TakesAck, TakesNewly}
-use Rattle.recovery_sender.specs.Acks.{AreNewly}
-use Rattle.recovery_sender.specs.Judging.{LossesAre}
-use Rattle.recovery_sender.specs.Promises.Acked.{AcksTracked, LosesAll}
+use Rattle.recovery_sender.specs.Acking.{IsAckAcceptable, ProcessesAck, ProcessesNewlyAcked}
+use Rattle.recovery_sender.specs.Acks.{AreNewlyAcked}
+use Rattle.recovery_sender.specs.Detection.{PassResult}
+use Rattle.recovery_sender.specs.Promises.Acked.{AcksTracked, LosesWholeSpace}
 use Rattle.recovery_sender.specs.Promises.Lost.{IsLostBy, LosesTracked}
-use Rattle.recovery_sender.specs.Promises.Pasts.{ByPasts}
-use Rattle.recovery_sender.specs.Senders.{parts_in}
+use Rattle.recovery_sender.specs.Promises.Pasts.{ForEveryPast}
+use Rattle.recovery_sender.specs.Senders.{state_in}
 use Rattle.recovery_sender.specs.Spaces.{packets_in}
 use Rattle.recovery_sender.proofs.PastLaws.{sent_by_past, tracked_by}
 
@@ -47,8 +47,8 @@ none_left numbers none = elim (eqb_tells numbers.len 0) [
 module _ {F Q R C K S M P : Type 0} {f : _} {c : _} {q : _} {m : _} {r : _} (space : SpaceId) (now : ℕ)
     (ranges : List (ℕ × ℕ)) (ack : Ack) (old new : Sender F Q R C K S M P f c q m r) where
   -- what a frame newly acknowledges is told
-  pub takes_ack : (newly : Newly) (acked : Acknowledged) → MayTake space ranges old newly
-      → TakesNewly space now ranges ack old new newly acked → TakesAck space now ranges ack old new acked
+  pub takes_ack : (newly : NewlyAcked) (acked : Acknowledged) → IsAckAcceptable space ranges old newly
+      → ProcessesNewlyAcked space now ranges ack old new newly acked → ProcessesAck space now ranges ack old new acked
   takes_ack newly acked may takes = record {
     whole = may.whole;
     sent = may.sent;
@@ -81,8 +81,8 @@ probed_or_not number (Some probe) = elim (eqb_tells probe number) [
   | inr apart ↦ inr (λ is. apart.1 (same_Some probe number is))
 ]
 
-told_or_not : (numbers : List ℕ) (probe : Option ℕ) (number : ℕ) → IsTold numbers probe number
-    ⊎ (IsTold numbers probe number → ⊥)
+told_or_not : (numbers : List ℕ) (probe : Option ℕ) (number : ℕ) → IsDeclaredLost numbers probe number
+    ⊎ (IsDeclaredLost numbers probe number → ⊥)
 told_or_not numbers probe number = elim (one_or_not number numbers) [
   | inl there ↦ inl (inl there)
   | inr other ↦ elim (probed_or_not number probe) [
@@ -91,7 +91,7 @@ told_or_not numbers probe number = elim (one_or_not number numbers) [
   ]
 ]
   where
-    neither : (IsOneOf number numbers → ⊥) → (probe ≡ Some number → ⊥) → IsTold numbers probe number → ⊥
+    neither : (IsOneOf number numbers → ⊥) → (probe ≡ Some number → ⊥) → IsDeclaredLost numbers probe number → ⊥
     neither other apart (inl there) = other there
     neither other apart (inr probed) = apart probed
 
@@ -107,11 +107,11 @@ found_or_not {P} {M} packets number other = by (packet_at packets number) refl
 -- ---- by each past
 
 module _ {F Q R C K S M P : Type 0} {f : _} {c : _} {q : _} {m : _} {r : _} (space : SpaceId)
-    (sender : Sender F Q R C K S M P f c q m r) (kept : is_discarded space (parts_in sender).discarded ≡ false) where
+    (sender : Sender F Q R C K S M P f c q m r) (kept : is_discarded space (state_in sender).discarded ≡ false) where
   -- what a frame newly acknowledges
   pub acks_tracked : (ranges : List (ℕ × ℕ)) (numbers : List ℕ) (elicits : Bool)
-      → AreNewly (packets_in (parts_in sender) space) ranges 0 numbers elicits
-      → ByPasts sender (AcksTracked space ranges numbers)
+      → AreNewlyAcked (packets_in (state_in sender) space) ranges 0 numbers elicits
+      → ForEveryPast sender (AcksTracked space ranges numbers)
   acks_tracked ranges numbers elicits newly config start random past came number =
       let tracked = tracked_by sender config start random past came space kept number in (
         (λ there. (let named = (newly.each number).0 there in (named.0, tracked.0 named.1))),
@@ -120,25 +120,26 @@ module _ {F Q R C K S M P : Type 0} {f : _} {c : _} {q : _} {m : _} {r : _} (spa
 
   -- what is told lost where a space is abandoned
   pub loses_all : (numbers : List ℕ)
-      → ((number : ℕ) → IsOneOf number numbers → packet_at (packets_in (parts_in sender) space) number ≢ None)
-      → without_all (packets_in (parts_in sender) space) numbers ≡ [] → ByPasts sender (LosesAll space numbers)
+      → ((number : ℕ) → IsOneOf number numbers → packet_at (packets_in (state_in sender) space) number ≢ None)
+      → without_all (packets_in (state_in sender) space) numbers ≡ [] → ForEveryPast sender
+          (LosesWholeSpace space numbers)
   loses_all numbers each none config start random past came number =
       let tracked = tracked_by sender config start random past came space kept number in (
         (λ there. tracked.0 (each number there)),
         λ is. elim (one_or_not number numbers) [
           | inl there ↦ there
-          | inr other ↦ absurd (tracked.1 is (sym (all_other (packets_in (parts_in sender) space) numbers number other)
+          | inr other ↦ absurd (tracked.1 is (sym (all_other (packets_in (state_in sender) space) numbers number other)
               ∙ ap (λ packets. packet_at packets number) none))
         ],
       )
 
   -- what a look finds lost
-  pub loses_tracked : (look : Look) (losses : Losses) (time : Option ℕ) → look.space ≡ space
-      → LossesAre look (packets_in (parts_in sender) space) losses time
-      → ByPasts sender (LosesTracked look losses time)
+  pub loses_tracked : (look : LossPass) (losses : Losses) (time : Option ℕ) → look.space ≡ space
+      → PassResult look (packets_in (state_in sender) space) losses time
+      → ForEveryPast sender (LosesTracked look losses time)
   loses_tracked look losses time here are config start random past came = record { told = told; all = all }
     where
-      lost_by : (number : ℕ) → IsLostBelow look (packets_in (parts_in sender) space) number → IsLostBy look past number
+      lost_by : (number : ℕ) → IsLostBelow look (packets_in (state_in sender) space) number → IsLostBy look past number
       lost_by number lost = rw here (
         (tracked_by sender config start random past came space kept number).0
             (λ none. none-some lost.0 (sym none ∙ lost.1.0)),
@@ -147,16 +148,16 @@ module _ {F Q R C K S M P : Type 0} {f : _} {c : _} {q : _} {m : _} {r : _} (spa
             (sent_by_past sender config start random past came space kept number lost.0 lost.1.0) lost.2,
       )
 
-      told : (number : ℕ) → IsTold losses.numbers.items losses.probe number → IsLostBy look past number
+      told : (number : ℕ) → IsDeclaredLost losses.numbers.items losses.probe number → IsLostBy look past number
       told number (inl there) = lost_by number (are.lost.lost number there).0
       told number (inr probed) = lost_by number (are.probe number probed).1
 
-      all : (number : ℕ) → IsLostBy look past number → IsTold losses.numbers.items losses.probe number
+      all : (number : ℕ) → IsLostBy look past number → IsDeclaredLost losses.numbers.items losses.probe number
           ⊎ (due : ℕ) × (time ≡ Some due) × (due ≤ look.at)
       all number (tracked, below, lost) = elim (told_or_not losses.numbers.items losses.probe number) [
         | inl is ↦ inl is
         | inr untold ↦ (
-            let found = found_or_not (packets_in (parts_in sender) space) number
+            let found = found_or_not (packets_in (state_in sender) space) number
             ((tracked_by sender config start random past came space kept number).1 (rw here at tracked)) in
             let sent = sent_by_past sender config start random past came space kept number found.0 found.1 in
             inr (are.earliest.least number found.0 look.at (found.1, below) below untold

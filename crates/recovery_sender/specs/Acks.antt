@@ -4,24 +4,24 @@ use Rattle.recovery_base.specs.declared.below.SpaceId.{SpaceId}
 use Rattle.recovery_events.specs.declared.event.Answer.TheVariants.{Done}
 use Rattle.recovery_events.specs.declared.event.Event.TheVariants.{CheckAck}
 use Rattle.recovery_events.specs.declared.event.Refusal.TheVariants.{BadRange, SpaceDiscarded}
-use Rattle.recovery_ledger.specs.Discarded.{is_discarded}
-use Rattle.recovery_ledger.specs.Packets.{Packet, Packets, packet_at}
-use Rattle.recovery_ledger.specs.Spaces.{space_of, next_number_of}
-use Rattle.recovery_losses.specs.Frames.{are_ranges, largest_of, IsWithin}
-use Rattle.recovery_losses.specs.Losses.{IsOneOf, AreRising}
+use Rattle.recovery_spaces.specs.Discarded.{is_discarded}
+use Rattle.recovery_spaces.specs.Packets.{Packet, Packets, packet_at}
+use Rattle.recovery_spaces.specs.Spaces.{space_of, next_number_of}
+use Rattle.recovery_losses.specs.Frames.{are_ranges, largest_of, IsInAckRanges}
+use Rattle.recovery_losses.specs.Losses.{IsOneOf, AreIncreasing}
 use Rattle.quic_recovery.specs.declared.driver.Recovery.{Recovery}
-use Rattle.quic_recovery.specs.State.{parts_of, OnlyTells}
-use Rattle.recovery_sender.specs.declared.sender.Refused.{Refused}
-use Rattle.recovery_sender.specs.declared.sender.Refused.TheVariants as refused
+use Rattle.quic_recovery.specs.State.{state_of, ReadOnlyTransition}
+use Rattle.recovery_sender.specs.declared.sender.SenderError.{SenderError}
+use Rattle.recovery_sender.specs.declared.sender.SenderError.TheVariants as refused
 
 -- ---- what is newly acknowledged
 
 -- one of them elicits an ACK
-abbrev pub SomeElicits : {P M : Type 0} → Packets P M → List ℕ → Type 0
-SomeElicits packets [] = ⊥
-SomeElicits {P} {M} packets (number ∷ numbers) =
+abbrev pub HasAckEliciting : {P M : Type 0} → Packets P M → List ℕ → Type 0
+HasAckEliciting packets [] = ⊥
+HasAckEliciting {P} {M} packets (number ∷ numbers) =
     ((packet : Packet P M) × (packet_at packets number ≡ Some packet) × IsTrue packet.ack_eliciting)
-    ⊎ SomeElicits packets numbers
+    ⊎ HasAckEliciting packets numbers
 
 -- ---- one range after another, from the lowest
 
@@ -35,59 +35,60 @@ pub record IsFirstIn {P M : Type 0} (packets : Packets P M) (from last : ℕ) (f
   pub first : (number : ℕ) (other : Packet P M) → packet_at packets number ≡ Some other → from ≤ number
       → found.0 ≤ number
 
-abbrev pub NoneIn : {P M : Type 0} → Packets P M → ℕ → ℕ → Type 0
-NoneIn {P} {M} packets from last =
+abbrev pub HasNoneTracked : {P M : Type 0} → Packets P M → ℕ → ℕ → Type 0
+HasNoneTracked {P} {M} packets from last =
     (number : ℕ) (packet : Packet P M) → packet_at packets number ≡ Some packet → from ≤ number → number ≤ last → ⊥
 
 -- the tracked numbers from one on, below an end, stand behind others
-pub record TakesFrom {P M : Type 0} (packets : Packets P M) (first end : ℕ) (before after : List ℕ) (found : Bool)
+pub record TrackedInRange {P M : Type 0} (packets : Packets P M) (first end : ℕ) (before after : List ℕ) (found : Bool)
     : Type 0
   where
-    pub rising : AreRising 0 after end
+    pub rising : AreIncreasing 0 after end
     pub each : (number : ℕ) → IsOneOf number after
         ↔ (IsOneOf number before ⊎ ((first ≤ number) × (number < end) × (packet_at packets number ≢ None)))
-    pub elicits : Decides found (SomeElicits packets after)
+    pub elicits : Decides found (HasAckEliciting packets after)
 
 -- of the ranges from a place on, those numbers that are tracked, rising and below all ranges before that place; and
 -- whether one of them elicits an ACK
-pub record AreNewly {P M : Type 0} (packets : Packets P M) (ranges : List (ℕ × ℕ)) (place : ℕ) (numbers : List ℕ)
+pub record AreNewlyAcked {P M : Type 0} (packets : Packets P M) (ranges : List (ℕ × ℕ)) (place : ℕ) (numbers : List ℕ)
     (found : Bool) : Type 0 where
-  pub rising : (end : ℕ) × AreRising 0 numbers end
-  pub below : (at : ℕ) → at < place → AreRising 0 numbers (get_or ranges at (0, 0)).0
+  pub rising : (end : ℕ) × AreIncreasing 0 numbers end
+  pub below : (at : ℕ) → at < place → AreIncreasing 0 numbers (get_or ranges at (0, 0)).0
   pub each : (number : ℕ) → IsOneOf number numbers
-      ↔ (IsWithin number (drop place ranges) × (packet_at packets number ≢ None))
-  pub elicits : Decides found (SomeElicits packets numbers)
+      ↔ (IsInAckRanges number (drop place ranges) × (packet_at packets number ≢ None))
+  pub elicits : Decides found (HasAckEliciting packets numbers)
 
 -- ---- what a frame is refused for
 
 -- a number of 1-RTT packets that was skipped is acknowledged by none of them (RFC 9000, 21.4)
-abbrev pub AreAllowed : {F Q R C K S M P : Type 0} {f : _} {c : _} {q : _} {m : _} {r : _} → SpaceId → List (ℕ × ℕ)
+abbrev pub AreNotSkipped : {F Q R C K S M P : Type 0} {f : _} {c : _} {q : _} {m : _} {r : _} → SpaceId → List (ℕ × ℕ)
     → Recovery F Q R C K S M P f c q m r → Type 0
-AreAllowed space ranges recovery = (at : ℕ) → at < length ranges →
-    let range = get_or ranges at (0, 0) in OnlyTells (CheckAck space range.0 range.1) recovery (Ok Done)
+AreNotSkipped space ranges recovery = (at : ℕ) → at < length ranges →
+    let range = get_or ranges at (0, 0) in ReadOnlyTransition (CheckAck space range.0 range.1) recovery (Ok Done)
 
 -- a space that is not discarded, and ranges as they should be
-abbrev pub AreWhole : {F Q R C K S M P : Type 0} {f : _} {c : _} {q : _} {m : _} {r : _} → SpaceId → List (ℕ × ℕ)
+abbrev pub IsAckWellFormed : {F Q R C K S M P : Type 0} {f : _} {c : _} {q : _} {m : _} {r : _} → SpaceId → List (ℕ × ℕ)
     → Recovery F Q R C K S M P f c q m r → Type 0
-AreWhole space ranges recovery =
-    (is_discarded space (parts_of recovery).discarded ≡ false) × (are_ranges ranges ≡ true)
+IsAckWellFormed space ranges recovery =
+    (is_discarded space (state_of recovery).discarded ≡ false) × (are_ranges ranges ≡ true)
 
 -- all numbers were sent (RFC 9000, 13.1)
 abbrev pub WereSent : {F Q R C K S M P : Type 0} {f : _} {c : _} {q : _} {m : _} {r : _} → SpaceId → List (ℕ × ℕ)
     → Recovery F Q R C K S M P f c q m r → Type 0
 WereSent space ranges recovery = IfSome (largest_of ranges)
-    (λ largest. largest < next_number_of (space_of space (parts_of recovery).spaces))
+    (λ largest. largest < next_number_of (space_of space (state_of recovery).spaces))
 
 -- a frame may be taken, or it is refused for the first of these: a discarded space, ranges that are none, a number that
 -- was never sent, a number that was skipped
 abbrev pub AckChecked : {F Q R C K S M P : Type 0} {f : _} {c : _} {q : _} {m : _} {r : _} → SpaceId → List (ℕ × ℕ)
-    → Recovery F Q R C K S M P f c q m r → Result (Unit {0}) Refused → Type 0
+    → Recovery F Q R C K S M P f c q m r → Result (Unit {0}) SenderError → Type 0
 AckChecked space ranges recovery (Ok done) =
-    AreWhole space ranges recovery × WereSent space ranges recovery × AreAllowed space ranges recovery
+    IsAckWellFormed space ranges recovery × WereSent space ranges recovery × AreNotSkipped space ranges recovery
 AckChecked space ranges recovery (Err refused.Unsent) =
-    AreWhole space ranges recovery × (WereSent space ranges recovery → ⊥)
+    IsAckWellFormed space ranges recovery × (WereSent space ranges recovery → ⊥)
 AckChecked space ranges recovery (Err (refused.Event refusal)) =
-    (is_discarded space (parts_of recovery).discarded ≡ true) × (refusal ≡ SpaceDiscarded)
-    ⊎ ((is_discarded space (parts_of recovery).discarded ≡ false) × (are_ranges ranges ≡ false) × (refusal ≡ BadRange)
-    ⊎ AreWhole space ranges recovery × WereSent space ranges recovery × (at : ℕ) × (at < length ranges)
-    × (let range = get_or ranges at (0, 0) in OnlyTells (CheckAck space range.0 range.1) recovery (Err refusal)))
+    (is_discarded space (state_of recovery).discarded ≡ true) × (refusal ≡ SpaceDiscarded)
+    ⊎ ((is_discarded space (state_of recovery).discarded ≡ false) × (are_ranges ranges ≡ false) × (refusal ≡ BadRange)
+    ⊎ IsAckWellFormed space ranges recovery × WereSent space ranges recovery × (at : ℕ) × (at < length ranges)
+    × (let range = get_or ranges at (0, 0) in ReadOnlyTransition (CheckAck space range.0 range.1) recovery
+        (Err refusal)))

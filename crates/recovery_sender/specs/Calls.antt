@@ -3,25 +3,25 @@ use Rattle.std.specs.Prelude.{◌≡◌, ℕ, ◌+◌, ◌^◌, ◌||◌, ◌&&�
 use Rattle.std.specs.Option.{option_and_then}
 use Rattle.recovery_base.specs.declared.below.SpaceId.{SpaceId}
 use Rattle.recovery_base.specs.declared.timer.Timer.TheVariants.{LossDetection}
-use Rattle.recovery_congestion.specs.Controllers.{ControllerWords}
+use Rattle.recovery_congestion.specs.Controllers.{ControllerSemantics}
 use Rattle.recovery_events.specs.declared.event.Answer.{Answer}
 use Rattle.recovery_events.specs.declared.event.Answer.TheVariants as answers
 use Rattle.recovery_events.specs.declared.event.Event.{Event}
 use Rattle.recovery_events.specs.declared.event.Event.TheVariants as events
 use Rattle.recovery_events.specs.declared.event.Refusal.TheVariants.{NoMemory, SpaceDiscarded, Overflow}
 use Rattle.rand_core.specs.Stream.{Stream}
-use Rattle.recovery_ledger.specs.Discarded.{is_discarded}
-use Rattle.recovery_ledger.specs.Paths.{counters_of}
-use Rattle.recovery_ledger.specs.Spaces.{space_of}
+use Rattle.recovery_spaces.specs.Discarded.{is_discarded}
+use Rattle.recovery_spaces.specs.Paths.{counters_of}
+use Rattle.recovery_spaces.specs.Spaces.{space_of}
 use Rattle.recovery_paths.specs.PathLog.{paths_marks}
 use Rattle.recovery_paths.specs.PathStates.{PathMarks, is_blocked, path_delay}
 use Rattle.recovery_history.specs.declared.config.RecoveryConfig.{RecoveryConfig}
-use Rattle.recovery_history.specs.Above.{AreFresh, HasNoLossTime}
-use Rattle.recovery_history.specs.History.{Reply, begins, queue_meaning}
-use Rattle.recovery_history.specs.Parts.{Parts}
-use Rattle.recovery_history.specs.Past.{Reached}
-use Rattle.recovery_sender.specs.declared.sender.Refused.{Refused}
-use Rattle.recovery_sender.specs.declared.sender.Refused.TheVariants as refused
+use Rattle.recovery_history.specs.CallerState.{AreMarksFresh, HasNoLossTime}
+use Rattle.recovery_history.specs.History.{Reply, begins, queue_model}
+use Rattle.recovery_history.specs.RecoveryState.{RecoveryState}
+use Rattle.recovery_history.specs.Reachability.{ReachedBy}
+use Rattle.recovery_sender.specs.declared.sender.SenderError.{SenderError}
+use Rattle.recovery_sender.specs.declared.sender.SenderError.TheVariants as refused
 use Rattle.recovery_sender.specs.declared.sender.Sender.{Sender}
 use Rattle.recovery_sender.specs.declared.sender.packets.Transmission.{Transmission}
 use Rattle.recovery_sender.specs.declared.sender.packets.Transmission.TheVariants.{Transmitted, Blocked, Full, Delayed}
@@ -30,12 +30,12 @@ use Rattle.recovery_losses.specs.declared.due.Due.{Due}
 use Rattle.recovery_losses.specs.declared.due.Due.TheVariants.{Losses, Probes, AntiDeadlock}
 use Rattle.recovery_losses.specs.declared.variables.Variables.{Variables}
 use Rattle.recovery_losses.specs.Variables.{based, fresh, is_server, timed_out}
-use Rattle.recovery_sender.specs.Senders.{parts_in}
-use Rattle.recovery_sender.specs.Steps.{Step, told, Goes, Does}
+use Rattle.recovery_sender.specs.Senders.{state_in}
+use Rattle.recovery_sender.specs.Steps.{SenderStep, told, TakesSteps, CompletesCall}
 use Rattle.recovery_sender.specs.Timer.{due_of}
 
 -- the path in use, with this challenge open or none, and with one that is to be sent or none (RFC 9000, 8.2.1)
-abbrev pub challenged : {K P M : Type 0} → Parts K P M → Option ℕ → Bool → PathMarks
+abbrev pub challenged : {K P M : Type 0} → RecoveryState K P M → Option ℕ → Bool → PathMarks
 challenged recovery challenge pending =
     record recovery.paths.current.marks { challenge = challenge; challenge_pending = pending }
 
@@ -46,7 +46,7 @@ abbrev pub paced_to : Option ℕ → Transmission
 paced_to None = Transmitted
 paced_to (Some until) = Delayed until
 
-module _ {K P M : Type 0} (recovery : Parts K P M) where
+module _ {K P M : Type 0} (recovery : RecoveryState K P M) where
   -- the bytes in flight on the path in use (RFC 9002, B.2)
   abbrev pub bytes_in_flight : ℕ
   bytes_in_flight = (counters_of recovery.paths.current.ledger).bytes
@@ -55,7 +55,7 @@ module _ {K P M : Type 0} (recovery : Parts K P M) where
   abbrev pub is_checked : SpaceId → Bool → Bool
   is_checked space in_flight = in_flight && (space_of space recovery.spaces).loss_probes == 0
 
-module _ {K P M : Type 0} (words : ControllerWords K) (recovery : Parts K P M) where
+module _ {K P M : Type 0} (words : ControllerSemantics K) (recovery : RecoveryState K P M) where
   -- how many bytes may be in flight on the path in use (RFC 9002, 7)
   abbrev pub window_of : ℕ
   window_of = words.window recovery.paths.current.state.controller
@@ -73,7 +73,7 @@ module _ {K P M : Type 0} (words : ControllerWords K) (recovery : Parts K P M) w
       else Transmitted
 
   -- a discarded space is refused, and then bytes that the total of the path cannot take
-  abbrev pub transmit_reply : ℕ → ℕ → SpaceId → Bool → Result Transmission Refused
+  abbrev pub transmit_reply : ℕ → ℕ → SpaceId → Bool → Result Transmission SenderError
   transmit_reply now bytes space in_flight =
       if is_discarded space recovery.discarded then Err (refused.Event SpaceDiscarded)
       else if nat_lt (recovery.paths.current.state.total_sent + bytes) (2 ^ 64)
@@ -81,7 +81,7 @@ module _ {K P M : Type 0} (words : ControllerWords K) (recovery : Parts K P M) w
       else Err (refused.Event Overflow)
 
 -- the recovery is asked for what limit and window let pass
-abbrev pub transmit_steps : {Q S M P : Type 0} → ℕ → ℕ → Bool → Transmission → List (Step Q S M P)
+abbrev pub transmit_steps : {Q S M P : Type 0} → ℕ → ℕ → Bool → Transmission → List (SenderStep Q S M P)
 transmit_steps now bytes checked Transmitted = told (events.Transmit now bytes checked) (Ok answers.Transmitted) ∷ []
 transmit_steps now bytes checked (Delayed until) =
     told (events.Transmit now bytes checked) (Ok (answers.Delayed until)) ∷ []
@@ -105,39 +105,40 @@ abbrev pub sent_at : {Q : Type 0} → Option ℕ → Answer Q → Option ℕ
 sent_at time answer = if goes_out answer then time else None
 
 -- a discarded space is refused (RFC 9002, 6.4)
-abbrev pub discard_reply : {K P M : Type 0} → Parts K P M → SpaceId → Result (Unit {0}) Refused
+abbrev pub discard_reply : {K P M : Type 0} → RecoveryState K P M → SpaceId → Result (Unit {0}) SenderError
 discard_reply recovery space =
     if is_discarded space recovery.discarded then Err (refused.Event SpaceDiscarded) else Ok (tt {0})
 
 module _ {F Q R C K S M P : Type 0} {f : _} {c : _} {q : _} {m : _} {r : _} (event : Event Q S M P)
     (old new : Sender F Q R C K S M P f c q m r) where
   -- the event is answered so, and the timer set; or it is refused so, and all else stays
-  abbrev pub Takes : Result (Answer Q) Refused → Type 0
-  Takes (Ok answer) = Does (told event (Ok answer) ∷ []) (based (sent_at (to_send event) answer) old.variables) old new
-  Takes (Err (refused.Event refusal)) = Goes (told event (Err refusal) ∷ []) old new
-  Takes (Err refused.Unsent) = ⊥
+  abbrev pub EventResult : Result (Answer Q) SenderError → Type 0
+  EventResult (Ok answer) = CompletesCall (told event (Ok answer) ∷ [])
+      (based (sent_at (to_send event) answer) old.variables) old new
+  EventResult (Err (refused.Event refusal)) = TakesSteps (told event (Err refusal) ∷ []) old new
+  EventResult (Err refused.Unsent) = ⊥
 
 -- ---- events that pass
 
 -- all but those that this layer decides: what is acknowledged and lost and what follows of it, what is probed for, what
 -- is transmitted, which spaces end, and the timer for losses
-abbrev pub Passes : {Q S M P : Type 0} → Event Q S M P → Type 0
-Passes (events.Acked space now number app_limited) = ⊥
-Passes (events.Lost space number) = ⊥
-Passes (events.LossesDone now) = ⊥
-Passes (events.Sample delay rtt) = ⊥
-Passes (events.EndAcks now app_limited largest) = ⊥
-Passes (events.Congestion now sent persistent bytes) = ⊥
-Passes (events.Ecn space newly counts) = ⊥
-Passes (events.QueueProbe space immediate streams) = ⊥
-Passes (events.Transmit now bytes checked) = ⊥
-Passes (events.DiscardSpace space) = ⊥
-Passes (events.SetTimer LossDetection time) = ⊥
-Passes (events.StopTimer LossDetection) = ⊥
-Passes event = Unit {0}
+abbrev pub IsPassedThrough : {Q S M P : Type 0} → Event Q S M P → Type 0
+IsPassedThrough (events.Acked space now number app_limited) = ⊥
+IsPassedThrough (events.Lost space number) = ⊥
+IsPassedThrough (events.LossesDone now) = ⊥
+IsPassedThrough (events.Sample delay rtt) = ⊥
+IsPassedThrough (events.EndAcks now app_limited largest) = ⊥
+IsPassedThrough (events.Congestion now sent persistent bytes) = ⊥
+IsPassedThrough (events.Ecn space newly counts) = ⊥
+IsPassedThrough (events.QueueProbe space immediate streams) = ⊥
+IsPassedThrough (events.Transmit now bytes checked) = ⊥
+IsPassedThrough (events.DiscardSpace space) = ⊥
+IsPassedThrough (events.SetTimer LossDetection time) = ⊥
+IsPassedThrough (events.StopTimer LossDetection) = ⊥
+IsPassedThrough event = Unit {0}
 
 -- the total of what came in on the path in use has no room for so many bytes (RFC 9000, 8.1)
-abbrev pub datagram_reply : {K P M : Type 0} → Parts K P M → ℕ → Result (Unit {0}) Refused
+abbrev pub datagram_reply : {K P M : Type 0} → RecoveryState K P M → ℕ → Result (Unit {0}) SenderError
 datagram_reply recovery bytes =
     if nat_lt (recovery.paths.current.state.total_recvd + bytes) (2 ^ 64) then Ok (tt {0})
     else Err (refused.Event Overflow)
@@ -145,7 +146,7 @@ datagram_reply recovery bytes =
 -- ---- probes (RFC 9002, 6.2.4 and A.9)
 
 -- done or refused, whatever the answer is
-abbrev pub done_of : {Q : Type 0} → Reply Q → Result (Unit {0}) Refused
+abbrev pub done_of : {Q : Type 0} → Reply Q → Result (Unit {0}) SenderError
 done_of (Ok answer) = Ok (tt {0})
 done_of (Err refusal) = Err (refused.Event refusal)
 
@@ -156,7 +157,7 @@ space_due (Probes space) = space
 space_due (AntiDeadlock space) = space
 
 -- what is due now, where something is
-abbrev pub due_now : {K P M : Type 0} → ℕ → Parts K P M → Variables → Option Due
+abbrev pub due_now : {K P M : Type 0} → ℕ → RecoveryState K P M → Variables → Option Due
 due_now now recovery variables =
     option_and_then (λ due. if nat_le due.0 now then Some due.1 else None) (due_of recovery variables)
 
@@ -168,23 +169,24 @@ probes_with (Err refusal) = 1
 module _ {F Q R C K S M P : Type 0} {f : _} {c : _} {q : _} {m : _} {r : _} (space : SpaceId) (immediate : Bool)
     (first : S) (old new : Sender F Q R C K S M P f c q m r) where
   -- one is asked for, or no memory is found for it
-  abbrev pub QueuesProbe : Result (Unit {0}) Refused → Type 0
+  abbrev pub QueuesProbe : Result (Unit {0}) SenderError → Type 0
   QueuesProbe (Ok done) =
-      (answer : Answer Q) × Goes (told (events.QueueProbe space immediate first) (Ok answer) ∷ []) old new
+      (answer : Answer Q) × TakesSteps (told (events.QueueProbe space immediate first) (Ok answer) ∷ []) old new
   QueuesProbe (Err (refused.Event NoMemory)) =
-      Goes (told (events.QueueProbe space immediate first) (Err NoMemory) ∷ []) old new
+      TakesSteps (told (events.QueueProbe space immediate first) (Err NoMemory) ∷ []) old new
   QueuesProbe (Err other) = ⊥
 
   -- a timeout asks for one, and is refused where no memory is found for it
-  abbrev pub ProbesOnce : ℕ → Result ℕ Refused → Type 0
+  abbrev pub ProbesOnce : ℕ → Result ℕ SenderError → Type 0
   ProbesOnce now (Ok count) = (count ≡ 1) × (answer : Answer Q)
-      × Does (told (events.QueueProbe space immediate first) (Ok answer) ∷ []) (timed_out now old.variables) old new
+      × CompletesCall (told (events.QueueProbe space immediate first) (Ok answer) ∷ [])
+          (timed_out now old.variables) old new
   ProbesOnce now (Err refusal) = QueuesProbe (Err refusal)
 
   -- it asks for two
-  abbrev pub ProbesTwice : S → ℕ → Result ℕ Refused → Type 0
+  abbrev pub ProbesTwice : S → ℕ → Result ℕ SenderError → Type 0
   ProbesTwice second now (Ok count) = (answer : Answer Q) × (again : Reply Q) × (count ≡ probes_with again)
-      × Does (told (events.QueueProbe space immediate first) (Ok answer)
+      × CompletesCall (told (events.QueueProbe space immediate first) (Ok answer)
       ∷ told (events.QueueProbe space immediate second) again ∷ []) (timed_out now old.variables) old new
   ProbesTwice second now (Err refusal) = QueuesProbe (Err refusal)
 
@@ -197,11 +199,11 @@ config_of side config = record config { validated = config.validated || not (is_
 module _ {F Q R C K S M P : Type 0} {f : _} {c : _} {q : _} {m : _} {r : _} where
   -- its recovery is made by these settings, nothing happened to it, and nothing is kept of paths and of losses; then
   -- the timer is set
-  pub record Begins (side : Side) (config : RecoveryConfig F) (start : ℕ) (random : Stream)
+  pub record IsNewSender (side : Side) (config : RecoveryConfig F) (start : ℕ) (random : Stream)
       (new : Sender F Q R C K S M P f c q m r) : Type 0 where
     pub made : Sender F Q R C K S M P f c q m r
-    pub came : Reached (begins f.built c.words (queue_meaning q.contents q.words q.blank) (config_of side config) start
-        random) [] (parts_in made)
-    pub marks : AreFresh (paths_marks (parts_in made).paths)
-    pub loss_times : HasNoLossTime (parts_in made).spaces
-    pub does : Does [] (fresh side start) made new
+    pub came : ReachedBy (begins f.built c.words (queue_model q.contents q.words q.blank) (config_of side config) start
+        random) [] (state_in made)
+    pub marks : AreMarksFresh (paths_marks (state_in made).paths)
+    pub loss_times : HasNoLossTime (state_in made).spaces
+    pub does : CompletesCall [] (fresh side start) made new

@@ -1,9 +1,9 @@
-pub mod Abandoning
+pub mod RetransmitAll
 pub mod Acking
 pub mod Acks
 pub mod Calls
-pub mod Judging
-pub mod Leaving
+pub mod Detection
+pub mod TimerUnchanged
 pub mod Losses
 pub mod Promises
 pub mod Senders

@@ -7,15 +7,15 @@ use Rattle.recovery_base.specs.Spaces.{same_space}
 use Rattle.recovery_congestion.specs.Rtt.{rtt_get, pto_base_of}
 use Rattle.recovery_losses.specs.Timeouts.{loss_delay_of}
 use Rattle.recovery_mtud.specs.Discovery.{probe_of}
-use Rattle.recovery_losses.specs.declared.looks.Look.{Look}
+use Rattle.recovery_losses.specs.declared.looks.LossPass.{LossPass}
 use Rattle.recovery_losses.specs.Losses.{first_of}
-use Rattle.recovery_history.specs.Parts.{Parts}
+use Rattle.recovery_history.specs.RecoveryState.{RecoveryState}
 use Rattle.recovery_sender.specs.declared.sender.losses.Losses.{Losses}
 use Rattle.recovery_losses.specs.declared.variables.Variables.{Variables}
 use Rattle.recovery_sender.specs.Spaces.{space_in}
 
 -- nothing was lost
-pub record NothingLost (losses : Losses) : Type 0 where
+pub record IsEmptyLosses (losses : Losses) : Type 0 where
   pub numbers : losses.numbers.items ≡ []
   pub probe : losses.probe ≡ None
   pub congestion : losses.congestion ≡ None
@@ -23,12 +23,12 @@ pub record NothingLost (losses : Losses) : Type 0 where
   pub black_hole : losses.is_black_hole ≡ false
 
 -- the largest number that was acknowledged in a space
-abbrev pub largest_in : {K P M : Type 0} → Parts K P M → SpaceId → Option ℕ
+abbrev pub largest_in : {K P M : Type 0} → RecoveryState K P M → SpaceId → Option ℕ
 largest_in recovery space = option_and_then (λ here. here.largest_acked_packet) (space_in recovery space)
 
 -- what a look goes by, at a space whose largest acknowledged number is this; only one that is due to an ACK finds
 -- persistent congestion
-abbrev pub look_of : {K P M : Type 0} → Parts K P M → Variables → SpaceId → ℕ → Bool → ℕ → Look
+abbrev pub look_of : {K P M : Type 0} → RecoveryState K P M → Variables → SpaceId → ℕ → Bool → ℕ → LossPass
 look_of recovery variables space now due_to_ack largest = let path = recovery.paths.current in record {
   space = space;
   at = now;

@@ -1,4 +1,4 @@
 pub mod Acked
-pub mod Alive
+pub mod Liveness
 pub mod Lost
 pub mod Pasts

@@ -8,13 +8,13 @@ use Rattle.recovery_base.specs.declared.timer.Timer.TheVariants.{LossDetection}
 use Rattle.recovery_base.specs.Spaces.{same_space}
 use Rattle.recovery_base.specs.Timers.{moment}
 use Rattle.recovery_congestion.specs.Rtt.{pto_base_of}
-use Rattle.recovery_ledger.specs.Discarded.{is_discarded}
-use Rattle.recovery_ledger.specs.Packets.{Packets}
-use Rattle.recovery_ledger.specs.Spaces.{Space, packets_of}
+use Rattle.recovery_spaces.specs.Discarded.{is_discarded}
+use Rattle.recovery_spaces.specs.Packets.{Packets}
+use Rattle.recovery_spaces.specs.Spaces.{Space, packets_of}
 use Rattle.recovery_losses.specs.Due.{sooner}
 use Rattle.recovery_losses.specs.Variables.{is_address_validated, pto_by}
 use Rattle.recovery_paths.specs.PathStates.{is_blocked}
-use Rattle.recovery_history.specs.Parts.{Parts}
+use Rattle.recovery_history.specs.RecoveryState.{RecoveryState}
 use Rattle.recovery_losses.specs.declared.due.Due.{Due}
 use Rattle.recovery_losses.specs.declared.due.Due.TheVariants.{Losses, Probes, AntiDeadlock}
 use Rattle.recovery_losses.specs.declared.variables.Variables.{Variables}
@@ -38,7 +38,7 @@ has_eliciting packets = list_any (λ entry. entry.1.ack_eliciting) packets
 
 -- ---- spans
 
-module _ {K P M : Type 0} (recovery : Parts K P M) where
+module _ {K P M : Type 0} (recovery : RecoveryState K P M) where
   -- a packet of the space may be lost
   abbrev pub loss_due : SpaceId → Option (ℕ × Due)
   loss_due space = option_map (λ time. (time, Losses space)) (option_and_then (λ here. here.loss_time)
@@ -48,7 +48,7 @@ module _ {K P M : Type 0} (recovery : Parts K P M) where
   abbrev pub pto_of : Variables → SpaceId → ℕ
   pto_of variables space = pto_by (pto_base_of recovery.paths.current.state.rtt) variables space
 
-module _ {K P M : Type 0} (recovery : Parts K P M) (variables : Variables) where
+module _ {K P M : Type 0} (recovery : RecoveryState K P M) (variables : Variables) where
   -- 1-RTT packets are not probed for until the handshake is confirmed (RFC 9002, 6.2.1)
   abbrev pub waits : SpaceId → Bool
   waits space = same_space space Data && not variables.is_handshake_confirmed

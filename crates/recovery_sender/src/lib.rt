@@ -7,5 +7,5 @@ pub mod sender;
 
 pub use recovery_losses::{Ack, Due, Side, Variables};
 pub use sender::{
-    Acknowledged, EcnEnd, Losses, Newly, Refused, Sender, Timeout, Transmission, passes,
+    Acknowledged, EcnOutcome, Losses, NewlyAcked, Refused, Sender, Timeout, Transmission, passes,
 };

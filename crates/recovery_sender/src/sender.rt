@@ -1,6 +1,6 @@
 //! The sender: one recovery, and the little that decides beside it (RFC 9002, A.3).
 ghost use Rattle.std.specs.Prelude.{◌≡◌, true};
-ghost use Rattle.quic_recovery.specs.State.{parts_of};
+ghost use Rattle.quic_recovery.specs.State.{state_of};
 ghost use Rattle.recovery_sender.specs.Timer.{TimerIsSet};
 
 use quic_recovery::congestion::ControllerFactory;
@@ -19,7 +19,7 @@ mod packets;
 mod probes;
 mod timer;
 
-pub use acks::{Acknowledged, EcnEnd, Newly};
+pub use acks::{Acknowledged, EcnOutcome, NewlyAcked};
 pub use events::passes;
 pub use losses::Losses;
 pub use packets::Transmission;
@@ -27,16 +27,16 @@ pub use probes::Timeout;
 
 /// Why a call is refused.
 #[derive(Clone, Copy)]
-pub enum Refused {
+pub enum SenderError {
     /// As an event of the recovery is.
     Event(Refusal),
     /// A number was acknowledged that was never sent (RFC 9000, 13.1).
     Unsent,
 }
 
-impl From<Refusal> for Refused {
-    fn from(refusal: Refusal) -> Refused {
-        Refused::Event(refusal)
+impl From<Refusal> for SenderError {
+    fn from(refusal: Refusal) -> SenderError {
+        SenderError::Event(refusal)
     }
 }
 
@@ -47,8 +47,8 @@ pub struct Sender<F: ControllerFactory, Q: RetransmitQueue, R: Rng> {
     recovery: LiveRecovery<F, Q, R>,
     variables: Variables,
     /// Whether the timer for losses is known to be set as it is due; then it is left alone where nothing moves it.
-    is_timed: bool,
-    ghost timed: { is_timed ≡ true → TimerIsSet (parts_of recovery.recovery) variables },
+    is_timer_current: bool,
+    ghost timed: { is_timer_current ≡ true → TimerIsSet (state_of recovery.recovery) variables },
 }
 
 impl<F, Q, R> Sender<F, Q, R>

@@ -1,6 +1,6 @@
 -- What a word that is read leaves.
 use Rattle.std.proofs.Common.{◌≡◌, ℕ, ◌+◌, List, [], ◌∷◌, length, Some, arith}
-use Rattle.recovery_lines.specs.Reading.{first_word}
+use Rattle.recovery_script_syntax.specs.Reading.{first_word}
 
 pub one_less : (words rest : List (List ℕ)) (word : List ℕ) → first_word words ≡ Some (word, rest)
     → length rest + 1 ≡ length words

@@ -3,5 +3,5 @@ use Rattle.std.specs.Prelude.{List}
 use Rattle.recovery_events.specs.Feeding.{TakesAll}
 
 -- some items, which it took
-abbrev pub Gives : {S T : Type 0} → (S → T → S → Type 0) → S → S → Type 0
-Gives {S} {T} takes old new = (items : List T) × TakesAll takes old items new
+abbrev pub YieldsItems : {S T : Type 0} → (S → T → S → Type 0) → S → S → Type 0
+YieldsItems {S} {T} takes old new = (items : List T) × TakesAll takes old items new

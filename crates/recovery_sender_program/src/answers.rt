@@ -3,10 +3,10 @@ use itoa::Buffer;
 use quic_recovery::below::SpaceId;
 use quic_recovery::time::Instant;
 use quic_recovery::{Answer, Refusal};
-use recovery_answers::answers::write_reply;
-use recovery_calls::{Reply, Said};
+use recovery_reply_text::answers::write_reply;
+use recovery_sender_calls::{CallReplyValue, CallRecord};
 use recovery_queue::items::ItemQueue;
-use recovery_sender::{Acknowledged, EcnEnd, Losses, Refused, Timeout, Transmission};
+use recovery_sender::{Acknowledged, EcnOutcome, Losses, SenderError, Timeout, Transmission};
 use std::alloc::{AllocError, Global};
 
 fn push_number(text: &mut String, before: &str, number: u64) -> Result<(), AllocError> {
@@ -59,11 +59,11 @@ fn push_abandoned(text: &mut String, numbers: &[u64]) -> Result<(), AllocError> 
     push_numbers(text, numbers)
 }
 
-fn push_ecn(text: &mut String, ecn: EcnEnd) -> Result<(), AllocError> {
+fn push_ecn(text: &mut String, ecn: EcnOutcome) -> Result<(), AllocError> {
     match ecn {
-        EcnEnd::Quiet => Ok(()),
-        EcnEnd::Marked => text.push_str(" ecn-congestion"),
-        EcnEnd::Failed => text.push_str(" ecn-failed"),
+        EcnOutcome::Quiet => Ok(()),
+        EcnOutcome::Marked => text.push_str(" ecn-congestion"),
+        EcnOutcome::Failed => text.push_str(" ecn-failed"),
     }
 }
 
@@ -130,15 +130,15 @@ fn push_timer(text: &mut String, timer: Option<Instant>) -> Result<(), AllocErro
     }
 }
 
-fn push_reply(alloc: Global, text: &mut String, reply: Reply<ItemQueue>) -> Result<(), AllocError> {
+fn push_reply(alloc: Global, text: &mut String, reply: CallReplyValue<ItemQueue>) -> Result<(), AllocError> {
     match reply {
-        Reply::Transmission(transmission) => push_transmission(text, transmission),
-        Reply::Acknowledged(acknowledged) => push_acknowledged(text, &acknowledged),
-        Reply::Timeout(timeout) => push_timeout(text, &timeout),
-        Reply::Abandoned(numbers) => push_abandoned(text, &numbers),
-        Reply::Answer(answer) => push_answer(alloc, text, &Ok(answer)),
-        Reply::Done => text.push_str("done"),
-        Reply::Decided => text.push_str("decided"),
+        CallReplyValue::Transmission(transmission) => push_transmission(text, transmission),
+        CallReplyValue::Acknowledged(acknowledged) => push_acknowledged(text, &acknowledged),
+        CallReplyValue::Timeout(timeout) => push_timeout(text, &timeout),
+        CallReplyValue::Abandoned(numbers) => push_abandoned(text, &numbers),
+        CallReplyValue::Answer(answer) => push_answer(alloc, text, &Ok(answer)),
+        CallReplyValue::Done => text.push_str("done"),
+        CallReplyValue::Decided => text.push_str("decided"),
     }
 }
 
@@ -146,16 +146,16 @@ fn push_reply(alloc: Global, text: &mut String, reply: Reply<ItemQueue>) -> Resu
 pub fn write_said(
     alloc: Global,
     text: &mut String,
-    said: Said<ItemQueue>,
+    said: CallRecord<ItemQueue>,
 ) -> Result<(), AllocError> {
-    let Said { reply, timer } = said;
+    let CallRecord { reply, timer } = said;
     match reply {
         Ok(reply) => {
             push_reply(alloc, text, reply)?;
             push_timer(text, timer)?;
         }
-        Err(Refused::Event(refusal)) => push_answer(alloc, text, &Err(refusal))?,
-        Err(Refused::Unsent) => text.push_str("refused 21 Unsent")?,
+        Err(SenderError::Event(refusal)) => push_answer(alloc, text, &Err(refusal))?,
+        Err(SenderError::Unsent) => text.push_str("refused 21 Unsent")?,
     }
     text.push_str("\n")
 }

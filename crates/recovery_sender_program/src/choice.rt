@@ -1,5 +1,5 @@
 //! What the arguments choose.
-use recovery_lines::number_in;
+use recovery_script_syntax::number_in;
 use recovery_replay::fixed_window::FixedWindowConfig;
 use recovery_sender::Side;
 

@@ -1,9 +1,9 @@
 //! The call that a line spells.
 use quic_recovery::below::{EcnCounts, NoMemory};
-use recovery_calls::{Call, Datagram, Expiry, Frame};
-use recovery_lines::lines::{LINE_LIMIT, push_event};
-use recovery_lines::number_in;
-use recovery_lines::words::{Words, is_name};
+use recovery_sender_calls::{Call, Datagram, Expiry, Frame};
+use recovery_script_syntax::lines::{LINE_LIMIT, push_event};
+use recovery_script_syntax::number_in;
+use recovery_script_syntax::words::{Words, is_name};
 use recovery_queue::items::ItemQueue;
 use recovery_sender::{Ack, passes};
 use std::alloc::Global;

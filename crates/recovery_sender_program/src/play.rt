@@ -1,5 +1,5 @@
 //! Calls in, answers out: each line is answered before the next is read.
-ghost use Rattle.recovery_sender_program.specs.Giving.{Gives};
+ghost use Rattle.recovery_sender_program.specs.Giving.{YieldsItems};
 
 use crate::answers::write_said;
 use crate::choice::{Choice, Window};
@@ -10,10 +10,10 @@ use quic_recovery::congestion::{ControllerFactory, NewRenoConfig};
 use quic_recovery::time::Instant;
 use rand_core::SeedableRng;
 use rand_pcg::Pcg32;
-use recovery_calls::{Call, Said, run_over};
+use recovery_sender_calls::{Call, CallRecord, run_over};
 use recovery_cubic::CubicConfig;
 use recovery_events::feeding::{Sink, Source};
-use recovery_lines::lines::peer_at;
+use recovery_script_syntax::lines::peer_at;
 use recovery_queue::items::ItemQueue;
 use recovery_replay::reading::{Next, next_line};
 use recovery_replay::replay::{FIRST_PORT, config, skips};
@@ -45,7 +45,7 @@ fn give_all<R: Read, S: Sink<Call<ItemQueue>>>(
     input: &mut R,
     sink: &mut S,
 ) -> Outcome
-    ensures { Gives S.takes sink.old sink.new }
+    ensures { YieldsItems S.takes sink.old sink.new }
 {
     let mut line = Vec::new(alloc);
     for number in 1..u64::MAX {
@@ -78,7 +78,7 @@ struct Answers<'a, W> {
 }
 
 impl<'a, W: Write> Answers<'a, W> {
-    fn write(&mut self, said: Said<ItemQueue>) -> Result<(), Outcome> {
+    fn write(&mut self, said: CallRecord<ItemQueue>) -> Result<(), Outcome> {
         self.text.clear();
         if write_said(self.alloc, &mut self.text, said).is_err() {
             return Err(Outcome::OutOfMemory);
@@ -91,10 +91,10 @@ impl<'a, W: Write> Answers<'a, W> {
     }
 }
 
-impl<'a, W: Write> Sink<Said<ItemQueue>> for Answers<'a, W> {
+impl<'a, W: Write> Sink<CallRecord<ItemQueue>> for Answers<'a, W> {
     ghost takes = { λ old said new. Unit {0} };
 
-    fn put(&mut self, said: Said<ItemQueue>) -> bool {
+    fn put(&mut self, said: CallRecord<ItemQueue>) -> bool {
         if self.broken.is_none() {
             self.broken = self.write(said).err();
         }

@@ -7,7 +7,7 @@ use rand_pcg::Pcg32;
 use recovery_base::below::SpaceId;
 use recovery_base::time::Duration;
 use recovery_sender::{
-    Ack, Acknowledged, Losses, Refused, Sender, Side, Timeout, Transmission, passes,
+    Ack, Acknowledged, Losses, SenderError, Sender, Side, Timeout, Transmission, passes,
 };
 use std::alloc::Global;
 use std::process::Abort;
@@ -52,18 +52,18 @@ enum Said {
     ProbesDue(u8),
     Nothing,
     Other,
-    Refused(u64),
+    SenderError(u64),
     Unsent,
 }
 
-fn refused(refused: &Refused) -> Said {
+fn refused(refused: &SenderError) -> Said {
     match refused {
-        Refused::Event(refusal) => Said::Refused(u64::from(refusal.number())),
-        Refused::Unsent => Said::Unsent,
+        SenderError::Event(refusal) => Said::SenderError(u64::from(refusal.number())),
+        SenderError::Unsent => Said::Unsent,
     }
 }
 
-fn transmission(reply: &Result<Transmission, Refused>) -> Said {
+fn transmission(reply: &Result<Transmission, SenderError>) -> Said {
     match reply {
         Ok(Transmission::Transmitted) => Said::Transmitted,
         Ok(Transmission::Blocked) => Said::Blocked,
@@ -73,7 +73,7 @@ fn transmission(reply: &Result<Transmission, Refused>) -> Said {
     }
 }
 
-fn answer(reply: &Result<Answer, Refused>) -> Said {
+fn answer(reply: &Result<Answer, SenderError>) -> Said {
     match reply {
         Ok(Answer::Sent { number, .. }) => Said::Sent(*number),
         Ok(Answer::Probe { number, size }) => Said::Probe(*number, *size),
@@ -83,7 +83,7 @@ fn answer(reply: &Result<Answer, Refused>) -> Said {
     }
 }
 
-fn done(reply: &Result<(), Refused>) -> Said {
+fn done(reply: &Result<(), SenderError>) -> Said {
     match reply {
         Ok(()) => Said::Done,
         Err(given) => refused(given),
@@ -98,7 +98,7 @@ fn lost(losses: &Losses) -> Said {
     Said::Lost(first(&losses.numbers), losses.congestion)
 }
 
-fn acked(reply: &Result<Acknowledged, Refused>) -> Said {
+fn acked(reply: &Result<Acknowledged, SenderError>) -> Said {
     match reply {
         Ok(acked) => match first(&acked.numbers) {
             Some(number) => {
@@ -110,14 +110,14 @@ fn acked(reply: &Result<Acknowledged, Refused>) -> Said {
     }
 }
 
-fn abandoned(reply: &Result<Vec<u64>, Refused>) -> Said {
+fn abandoned(reply: &Result<Vec<u64>, SenderError>) -> Said {
     match reply {
         Ok(numbers) => Said::Lost(first(numbers), None),
         Err(given) => refused(given),
     }
 }
 
-fn timed_out(reply: &Result<Timeout, Refused>) -> Said {
+fn timed_out(reply: &Result<Timeout, SenderError>) -> Said {
     match reply {
         Ok(Timeout::Nothing) => Said::Nothing,
         Ok(Timeout::Lost(losses)) => lost(losses),
@@ -163,7 +163,7 @@ fn play(sender: &mut Reno, given: Call) -> Said {
             done(&reply)
         }
         Call::Abandon(now, space) => {
-            let reply = sender.abandon(space, at(now));
+            let reply = sender.retransmit_all(space, at(now));
             abandoned(&reply)
         }
         Call::Ack(now, number) => on_ack(sender, now, number),
@@ -223,7 +223,7 @@ fn a_server(rt: HostRuntime) {
         (Call::Transmit(0, 1, initial, true), Said::Blocked, None),
         (Call::Datagram(1), Said::Done, Some(999_000_000)),
         (Call::Discard(0, initial), Said::Done, None),
-        (Call::Transmit(0, 1, initial, true), Said::Refused(5), None),
+        (Call::Transmit(0, 1, initial, true), Said::SenderError(5), None),
         (Call::Validated, Said::Done, None),
         (Call::Confirmed, Said::Done, None),
         (Call::Transmit(0, 12_001, data, true), Said::Full, None),

@@ -7,7 +7,7 @@ use quic_recovery_rows::tally::Tally;
 use rand_pcg::Pcg32;
 use recovery_base::below::SpaceId;
 use recovery_base::time::Duration;
-use recovery_calls::{Call, Frame, Reply, Said, run};
+use recovery_sender_calls::{Call, Frame, CallReplyValue, CallRecord, run};
 use recovery_sender::{Ack, Sender, Side};
 use std::alloc::Global;
 
@@ -41,11 +41,11 @@ fn ack(alloc: Global, now: u64) -> Call<Tally> {
 }
 
 /// What is said to it, and the timer behind it.
-fn is_said(said: &[Said<Tally>], place: usize, wanted: Option<u64>, acked: usize) -> bool {
+fn is_said(said: &[CallRecord<Tally>], place: usize, wanted: Option<u64>, acked: usize) -> bool {
     match said.get(place) {
-        Some(Said { reply, timer }) => {
+        Some(CallRecord { reply, timer }) => {
             let found = match reply {
-                Ok(Reply::Acknowledged(acknowledged)) => acknowledged.numbers.len(),
+                Ok(CallReplyValue::Acknowledged(acknowledged)) => acknowledged.numbers.len(),
                 _ => 0,
             };
             *timer == wanted.map(at) && found == acked
@@ -55,7 +55,7 @@ fn is_said(said: &[Said<Tally>], place: usize, wanted: Option<u64>, acked: usize
 }
 
 /// What is said to each call, and that no timer is left.
-fn is_right(sender: &Sender<NewRenoConfig, Tally, Pcg32>, said: &[Said<Tally>]) -> bool {
+fn is_right(sender: &Sender<NewRenoConfig, Tally, Pcg32>, said: &[CallRecord<Tally>]) -> bool {
     said.len() == 4
         && is_said(said, 1, None, 0)
         && is_said(said, 2, Some(1_024_000_000), 0)

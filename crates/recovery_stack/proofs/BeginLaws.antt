@@ -7,7 +7,7 @@ use Rattle.recovery_stack.specs.Codes.{cid}
 use Rattle.recovery_stack.specs.Made.{Made, NewOr, new_fault}
 use Rattle.recovery_stack.specs.Settings.{settings_fault}
 use Rattle.recovery_stack.specs.declared.codes.Address.{Address}
-use Rattle.recovery_kept.specs.declared.numbers.TheConstants.{NEW_CID_TOO_LONG}
+use Rattle.recovery_engine.specs.declared.numbers.TheConstants.{NEW_CID_TOO_LONG}
 use Rattle.recovery_stack.specs.declared.settings.Settings.{Settings}
 use Rattle.recovery_stack.specs.declared.stack.Stack.{Stack}
 

@@ -2,25 +2,27 @@
 use Rattle.std.proofs.Common.{◌≡◌, ℕ, Bool, List, Option, Some, subst, sym}
 use Rattle.recovery_paths.specs.PathStates.{PathMarks}
 use Rattle.recovery_paths.specs.declared.path_pair.PathName.{PathName}
-use Rattle.recovery_stack.specs.Answers.{Answers, LetsIn}
-use Rattle.recovery_kept.specs.Kept.{ItemEvent}
+use Rattle.recovery_stack.specs.Answers.{HandleApplies, AppliesOrRejects}
+use Rattle.recovery_engine.specs.Kept.{ItemEvent}
 use Rattle.recovery_stack.specs.Marks.{MarksStack, SetsMarks}
 use Rattle.recovery_base.specs.declared.below.SpaceId.{SpaceId}
 use Rattle.recovery_losses.specs.declared.frames.Ack.{Ack}
-use Rattle.recovery_stack.specs.Asking.{AsksAck, AsksStack, AsksWith}
-use Rattle.recovery_kept.specs.declared.sending.AckRange.{AckRange}
-use Rattle.recovery_kept.specs.declared.sending.Call.{Call}
-use Rattle.recovery_kept.specs.declared.sending.Call.TheVariants.{TakeAck}
-use Rattle.recovery_kept.specs.declared.spelling.Reply.{Reply}
+use Rattle.recovery_stack.specs.SenderCalls.{AsksAck, AsksStack, AsksWith}
+use Rattle.recovery_engine.specs.declared.sending.AckRange.{AckRange}
+use Rattle.recovery_engine.specs.declared.sending.Call.{Call}
+use Rattle.recovery_engine.specs.declared.sending.Call.TheVariants.{TakeAck}
+use Rattle.recovery_engine.specs.declared.spelling.EncodedReply.{EncodedReply}
 use Rattle.recovery_stack.specs.declared.stack.Stack.{Stack}
 
-pub answers_held : {event : ItemEvent} {spelling : Reply} {old new : Option Stack} (was is : Stack) → old ≡ Some was
-    → new ≡ Some is → LetsIn was event spelling is → Answers old event spelling new
+pub answers_held : {event : ItemEvent} {spelling : EncodedReply} {old new : Option Stack} (was is : Stack) → old
+    ≡ Some was
+    → new ≡ Some is → AppliesOrRejects was event spelling is → HandleApplies old event spelling new
 answers_held {event} {spelling} {old} {new} was is held holds lets =
-    subst (λ (o : Option Stack). Answers o event spelling new) (sym held)
+    subst (λ (o : Option Stack). HandleApplies o event spelling new) (sym held)
     (record { is = is; holds = holds; lets = lets })
 
-pub asks_held : {call : Call} {given : List AckRange} {spelling : Reply} {old new : Option Stack} (was is : Stack)
+pub asks_held : {call : Call} {given : List AckRange} {spelling : EncodedReply} {old new : Option Stack}
+    (was is : Stack)
     → old ≡ Some was → new ≡ Some is → AsksStack call given was spelling is → AsksWith old call given spelling new
 asks_held {call} {given} {spelling} {old} {new} was is held holds asks =
     subst (λ (o : Option Stack). AsksWith o call given spelling new) (sym held)
@@ -35,7 +37,8 @@ marks_held {name} {marks} {is_set} {given} {old} {new} was is gives held holds c
     (record { is = is; holds = holds; changes = changes }))
 
 pub frame_taken : {named : Option (SpaceId × Ack)} {space : SpaceId} {ack : Ack} {moment now : ℕ}
-    (given : List AckRange) (old : Option Stack) (spelling : Reply) (new : Option Stack) → Some (space, ack) ≡ named
+    (given : List AckRange) (old : Option Stack) (spelling : EncodedReply) (new : Option Stack) → Some (space, ack)
+        ≡ named
     → moment ≡ now → AsksWith old (TakeAck space moment ack) given spelling new
     → AsksAck named now given old spelling new
 frame_taken {named} {space} {ack} {moment} {now} given old spelling new is at asks =

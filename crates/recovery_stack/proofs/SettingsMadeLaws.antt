@@ -1,30 +1,32 @@
 -- What is made is what was asked for.
 use Rattle.std.proofs.Common.{◌≡◌, ℕ, Bool, true, false, List, Option, subst}
 use Rattle.std.specs.declared.net.socket_addr.SocketAddr.{SocketAddr}
-use Rattle.recovery_kept.specs.declared.controllers.ChosenConfig.{ChosenConfig}
+use Rattle.recovery_engine.specs.declared.controllers.ChosenConfig.{ChosenConfig}
 use Rattle.rand_core.specs.Stream.{Stream}
 use Rattle.recovery_history.specs.declared.config.RecoveryConfig.{RecoveryConfig}
 use Rattle.recovery_losses.specs.declared.variables.Side.{Side}
-use Rattle.recovery_stack.specs.Codes.{IsAt}
+use Rattle.recovery_stack.specs.Codes.{IsSocketAddress}
 use Rattle.recovery_stack.specs.declared.codes.Address.{Address}
 use Rattle.recovery_stack.specs.declared.settings.Settings.{Settings}
 use Rattle.recovery_stack.specs.declared.stack.Stack.{Stack}
-use Rattle.recovery_stack.specs.Held.{Holds}
-use Rattle.recovery_stack.specs.Made.{IsNew, MadeOr}
+use Rattle.recovery_stack.specs.Held.{HoldsIf}
+use Rattle.recovery_stack.specs.Made.{IsNewHandle, MadeOrNoMemory}
 use Rattle.recovery_stack.specs.Settings.{config_of, words_of}
 
 pub made_or : (side : Option Side) (made : Bool) (settings : Settings) (given : Address) (cid : List ℕ) (now : ℕ)
     (stack : Stack) (held : Option Stack) (remote : SocketAddr) (config : RecoveryConfig ChosenConfig) (moment : ℕ)
     (words : Stream)
-    → IsAt given remote → config ≡ config_of settings cid remote → moment ≡ now → words ≡ words_of settings.seed
-    → IsNew side config moment words stack → Holds made stack held → MadeOr side made settings given cid now held
+    → IsSocketAddress given remote → config ≡ config_of settings cid remote → moment ≡ now → words
+        ≡ words_of settings.seed
+    → IsNewHandle side config moment words stack → HoldsIf made stack held
+        → MadeOrNoMemory side made settings given cid now held
 made_or side false settings given cid now stack held remote config moment words there e f g fresh holds = holds
 made_or side true settings given cid now stack held remote config moment words there e f g fresh holds = record {
   stack = stack;
   remote = remote;
   there = there;
   held = holds;
-  fresh = subst (λ w. IsNew side (config_of settings cid remote) now w stack) g
-      (subst (λ m. IsNew side (config_of settings cid remote) m words stack) f
-      (subst (λ c. IsNew side c moment words stack) e fresh));
+  fresh = subst (λ w. IsNewHandle side (config_of settings cid remote) now w stack) g
+      (subst (λ m. IsNewHandle side (config_of settings cid remote) m words stack) f
+      (subst (λ c. IsNewHandle side c moment words stack) e fresh));
 }

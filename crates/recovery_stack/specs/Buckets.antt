@@ -2,10 +2,10 @@
 use Rattle.std.specs.Prelude.{◌≡◌, ◌⊎◌, ℕ, ◌<◌, ◌==◌, ◌||◌, if◌then◌else◌, Option, Some, None}
 use Rattle.recovery_congestion.specs.Pacing as Pacing
 use Rattle.recovery_congestion.specs.Pacing.{PacerCall, IsBucketSound, bucket_made, paced, pacer_delay, less_tokens}
-use Rattle.recovery_kept.specs.declared.numbers.TheConstants.{ANSWER_DELAYED, ANSWER_READY, ANSWER_TRANSMITTED}
+use Rattle.recovery_engine.specs.declared.numbers.TheConstants.{ANSWER_DELAYED, ANSWER_READY, ANSWER_TRANSMITTED}
 use Rattle.recovery_stack.specs.declared.pacer.Bucket.{Bucket}
-use Rattle.recovery_kept.specs.declared.spelling.Reply.{Reply}
-use Rattle.recovery_kept.specs.Replies.{plain, bad_argument}
+use Rattle.recovery_engine.specs.declared.spelling.EncodedReply.{EncodedReply}
+use Rattle.recovery_engine.specs.Replies.{plain, bad_argument}
 
 -- the bucket that these numbers are, and its numbers
 abbrev pub bucket_in : Bucket → Pacing.Bucket
@@ -35,11 +35,11 @@ bucket_first rtt window mtu now =
     if (window == 0) || (mtu == 0) then no_bucket else bucket_shown (bucket_made rtt window mtu now)
 
 -- what is no bucket is refused, and stays
-abbrev pub IsNoBucket : Type 0 → Bucket → Reply → Bucket → Type 0
+abbrev pub IsNoBucket : Type 0 → Bucket → EncodedReply → Bucket → Type 0
 IsNoBucket Sound old reply new = (¬ Sound) × (reply ≡ bad_argument) × (new ≡ old)
 
-abbrev pub Transmits : ℕ → Bucket → Reply → Bucket → Type 0
-Transmits bytes old reply new =
+abbrev pub PacerTransmits : ℕ → Bucket → EncodedReply → Bucket → Type 0
+PacerTransmits bytes old reply new =
     (IsBucketSound (bucket_in old) × (reply ≡ plain ANSWER_TRANSMITTED)
     × (new ≡ bucket_shown (less_tokens bytes (bucket_in old))))
     ⊎ IsNoBucket (IsBucketSound (bucket_in old)) old reply new
@@ -48,11 +48,11 @@ Transmits bytes old reply new =
 abbrev pub IsPaceable : PacerCall → Bucket → Type 0
 IsPaceable call old = (0 < call.window) × (0 < call.mtu) × IsBucketSound (bucket_in old)
 
-abbrev pub delay_spelled : Option ℕ → Reply
+abbrev pub delay_spelled : Option ℕ → EncodedReply
 delay_spelled (Some until) = record (plain ANSWER_DELAYED) { first = until }
 delay_spelled None = plain ANSWER_READY
 
-abbrev pub Delays : PacerCall → Bucket → Reply → Bucket → Type 0
+abbrev pub Delays : PacerCall → Bucket → EncodedReply → Bucket → Type 0
 Delays call old reply new =
     let left = paced call (bucket_in old) in
     (IsPaceable call old × (reply ≡ delay_spelled (pacer_delay call left)) × (new ≡ bucket_shown left))

@@ -42,10 +42,10 @@ abbrev pub nanos_shown : ℕ → ℕ
 nanos_shown span = min span (2 ^ 64 - 1)
 
 -- the address that is given
-abbrev pub IsAt : Address → SocketAddr → Type 0
-IsAt given (V4 address) =
+abbrev pub IsSocketAddress : Address → SocketAddr → Type 0
+IsSocketAddress given (V4 address) =
     IsFalse given.v6 × (ipv4_octets (v4_ip address) ≡ take 4 given.octets) × (v4_port address ≡ given.port)
-IsAt given (V6 address) =
+IsSocketAddress given (V6 address) =
     IsTrue given.v6 × (ipv6_segments (v6_ip address) ≡ segments_of given.octets) × (v6_port address ≡ given.port)
     × (v6_flowinfo address ≡ given.flowinfo) × (v6_scope_id address ≡ given.scope_id)
 

@@ -5,10 +5,10 @@ use Rattle.recovery_mtud.specs.DiscoveryLog.{MtuCall, discovery_after, polls, is
 use Rattle.recovery_stack.specs.declared.mtu.MtuView.{MtuView}
 use Rattle.recovery_stack.specs.declared.mtu_handle.Call.{Call}
 use Rattle.recovery_stack.specs.declared.mtu_handle.Call.TheVariants.{Poll, Limit, Acked, ProbeLost, Lost, LossesDone, Reset}
-use Rattle.recovery_kept.specs.declared.numbers.TheConstants.{ANSWER_ACKED, ANSWER_BLACK_HOLE, ANSWER_DONE, ANSWER_NO_PROBE, ANSWER_PROBE, NEW_HELD, NEW_MADE, NEW_NO_MEMORY}
+use Rattle.recovery_engine.specs.declared.numbers.TheConstants.{ANSWER_ACKED, ANSWER_BLACK_HOLE, ANSWER_DONE, ANSWER_NO_PROBE, ANSWER_PROBE, NEW_HELD, NEW_MADE, NEW_NO_MEMORY}
 use Rattle.recovery_stack.specs.declared.settings.Settings.{Settings}
-use Rattle.recovery_kept.specs.declared.spelling.Reply.{Reply}
-use Rattle.recovery_kept.specs.Replies.{plain, bad_argument, no_recovery}
+use Rattle.recovery_engine.specs.declared.spelling.EncodedReply.{EncodedReply}
+use Rattle.recovery_engine.specs.Replies.{plain, bad_argument, no_recovery}
 use Rattle.recovery_stack.specs.Settings.{discovery_of, settings_fault}
 
 -- the call as the discovery is told it: packets are those of Data
@@ -30,12 +30,12 @@ is_allowed (Limit size) discovery = nat_lt 0 size && not (is_searching_of discov
 is_allowed (Reset mtu min_mtu) discovery = nat_lt 0 mtu && nat_lt 0 min_mtu
 is_allowed call discovery = true
 
-abbrev pub probe_spelled : Option ℕ → ℕ → Reply
+abbrev pub probe_spelled : Option ℕ → ℕ → EncodedReply
 probe_spelled (Some size) number = record (plain ANSWER_PROBE) { first = number; size = size }
 probe_spelled None number = plain ANSWER_NO_PROBE
 
 -- a probe that is due, whether it was the probe, whether a black hole is reported, and else that it is done
-abbrev pub discovery_told : Call → Discovery → Reply
+abbrev pub discovery_told : Call → Discovery → EncodedReply
 discovery_told (Poll now number) discovery = probe_spelled (poll_of now discovery) number
 discovery_told (Acked number bytes) discovery = record (plain ANSWER_ACKED) { flag = is_probe number discovery }
 discovery_told (LossesDone now) discovery = record (plain ANSWER_BLACK_HOLE) { flag = reports discovery }
@@ -43,7 +43,7 @@ discovery_told call discovery = plain ANSWER_DONE
 
 -- a call that is allowed is answered and told; where none is held, and where it is not allowed, it is refused, and
 -- nothing changes
-abbrev pub DiscoveryAnswers : Option Discovery → Call → Reply → Option Discovery → Type 0
+abbrev pub DiscoveryAnswers : Option Discovery → Call → EncodedReply → Option Discovery → Type 0
 DiscoveryAnswers None call reply new = (reply ≡ no_recovery) × (new ≡ None)
 DiscoveryAnswers (Some old) call reply new =
     let allowed = is_allowed call old in

@@ -36,6 +36,6 @@ IsHeld None = ⊥
 IsHeld (Some value) = Unit {0}
 
 -- it is held where it was made, and else nothing
-abbrev pub Holds : {T : Type 0} → Bool → T → Option T → Type 0
-Holds true value held = held ≡ Some value
-Holds false value held = held ≡ None
+abbrev pub HoldsIf : {T : Type 0} → Bool → T → Option T → Type 0
+HoldsIf true value held = held ≡ Some value
+HoldsIf false value held = held ≡ None

@@ -1,6 +1,6 @@
 pub mod Held
 pub mod Answers
-pub mod Asking
+pub mod SenderCalls
 pub mod Codes
 pub mod Settings
 pub mod Made
@@ -8,4 +8,4 @@ pub mod Views
 pub mod Marks
 pub mod Discoveries
 pub mod Buckets
-pub mod Glances
+pub mod Stats

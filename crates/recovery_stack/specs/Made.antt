@@ -1,21 +1,22 @@
 -- What is made.
 use Rattle.std.specs.Prelude.{◌≡◌, ◌≢◌, ◌⊎◌, ℕ, Bool, true, false, List, [], length, replicate, Option, Some, None, if◌then◌else◌, nat_lt}
 use Rattle.std.specs.declared.net.socket_addr.SocketAddr.{SocketAddr}
-use Rattle.recovery_kept.specs.declared.controllers.ChosenConfig.{ChosenConfig}
+use Rattle.recovery_engine.specs.declared.controllers.ChosenConfig.{ChosenConfig}
 use Rattle.rand_core.specs.Stream.{Stream}
 use Rattle.recovery_history.specs.declared.config.RecoveryConfig.{RecoveryConfig}
 use Rattle.recovery_losses.specs.declared.variables.Side.{Side}
-use Rattle.recovery_stack.specs.Codes.{IsAt}
-use Rattle.recovery_kept.specs.Kept.{IsFresh}
+use Rattle.recovery_stack.specs.Codes.{IsSocketAddress}
+use Rattle.recovery_engine.specs.Kept.{IsFresh}
 use Rattle.recovery_stack.specs.declared.codes.Address.{Address}
-use Rattle.recovery_kept.specs.declared.numbers.TheConstants.{NEW_CID_TOO_LONG, NEW_HELD, NEW_MADE, NEW_NO_MEMORY}
+use Rattle.recovery_engine.specs.declared.numbers.TheConstants.{NEW_CID_TOO_LONG, NEW_HELD, NEW_MADE, NEW_NO_MEMORY}
 use Rattle.recovery_stack.specs.declared.settings.Settings.{Settings}
 use Rattle.recovery_stack.specs.declared.stack.Stack.{Stack}
 use Rattle.recovery_stack.specs.Settings.{config_of, settings_fault, words_of}
 
 -- a recovery to which nothing has happened yet, of a sender of this side if there is one; nothing was taken, and no
 -- token was answered
-pub record IsNew (side : Option Side) (config : RecoveryConfig ChosenConfig) (now : ℕ) (words : Stream) (stack : Stack)
+pub record IsNewHandle (side : Option Side) (config : RecoveryConfig ChosenConfig) (now : ℕ) (words : Stream)
+    (stack : Stack)
     : Type 0 where
   pub came : IsFresh side config now words stack.kept
   pub taken : stack.taken ≡ []
@@ -25,14 +26,14 @@ pub record Made (side : Option Side) (settings : Settings) (given : Address) (ci
     (in_handle : Option Stack) : Type 0 where
   pub stack : Stack
   pub remote : SocketAddr
-  pub there : IsAt given remote
+  pub there : IsSocketAddress given remote
   pub held : in_handle ≡ Some stack
-  pub fresh : IsNew side (config_of settings cid remote) now (words_of settings.seed) stack
+  pub fresh : IsNewHandle side (config_of settings cid remote) now (words_of settings.seed) stack
 
 -- such a recovery is held, or there was no memory, and nothing is
-abbrev pub MadeOr : Option Side → Bool → Settings → Address → List ℕ → ℕ → Option Stack → Type 0
-MadeOr side true settings given cid now held = Made side settings given cid now held
-MadeOr side false settings given cid now held = held ≡ None
+abbrev pub MadeOrNoMemory : Option Side → Bool → Settings → Address → List ℕ → ℕ → Option Stack → Type 0
+MadeOrNoMemory side true settings given cid now held = Made side settings given cid now held
+MadeOrNoMemory side false settings given cid now held = held ≡ None
 
 -- what is wrong with what a recovery is to be made of, first of all with the id of the peer; `NEW_MADE` where
 -- nothing is

@@ -4,9 +4,9 @@ use Rattle.std.specs.Option.{option_map_or}
 use Rattle.recovery_base.specs.declared.below.SpaceId.{SpaceId}
 use Rattle.recovery_paths.specs.PathStates.{PathMarks}
 use Rattle.recovery_paths.specs.declared.path_pair.PathName.{PathName}
-use Rattle.recovery_kept.specs.Replies.{space_number}
+use Rattle.recovery_engine.specs.Replies.{space_number}
 use Rattle.recovery_stack.specs.Codes.{maybe, space_coded}
-use Rattle.recovery_kept.specs.Kept.{MarksKept}
+use Rattle.recovery_engine.specs.Kept.{MarksKept}
 use Rattle.recovery_stack.specs.declared.marks.Marks.{Marks}
 use Rattle.recovery_stack.specs.declared.stack.Stack.{Stack}
 

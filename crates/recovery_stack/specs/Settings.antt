@@ -9,13 +9,13 @@ use Rattle.recovery_congestion.specs.RenoSettings.{RenoSettings}
 use Rattle.recovery_config.specs.Settings.{settings_with}
 use Rattle.recovery_config.specs.declared.config.TransportConfig.{TransportConfig}
 use Rattle.recovery_mtud.specs.declared.config.MtuDiscoveryConfig.{MtuDiscoveryConfig}
-use Rattle.recovery_skips.specs.declared.filter.Skips.{Skips}
-use Rattle.recovery_skips.specs.declared.filter.Skips.TheVariants.{Drawn, Disabled, Starting}
+use Rattle.recovery_packet_numbers.specs.declared.filter.Skips.{Skips}
+use Rattle.recovery_packet_numbers.specs.declared.filter.Skips.TheVariants.{Drawn, Disabled, Starting}
 use Rattle.recovery_history.specs.declared.config.RecoveryConfig.{RecoveryConfig}
 use Rattle.recovery_history.specs.Config.{config_with}
-use Rattle.recovery_kept.specs.declared.controllers.ChosenConfig.{ChosenConfig}
-use Rattle.recovery_kept.specs.declared.controllers.ChosenConfig.TheVariants.{Reno, Fixed, Cubic}
-use Rattle.recovery_kept.specs.declared.numbers.TheConstants.{CONTROLLER_CUBIC, CONTROLLER_FIXED, CONTROLLER_NEW_RENO, NEW_MADE, NEW_SKIP_TOO_LARGE, NEW_TOO_MANY_ISSUED, NEW_UNKNOWN_CONTROLLER, NEW_UNKNOWN_SKIPS, NEW_ZERO_DENOMINATOR, NEW_ZERO_MTU, NEW_ZERO_WINDOW, SKIPS_DISABLED, SKIPS_DRAWN, SKIPS_STARTING}
+use Rattle.recovery_engine.specs.declared.controllers.ChosenConfig.{ChosenConfig}
+use Rattle.recovery_engine.specs.declared.controllers.ChosenConfig.TheVariants.{Reno, Fixed, Cubic}
+use Rattle.recovery_engine.specs.declared.numbers.TheConstants.{CONTROLLER_CUBIC, CONTROLLER_FIXED, CONTROLLER_NEW_RENO, NEW_MADE, NEW_SKIP_TOO_LARGE, NEW_TOO_MANY_ISSUED, NEW_UNKNOWN_CONTROLLER, NEW_UNKNOWN_SKIPS, NEW_ZERO_DENOMINATOR, NEW_ZERO_MTU, NEW_ZERO_WINDOW, SKIPS_DISABLED, SKIPS_DRAWN, SKIPS_STARTING}
 use Rattle.recovery_stack.specs.declared.settings.Settings.{Settings}
 use Rattle.recovery_stack.specs.Codes.{maybe}
 
@@ -31,7 +31,7 @@ settings_fault settings =
     (if nat_lt SKIPS_STARTING settings.skips then NEW_UNKNOWN_SKIPS else NEW_MADE))))))
 
 -- what the parts of a recovery require of settings in which nothing is wrong
-pub record IsSound (settings : Settings) : Type 0 where
+pub record AreSettingsSound (settings : Settings) : Type 0 where
   pub issued : settings.issued ≤ 2 ^ 62
   pub first_skip : settings.first_skip < 64
   pub window : 0 < settings.initial_window

@@ -8,20 +8,20 @@ use Rattle.recovery_base.specs.declared.below.SpaceId.{SpaceId}
 use Rattle.recovery_base.specs.declared.timer.TimerTable.{TimerTable}
 use Rattle.recovery_congestion.specs.Rtt.{rtt_get, rtt_conservative, pto_base_of}
 use Rattle.recovery_ids.specs.CidQueue.{active_of}
-use Rattle.recovery_ledger.specs.Discarded.{is_discarded}
-use Rattle.recovery_ledger.specs.Paths.{counters_of}
-use Rattle.recovery_ledger.specs.Queued.{IsSendable}
-use Rattle.recovery_ledger.specs.Spaces.{Space, space_of, acks_of, heard_of, next_number_of, queued_of}
+use Rattle.recovery_spaces.specs.Discarded.{is_discarded}
+use Rattle.recovery_spaces.specs.Paths.{counters_of}
+use Rattle.recovery_spaces.specs.Queued.{IsSendable}
+use Rattle.recovery_spaces.specs.Spaces.{Space, space_of, acks_of, heard_of, next_number_of, queued_of}
 use Rattle.recovery_paths.specs.PathStates.{Path}
 use Rattle.recovery_queue.specs.Items.{item_words}
-use Rattle.recovery_history.specs.Parts.{Parts}
+use Rattle.recovery_history.specs.RecoveryState.{RecoveryState}
 use Rattle.recovery_stack.specs.Codes.{nanos_shown, space_coded, timer_coded}
-use Rattle.recovery_kept.specs.Controllers.{metrics_of, window_of}
-use Rattle.recovery_kept.specs.declared.controllers.Chosen.{Chosen}
+use Rattle.recovery_engine.specs.Controllers.{metrics_of, window_of}
+use Rattle.recovery_engine.specs.declared.controllers.Chosen.{Chosen}
 use Rattle.recovery_stack.specs.declared.views.PathView.{PathView}
 use Rattle.recovery_stack.specs.declared.views.SpaceView.{SpaceView}
 use Rattle.recovery_stack.specs.declared.views.RangeView.{RangeView}
-use Rattle.recovery_stack.specs.declared.views.MomentView.{MomentView}
+use Rattle.recovery_stack.specs.declared.views.TimeView.{TimeView}
 use Rattle.recovery_stack.specs.declared.views.IdsView.{IdsView}
 
 abbrev pub path_shown : Path Chosen → PathView
@@ -74,12 +74,12 @@ path_view None = no_path
 path_view (Some path) = path_shown path
 
 -- a space, unless it is discarded
-abbrev pub space_kept : {K P M : Type 0} → SpaceId → Parts K P M → Option (Space P M)
+abbrev pub space_kept : {K P M : Type 0} → SpaceId → RecoveryState K P M → Option (Space P M)
 space_kept space parts =
     if is_discarded space parts.discarded then None else Some (space_of space parts.spaces)
 
 -- of the space that a number names
-abbrev pub space_named : {K P M : Type 0} → ℕ → Parts K P M → Option (Space P M)
+abbrev pub space_named : {K P M : Type 0} → ℕ → RecoveryState K P M → Option (Space P M)
 space_named code parts = option_and_then (λ space. space_kept space parts) (space_coded code)
 
 abbrev pub no_space : SpaceView
@@ -110,21 +110,21 @@ abbrev pub range_shown : Option (Range ℕ) → RangeView
 range_shown (Some range) = record { start = range.start; end = range.end; some = true }
 range_shown None = record { start = 0; end = 0; some = false }
 
-abbrev pub moment_shown : Option ℕ → MomentView
+abbrev pub moment_shown : Option ℕ → TimeView
 moment_shown (Some moment) = record { nanos = moment; some = true }
 moment_shown None = record { nanos = 0; some = false }
 
 -- of the timer that a number names
-abbrev pub moment_named : ℕ → TimerTable → MomentView
+abbrev pub moment_named : ℕ → TimerTable → TimeView
 moment_named code timers = moment_shown (option_and_then (λ timer. moment timer timers) (timer_coded code))
 
 -- how long ago the largest packet came in the space that a number names
-abbrev pub ack_delay_named : {K P M : Type 0} → ℕ → ℕ → Parts K P M → MomentView
+abbrev pub ack_delay_named : {K P M : Type 0} → ℕ → ℕ → RecoveryState K P M → TimeView
 ack_delay_named code now parts =
     let delay_in : Space _ _ → ℕ = λ space. nanos_shown (delay_at now (acks_of space).counts.largest) in
     moment_shown (option_map delay_in (space_named code parts))
 
-abbrev pub ids_shown : {K P M : Type 0} → Parts K P M → IdsView
+abbrev pub ids_shown : {K P M : Type 0} → RecoveryState K P M → IdsView
 ids_shown parts = record {
   active = active_of parts.remote_cids;
   issued = parts.local_ids.issued;

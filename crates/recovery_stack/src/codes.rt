@@ -1,8 +1,8 @@
 //! Enums by their numbers, and what else crosses.
 ghost use Rattle.std.specs.Prelude.{◌≡◌, ◌≤◌, ◌<◌, Decides, IfOk, OnErr, length, map};
 ghost use Rattle.std.specs.List.{All};
-ghost use Rattle.recovery_kept.specs.Replies.{IsWritten};
-ghost use Rattle.recovery_stack.specs.Codes.{space_coded, timer_coded, path_coded, maybe, nanos_shown, issued_of, cid, request, span, spans, IsAt};
+ghost use Rattle.recovery_engine.specs.Replies.{IsWritten};
+ghost use Rattle.recovery_stack.specs.Codes.{space_coded, timer_coded, path_coded, maybe, nanos_shown, issued_of, cid, request, span, spans, IsSocketAddress};
 
 use quic_recovery::event::PathName;
 use quic_recovery::time::Duration;
@@ -10,7 +10,7 @@ use quic_recovery::timer::Timer;
 use recovery_base::below::{
     AckFrequency, ConnectionId, IssuedCid, NoMemory, ResetToken, SpaceId, VarInt,
 };
-use recovery_kept::spelling::copy_numbers;
+use recovery_engine::spelling::copy_numbers;
 use recovery_queue::items::ItemQueue;
 use std::alloc::Global;
 use std::net::{Ipv4Addr, Ipv6Addr, SocketAddr, SocketAddrV4, SocketAddrV6};
@@ -157,7 +157,7 @@ pub fn ids_of(alloc: Global, given: &[Id]) -> Result<Vec<IssuedCid>, NoMemory>
 
 /// The address that is given.
 pub fn socket_of(given: &Address) -> SocketAddr
-    ensures { IsAt given.now result }
+    ensures { IsSocketAddress given.now result }
 {
     let octets = given.octets;
     if given.v6 {

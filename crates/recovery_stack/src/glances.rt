@@ -2,10 +2,10 @@
 //! use, and of what a space has in flight.
 ghost use Rattle.std.specs.Prelude.{◌≡◌, false, Decides};
 ghost use Rattle.recovery_ids.specs.CidQueue.{active_of};
-ghost use Rattle.recovery_stack.specs.Answers.{Reads};
-ghost use Rattle.recovery_kept.specs.Kept.{parts_kept};
+ghost use Rattle.recovery_stack.specs.Answers.{ReadsHandle};
+ghost use Rattle.recovery_engine.specs.Kept.{parts_kept};
 ghost use Rattle.recovery_stack.specs.Views.{space_named};
-ghost use Rattle.recovery_stack.specs.Glances.{no_rtt, no_window, rtt_shown, window_shown, HasInFlight};
+ghost use Rattle.recovery_stack.specs.Stats.{no_rtt, no_window, rtt_shown, window_shown, HasInFlight};
 
 use crate::codes::nanos_shown;
 use crate::handle::Handle;
@@ -74,7 +74,7 @@ impl Stack {
 impl Handle {
     /// Window and bytes in flight of the path in use.
     pub fn window(&mut self, alloc: Global) -> WindowView
-        ensures { Reads self.old.slot.held self.new.slot.held (λ stack.
+        ensures { ReadsHandle self.old.slot.held self.new.slot.held (λ stack.
             result ≡ window_shown (parts_kept stack.kept).paths.current) (result ≡ no_window) }
     {
         let Some(stack) = self.take(alloc) else {
@@ -90,7 +90,7 @@ impl Handle {
 
     /// The round-trip time of the path in use.
     pub fn rtt(&mut self, alloc: Global) -> RttView
-        ensures { Reads self.old.slot.held self.new.slot.held (λ stack.
+        ensures { ReadsHandle self.old.slot.held self.new.slot.held (λ stack.
             result ≡ rtt_shown (parts_kept stack.kept).paths.current) (result ≡ no_rtt) }
     {
         let Some(stack) = self.take(alloc) else {
@@ -106,7 +106,7 @@ impl Handle {
 
     /// The number of the peer's id in use (RFC 9000, 5.1.1); 0 where there is no recovery.
     pub fn active_id(&mut self, alloc: Global) -> u64
-        ensures { Reads self.old.slot.held self.new.slot.held (λ stack.
+        ensures { ReadsHandle self.old.slot.held self.new.slot.held (λ stack.
             result ≡ active_of (parts_kept stack.kept).remote_cids) (result ≡ 0) }
     {
         let Some(stack) = self.take(alloc) else {
@@ -119,7 +119,7 @@ impl Handle {
 
     /// Whether a packet that counts in flight is tracked in a space (RFC 9002, 2), by whichever path it went.
     pub fn has_in_flight(&mut self, alloc: Global, space: u8) -> bool
-        ensures { Reads self.old.slot.held self.new.slot.held (λ stack.
+        ensures { ReadsHandle self.old.slot.held self.new.slot.held (λ stack.
             Decides result (HasInFlight (space_named space (parts_kept stack.kept))))
             (result ≡ false) }
     {

@@ -1,17 +1,17 @@
 //! What C holds of a stack.
 ghost use Rattle.std.specs.Prelude.{◌≡◌, ◌≤◌, Some, None, is_some, IfSome, MatchOption};
 ghost use Rattle.std.specs.List.{All};
-ghost use Rattle.recovery_stack.specs.Answers.{Answers, IsBad, IssuesOr};
-ghost use Rattle.recovery_stack.specs.Held.{Holds};
-ghost use Rattle.recovery_stack.specs.Asking.{Asks, AsksWith};
+ghost use Rattle.recovery_stack.specs.Answers.{HandleApplies, IsBadArgument, IssuesIdsOrNoMemory};
+ghost use Rattle.recovery_stack.specs.Held.{HoldsIf};
+ghost use Rattle.recovery_stack.specs.SenderCalls.{CallsSender, AsksWith};
 
 use crate::codes::{Id, are_ids, ids_of};
 use crate::slot::Slot;
 use crate::stack::Stack;
 use quic_recovery::Event;
 use quic_recovery::time::Instant;
-use recovery_kept::sending::{AckRange, Call};
-use recovery_kept::spelling::Reply;
+use recovery_engine::sending::{AckRange, Call};
+use recovery_engine::spelling::EncodedReply;
 use recovery_queue::items::ItemQueue;
 use std::alloc::Global;
 
@@ -64,11 +64,11 @@ impl Handle {
 
     /// One event; refused where no stack is held.
     #[inline(always)]
-    pub fn apply(&mut self, alloc: Global, event: Event<ItemQueue>) -> Reply
-        ensures { Answers self.old.slot.held event result self.new.slot.held }
+    pub fn apply(&mut self, alloc: Global, event: Event<ItemQueue>) -> EncodedReply
+        ensures { HandleApplies self.old.slot.held event result self.new.slot.held }
     {
         let Some(mut stack) = self.take(alloc) else {
-            return Reply::no_recovery();
+            return EncodedReply::no_recovery();
         };
         let reply = stack.apply(event);
         self.put(stack);
@@ -76,20 +76,20 @@ impl Handle {
     }
 
     /// One call of a sender that is no ACK frame; refused where no stack is held.
-    pub fn ask(&mut self, alloc: Global, call: Call) -> Reply
-        ensures { Asks self.old.slot.held call result self.new.slot.held }
+    pub fn call_sender(&mut self, alloc: Global, call: Call) -> EncodedReply
+        ensures { CallsSender self.old.slot.held call result self.new.slot.held }
     {
-        self.ask_with(alloc, call, &[])
+        self.call_sender_with(alloc, call, &[])
     }
 
     /// One call of a sender, with the ranges of an ACK frame; refused where no stack is held.
-    pub fn ask_with(&mut self, alloc: Global, call: Call, ranges: &[AckRange]) -> Reply
+    pub fn call_sender_with(&mut self, alloc: Global, call: Call, ranges: &[AckRange]) -> EncodedReply
         ensures { AsksWith self.old.slot.held call ranges.now result self.new.slot.held }
     {
         let Some(mut stack) = self.take(alloc) else {
-            return Reply::no_recovery();
+            return EncodedReply::no_recovery();
         };
-        let reply = stack.ask(alloc, call, ranges);
+        let reply = stack.call_sender(alloc, call, ranges);
         self.put(stack);
         reply
     }
@@ -97,7 +97,7 @@ impl Handle {
     /// Holds a stack; false where there is no memory.
     pub fn make(&mut self, alloc: Global, stack: Stack) -> bool
         requires { self.old.slot.held ≡ None }
-        ensures { Holds result stack self.new.slot.held }
+        ensures { HoldsIf result stack self.new.slot.held }
     {
         match boxed(alloc, stack) {
             Some(stack) => {
@@ -109,14 +109,14 @@ impl Handle {
     }
 
     /// This end issues these ids (RFC 9000, 5.1.1): the event `IssueIds`; an id has at most 20 bytes.
-    pub fn issue_ids(&mut self, alloc: Global, now: u64, given: &[Id]) -> Reply
+    pub fn issue_ids(&mut self, alloc: Global, now: u64, given: &[Id]) -> EncodedReply
         ensures short { All (λ id. id.len ≤ 20) given.now
-            → IssuesOr self.old.slot.held now given.now result self.new.slot.held }
+            → IssuesIdsOrNoMemory self.old.slot.held now given.now result self.new.slot.held }
         ensures long { ¬ All (λ id. id.len ≤ 20) given.now
-            → IsBad self.old.slot.held result self.new.slot.held }
+            → IsBadArgument self.old.slot.held result self.new.slot.held }
     {
         if !are_ids(given) {
-            return Reply::bad_argument();
+            return EncodedReply::bad_argument();
         }
         match ids_of(alloc, given) {
             Ok(ids) => self.apply(
@@ -126,7 +126,7 @@ impl Handle {
                     ids,
                 },
             ),
-            Err(_) => Reply::no_memory(),
+            Err(_) => EncodedReply::no_memory(),
         }
     }
 }

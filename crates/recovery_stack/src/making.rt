@@ -1,7 +1,7 @@
 //! A recovery is made of settings and of the peer's address and id.
 ghost use Rattle.std.specs.Prelude.{◌≡◌, None};
-ghost use Rattle.recovery_stack.specs.Made.{MadeOr, NewOr};
-ghost use Rattle.recovery_stack.specs.Settings.{IsSound};
+ghost use Rattle.recovery_stack.specs.Made.{MadeOrNoMemory, NewOr};
+ghost use Rattle.recovery_stack.specs.Settings.{AreSettingsSound};
 
 use crate::codes::{Address, cid, socket_of};
 use crate::handle::Handle;
@@ -11,7 +11,7 @@ use quic_recovery::time::Instant;
 use rand_core::SeedableRng;
 use rand_pcg::Pcg32;
 use recovery_base::below::ConnectionId;
-use recovery_kept::numbers::{NEW_CID_TOO_LONG, NEW_HELD, NEW_MADE, NEW_NO_MEMORY};
+use recovery_engine::numbers::{NEW_CID_TOO_LONG, NEW_HELD, NEW_MADE, NEW_NO_MEMORY};
 use recovery_sender::Side;
 use std::alloc::Global;
 
@@ -61,8 +61,8 @@ fn make(
     now: u64,
 ) -> bool
     requires none { handle.old.slot.held ≡ None }
-    requires sound { IsSound settings.now }
-    ensures { MadeOr side result settings.now remote.now id now handle.new.slot.held }
+    requires sound { AreSettingsSound settings.now }
+    ensures { MadeOrNoMemory side result settings.now remote.now id now handle.new.slot.held }
 {
     let peer = socket_of(remote);
     let config = config(settings, id, peer);

@@ -1,10 +1,10 @@
 //! What the layer above keeps with a path (RFC 9000, 8.2 and 13.4; RFC 9002, 7.6): it is read and set, and no event
 //! changes it.
 ghost use Rattle.std.specs.Prelude.{◌≡◌, None};
-ghost use Rattle.recovery_history.specs.Above.{marks_at};
-ghost use Rattle.recovery_stack.specs.Answers.{Reads};
+ghost use Rattle.recovery_history.specs.CallerState.{marks_at};
+ghost use Rattle.recovery_stack.specs.Answers.{ReadsHandle};
 ghost use Rattle.recovery_stack.specs.Codes.{path_coded};
-ghost use Rattle.recovery_kept.specs.Kept.{parts_kept};
+ghost use Rattle.recovery_engine.specs.Kept.{parts_kept};
 ghost use Rattle.recovery_stack.specs.Marks.{first_of, marks_given, marks_shown, MarksStack, SetsMarks};
 
 use crate::codes::{maybe, path_coded, space_coded};
@@ -13,7 +13,7 @@ use crate::stack::{ItemPath, Stack};
 use quic_recovery::event::PathName;
 use quic_recovery::paths::{PathMarks, PathResponses};
 use recovery_base::below::SpaceId;
-use recovery_kept::spelling::space_number;
+use recovery_engine::spelling::space_number;
 use std::alloc::Global;
 
 /// What the layer above keeps with a path, but for its PATH_RESPONSE frames.
@@ -124,7 +124,7 @@ impl Stack {
 impl Handle {
     /// What the layer above keeps with a path.
     pub fn marks(&mut self, alloc: Global, previous: bool) -> Marks
-        ensures { Reads self.old.slot.held self.new.slot.held (λ stack.
+        ensures { ReadsHandle self.old.slot.held self.new.slot.held (λ stack.
             let parts = parts_kept stack.kept in
             result ≡ marks_shown (marks_at (path_coded previous) parts))
             (result ≡ marks_shown None) }

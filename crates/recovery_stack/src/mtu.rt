@@ -1,12 +1,12 @@
 //! An MTU discovery is made of settings, and what can be read of it (RFC 8899).
 ghost use Rattle.std.specs.Prelude.{◌≡◌};
-ghost use Rattle.recovery_stack.specs.Answers.{Reads};
+ghost use Rattle.recovery_stack.specs.Answers.{ReadsHandle};
 ghost use Rattle.recovery_stack.specs.Discoveries.{NewDiscovery, discovery_by, mtu_shown, no_mtu};
-ghost use Rattle.recovery_stack.specs.Settings.{IsSound};
+ghost use Rattle.recovery_stack.specs.Settings.{AreSettingsSound};
 
 use crate::mtu_handle::MtuHandle;
 use crate::settings::{Settings, discovery, fault};
-use recovery_kept::numbers::{NEW_HELD, NEW_MADE, NEW_NO_MEMORY};
+use recovery_engine::numbers::{NEW_HELD, NEW_MADE, NEW_NO_MEMORY};
 use recovery_mtud::mtud::MtuDiscovery;
 use std::alloc::Global;
 
@@ -27,7 +27,7 @@ pub struct MtuView {
 }
 
 fn begun(settings: &Settings, limit: u16) -> MtuDiscovery
-    requires { IsSound settings.now }
+    requires { AreSettingsSound settings.now }
     ensures { result ≡ discovery_by settings.now limit }
 {
     let initial = settings.initial_mtu.max(settings.min_mtu);
@@ -78,7 +78,7 @@ impl MtuHandle {
 
     /// What is known.
     pub fn view(&mut self, alloc: Global) -> MtuView
-        ensures { Reads self.old.slot.held self.new.slot.held
+        ensures { ReadsHandle self.old.slot.held self.new.slot.held
             (λ discovery. result ≡ mtu_shown discovery) (result ≡ no_mtu) }
     {
         let Some(discovery) = self.take(alloc) else {

@@ -1,15 +1,15 @@
 //! What C holds of an MTU discovery.
 ghost use Rattle.std.specs.Prelude.{◌≡◌, Some, None, is_some, MatchOption, true};
 ghost use Rattle.recovery_stack.specs.Discoveries.{DiscoveryAnswers, discovery_told, is_allowed, told_to, probe_spelled};
-ghost use Rattle.recovery_stack.specs.Held.{Holds};
+ghost use Rattle.recovery_stack.specs.Held.{HoldsIf};
 
 use crate::mtu_slot::MtuSlot;
 use quic_recovery::below::SpaceId;
 use quic_recovery::time::Instant;
-use recovery_kept::numbers::{
+use recovery_engine::numbers::{
     ANSWER_ACKED, ANSWER_BLACK_HOLE, ANSWER_DONE, ANSWER_NO_PROBE, ANSWER_PROBE,
 };
-use recovery_kept::spelling::{Reply, spell_flag};
+use recovery_engine::spelling::{EncodedReply, encode_flag};
 use recovery_mtud::mtud::MtuDiscovery;
 use std::alloc::Global;
 
@@ -83,7 +83,7 @@ impl MtuHandle {
     /// Holds a discovery; false where there is no memory.
     pub fn make(&mut self, alloc: Global, discovery: MtuDiscovery) -> bool
         requires { self.old.slot.held ≡ None }
-        ensures { Holds result discovery self.new.slot.held }
+        ensures { HoldsIf result discovery self.new.slot.held }
     {
         match Box::new(alloc, discovery) {
             Ok(discovery) => {
@@ -95,11 +95,11 @@ impl MtuHandle {
     }
 
     /// One call; refused where no discovery is held, or it is not allowed then.
-    pub fn call(&mut self, alloc: Global, call: Call) -> Reply
+    pub fn call(&mut self, alloc: Global, call: Call) -> EncodedReply
         ensures { DiscoveryAnswers self.old.slot.held call result self.new.slot.held }
     {
         let Some(mut discovery) = self.take(alloc) else {
-            return Reply::no_recovery();
+            return EncodedReply::no_recovery();
         };
         let reply = hand_in(&mut discovery, call);
         self.put(discovery);
@@ -119,17 +119,17 @@ fn allows(discovery: &MtuDiscovery, call: &Call) -> bool
 }
 
 /// A call of the discovery that is held; refused where it is not allowed.
-fn hand_in(discovery: &mut MtuDiscovery, call: Call) -> Reply
+fn hand_in(discovery: &mut MtuDiscovery, call: Call) -> EncodedReply
     ensures { DiscoveryAnswers (Some discovery.old) call result (Some discovery.new) }
 {
     if allows(discovery, &call) {
         answer(discovery, call)
     } else {
-        Reply::bad_argument()
+        EncodedReply::bad_argument()
     }
 }
 
-fn answer(discovery: &mut MtuDiscovery, call: Call) -> Reply
+fn answer(discovery: &mut MtuDiscovery, call: Call) -> EncodedReply
     requires { is_allowed call discovery.old ≡ true }
     ensures told { result ≡ discovery_told call discovery.old }
     ensures after { discovery.new ≡ told_to call discovery.old }
@@ -138,39 +138,39 @@ fn answer(discovery: &mut MtuDiscovery, call: Call) -> Reply
         Call::Poll { now, number } => spell_poll(discovery.poll_transmit(now, number), number),
         Call::Limit { size } => {
             discovery.on_peer_max_udp_payload_size_received(size);
-            Reply::plain(ANSWER_DONE)
+            EncodedReply::plain(ANSWER_DONE)
         }
         Call::Acked { number, bytes } => {
             let probe = discovery.on_acked(SpaceId::Data, number, bytes);
-            spell_flag(ANSWER_ACKED, probe)
+            encode_flag(ANSWER_ACKED, probe)
         }
         Call::ProbeLost => {
             discovery.on_probe_lost();
-            Reply::plain(ANSWER_DONE)
+            EncodedReply::plain(ANSWER_DONE)
         }
         Call::Lost { number, bytes } => {
             discovery.on_non_probe_lost(number, bytes);
-            Reply::plain(ANSWER_DONE)
+            EncodedReply::plain(ANSWER_DONE)
         }
         Call::LossesDone { now } => {
-            spell_flag(ANSWER_BLACK_HOLE, discovery.black_hole_detected(now))
+            encode_flag(ANSWER_BLACK_HOLE, discovery.black_hole_detected(now))
         }
         Call::Reset { mtu, min_mtu } => {
             discovery.reset(mtu, min_mtu);
-            Reply::plain(ANSWER_DONE)
+            EncodedReply::plain(ANSWER_DONE)
         }
     }
 }
 
-fn spell_poll(size: Option<u16>, number: u64) -> Reply
+fn spell_poll(size: Option<u16>, number: u64) -> EncodedReply
     ensures { result ≡ probe_spelled size number }
 {
     match size {
-        Some(size) => Reply {
+        Some(size) => EncodedReply {
             first: number,
             size,
-            ..Reply::plain(ANSWER_PROBE)
+            ..EncodedReply::plain(ANSWER_PROBE)
         },
-        None => Reply::plain(ANSWER_NO_PROBE),
+        None => EncodedReply::plain(ANSWER_NO_PROBE),
     }
 }

@@ -2,12 +2,12 @@
 //! the library.
 ghost use Rattle.std.specs.Prelude.{◌≡◌, None, MatchOption};
 ghost use Rattle.recovery_congestion.specs.Pacing.{IsBucketSound};
-ghost use Rattle.recovery_stack.specs.Buckets.{Delays, Transmits, bucket_first, bucket_in, bucket_shown};
+ghost use Rattle.recovery_stack.specs.Buckets.{Delays, PacerTransmits, bucket_first, bucket_in, bucket_shown};
 
 use quic_recovery::time::{Duration, Instant};
 use recovery_congestion::pacing::{Pacer, PacerState};
-use recovery_kept::numbers::{ANSWER_DELAYED, ANSWER_READY, ANSWER_TRANSMITTED};
-use recovery_kept::spelling::{Reply, spell_number};
+use recovery_engine::numbers::{ANSWER_DELAYED, ANSWER_READY, ANSWER_TRANSMITTED};
+use recovery_engine::spelling::{EncodedReply, encode_number};
 
 /// A bucket of tokens, one a byte. All zeros is none, and refused.
 #[repr(C)]
@@ -74,28 +74,28 @@ impl Bucket {
     }
 
     /// A packet of so many bytes was sent. Refused where the bucket is none.
-    pub fn transmit(&mut self, bytes: u16) -> Reply
-        ensures { Transmits bytes self.old result self.new }
+    pub fn transmit(&mut self, bytes: u16) -> EncodedReply
+        ensures { PacerTransmits bytes self.old result self.new }
     {
         let Some(mut paced) = pacer_in(self) else {
-            return Reply::bad_argument();
+            return EncodedReply::bad_argument();
         };
         paced.on_transmit(bytes);
         *self = bucket_of(&paced);
-        Reply::plain(ANSWER_TRANSMITTED)
+        EncodedReply::plain(ANSWER_TRANSMITTED)
     }
 
     /// Whether so many bytes may be sent. Refused where the window or the MTU is 0, or the bucket is none.
-    pub fn delay(&mut self, rtt: u64, bytes: u64, mtu: u16, window: u64, now: u64) -> Reply
+    pub fn delay(&mut self, rtt: u64, bytes: u64, mtu: u16, window: u64, now: u64) -> EncodedReply
         ensures { Delays
             (record { bytes = bytes; rtt = rtt; mtu = mtu; window = window; now = now })
             self.old result self.new }
     {
         if window == 0 || mtu == 0 {
-            return Reply::bad_argument();
+            return EncodedReply::bad_argument();
         }
         let Some(mut paced) = pacer_in(self) else {
-            return Reply::bad_argument();
+            return EncodedReply::bad_argument();
         };
         let until = paced.delay(
             Duration::from_nanos(rtt),
@@ -106,8 +106,8 @@ impl Bucket {
         );
         *self = bucket_of(&paced);
         match until {
-            Some(until) => spell_number(ANSWER_DELAYED, until.as_nanos()),
-            None => Reply::plain(ANSWER_READY),
+            Some(until) => encode_number(ANSWER_DELAYED, until.as_nanos()),
+            None => EncodedReply::plain(ANSWER_READY),
         }
     }
 }

@@ -3,22 +3,22 @@
 ghost use Rattle.std.specs.Prelude.{◌≡◌, slice_get, replicate, Decides, IsFalse, None};
 ghost use Rattle.recovery_ids.specs.LocalIds.{first_moment};
 ghost use Rattle.recovery_paths.specs.PathLog.{path_of};
-ghost use Rattle.recovery_stack.specs.Answers.{Reads};
+ghost use Rattle.recovery_stack.specs.Answers.{ReadsHandle};
 ghost use Rattle.recovery_stack.specs.Codes.{path_coded};
-ghost use Rattle.recovery_kept.specs.Kept.{parts_kept};
-ghost use Rattle.recovery_kept.specs.Replies.{IsWritten};
+ghost use Rattle.recovery_engine.specs.Kept.{parts_kept};
+ghost use Rattle.recovery_engine.specs.Replies.{IsWritten};
 ghost use Rattle.recovery_stack.specs.Views.{path_view, no_path, moment_shown, moment_named, ack_delay_named, ids_shown, no_ids, range_shown, ranges_in, no_space, space_named, IsSpaceShown};
 
 use crate::codes::copy_items;
 use crate::handle::Handle;
-use crate::views::{IdsView, MomentView, PathView, RangeView, SpaceView};
+use crate::views::{IdsView, TimeView, PathView, RangeView, SpaceView};
 use quic_recovery::time::Instant;
 use std::alloc::Global;
 
 impl Handle {
     /// What is kept for a path.
     pub fn path(&mut self, alloc: Global, previous: bool) -> PathView
-        ensures { Reads self.old.slot.held self.new.slot.held (λ stack.
+        ensures { ReadsHandle self.old.slot.held self.new.slot.held (λ stack.
             let paths = (parts_kept stack.kept).paths in
             result ≡ path_view (path_of (path_coded previous) paths)) (result ≡ no_path) }
     {
@@ -32,7 +32,7 @@ impl Handle {
 
     /// What a space has to send; of one that there is not what is said of a discarded one.
     pub fn space(&mut self, alloc: Global, space: u8) -> SpaceView
-        ensures { Reads self.old.slot.held self.new.slot.held (λ stack.
+        ensures { ReadsHandle self.old.slot.held self.new.slot.held (λ stack.
             IsSpaceShown (space_named space (parts_kept stack.kept)) result)
             (result ≡ no_space) }
     {
@@ -46,7 +46,7 @@ impl Handle {
 
     /// One of the ranges of numbers that are to be acknowledged in a space, in ascending order.
     pub fn range(&mut self, alloc: Global, space: u8, index: usize) -> RangeView
-        ensures { Reads self.old.slot.held self.new.slot.held (λ stack.
+        ensures { ReadsHandle self.old.slot.held self.new.slot.held (λ stack.
             let kept = space_named space (parts_kept stack.kept) in
             result ≡ range_shown (slice_get (ranges_in kept) index)) (result ≡ range_shown None) }
     {
@@ -59,13 +59,13 @@ impl Handle {
     }
 
     /// How long ago the largest packet of a space came, which an ACK frame tells (RFC 9000, 13.2.5).
-    pub fn ack_delay(&mut self, alloc: Global, space: u8, now: u64) -> MomentView
-        ensures { Reads self.old.slot.held self.new.slot.held (λ stack.
+    pub fn ack_delay(&mut self, alloc: Global, space: u8, now: u64) -> TimeView
+        ensures { ReadsHandle self.old.slot.held self.new.slot.held (λ stack.
             result ≡ ack_delay_named space now (parts_kept stack.kept))
             (result ≡ moment_shown None) }
     {
         let Some(stack) = self.take(alloc) else {
-            return MomentView::of(None);
+            return TimeView::of(None);
         };
         let view = stack.ack_delay(space, Instant::from_nanos(now));
         self.put(stack);
@@ -73,13 +73,13 @@ impl Handle {
     }
 
     /// When a timer expires.
-    pub fn timer(&mut self, alloc: Global, timer: u8) -> MomentView
-        ensures { Reads self.old.slot.held self.new.slot.held (λ stack.
+    pub fn timer(&mut self, alloc: Global, timer: u8) -> TimeView
+        ensures { ReadsHandle self.old.slot.held self.new.slot.held (λ stack.
             let timers = (parts_kept stack.kept).timers in
             result ≡ moment_named timer timers) (result ≡ moment_shown None) }
     {
         let Some(stack) = self.take(alloc) else {
-            return MomentView::of(None);
+            return TimeView::of(None);
         };
         let view = stack.timer(timer);
         self.put(stack);
@@ -88,7 +88,7 @@ impl Handle {
 
     /// The ids of both ends, and how late ACKs may be.
     pub fn ids(&mut self, alloc: Global) -> IdsView
-        ensures { Reads self.old.slot.held self.new.slot.held (λ stack.
+        ensures { ReadsHandle self.old.slot.held self.new.slot.held (λ stack.
             result ≡ ids_shown (parts_kept stack.kept)) (result ≡ no_ids) }
     {
         let Some(stack) = self.take(alloc) else {
@@ -100,13 +100,13 @@ impl Handle {
     }
 
     /// When the oldest of this end's ids is to be retired (RFC 9000, 5.1.2), where they end.
-    pub fn next_id_timeout(&mut self, alloc: Global) -> MomentView
-        ensures { Reads self.old.slot.held self.new.slot.held (λ stack.
+    pub fn next_id_timeout(&mut self, alloc: Global) -> TimeView
+        ensures { ReadsHandle self.old.slot.held self.new.slot.held (λ stack.
             let ids = (parts_kept stack.kept).local_ids in
             result ≡ moment_shown (first_moment ids.deadlines)) (result ≡ moment_shown None) }
     {
         let Some(stack) = self.take(alloc) else {
-            return MomentView::of(None);
+            return TimeView::of(None);
         };
         let view = stack.next_id_timeout();
         self.put(stack);
@@ -115,7 +115,7 @@ impl Handle {
 
     /// How many items the queue that was taken last has; they are written where there is room for all.
     pub fn taken(&mut self, alloc: Global, out: &mut [u64]) -> usize
-        ensures { Reads self.old.slot.held self.new.slot.held
+        ensures { ReadsHandle self.old.slot.held self.new.slot.held
             (λ stack. IsWritten stack.taken out.old result out.new)
             ((result ≡ 0) × (out.new ≡ out.old)) }
     {
@@ -129,7 +129,7 @@ impl Handle {
 
     /// Writes the bytes of the token that was answered last; all zeros before there was one.
     pub fn token(&mut self, alloc: Global, out: &mut [u8; 16])
-        ensures { Reads self.old.slot.held self.new.slot.held
+        ensures { ReadsHandle self.old.slot.held self.new.slot.held
             (λ stack. out.new ≡ stack.token) (out.new ≡ replicate 16 0) }
     {
         let Some(stack) = self.take(alloc) else {
@@ -143,7 +143,7 @@ impl Handle {
 
     /// Whether this is the token that was answered last.
     pub fn is_token(&mut self, alloc: Global, token: &[u8; 16]) -> bool
-        ensures { Reads self.old.slot.held self.new.slot.held
+        ensures { ReadsHandle self.old.slot.held self.new.slot.held
             (λ stack. Decides result (stack.token ≡ token.now)) (IsFalse result) }
     {
         let Some(stack) = self.take(alloc) else {

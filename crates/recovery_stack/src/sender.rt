@@ -1,18 +1,18 @@
 //! The calls of a sender that take more than numbers, and what it told last (RFC 9002).
 ghost use Rattle.std.specs.Prelude.{◌≡◌};
-ghost use Rattle.recovery_kept.specs.Kept.{numbers_told, packets_told, pto_count_of};
-ghost use Rattle.recovery_kept.specs.Replies.{IsWritten};
-ghost use Rattle.recovery_kept.specs.Sending.{no_told, told_view};
-ghost use Rattle.recovery_stack.specs.Answers.{Reads};
-ghost use Rattle.recovery_stack.specs.Asking.{ack_given, frame_given, AsksAck};
+ghost use Rattle.recovery_engine.specs.Kept.{numbers_told, packets_told, pto_count_of};
+ghost use Rattle.recovery_engine.specs.Replies.{IsWritten};
+ghost use Rattle.recovery_engine.specs.Sending.{no_told, told_view};
+ghost use Rattle.recovery_stack.specs.Answers.{ReadsHandle};
+ghost use Rattle.recovery_stack.specs.SenderCalls.{ack_given, frame_given, AsksAck};
 ghost use Rattle.recovery_stack.specs.Codes.{side_coded};
 
 use crate::codes::{space_coded, span};
 use crate::handle::Handle;
 use quic_recovery::time::Instant;
 use recovery_base::below::{EcnCounts, SpaceId};
-use recovery_kept::sending::{AckRange, Call, ToldView};
-use recovery_kept::spelling::Reply;
+use recovery_engine::sending::{AckRange, Call, OutcomeView};
+use recovery_engine::spelling::EncodedReply;
 use recovery_sender::{Ack, Side};
 use std::alloc::Global;
 
@@ -77,14 +77,14 @@ impl Handle {
         now: u64,
         frame: &AckFrame,
         ranges: &[AckRange],
-    ) -> Reply
+    ) -> EncodedReply
         ensures { AsksAck (frame_given space frame.now) now ranges.now
             self.old.slot.held result self.new.slot.held }
     {
         let Some((space, ack)) = frame_of(space, frame) else {
-            return Reply::bad_argument();
+            return EncodedReply::bad_argument();
         };
-        self.ask_with(
+        self.call_sender_with(
             alloc,
             Call::TakeAck {
                 space,
@@ -97,7 +97,7 @@ impl Handle {
 
     /// How many probe timeouts expired in a row (RFC 9002, 6.2.1); 0 where there is no sender.
     pub fn pto_count(&mut self, alloc: Global) -> u32
-        ensures { Reads self.old.slot.held self.new.slot.held (λ stack.
+        ensures { ReadsHandle self.old.slot.held self.new.slot.held (λ stack.
             result ≡ pto_count_of stack.kept) (result ≡ 0) }
     {
         let Some(stack) = self.take(alloc) else {
@@ -109,14 +109,14 @@ impl Handle {
     }
 
     /// What was told last; nothing before it, and where there is no sender.
-    pub fn told(&mut self, alloc: Global) -> ToldView
-        ensures { Reads self.old.slot.held self.new.slot.held (λ stack.
+    pub fn last_outcome(&mut self, alloc: Global) -> OutcomeView
+        ensures { ReadsHandle self.old.slot.held self.new.slot.held (λ stack.
             result ≡ told_view stack.kept) (result ≡ no_told) }
     {
         let Some(stack) = self.take(alloc) else {
-            return ToldView::none();
+            return OutcomeView::none();
         };
-        let view = stack.kept.told();
+        let view = stack.kept.last_outcome();
         self.put(stack);
         view
     }
@@ -124,7 +124,7 @@ impl Handle {
     /// How many numbers were newly acknowledged as something was told last, or found lost; they are written where there
     /// is room for all.
     pub fn told_numbers(&mut self, alloc: Global, lost: bool, out: &mut [u64]) -> usize
-        ensures { Reads self.old.slot.held self.new.slot.held (λ stack.
+        ensures { ReadsHandle self.old.slot.held self.new.slot.held (λ stack.
             IsWritten (numbers_told lost stack.kept) out.old result out.new)
             ((result ≡ 0) × (out.new ≡ out.old)) }
     {
@@ -139,7 +139,7 @@ impl Handle {
     /// The packets that were newly acknowledged as something was told last, with their items: how many words they are;
     /// they are written where there is room for all.
     pub fn told_packets(&mut self, alloc: Global, out: &mut [u64]) -> usize
-        ensures { Reads self.old.slot.held self.new.slot.held (λ stack.
+        ensures { ReadsHandle self.old.slot.held self.new.slot.held (λ stack.
             IsWritten (packets_told stack.kept) out.old result out.new)
             ((result ≡ 0) × (out.new ≡ out.old)) }
     {

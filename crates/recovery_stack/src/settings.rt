@@ -1,8 +1,8 @@
 //! What a recovery is made with.
 ghost use Rattle.std.specs.Prelude.{◌≡◌, ◌<◌, None, Some};
-ghost use Rattle.recovery_skips.specs.Skips.{IsSkips};
+ghost use Rattle.recovery_packet_numbers.specs.Skips.{IsSkips};
 ghost use Rattle.recovery_stack.specs.Codes.{maybe};
-ghost use Rattle.recovery_stack.specs.Settings.{config_of, controller_of, default_settings, discovery_of, settings_fault, transport_of, skips_of, IsSound};
+ghost use Rattle.recovery_stack.specs.Settings.{config_of, controller_of, default_settings, discovery_of, settings_fault, transport_of, skips_of, AreSettingsSound};
 
 use crate::codes::maybe;
 use quic_recovery::RecoveryConfig;
@@ -11,14 +11,14 @@ use quic_recovery::congestion::NewRenoConfig;
 use quic_recovery::time::Duration;
 use recovery_base::below::ConnectionId;
 use recovery_cubic::CubicConfig;
-use recovery_kept::controllers::{ChosenConfig, FixedConfig};
-use recovery_kept::numbers::{
+use recovery_engine::controllers::{ChosenConfig, FixedConfig};
+use recovery_engine::numbers::{
     CONTROLLER_CUBIC, CONTROLLER_FIXED, CONTROLLER_NEW_RENO, NEW_MADE, NEW_SKIP_TOO_LARGE,
     NEW_TOO_MANY_ISSUED, NEW_UNKNOWN_CONTROLLER, NEW_UNKNOWN_SKIPS, NEW_ZERO_DENOMINATOR,
     NEW_ZERO_MTU, NEW_ZERO_WINDOW, SKIPS_DISABLED, SKIPS_DRAWN, SKIPS_STARTING,
 };
 use recovery_mtud::config::MtuDiscoveryConfig;
-use recovery_skips::Skips;
+use recovery_packet_numbers::Skips;
 use std::net::SocketAddr;
 
 /// The settings: times are in nanoseconds, and sizes in bytes.
@@ -108,7 +108,7 @@ impl Default for Settings {
 /// The first thing that is wrong with settings, by its number; `NEW_MADE` where nothing is.
 pub fn fault(settings: &Settings) -> u8
     ensures fault { result ≡ settings_fault settings.now }
-    ensures sound { result ≡ NEW_MADE → IsSound settings.now }
+    ensures sound { result ≡ NEW_MADE → AreSettingsSound settings.now }
 {
     if settings.issued > 1 << 62 {
         NEW_TOO_MANY_ISSUED
@@ -135,7 +135,7 @@ pub fn config(
     initial_cid: ConnectionId,
     remote: SocketAddr,
 ) -> RecoveryConfig<ChosenConfig>
-    requires { IsSound settings.now }
+    requires { AreSettingsSound settings.now }
     ensures config { result ≡ config_of settings.now initial_cid remote }
     ensures skips { IsSkips result.skips }
 {
@@ -151,7 +151,7 @@ pub fn config(
 }
 
 fn controller(settings: &Settings) -> ChosenConfig
-    requires { IsSound settings.now }
+    requires { AreSettingsSound settings.now }
     ensures { result ≡ controller_of settings.now }
 {
     match settings.controller {
@@ -186,7 +186,7 @@ pub fn discovery(settings: &Settings) -> Option<MtuDiscoveryConfig>
 }
 
 fn transport(settings: &Settings) -> TransportConfig<ChosenConfig>
-    requires { IsSound settings.now }
+    requires { AreSettingsSound settings.now }
     ensures { result ≡ transport_of settings.now }
 {
     let mut transport = TransportConfig::with_factory(controller(settings));

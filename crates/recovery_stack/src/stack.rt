@@ -2,13 +2,13 @@
 ghost use Rattle.std.specs.Prelude.{◌≡◌, ◌≤◌, ◌^◌, IfOk};
 ghost use Rattle.rand_core.specs.Steps.{stream_of, steps_u32};
 ghost use Rattle.rand_pcg.specs.Pcg.{pcg32};
-ghost use Rattle.recovery_skips.specs.Skips.{IsSkips};
-ghost use Rattle.quic_recovery.specs.State.{parts_of};
-ghost use Rattle.recovery_kept.specs.Kept.{parts_kept, Lets};
-ghost use Rattle.recovery_kept.specs.Replies.{taken_after, token_after};
-ghost use Rattle.recovery_stack.specs.Made.{IsNew};
-ghost use Rattle.recovery_stack.specs.Answers.{Tells, LetsIn};
-ghost use Rattle.recovery_stack.specs.Asking.{AsksStack};
+ghost use Rattle.recovery_packet_numbers.specs.Skips.{IsSkips};
+ghost use Rattle.quic_recovery.specs.State.{state_of};
+ghost use Rattle.recovery_engine.specs.Kept.{parts_kept, AcceptsEvent};
+ghost use Rattle.recovery_engine.specs.Replies.{taken_after, token_after};
+ghost use Rattle.recovery_stack.specs.Made.{IsNewHandle};
+ghost use Rattle.recovery_stack.specs.Answers.{EventReply, AppliesOrRejects};
+ghost use Rattle.recovery_stack.specs.SenderCalls.{AsksStack};
 
 use quic_recovery::below::{NoMemory, ResetToken};
 use quic_recovery::paths::PathData;
@@ -16,10 +16,10 @@ use quic_recovery::spaces::PacketSpace;
 use quic_recovery::{Answer, Event, Recovery, RecoveryConfig, Refusal};
 use rand_pcg::Pcg32;
 use recovery_base::time::Instant;
-use recovery_kept::controllers::{Chosen, ChosenConfig};
-use recovery_kept::kept::Kept;
-use recovery_kept::sending::{AckRange, Call};
-use recovery_kept::spelling::{Reply, spell};
+use recovery_engine::controllers::{Chosen, ChosenConfig};
+use recovery_engine::kept::Engine;
+use recovery_engine::sending::{AckRange, Call};
+use recovery_engine::spelling::{EncodedReply, encode_reply};
 use recovery_queue::items::ItemQueue;
 use recovery_sender::Side;
 use std::alloc::Global;
@@ -33,7 +33,7 @@ pub type ItemSpace = PacketSpace<ItemQueue>;
 /// A recovery, and what of its answers is no number.
 #[derive(Drop)]
 pub struct Stack {
-    pub kept: Kept,
+    pub kept: Engine,
     /// The queue that was taken last; none before one was.
     pub taken: ItemQueue,
     /// The token that was answered last; all zeros before one was.
@@ -52,9 +52,9 @@ impl Stack {
         requires issued { config.issued ≤ 2 ^ 62 }
         requires skips { IsSkips config.skips }
         ensures { IfOk result
-            (λ stack. IsNew side config now (stream_of (steps_u32 pcg32) rng) stack) }
+            (λ stack. IsNewHandle side config now (stream_of (steps_u32 pcg32) rng) stack) }
     {
-        let kept = Kept::new(alloc, side, config, rng, now)?;
+        let kept = Engine::new(alloc, side, config, rng, now)?;
         Ok(Stack {
             kept,
             taken: ItemQueue::from_items(Vec::new(alloc)),
@@ -64,30 +64,30 @@ impl Stack {
 
     /// The recovery, to look at.
     pub fn recovery(&self) -> &Recovery<ChosenConfig, ItemQueue, Pcg32>
-        ensures { parts_of result.now ≡ parts_kept self.now.kept }
+        ensures { state_of result.now ≡ parts_kept self.now.kept }
     {
         self.kept.recovery()
     }
 
     /// One event; refused where a sender decides it itself.
     #[inline(always)]
-    pub fn apply(&mut self, event: Event<ItemQueue>) -> Reply
-        ensures { LetsIn self.old event result self.new }
+    pub fn apply(&mut self, event: Event<ItemQueue>) -> EncodedReply
+        ensures { AppliesOrRejects self.old event result self.new }
     {
-        if !self.kept.lets(&event) {
-            return Reply::decided();
+        if !self.kept.accepts(&event) {
+            return EncodedReply::decided();
         }
         self.hand_in(event)
     }
 
     /// One event that it lets pass.
     #[inline(always)]
-    fn hand_in(&mut self, event: Event<ItemQueue>) -> Reply
-        requires { Lets self.old.kept event }
-        ensures { Tells self.old event result self.new }
+    fn hand_in(&mut self, event: Event<ItemQueue>) -> EncodedReply
+        requires { AcceptsEvent self.old.kept event }
+        ensures { EventReply self.old event result self.new }
     {
         let reply = self.kept.apply(event);
-        let spelling = spell(&reply);
+        let spelling = encode_reply(&reply);
         self.keep(reply);
         spelling
     }
@@ -107,9 +107,9 @@ impl Stack {
     }
 
     /// One call of a sender; refused where there is none.
-    pub fn ask(&mut self, alloc: Global, call: Call, ranges: &[AckRange]) -> Reply
+    pub fn call_sender(&mut self, alloc: Global, call: Call, ranges: &[AckRange]) -> EncodedReply
         ensures { AsksStack call ranges.now self.old result self.new }
     {
-        self.kept.ask(alloc, call, ranges)
+        self.kept.call_sender(alloc, call, ranges)
     }
 }

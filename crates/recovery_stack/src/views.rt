@@ -3,7 +3,7 @@ ghost use Rattle.std.specs.Prelude.{◌≡◌, Some, Decides, option_copied, sli
 ghost use Rattle.recovery_ids.specs.LocalIds.{first_moment};
 ghost use Rattle.recovery_paths.specs.PathLog.{path_of};
 ghost use Rattle.recovery_stack.specs.Codes.{path_coded};
-ghost use Rattle.recovery_kept.specs.Kept.{parts_kept};
+ghost use Rattle.recovery_engine.specs.Kept.{parts_kept};
 ghost use Rattle.recovery_stack.specs.Views.{path_shown, no_path, path_view, moment_shown, moment_named, ack_delay_named, ids_shown, no_ids, range_shown, ranges_in, no_space, space_named, IsSpaceShown};
 
 use crate::codes::{nanos_shown, path_coded, space_coded, timer_coded};
@@ -90,7 +90,7 @@ pub struct RangeView {
 /// A moment, or a span, if there is one.
 #[repr(C)]
 #[derive(Clone, Copy)]
-pub struct MomentView {
+pub struct TimeView {
     /// In nanoseconds.
     pub nanos: u64,
     /// Whether there is one; if not, all else is 0.
@@ -204,14 +204,14 @@ impl RangeView {
     }
 }
 
-impl MomentView {
+impl TimeView {
     /// So many nanoseconds, if any.
-    pub fn of(nanos: Option<u64>) -> MomentView
+    pub fn of(nanos: Option<u64>) -> TimeView
         ensures { result ≡ moment_shown nanos }
     {
         match nanos {
-            Some(nanos) => MomentView { nanos, some: true },
-            None => MomentView {
+            Some(nanos) => TimeView { nanos, some: true },
+            None => TimeView {
                 nanos: 0,
                 some: false,
             },
@@ -294,27 +294,27 @@ impl Stack {
     }
 
     /// How long ago the largest packet came, which an ACK frame tells (RFC 9000, 13.2.5).
-    pub fn ack_delay(&self, space: u8, now: Instant) -> MomentView
+    pub fn ack_delay(&self, space: u8, now: Instant) -> TimeView
         ensures { result
             ≡ ack_delay_named space now (parts_kept self.now.kept) }
     {
         match self.named(space) {
-            Some(space) => MomentView::of(Some(nanos_shown(space.pending_acks.ack_delay(now)))),
-            None => MomentView::of(None),
+            Some(space) => TimeView::of(Some(nanos_shown(space.pending_acks.ack_delay(now)))),
+            None => TimeView::of(None),
         }
     }
 
     /// When a timer expires.
-    pub fn timer(&self, timer: u8) -> MomentView
+    pub fn timer(&self, timer: u8) -> TimeView
         ensures { let timers = (parts_kept self.now.kept).timers in
             result ≡ moment_named timer timers }
     {
         let Some(timer) = timer_coded(timer) else {
-            return MomentView::of(None);
+            return TimeView::of(None);
         };
         match self.recovery().timers().get(timer) {
-            Some(moment) => MomentView::of(Some(moment.as_nanos())),
-            None => MomentView::of(None),
+            Some(moment) => TimeView::of(Some(moment.as_nanos())),
+            None => TimeView::of(None),
         }
     }
 
@@ -333,13 +333,13 @@ impl Stack {
     }
 
     /// When the oldest of this end's ids is to be retired, where they end.
-    pub fn next_id_timeout(&self) -> MomentView
+    pub fn next_id_timeout(&self) -> TimeView
         ensures { let ids = (parts_kept self.now.kept).local_ids in
             result ≡ moment_shown (first_moment ids.deadlines) }
     {
         match self.recovery().local_ids().next_timeout() {
-            Some(moment) => MomentView::of(Some(moment.as_nanos())),
-            None => MomentView::of(None),
+            Some(moment) => TimeView::of(Some(moment.as_nanos())),
+            None => TimeView::of(None),
         }
     }
 

@@ -6,13 +6,13 @@ use Rattle.std.proofs.KnownBytes.{Appends-nil, Consumes-nil, Consumes-trans}
 use Rattle.rand_core.specs.Stream.{Stream}
 use Rattle.quic_recovery.specs.declared.driver.Recovery.{Recovery}
 use Rattle.recovery_history.specs.declared.config.RecoveryConfig.{RecoveryConfig}
-use Rattle.recovery_history.specs.Past.{Reached}
-use Rattle.quic_recovery.specs.State.{parts_of}
+use Rattle.recovery_history.specs.Reachability.{ReachedBy}
+use Rattle.quic_recovery.specs.State.{state_of}
 use Rattle.recovery_replay.specs.declared.reading.Next.{Next}
 use Rattle.recovery_replay.specs.declared.reading.Next.TheVariants.{Line, Last}
 use Rattle.recovery_replay.specs.declared.reading.Unread.{Unread}
 use Rattle.recovery_replay.specs.declared.reading.Unread.TheVariants as reasons
-use Rattle.recovery_replay.specs.Reading.{BreaksOff, IsLine, Kept}
+use Rattle.recovery_replay.specs.Reading.{BreaksOff, IsLine, TruncatedLine}
 use Rattle.recovery_replay.specs.Script.{lines_of}
 use Rattle.recovery_replay.proofs.ScriptLaws.{line_then}
 use Rattle.recovery_trace.specs.declared.outcome.Outcome.{Outcome}
@@ -20,8 +20,8 @@ use Rattle.recovery_trace.specs.declared.outcome.Outcome.TheVariants.{Ended, Bad
 use Rattle.recovery_trace.specs.declared.requests.Choice.{Choice}
 use Rattle.recovery_trace.specs.declared.turn.Turn.TheVariants.{Done, Bad, Over}
 use Rattle.recovery_trace.specs.Outcomes.{outcome_of}
-use Rattle.recovery_trace.specs.Trace.{ItemBeginning, Streams, origin, streams_of, Traces, TracesFrom}
-use Rattle.recovery_trace.specs.Turns.{ItemParts, Turns}
+use Rattle.recovery_trace.specs.Trace.{ItemBeginning, Streams, origin, streams_of, TracesInput, TracesFrom}
+use Rattle.recovery_trace.specs.Turns.{ItemParts, LineOutcome}
 use Rattle.recovery_trace.proofs.TraceLaws.{Made, SoFar, Taken, also_taken, bad_line, bad_one, done_fine, ends_bad, ends_cut, ends_so, fine_more, nothing_taken, one_line, takes_last, takes_whole, taken_more, turn_bad, turn_done, turn_over}
 
 -- what was read and done so far, and how the trace would end here
@@ -36,7 +36,7 @@ pub record GoingBy {F K : Type 0} (beginning : ItemBeginning F K) (choice : Choi
 -- one line of an input, of which this is kept; the last may lack its line feed
 pub record OneLine (now left : Option (List ℕ)) (kept : List ℕ) : Type 0 where
   pub line : List ℕ
-  pub is_kept : Kept line kept
+  pub is_kept : TruncatedLine line kept
   pub takes : (unread : Option (List ℕ)) (lines : List (List ℕ)) → Taken unread now lines
       → (taken : List ℕ) × Consumes unread left taken × (lines_of taken ≡ reverse (line ∷ lines))
   pub more : List ℕ
@@ -74,8 +74,8 @@ module _ {F R C K : Type 0} {f : _} {c : _} {q : _} {m : _} {r : _} (choice : Ch
   abbrev pub Going : Streams → Recovery F (List ℕ) R C K (Unit {0}) (Unit {0}) (List ℕ) f c q m r → ℕ → Outcome → ℕ
       → Type 0
   Going streams recovery time outcome number = (config : RecoveryConfig F) (start : ℕ) (random : Stream) →
-      Reached (origin first config start random) [] (parts_of first)
-      → GoingBy (origin first config start random) choice streams (parts_of recovery) time outcome number
+      ReachedBy (origin first config start random) [] (state_of first)
+      → GoingBy (origin first config start random) choice streams (state_of recovery) time outcome number
 
   pub begun : (unread before unsaid : Option (List ℕ))
       → Going (streams_of unread unread before before unsaid unsaid) first 0 Ended 1
@@ -104,7 +104,7 @@ module _ {F R C K : Type 0} {f : _} {c : _} {q : _} {m : _} {r : _} (choice : Ch
         let g = going config start random came in
         let nothing = subst (λ (n : Option Next). IsLine now left kept n) is read in
         let whole = takes_whole unread now left g.lines g.taken in
-        ends_so (origin first config start random) choice unread left before mid unsaid now_said (parts_of old) earlier
+        ends_so (origin first config start random) choice unread left before mid unsaid now_said (state_of old) earlier
         g.lines g.made outcome g.so_far
         (whole.0, rw append-nil at (Consumes-trans unread now left whole.0 [] whole.1 nothing.0), whole.2) nothing.1
 
@@ -112,7 +112,7 @@ module _ {F R C K : Type 0} {f : _} {c : _} {q : _} {m : _} {r : _} (choice : Ch
         → TracesFrom first choice (streams_of unread left before mid unsaid now_said) broken
     cut_off why breaks broken is config start random came =
         let g = going config start random came in
-        rw is (ends_cut (origin first config start random) choice unread left before mid unsaid now_said (parts_of old)
+        rw is (ends_cut (origin first config start random) choice unread left before mid unsaid now_said (state_of old)
         earlier g.lines g.made now outcome why g.so_far g.taken breaks)
 
     module _ (new : Recovery F (List ℕ) R C K (Unit {0}) (Unit {0}) (List ℕ) f c q m r) (later : ℕ)
@@ -126,7 +126,8 @@ module _ {F R C K : Type 0} {f : _} {c : _} {q : _} {m : _} {r : _} (choice : Ch
       one = one_of now left kept next is_line
 
       -- a whole line whose event is done, or that is silent
-      pub one_done : next ≡ Line → Turns choice.shows kept number old new earlier later mid after now_said said Done
+      pub one_done : next ≡ Line → LineOutcome choice.shows kept number old new earlier later mid after now_said said
+          Done
           → Going (streams_of unread left before after unsaid said) new later outcome (number + 1)
       one_done is turn config start random came =
           let g = going config start random came in
@@ -142,7 +143,7 @@ module _ {F R C K : Type 0} {f : _} {c : _} {q : _} {m : _} {r : _} (choice : Ch
           }
 
       pub one_bad : next ≡ Line → choice.is_strict ≡ false
-          → Turns choice.shows kept number old new earlier later mid after now_said said Bad
+          → LineOutcome choice.shows kept number old new earlier later mid after now_said said Bad
           → Going (streams_of unread left before after unsaid said) new later BadLine (number + 1)
       one_bad is lax turn config start random came =
           let g = going config start random came in
@@ -161,12 +162,13 @@ module _ {F R C K : Type 0} {f : _} {c : _} {q : _} {m : _} {r : _} (choice : Ch
           }
 
       -- the last line, which lacks its line feed
-      pub last_done : next ≡ Last → Turns choice.shows kept number old new earlier later mid after now_said said Done
+      pub last_done : next ≡ Last → LineOutcome choice.shows kept number old new earlier later mid after now_said said
+          Done
           → TracesFrom first choice (streams_of unread left before after unsaid said) outcome
       last_done is turn config start random came =
           let g = going config start random came in
           let read = rw is at is_line in
-          ends_so (origin first config start random) choice unread left before after unsaid said (parts_of new) later
+          ends_so (origin first config start random) choice unread left before after unsaid said (state_of new) later
           (one.line ∷ g.lines)
           (turn_done config start random choice old new earlier later before mid after unsaid now_said said g.lines
           one.line kept number g.made g.counted one.is_kept turn)
@@ -177,12 +179,12 @@ module _ {F R C K : Type 0} {f : _} {c : _} {q : _} {m : _} {r : _} (choice : Ch
           (one.takes unread g.lines g.taken) read.4
 
       pub last_bad : next ≡ Last → choice.is_strict ≡ false
-          → Turns choice.shows kept number old new earlier later mid after now_said said Bad
+          → LineOutcome choice.shows kept number old new earlier later mid after now_said said Bad
           → TracesFrom first choice (streams_of unread left before after unsaid said) BadLine
       last_bad is lax turn config start random came =
           let g = going config start random came in
           let read = rw is at is_line in
-          ends_so (origin first config start random) choice unread left before after unsaid said (parts_of new) later
+          ends_so (origin first config start random) choice unread left before after unsaid said (state_of new) later
           (one.line ∷ g.lines)
           (turn_bad config start random choice old new earlier later before mid after unsaid now_said said g.lines
           one.line kept number g.made g.counted one.is_kept turn)
@@ -196,11 +198,11 @@ module _ {F R C K : Type 0} {f : _} {c : _} {q : _} {m : _} {r : _} (choice : Ch
 
       -- a line that ends the trace
       pub strict_bad : choice.is_strict ≡ true
-          → Turns choice.shows kept number old new earlier later mid after now_said said Bad
+          → LineOutcome choice.shows kept number old new earlier later mid after now_said said Bad
           → TracesFrom first choice (streams_of unread left before after unsaid said) BadLine
       strict_bad strict turn config start random came =
           let g = going config start random came in
-          ends_bad (origin first config start random) choice unread left before after unsaid said (parts_of new) later
+          ends_bad (origin first config start random) choice unread left before after unsaid said (state_of new) later
           one.line g.lines
           (turn_bad config start random choice old new earlier later before mid after unsaid now_said said g.lines
           one.line kept number g.made g.counted one.is_kept turn)
@@ -210,7 +212,7 @@ module _ {F R C K : Type 0} {f : _} {c : _} {q : _} {m : _} {r : _} (choice : Ch
           (one.takes unread g.lines g.taken)
 
       pub over : (ends : Outcome)
-          → Turns choice.shows kept number old new earlier later mid after now_said said (Over ends)
+          → LineOutcome choice.shows kept number old new earlier later mid after now_said said (Over ends)
           → TracesFrom first choice (streams_of unread left before after unsaid said) ends
       over ends turn config start random came =
           let g = going config start random came in
@@ -223,12 +225,12 @@ module _ {F R C K : Type 0} {f : _} {c : _} {q : _} {m : _} {r : _} (choice : Ch
     pub too_many : TracesFrom first choice (streams_of unread now before mid unsaid now_said) ReadFailed
     too_many config start random came =
         let g = going config start random came in
-        ends_cut (origin first config start random) choice unread now before mid unsaid now_said (parts_of old) earlier
+        ends_cut (origin first config start random) choice unread now before mid unsaid now_said (state_of old) earlier
         g.lines g.made now outcome reasons.ReadFailed g.so_far g.taken ([], All-nil _, Consumes-nil now, inl refl)
 
 -- memory was refused before anything was read
 pub refused : {F K : Type 0} (beginning : ItemBeginning F K) (choice : Choice) (unread before unsaid : Option (List ℕ))
-    → Traces beginning choice (streams_of unread unread before before unsaid unsaid) OutOfMemory
+    → TracesInput beginning choice (streams_of unread unread before before unsaid unsaid) OutOfMemory
 refused beginning choice unread before unsaid = (
   [],
   ([], omega arith, Consumes-nil unread),

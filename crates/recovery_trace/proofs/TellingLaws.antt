@@ -6,7 +6,7 @@ use Rattle.std.specs.Fmt.{AppendsText, debug_str}
 use Rattle.std.specs.Str.{IsAscii, IsUtf8}
 use Rattle.std.proofs.lemmas.Bool.Decides.{nat_tests}
 use Rattle.std.proofs.lemmas.Str.{IsUtf8-from_ascii}
-use Rattle.recovery_trace.specs.Telling.{quoted}
+use Rattle.recovery_trace.specs.FaultReports.{quoted}
 
 pub all_ascii : (bytes : List ℕ) → IsAscii bytes → list_all is_ascii bytes ≡ true
 all_ascii [] h = refl

@@ -9,12 +9,12 @@ use Rattle.std.proofs.KnownBytes.{Appends-kept, Appends-trans, Consumes-trans}
 use Rattle.rand_core.specs.Stream.{Stream}
 use Rattle.quic_recovery.specs.declared.driver.Recovery.{Recovery}
 use Rattle.recovery_history.specs.declared.config.RecoveryConfig.{RecoveryConfig}
-use Rattle.recovery_history.specs.Past.{Reached, ExtendsFrom}
-use Rattle.quic_recovery.specs.State.{parts_of}
-use Rattle.recovery_answers.specs.Answers.{Reply}
-use Rattle.recovery_lines.specs.Lines.{ItemEvent, Spells}
+use Rattle.recovery_history.specs.Reachability.{ReachedBy, StepFromPast}
+use Rattle.quic_recovery.specs.State.{state_of}
+use Rattle.recovery_reply_text.specs.Answers.{ScriptReply}
+use Rattle.recovery_script_syntax.specs.Lines.{ItemEvent, EncodesEvent}
 use Rattle.recovery_replay.specs.declared.reading.Unread.{Unread}
-use Rattle.recovery_replay.specs.Reading.{BreaksOff, Kept}
+use Rattle.recovery_replay.specs.Reading.{BreaksOff, TruncatedLine}
 use Rattle.recovery_replay.specs.Script.{NoFeed, ended, lines_of}
 use Rattle.recovery_replay.specs.Writing.{AppendsFront}
 use Rattle.recovery_replay.proofs.ReadingLaws.{kept_spells}
@@ -24,12 +24,12 @@ use Rattle.recovery_trace.specs.declared.outcome.Outcome.TheVariants.{Ended, Bad
 use Rattle.recovery_trace.specs.declared.requests.Choice.{Choice}
 use Rattle.recovery_trace.specs.declared.turn.Turn.TheVariants.{Done, Bad, Over}
 use Rattle.recovery_trace.specs.Outcomes.{outcome_of}
-use Rattle.recovery_trace.specs.Moments.{moment_of}
+use Rattle.recovery_trace.specs.EventTimes.{moment_of}
 use Rattle.recovery_trace.specs.Qlog.{note_of}
-use Rattle.recovery_trace.specs.Telling.{Tells}
-use Rattle.recovery_trace.specs.Turns.{DoesEvent, IsBad, IsFine, IsSilent, ItemParts, Passes, Turns, turn_text}
+use Rattle.recovery_trace.specs.FaultReports.{ReportsFault}
+use Rattle.recovery_trace.specs.Turns.{AppliesLineEvent, IsUnreadableLine, IsFine, IsSilent, ItemParts, IsSkippedLine, LineOutcome, turn_text}
 use Rattle.recovery_trace.proofs.KeptLaws.{kept_passes, kept_silent, kept_speaks, kept_tells}
-use Rattle.recovery_trace.specs.Trace.{AllOut, AreAllowed, EndsBad, FrontOut, ItemBeginning, ItemHistory, SpelledBy, Streams, origin, streams_of, Takes, TakesAlso, Traced, Traces, time_of}
+use Rattle.recovery_trace.specs.Trace.{WroteAll, AreParseableLines, EndsBad, WrotePrefix, ItemBeginning, ItemHistory, SpelledBy, Streams, origin, streams_of, ConsumesLines, TakesAlso, TraceGuarantees, TracesInput, time_of}
 
 -- ---- bytes and lines
 
@@ -104,7 +104,7 @@ module _ {F K : Type 0} (beginning : ItemBeginning F K) (choice : Choice) where
   -- how the trace would end if it ended here
   abbrev pub SoFar : Outcome → List (List ℕ) → Type 0
   SoFar Ended lines = All IsFine lines
-  SoFar BadLine lines = Any IsBad lines × (choice.is_strict ≡ false)
+  SoFar BadLine lines = Any IsUnreadableLine lines × (choice.is_strict ≡ false)
   SoFar outcome lines = ⊥
 
   -- what these lines came to, and the recovery and the time by then
@@ -112,8 +112,8 @@ module _ {F K : Type 0} (beginning : ItemBeginning F K) (choice : Choice) where
       (lines : List (List ℕ)) : Type 0 where
     pub text : List ℕ
     pub told : List ℕ
-    pub traced : Traced beginning choice.shows lines text told
-    pub came : Reached beginning traced.past recovery
+    pub traced : TraceGuarantees beginning choice.shows lines text told
+    pub came : ReachedBy beginning traced.past recovery
     pub timed : time ≡ time_of traced.past
     pub out : Appends before after text
     pub is_said : Appends unsaid said told
@@ -125,15 +125,15 @@ module _ {F K : Type 0} (beginning : ItemBeginning F K) (choice : Choice) where
       let bad = so_far.0 in ((suc bad.0, bad.1, omega (arith, bad.2), bad.3, bad.4), so_far.1)
   fine_more outcome line lines fine so_far = absurd so_far
 
-  pub bad_one : (line : List ℕ) (lines : List (List ℕ)) → IsBad line → Any IsBad (line ∷ lines)
+  pub bad_one : (line : List ℕ) (lines : List (List ℕ)) → IsUnreadableLine line → Any IsUnreadableLine (line ∷ lines)
   bad_one line lines bad = (0, line, omega arith, refl, bad)
 
-  pub allowed : (outcome : Outcome) (lines : List (List ℕ)) → SoFar outcome lines → AreAllowed choice lines
+  pub allowed : (outcome : Outcome) (lines : List (List ℕ)) → SoFar outcome lines → AreParseableLines choice lines
   allowed Ended lines so_far strict = so_far
   allowed BadLine lines so_far strict = absurd (true≢false (sym strict ∙ so_far.1))
   allowed outcome lines so_far strict = absurd so_far
 
-  passes_more : (line : List ℕ) (lines : List (List ℕ)) (past : ItemHistory) → Passes line → SpelledBy lines past
+  passes_more : (line : List ℕ) (lines : List (List ℕ)) (past : ItemHistory) → IsSkippedLine line → SpelledBy lines past
       → SpelledBy (line ∷ lines) past
   passes_more line lines [] passes spelled = (passes, spelled)
   passes_more line lines (happened ∷ past) passes spelled = inr (passes, spelled)
@@ -145,10 +145,10 @@ module _ {F K : Type 0} (beginning : ItemBeginning F K) (choice : Choice) where
     is_later event timed = timed ∙ ap (λ time. max time (moment_of event)) m.timed
 
     -- the line's event is done
-    abbrev traced_done : (event : ItemEvent) (reply : Reply) (text : List ℕ) → Spells line event
-        → ExtendsFrom beginning m.traced.past event reply new → later ≡ max earlier (moment_of event)
+    abbrev traced_done : (event : ItemEvent) (reply : ScriptReply) (text : List ℕ) → EncodesEvent line event
+        → StepFromPast beginning m.traced.past event reply new → later ≡ max earlier (moment_of event)
         → text ≡ turn_text beginning.words choice.shows later (note_of event) reply new
-        → Traced beginning choice.shows (line ∷ lines) (m.text ++ text) m.told
+        → TraceGuarantees beginning choice.shows (line ∷ lines) (m.text ++ text) m.told
     traced_done event reply text spells goes timed is = record {
       past = (event, reply) ∷ m.traced.past;
       spelled = inl (spells, m.traced.spelled);
@@ -165,8 +165,8 @@ module _ {F K : Type 0} (beginning : ItemBeginning F K) (choice : Choice) where
       is_told = inl (inl (event, spells), m.traced.is_told);
     }
 
-    pub made_done : (event : ItemEvent) (reply : Reply) (text : List ℕ) → Spells line event
-        → ExtendsFrom beginning m.traced.past event reply new → later ≡ max earlier (moment_of event)
+    pub made_done : (event : ItemEvent) (reply : ScriptReply) (text : List ℕ) → EncodesEvent line event
+        → StepFromPast beginning m.traced.past event reply new → later ≡ max earlier (moment_of event)
         → text ≡ turn_text beginning.words choice.shows later (note_of event) reply new
         → Appends now after text → Keeps now_said said → Made before after unsaid said new later (line ∷ lines)
     made_done event reply text spells goes timed is writes kept = record {
@@ -179,7 +179,8 @@ module _ {F K : Type 0} (beginning : ItemBeginning F K) (choice : Choice) where
       is_said = Appends-kept unsaid now_said said m.told m.is_said kept;
     }
 
-    pub made_silent : Passes line → IsSilent line → new ≡ old → later ≡ earlier → Keeps now after → Keeps now_said said
+    pub made_silent : IsSkippedLine line → IsSilent line → new ≡ old → later ≡ earlier → Keeps now after
+        → Keeps now_said said
         → Made before after unsaid said new later (line ∷ lines)
     made_silent passes silent same still kept kept_said = record {
       text = m.text;
@@ -191,14 +192,14 @@ module _ {F K : Type 0} (beginning : ItemBeginning F K) (choice : Choice) where
         written = m.traced.written;
         is_told = inl (inr (passes, silent), m.traced.is_told);
       };
-      came = subst (Reached beginning m.traced.past) (sym same) m.came;
+      came = subst (ReachedBy beginning m.traced.past) (sym same) m.came;
       timed = still ∙ m.timed;
       out = Appends-kept before now after m.text m.out kept;
       is_said = Appends-kept unsaid now_said said m.told m.is_said kept_said;
     }
 
-    pub made_bad : (text : List ℕ) → IsBad line → new ≡ old → later ≡ earlier → Keeps now after
-        → Tells line (length lines + 1) text → AppendsFront now_said said text
+    pub made_bad : (text : List ℕ) → IsUnreadableLine line → new ≡ old → later ≡ earlier → Keeps now after
+        → ReportsFault line (length lines + 1) text → AppendsFront now_said said text
         → Made before after unsaid said new later (line ∷ lines)
     made_bad text bad same still kept tells front = record {
       text = m.text;
@@ -210,19 +211,19 @@ module _ {F K : Type 0} (beginning : ItemBeginning F K) (choice : Choice) where
         written = m.traced.written;
         is_told = inr (bad, (m.told, text, front.0, m.traced.is_told, tells, refl));
       };
-      came = subst (Reached beginning m.traced.past) (sym same) m.came;
+      came = subst (ReachedBy beginning m.traced.past) (sym same) m.came;
       timed = still ∙ m.timed;
       out = Appends-kept before now after m.text m.out kept;
       is_said = Appends-trans unsaid now_said said m.told (take front.0 text) m.is_said front.1;
     }
 
     -- a write of its answer breaks off
-    pub front_out : (unread left : Option (List ℕ)) (event : ItemEvent) (reply : Reply) (text : List ℕ)
-        → Spells line event
-        → ExtendsFrom beginning m.traced.past event reply new → later ≡ max earlier (moment_of event)
+    pub front_out : (unread left : Option (List ℕ)) (event : ItemEvent) (reply : ScriptReply) (text : List ℕ)
+        → EncodesEvent line event
+        → StepFromPast beginning m.traced.past event reply new → later ≡ max earlier (moment_of event)
         → text ≡ turn_text beginning.words choice.shows later (note_of event) reply new
         → AppendsFront now after text → Keeps now_said said
-        → FrontOut beginning choice (streams_of unread left before after unsaid said) (line ∷ lines)
+        → WrotePrefix beginning choice (streams_of unread left before after unsaid said) (line ∷ lines)
     front_out unread left event reply text spells goes timed is front kept = (
       m.text ++ text,
       m.told,
@@ -241,62 +242,67 @@ module _ {F R C K : Type 0} {f : _} {c : _} {q : _} {m : _} {r : _} (config : Re
     (old new : Recovery F (List ℕ) R C K (Unit {0}) (Unit {0}) (List ℕ) f c q m r) (earlier later : ℕ) where
   module _ (before now after unsaid now_said said : Option (List ℕ)) (lines : List (List ℕ))
       (line kept : List ℕ) (number : ℕ)
-      (made : Made (origin old config start random) choice before now unsaid now_said (parts_of old) earlier lines)
-      (is_number : number ≡ length lines + 1) (is_kept : Kept line kept) where
-    pub turn_done : Turns choice.shows kept number old new earlier later now after now_said said Done
-        → Made (origin old config start random) choice before after unsaid said (parts_of new) later (line ∷ lines)
+      (made : Made (origin old config start random) choice before now unsaid now_said (state_of old) earlier lines)
+      (is_number : number ≡ length lines + 1) (is_kept : TruncatedLine line kept) where
+    pub turn_done : LineOutcome choice.shows kept number old new earlier later now after now_said said Done
+        → Made (origin old config start random) choice before after unsaid said (state_of new) later (line ∷ lines)
     turn_done (inl (text, does, writes), kept_said) =
-        made_done (origin old config start random) choice before now after unsaid now_said said (parts_of old)
-        (parts_of new) earlier later lines line made
+        made_done (origin old config start random) choice before now after unsaid now_said said (state_of old)
+        (state_of new) earlier later lines line made
         does.event does.reply text (kept_spells line kept does.event is_kept does.spelled)
         (does.goes config start random made.traced.past made.came) does.timed does.written writes kept_said
     turn_done (inr (passes, silent, same, still, stays), kept_said) =
-        made_silent (origin old config start random) choice before now after unsaid now_said said (parts_of old)
-        (parts_of new) earlier later lines line made
+        made_silent (origin old config start random) choice before now after unsaid now_said said (state_of old)
+        (state_of new) earlier later lines line made
         (kept_passes line kept is_kept passes) (kept_silent line kept is_kept silent) same still stays kept_said
 
-    pub done_fine : Turns choice.shows kept number old new earlier later now after now_said said Done → IsFine line
+    pub done_fine : LineOutcome choice.shows kept number old new earlier later now after now_said said Done
+        → IsFine line
     done_fine (inl (text, does, writes), kept_said) =
         inl (does.event, kept_spells line kept does.event is_kept does.spelled)
     done_fine (inr (passes, silent, same, still, stays), kept_said) =
         inr (kept_passes line kept is_kept passes, kept_silent line kept is_kept silent)
 
-    pub bad_line : Turns choice.shows kept number old new earlier later now after now_said said Bad → IsBad line
+    pub bad_line : LineOutcome choice.shows kept number old new earlier later now after now_said said Bad
+        → IsUnreadableLine line
     bad_line turn = (kept_passes line kept is_kept turn.0.0, kept_speaks line kept is_kept turn.0.1)
 
-    pub turn_bad : Turns choice.shows kept number old new earlier later now after now_said said Bad
-        → Made (origin old config start random) choice before after unsaid said (parts_of new) later (line ∷ lines)
+    pub turn_bad : LineOutcome choice.shows kept number old new earlier later now after now_said said Bad
+        → Made (origin old config start random) choice before after unsaid said (state_of new) later (line ∷ lines)
     turn_bad turn =
-        made_bad (origin old config start random) choice before now after unsaid now_said said (parts_of old)
-        (parts_of new) earlier later lines line made
+        made_bad (origin old config start random) choice before now after unsaid now_said said (state_of old)
+        (state_of new) earlier later lines line made
         turn.4.0 (bad_line turn) turn.1 turn.2 turn.3
-        (subst (λ n. Tells line n turn.4.0) is_number (kept_tells line kept number turn.4.0 is_kept turn.4.1)) turn.4.2
+        (subst (λ n. ReportsFault line n turn.4.0) is_number (kept_tells line kept number turn.4.0 is_kept turn.4.1))
+            turn.4.2
 
     module _ (unread left : Option (List ℕ)) (so_far : Outcome)
         (is_so_far : SoFar (origin old config start random) choice so_far lines) where
       -- the write of its answer broke off
-      broken : ((text : List ℕ) × DoesEvent choice.shows kept old new earlier later text × AppendsFront now after text)
+      broken : ((text : List ℕ) × AppliesLineEvent choice.shows kept old new earlier later text
+          × AppendsFront now after text)
           × Keeps now_said said
-          → AreAllowed choice (line ∷ lines)
-          × FrontOut (origin old config start random) choice (streams_of unread left before after unsaid said)
+          → AreParseableLines choice (line ∷ lines)
+          × WrotePrefix (origin old config start random) choice (streams_of unread left before after unsaid said)
           (line ∷ lines)
       broken ((text, does, front), kept_said) =
           let spells = kept_spells line kept does.event is_kept does.spelled in (
             allowed (origin old config start random) choice so_far (line ∷ lines)
                 (fine_more (origin old config start random) choice so_far line lines (inl (does.event, spells))
                 is_so_far),
-            front_out (origin old config start random) choice before now after unsaid now_said said (parts_of old)
-                (parts_of new) earlier later lines line made unread left does.event does.reply text spells
+            front_out (origin old config start random) choice before now after unsaid now_said said (state_of old)
+                (state_of new) earlier later lines line made unread left does.event does.reply text spells
                 (does.goes config start random made.traced.past made.came) does.timed does.written front kept_said,
           )
 
       -- it is over with this line, which was taken
       pub turn_over : (outcome : Outcome)
-          → Turns choice.shows kept number old new earlier later now after now_said said (Over outcome)
-          → Takes (streams_of unread left before after unsaid said) (line ∷ lines)
+          → LineOutcome choice.shows kept number old new earlier later now after now_said said (Over outcome)
+          → ConsumesLines (streams_of unread left before after unsaid said) (line ∷ lines)
           → ((more : List ℕ) × (length (lines_of more) ≤ 1)
           × TakesAlso (streams_of unread left before after unsaid said) lines more)
-          → Traces (origin old config start random) choice (streams_of unread left before after unsaid said) outcome
+          → TracesInput (origin old config start random) choice
+              (streams_of unread left before after unsaid said) outcome
       turn_over WriteFailed turn takes also =
           let over = broken turn in (line ∷ lines, takes, over.0, over.1)
       turn_over Closed turn takes also =
@@ -323,12 +329,12 @@ module _ {F K : Type 0} (beginning : ItemBeginning F K) (choice : Choice)
   abbrev ends : Streams
   ends = streams_of unread left before after unsaid said
 
-  all_out : AllOut beginning choice ends lines
+  all_out : WroteAll beginning choice ends lines
   all_out = (made.text, made.told, made.traced, made.out, made.is_said)
 
   -- the input is over
-  pub ends_so : (outcome : Outcome) → SoFar beginning choice outcome lines → Takes ends lines → IsAtEnd left
-      → Traces beginning choice ends outcome
+  pub ends_so : (outcome : Outcome) → SoFar beginning choice outcome lines → ConsumesLines ends lines → IsAtEnd left
+      → TracesInput beginning choice ends outcome
   ends_so Ended so_far takes over = (lines, takes, over, so_far, all_out)
   ends_so BadLine so_far takes over =
       (lines, takes, subst (λ s. EndsBad s ends lines) (sym so_far.1) (so_far.0, over), all_out)
@@ -336,7 +342,7 @@ module _ {F K : Type 0} (beginning : ItemBeginning F K) (choice : Choice)
 
   -- a read fails, or memory is refused, on the way to the end of a line
   pub ends_cut : (now : Option (List ℕ)) (so_far : Outcome) (why : Unread) → SoFar beginning choice so_far lines
-      → Taken unread now lines → BreaksOff now left why → Traces beginning choice ends (outcome_of why)
+      → Taken unread now lines → BreaksOff now left why → TracesInput beginning choice ends (outcome_of why)
   ends_cut now so_far why is_so_far taken (cut, no_feed, consumed, inl is) = rw is (
     lines,
     (cut, no_feed, also_taken unread now left lines taken cut consumed),
@@ -355,9 +361,10 @@ module _ {F K : Type 0} (beginning : ItemBeginning F K) (choice : Choice)
     (line : List ℕ) (lines : List (List ℕ))
     (made : Made beginning choice before after unsaid said recovery time (line ∷ lines)) where
   -- a line that cannot be read ends a strict trace
-  pub ends_bad : (so_far : Outcome) → SoFar beginning choice so_far lines → choice.is_strict ≡ true → IsBad line
-      → Takes (streams_of unread left before after unsaid said) (line ∷ lines)
-      → Traces beginning choice (streams_of unread left before after unsaid said) BadLine
+  pub ends_bad : (so_far : Outcome) → SoFar beginning choice so_far lines → choice.is_strict ≡ true
+      → IsUnreadableLine line
+      → ConsumesLines (streams_of unread left before after unsaid said) (line ∷ lines)
+      → TracesInput beginning choice (streams_of unread left before after unsaid said) BadLine
   ends_bad so_far is_so_far strict bad takes = (
     line ∷ lines,
     takes,

@@ -1,13 +1,13 @@
 -- What is said of a line that spells no event.
 use Rattle.std.specs.Prelude.{◌≡◌, ◌≢◌, ℕ, ◌+◌, ◌-◌, ◌<◌, ◌≤◌, ◌==◌, ◌⊎◌, List, ◌++◌, length, take, slice_index}
 use Rattle.std.specs.List.{count_by}
-use Rattle.recovery_lines.specs.Lines.{ItemEvent, Spells}
+use Rattle.recovery_script_syntax.specs.Lines.{ItemEvent, EncodesEvent}
 use Rattle.recovery_trace.specs.declared.faults.Fault.{Fault}
 use Rattle.recovery_trace.specs.declared.faults.Fault.TheVariants.{TooLong, TooShort, Word}
 
 -- some line that begins so spells an event
-abbrev pub Begins : List ℕ → Type 0
-Begins front = (behind : List ℕ) × (event : ItemEvent) × Spells (front ++ behind) event
+abbrev pub IsEventPrefix : List ℕ → Type 0
+IsEventPrefix front = (behind : List ℕ) × (event : ItemEvent) × EncodesEvent (front ++ behind) event
 
 -- what stands from one place of a line up to another has no space, and the line ends there or a space follows
 pub record EndsWord (line : List ℕ) (start end : ℕ) : Type 0 where
@@ -22,9 +22,9 @@ pub record NamesWord (line : List ℕ) (number start end : ℕ) : Type 0 where
   pub short : length line ≤ 4096
   pub word : EndsWord line start end
   pub counted : number ≡ count_by (λ byte. byte == 32) (take start line) + 1
-  pub begun : (start ≡ 0) ⊎ ((slice_index line (start - 1) ≡ 32) × Begins (take (start - 1) line))
+  pub begun : (start ≡ 0) ⊎ ((slice_index line (start - 1) ≡ 32) × IsEventPrefix (take (start - 1) line))
 
-abbrev pub Names : List ℕ → Fault → Type 0
-Names line TooLong = 4096 < length line
-Names line TooShort = Begins line
-Names line (Word number start end) = NamesWord line number start end
+abbrev pub NamesWordOf : List ℕ → Fault → Type 0
+NamesWordOf line TooLong = 4096 < length line
+NamesWordOf line TooShort = IsEventPrefix line
+NamesWordOf line (Word number start end) = NamesWord line number start end

@@ -1,8 +1,8 @@
 pub mod Faults
-pub mod Moments
+pub mod EventTimes
 pub mod Outcomes
 pub mod Qlog
 pub mod States
-pub mod Telling
+pub mod FaultReports
 pub mod Trace
 pub mod Turns

@@ -5,13 +5,13 @@ use lib.Chars.{codes}
 use Rattle.recovery_base.specs.declared.below.SpaceId.{SpaceId}
 use Rattle.recovery_base.specs.declared.below.SpaceId.TheVariants.{Initial, Handshake, Data}
 use Rattle.recovery_base.specs.declared.timer.Timer.TheVariants.{LossDetection}
-use Rattle.recovery_congestion.specs.Controllers.{ControllerWords}
+use Rattle.recovery_congestion.specs.Controllers.{ControllerSemantics}
 use Rattle.recovery_events.specs.declared.event.Event.TheVariants as events
 use Rattle.recovery_events.specs.declared.event.Answer.TheVariants as answers
-use Rattle.recovery_ledger.specs.Paths.{counters_of}
+use Rattle.recovery_spaces.specs.Paths.{counters_of}
 use Rattle.recovery_paths.specs.PathStates.{Path}
-use Rattle.recovery_answers.specs.Answers.{Reply}
-use Rattle.recovery_lines.specs.Lines.{ItemEvent}
+use Rattle.recovery_reply_text.specs.Answers.{ScriptReply}
+use Rattle.recovery_script_syntax.specs.Lines.{ItemEvent}
 use Rattle.recovery_trace.specs.declared.qlog.Note.{Note}
 use Rattle.recovery_trace.specs.declared.qlog.Note.TheVariants.{Sent, Probing, Received, Lost, Congestion, Set, Stopped, Nothing}
 use Rattle.recovery_trace.specs.States.{flight_text, window_text, rtt_text}
@@ -92,7 +92,7 @@ stopped_text time = record_text time (codes "recovery:timer_updated") (codes "\"
 -- ---- an event, and what it leaves
 
 -- its own record, where it was not refused
-abbrev pub note_text : ℕ → Note → Reply → List ℕ
+abbrev pub note_text : ℕ → Note → ScriptReply → List ℕ
 note_text time (Sent space size eliciting) (Ok (answers.Sent number forgotten)) =
     sent_text time (type_text space) number size (frame_text eliciting)
 note_text time Probing (Ok (answers.Probe number size)) = sent_text time (codes "1RTT") number size (codes "ping")
@@ -108,7 +108,7 @@ unfoldable pub metrics_named : ℕ → List ℕ
 metrics_named time = record_text time (codes "recovery:metrics_updated") []
 
 -- the metrics of a path
-abbrev pub metrics_text : {K : Type 0} → ControllerWords K → ℕ → Path K → List ℕ
+abbrev pub metrics_text : {K : Type 0} → ControllerSemantics K → ℕ → Path K → List ℕ
 metrics_text words time path =
     metrics_named time ++ (flight_text (counters_of path.ledger) ++ (window_text (words.metrics path.state.controller)
     ++ (rtt_text path.state.rtt ++ codes "}}\n")))

@@ -1,11 +1,11 @@
 -- The line of a path's state at a time.
 use Rattle.std.specs.Prelude.{ℕ, ◌-◌, ◌^◌, nat_lt, List, [], ◌++◌, Option, Some, None, decimal, if◌then◌else◌}
 use lib.Chars.{codes}
-use Rattle.recovery_congestion.specs.Controllers.{ControllerWords}
+use Rattle.recovery_congestion.specs.Controllers.{ControllerSemantics}
 use Rattle.recovery_congestion.specs.Rtt.{Rtt, rtt_get}
 use Rattle.recovery_congestion.specs.declared.congestion.ControllerMetrics.{ControllerMetrics}
-use Rattle.recovery_ledger.specs.declared.paths.InFlight.{InFlight}
-use Rattle.recovery_ledger.specs.Paths.{counters_of}
+use Rattle.recovery_spaces.specs.declared.paths.InFlight.{InFlight}
+use Rattle.recovery_spaces.specs.Paths.{counters_of}
 use Rattle.recovery_paths.specs.PathStates.{Path}
 
 -- in milliseconds, as whole nanoseconds with an exponent, and so are the spans below
@@ -41,7 +41,7 @@ unfoldable pub room_text : ℕ → ℕ → List ℕ
 room_text mtu tokens =
     codes ",\"mtu\":" ++ (decimal mtu ++ (codes ",\"pacer_tokens\":" ++ (decimal tokens ++ codes "}\n")))
 
-abbrev pub state_text : {K : Type 0} → ControllerWords K → ℕ → Path K → List ℕ
+abbrev pub state_text : {K : Type 0} → ControllerSemantics K → ℕ → Path K → List ℕ
 state_text words time path =
     time_text time ++ (flight_text (counters_of path.ledger) ++ (window_text (words.metrics path.state.controller)
     ++ (rtt_text path.state.rtt ++ room_text path.state.discovery.mtu path.state.pacer.tokens)))

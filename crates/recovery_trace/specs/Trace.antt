@@ -4,17 +4,17 @@ use Rattle.std.specs.List.{Any, flat_map}
 use Rattle.std.specs.declared.net.socket_addr.SocketAddr.{SocketAddr}
 use Rattle.std.specs.Io.KnownBytes.{Appends, Consumes, IsAtEnd}
 use Rattle.rand_core.specs.Stream.{Stream}
-use Rattle.recovery_congestion.specs.Controllers.{ControllerWords}
+use Rattle.recovery_congestion.specs.Controllers.{ControllerSemantics}
 use Rattle.recovery_congestion.specs.NewReno.{reno_made, reno_words}
 use Rattle.recovery_congestion.specs.RenoSettings.{default_reno}
 use Rattle.quic_recovery.specs.declared.driver.Recovery.{Recovery}
 use Rattle.recovery_history.specs.declared.config.RecoveryConfig.{RecoveryConfig}
-use Rattle.recovery_history.specs.History.{AtEach, Beginning, History, begins, queue_meaning}
-use Rattle.recovery_history.specs.Past.{Reached, Keeps}
-use Rattle.quic_recovery.specs.State.{parts_of}
+use Rattle.recovery_history.specs.History.{AtEach, Beginning, History, begins, queue_model}
+use Rattle.recovery_history.specs.Reachability.{ReachedBy, StepGuarantees}
+use Rattle.quic_recovery.specs.State.{state_of}
 use Rattle.recovery_cubic.specs.ConfigView.{default_window}
 use Rattle.recovery_cubic.specs.Cubic.{cubic_made, cubic_words}
-use Rattle.recovery_lines.specs.Lines.{IsAt, Spells}
+use Rattle.recovery_script_syntax.specs.Lines.{IsDocumentationAddress, EncodesEvent}
 use Rattle.recovery_replay.specs.FixedWindow.{fixed_made, fixed_words}
 use Rattle.recovery_replay.specs.Replay.{begun_over}
 use Rattle.recovery_replay.specs.Script.{NoFeed, ended, lines_of}
@@ -26,11 +26,11 @@ use Rattle.recovery_trace.specs.declared.requests.Shown.{Shown}
 use Rattle.recovery_trace.specs.declared.requests.Shown.TheVariants.{Qlog}
 use Rattle.recovery_trace.specs.declared.requests.Controllers.{Controllers}
 use Rattle.recovery_trace.specs.declared.requests.Controllers.TheVariants.{NewReno, Cubic, Fixed}
-use Rattle.recovery_trace.specs.Moments.{moment_of}
+use Rattle.recovery_trace.specs.EventTimes.{moment_of}
 use Rattle.recovery_trace.specs.Outcomes.{IsBroken}
 use Rattle.recovery_trace.specs.Qlog.{header_text, note_of}
-use Rattle.recovery_trace.specs.Telling.{Tells}
-use Rattle.recovery_trace.specs.Turns.{IsBad, IsFine, ItemParts, Passes, turn_text}
+use Rattle.recovery_trace.specs.FaultReports.{ReportsFault}
+use Rattle.recovery_trace.specs.Turns.{IsUnreadableLine, IsFine, ItemParts, IsSkippedLine, turn_text}
 
 abbrev pub ItemHistory : Type 0
 ItemHistory = History (List ℕ) (Unit {0}) (Unit {0}) (List ℕ)
@@ -44,17 +44,17 @@ ItemBeginning F K = Beginning F K (List ℕ) (Unit {0}) (Unit {0}) (List ℕ)
 abbrev pub SpelledBy : List (List ℕ) → ItemHistory → Type 0
 SpelledBy [] [] = Unit {0}
 SpelledBy [] (happened ∷ past) = ⊥
-SpelledBy (line ∷ lines) [] = Passes line × SpelledBy lines []
+SpelledBy (line ∷ lines) [] = IsSkippedLine line × SpelledBy lines []
 SpelledBy (line ∷ lines) (happened ∷ past) =
-    (Spells line happened.0 × SpelledBy lines past) ⊎ (Passes line × SpelledBy lines (happened ∷ past))
+    (EncodesEvent line happened.0 × SpelledBy lines past) ⊎ (IsSkippedLine line × SpelledBy lines (happened ∷ past))
 
 -- what is told of them: of each that cannot be read a line, or a beginning of one that could not be written
-abbrev pub ToldOf : List (List ℕ) → List ℕ → Type 0
-ToldOf [] told = told ≡ []
-ToldOf (line ∷ lines) told =
-    (IsFine line × ToldOf lines told)
-    ⊎ (IsBad line × ((front : List ℕ) × (text : List ℕ) × (n : ℕ) × ToldOf lines front
-    × Tells line (length lines + 1) text × (told ≡ front ++ take n text)))
+abbrev pub FaultReportsOf : List (List ℕ) → List ℕ → Type 0
+FaultReportsOf [] told = told ≡ []
+FaultReportsOf (line ∷ lines) told =
+    (IsFine line × FaultReportsOf lines told)
+    ⊎ (IsUnreadableLine line × ((front : List ℕ) × (text : List ℕ) × (n : ℕ) × FaultReportsOf lines front
+    × ReportsFault line (length lines + 1) text × (told ≡ front ++ take n text)))
 
 -- the greatest moment at which an event of a past happened, or 0
 abbrev pub time_of : ItemHistory → ℕ
@@ -64,21 +64,21 @@ time_of (happened ∷ past) = max (time_of past) (moment_of happened.0)
 module _ {F K : Type 0} (beginning : ItemBeginning F K) (shows : Shown) where
   -- what is written of a past: of each event the line of its reply, and behind it, where it is asked for, that of the
   -- time and of the state to which the past came by then, or its records of qlog
-  abbrev pub WrittenOf : ItemHistory → List ℕ → Type 0
-  WrittenOf [] text = text ≡ []
-  WrittenOf (happened ∷ past) text =
-      (front : List ℕ) × (left : ItemParts K) × WrittenOf past front × Reached beginning (happened ∷ past) left
+  abbrev pub OutputOf : ItemHistory → List ℕ → Type 0
+  OutputOf [] text = text ≡ []
+  OutputOf (happened ∷ past) text =
+      (front : List ℕ) × (left : ItemParts K) × OutputOf past front × ReachedBy beginning (happened ∷ past) left
       × (text ≡ front
       ++ turn_text beginning.words shows (time_of (happened ∷ past)) (note_of happened.0) happened.1 left)
 
   -- What these lines spell happened, and all that is promised of whole runs holds at each event; this is written of it,
   -- and this is told of the lines.
-  pub record Traced (lines : List (List ℕ)) (text told : List ℕ) : Type 0 where
+  pub record TraceGuarantees (lines : List (List ℕ)) (text told : List ℕ) : Type 0 where
     pub past : ItemHistory
     pub spelled : SpelledBy lines past
-    pub keeps : AtEach (Keeps beginning) past
-    pub written : WrittenOf past text
-    pub is_told : ToldOf lines told
+    pub keeps : AtEach (StepGuarantees beginning) past
+    pub written : OutputOf past text
+    pub is_told : FaultReportsOf lines told
 
 -- ---- how a trace ends
 
@@ -96,8 +96,8 @@ streams_of unread left before after unsaid said =
     record { unread = unread; left = left; before = before; after = after; unsaid = unsaid; said = said }
 
 -- bytes were taken that are these lines, the newest first; the last may lack its line feed
-abbrev pub Takes : Streams → List (List ℕ) → Type 0
-Takes streams lines =
+abbrev pub ConsumesLines : Streams → List (List ℕ) → Type 0
+ConsumesLines streams lines =
     (taken : List ℕ) × Consumes streams.unread streams.left taken × (lines_of taken ≡ reverse lines)
 
 -- they were taken, each with its line feed, and behind them what was not looked at
@@ -106,44 +106,46 @@ TakesAlso streams lines more =
     Consumes streams.unread streams.left (flat_map ended (reverse lines) ++ more)
 
 -- a trace that stops at a line that cannot be read has none behind it
-abbrev pub AreAllowed : Choice → List (List ℕ) → Type 0
-AreAllowed choice lines = choice.is_strict ≡ true → All IsFine lines
+abbrev pub AreParseableLines : Choice → List (List ℕ) → Type 0
+AreParseableLines choice lines = choice.is_strict ≡ true → All IsFine lines
 
 -- the last line cannot be read, and those before can; or the input is over, and some line cannot be read
 abbrev pub EndsBad : Bool → Streams → List (List ℕ) → Type 0
 EndsBad true streams [] = ⊥
-EndsBad true streams (line ∷ lines) = IsBad line × All IsFine lines
-EndsBad false streams lines = Any IsBad lines × IsAtEnd streams.left
+EndsBad true streams (line ∷ lines) = IsUnreadableLine line × All IsFine lines
+EndsBad false streams lines = Any IsUnreadableLine lines × IsAtEnd streams.left
 
 module _ {F K : Type 0} (beginning : ItemBeginning F K) (choice : Choice) (streams : Streams) where
   -- all of it was written and told
-  abbrev pub AllOut : List (List ℕ) → Type 0
-  AllOut lines =
-      (text : List ℕ) × (told : List ℕ) × Traced beginning choice.shows lines text told
+  abbrev pub WroteAll : List (List ℕ) → Type 0
+  WroteAll lines =
+      (text : List ℕ) × (told : List ℕ) × TraceGuarantees beginning choice.shows lines text told
       × Appends streams.before streams.after text × Appends streams.unsaid streams.said told
 
   -- a beginning of it was written
-  abbrev pub FrontOut : List (List ℕ) → Type 0
-  FrontOut lines =
-      (text : List ℕ) × (told : List ℕ) × Traced beginning choice.shows lines text told
+  abbrev pub WrotePrefix : List (List ℕ) → Type 0
+  WrotePrefix lines =
+      (text : List ℕ) × (told : List ℕ) × TraceGuarantees beginning choice.shows lines text told
       × AppendsFront streams.before streams.after text × Appends streams.unsaid streams.said told
 
   -- These lines were read, and all that they spell is out where the input is over or a read fails: of a line that this
   -- cuts off nothing is. A write that breaks off is the last; where memory is refused, at most one line more was taken.
-  abbrev pub Traces : Outcome → Type 0
-  Traces Ended =
-      (lines : List (List ℕ)) × Takes streams lines × IsAtEnd streams.left × All IsFine lines × AllOut lines
-  Traces BadLine =
-      (lines : List (List ℕ)) × Takes streams lines × EndsBad choice.is_strict streams lines × AllOut lines
-  Traces ReadFailed =
+  abbrev pub TracesInput : Outcome → Type 0
+  TracesInput Ended =
+      (lines : List (List ℕ)) × ConsumesLines streams lines × IsAtEnd streams.left × All IsFine lines × WroteAll lines
+  TracesInput BadLine =
+      (lines : List (List ℕ)) × ConsumesLines streams lines × EndsBad choice.is_strict streams lines × WroteAll lines
+  TracesInput ReadFailed =
       (lines : List (List ℕ)) × ((cut : List ℕ) × NoFeed cut × TakesAlso streams lines cut)
-      × AreAllowed choice lines × AllOut lines
-  Traces WriteFailed = (lines : List (List ℕ)) × Takes streams lines × AreAllowed choice lines × FrontOut lines
-  Traces Closed = (lines : List (List ℕ)) × Takes streams lines × AreAllowed choice lines × FrontOut lines
-  Traces OutOfMemory =
+      × AreParseableLines choice lines × WroteAll lines
+  TracesInput WriteFailed = (lines : List (List ℕ)) × ConsumesLines streams lines × AreParseableLines choice lines
+      × WrotePrefix lines
+  TracesInput Closed = (lines : List (List ℕ)) × ConsumesLines streams lines × AreParseableLines choice lines
+      × WrotePrefix lines
+  TracesInput OutOfMemory =
       (lines : List (List ℕ)) × ((more : List ℕ) × (length (lines_of more) ≤ 1) × TakesAlso streams lines more)
-      × AreAllowed choice lines × AllOut lines
-  Traces WrongArguments = ⊥
+      × AreParseableLines choice lines × WroteAll lines
+  TracesInput WrongArguments = ⊥
 
 -- ---- a trace from its beginning
 
@@ -152,21 +154,21 @@ module _ {F R C K : Type 0} {f : _} {c : _} {q : _} {m : _} {r : _} where
   abbrev pub origin : Recovery F (List ℕ) R C K (Unit {0}) (Unit {0}) (List ℕ) f c q m r → RecoveryConfig F → ℕ → Stream
       → ItemBeginning F K
   origin recovery config start random =
-      begins f.built c.words (queue_meaning q.contents q.words q.blank) config start random
+      begins f.built c.words (queue_model q.contents q.words q.blank) config start random
 
   -- from a recovery on to which nothing has happened, however it began
   abbrev pub TracesFrom : Recovery F (List ℕ) R C K (Unit {0}) (Unit {0}) (List ℕ) f c q m r → Choice → Streams
       → Outcome → Type 0
   TracesFrom recovery choice streams outcome = (config : RecoveryConfig F) (start : ℕ) (random : Stream) →
-      Reached (origin recovery config start random) [] (parts_of recovery)
-      → Traces (origin recovery config start random) choice streams outcome
+      ReachedBy (origin recovery config start random) [] (state_of recovery)
+      → TracesInput (origin recovery config start random) choice streams outcome
 
 -- from the moment 0 on, over these controllers, with a peer at an address of its port
-abbrev pub TracesOver : {F K : Type 0} → (F → ℕ → ℕ → K) → ControllerWords K → F → Choice → Streams → Outcome
+abbrev pub TracesOver : {F K : Type 0} → (F → ℕ → ℕ → K) → ControllerSemantics K → F → Choice → Streams → Outcome
     → Type 0
 TracesOver built words factory choice streams outcome =
-    (remote : SocketAddr) × IsAt 4433 remote
-    × Traces (begun_over built words factory choice.seed remote) choice streams outcome
+    (remote : SocketAddr) × IsDocumentationAddress 4433 remote
+    × TracesInput (begun_over built words factory choice.seed remote) choice streams outcome
 
 -- the same over the controllers that are chosen: NewReno (RFC 9002, 7), CUBIC (RFC 9438), or those of a fixed window
 abbrev pub TracesBy : Controllers → Choice → Streams → Outcome → Type 0

@@ -1,9 +1,9 @@
 //! What it is of a line that cannot be read.
 ghost use Rattle.std.specs.Prelude.{◌≤◌, IfOk, IsTrue, length};
-ghost use Rattle.recovery_trace.specs.Faults.{Begins, EndsWord, Names};
+ghost use Rattle.recovery_trace.specs.Faults.{IsEventPrefix, EndsWord, NamesWordOf};
 
 use quic_recovery::below::NoMemory;
-use recovery_lines::lines::{LINE_LIMIT, push_event};
+use recovery_script_syntax::lines::{LINE_LIMIT, push_event};
 use std::alloc::Global;
 
 /// A line for each event, with words that fit.
@@ -89,7 +89,7 @@ fn example_of(name: &[u8]) -> Option<&'static [u8]> {
 
 /// Do bytes begin a line that spells an event and goes on so?
 fn begins(alloc: Global, front: &[u8], behind: &[u8]) -> Result<bool, NoMemory>
-    ensures { IfOk result (λ does. IsTrue does → Begins front.now) }
+    ensures { IfOk result (λ does. IsTrue does → IsEventPrefix front.now) }
 {
     let mut line = Vec::new(alloc);
     if line.extend_from_slice(front).is_err() || line.extend_from_slice(behind).is_err() {
@@ -110,7 +110,7 @@ fn behind_word(words: &[u8]) -> &[u8] {
 /// Which word of a line is the first that the words of an example cannot follow.
 fn fault_beside(alloc: Global, line: &[u8], example: &[u8]) -> Result<Fault, NoMemory>
     requires { length line.now ≤ 4096 }
-    ensures { IfOk result (Names line.now) }
+    ensures { IfOk result (NamesWordOf line.now) }
 {
     let mut behind = example;
     let mut start = 0;
@@ -132,7 +132,7 @@ fn fault_beside(alloc: Global, line: &[u8], example: &[u8]) -> Result<Fault, NoM
 /// Why a line spells no event that is known to spell none. What stands before the word that is named begins a line that
 /// spells one.
 pub fn fault_in(alloc: Global, line: &[u8]) -> Result<Fault, NoMemory>
-    ensures { IfOk result (Names line.now) }
+    ensures { IfOk result (NamesWordOf line.now) }
 {
     if line.len() > LINE_LIMIT {
         return Ok(Fault::TooLong);

@@ -1,6 +1,6 @@
 //! When an event happens.
 ghost use Rattle.std.specs.Prelude.{◌≡◌};
-ghost use Rattle.recovery_trace.specs.Moments.{moment_of};
+ghost use Rattle.recovery_trace.specs.EventTimes.{moment_of};
 
 use quic_recovery::event::Event;
 use recovery_queue::items::ItemQueue;

@@ -1,5 +1,5 @@
 //! What the arguments ask for.
-use recovery_lines::number_in;
+use recovery_script_syntax::number_in;
 use recovery_replay::fixed_window::FixedWindowConfig;
 
 /// How the program is called.

@@ -1,8 +1,8 @@
 //! What is told of a line that cannot be read.
 ghost use Rattle.std.specs.Prelude.{◌≡◌, ◌≤◌, ◌++◌, true, min, IfOk, OnOk, length, string_bytes};
-ghost use Rattle.recovery_trace.specs.Faults.{Names};
+ghost use Rattle.recovery_trace.specs.Faults.{NamesWordOf};
 ghost use Rattle.std.specs.Str.{IsAscii};
-ghost use Rattle.recovery_trace.specs.Telling.{Tells, TellsFault, quoted};
+ghost use Rattle.recovery_trace.specs.FaultReports.{ReportsFault, TellsFault, quoted};
 
 use crate::faults::{Fault, fault_in};
 use quic_recovery::below::NoMemory;
@@ -48,7 +48,7 @@ fn write_word(text: &mut String, word: &[u8]) -> Result<(), AllocError>
 
 /// Appends the line that tells a fault of the line of this number.
 fn write_fault(text: &mut String, line: &[u8], number: u64, fault: Fault) -> Result<(), AllocError>
-    requires { Names line.now fault }
+    requires { NamesWordOf line.now fault }
     ensures { OnOk result
         (TellsFault line.now number fault (string_bytes text.old) (string_bytes text.new)) }
 {
@@ -70,7 +70,7 @@ fn write_fault(text: &mut String, line: &[u8], number: u64, fault: Fault) -> Res
 
 /// What is told of a line that spells no event and has this number.
 pub fn fault_line(alloc: Global, line: &[u8], number: u64) -> Result<String, NoMemory>
-    ensures { IfOk result (λ text. Tells line.now number (string_bytes text)) }
+    ensures { IfOk result (λ text. ReportsFault line.now number (string_bytes text)) }
 {
     let mut text = String::new(alloc);
     let fault = match fault_in(alloc, line) {

@@ -1,10 +1,10 @@
 //! One line of a trace: what it comes to.
 ghost use Rattle.std.specs.Prelude.{◌≡◌, ◌⊎◌, ◌++◌, IfErr, IfOk, OnOk, string_bytes, MatchBool};
 ghost use Rattle.std.specs.Io.KnownBytes.{Appends};
-ghost use Rattle.quic_recovery.specs.State.{parts_of};
+ghost use Rattle.quic_recovery.specs.State.{state_of};
 ghost use Rattle.recovery_replay.specs.Writing.{AppendsFront};
 ghost use Rattle.recovery_trace.specs.Outcomes.{IsBroken};
-ghost use Rattle.recovery_trace.specs.Turns.{Answers, IsSilent, Turns, turn_text};
+ghost use Rattle.recovery_trace.specs.Turns.{TurnOutcome, IsSilent, LineOutcome, turn_text};
 
 use crate::moments::moment_of;
 use crate::outcome::Outcome;
@@ -16,8 +16,8 @@ use quic_recovery::below::NoMemory;
 use quic_recovery::congestion::ControllerFactory;
 use quic_recovery::{Answer, LiveRecovery, Recovery, Refusal};
 use rand_pcg::Pcg32;
-use recovery_answers::answers::write_reply;
-use recovery_lines::lines::push_event;
+use recovery_reply_text::answers::write_reply;
+use recovery_script_syntax::lines::push_event;
 use recovery_queue::items::ItemQueue;
 use recovery_replay::writing::deliver;
 use std::alloc::{AllocError, Global};
@@ -54,10 +54,10 @@ where
     F: ControllerFactory + Drop,
     F::Controller: Drop,
     ensures { OnOk result (string_bytes text.new ≡ string_bytes text.old
-        ++ turn_text F.Controller.words shows time note reply.now (parts_of recovery.now)) }
+        ++ turn_text F.Controller.words shows time note reply.now (state_of recovery.now)) }
 {
     match shows {
-        Shown::Answers => write_reply(text, reply),
+        Shown::TurnOutcome => write_reply(text, reply),
         Shown::States => {
             write_reply(text, reply)?;
             write_state(text, time, recovery.current())
@@ -83,7 +83,7 @@ where
     F: ControllerFactory + Drop,
     F::Controller: Drop,
     ensures { IfOk result
-        (Answers shows line.now live.old.recovery live.new.recovery time.old time.new
+        (TurnOutcome shows line.now live.old.recovery live.new.recovery time.old time.new
         (string_bytes text.new)) }
 {
     text.clear();
@@ -137,7 +137,8 @@ where
     F::Controller: Drop,
     W: Write,
     E: Write,
-    ensures { Turns shows line.now number live.old.recovery live.new.recovery time.old time.new
+    ensures { LineOutcome shows line.now number live.old.recovery live.new.recovery time.old
+        time.new
         (W.contents output.old) (W.contents output.new)
         (E.contents errors.old) (E.contents errors.new) result }
 {

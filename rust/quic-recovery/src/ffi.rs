@@ -341,7 +341,7 @@ pub struct AckRange {
 /// What was told last: of an ACK frame, of a timeout that found losses, or of an abandoned space.
 #[repr(C)]
 #[derive(Clone, Copy, Debug, PartialEq, Eq)]
-pub struct ToldView {
+pub struct OutcomeView {
     /// How many numbers the frame newly acknowledged; else 0.
     pub acked: u64,
     /// How many numbers were found lost, without that of the MTU's probe.
@@ -415,7 +415,7 @@ pub struct Settings {
 /// What an event was replied, in numbers.
 #[repr(C)]
 #[derive(Clone, Copy, Debug, PartialEq, Eq)]
-pub struct Reply {
+pub struct EncodedReply {
     /// Which answer, or that it was refused.
     pub kind: u8,
     /// The number of the refusal, or 0; of one by ECN `first` is the number of the fault.
@@ -513,7 +513,7 @@ pub struct RangeView {
 /// A moment, or a span, if there is one.
 #[repr(C)]
 #[derive(Clone, Copy, Debug, PartialEq, Eq)]
-pub struct MomentView {
+pub struct TimeView {
     /// In nanoseconds.
     pub nanos: u64,
     /// Whether there is one; if not, all else is 0.
@@ -562,22 +562,22 @@ unsafe extern "C" {
         threshold: u64,
         micros: u64,
         reordering: u64,
-    ) -> Reply;
+    ) -> EncodedReply;
 
     /// An ACK frame was sent (RFC 9000, 13.2.1): the event `AcksSent`.
-    pub fn recovery_ffi_acks_sent(handle: *mut Handle, space: u8) -> Reply;
+    pub fn recovery_ffi_acks_sent(handle: *mut Handle, space: u8) -> EncodedReply;
 
     /// The timer for a late ACK expired: the event `AckDelayTimeout`.
-    pub fn recovery_ffi_ack_delay_timeout(handle: *mut Handle, space: u8) -> Reply;
+    pub fn recovery_ffi_ack_delay_timeout(handle: *mut Handle, space: u8) -> EncodedReply;
 
     /// Is a probe of the MTU due (RFC 9000, 14.3)? The event `PollMtu`.
-    pub fn recovery_ffi_poll_mtu(handle: *mut Handle, now: u64) -> Reply;
+    pub fn recovery_ffi_poll_mtu(handle: *mut Handle, now: u64) -> EncodedReply;
 
     /// The peer takes datagrams of at most so many bytes (RFC 9000, 18.2): the event `PeerLimit`.
-    pub fn recovery_ffi_peer_limit(handle: *mut Handle, size: u16) -> Reply;
+    pub fn recovery_ffi_peer_limit(handle: *mut Handle, size: u16) -> EncodedReply;
 
     /// All packets that were found lost together were told: the event `LossesDone`.
-    pub fn recovery_ffi_losses_done(handle: *mut Handle, now: u64) -> Reply;
+    pub fn recovery_ffi_losses_done(handle: *mut Handle, now: u64) -> EncodedReply;
 
     /// Window and bytes in flight of the path in use.
     pub fn recovery_ffi_window(handle: *mut Handle) -> WindowView;
@@ -599,13 +599,13 @@ unsafe extern "C" {
         id: *const u8,
         id_len: usize,
         token: *const [u8; 16],
-    ) -> Reply;
+    ) -> EncodedReply;
 
     /// The next id of the peer is to be used: the event `NextId`.
-    pub fn recovery_ffi_next_id(handle: *mut Handle) -> Reply;
+    pub fn recovery_ffi_next_id(handle: *mut Handle) -> EncodedReply;
 
     /// The server chose another id (RFC 9000, 7.2): the event `InitialId`; an id has at most 20 bytes.
-    pub fn recovery_ffi_initial_id(handle: *mut Handle, id: *const u8, id_len: usize) -> Reply;
+    pub fn recovery_ffi_initial_id(handle: *mut Handle, id: *const u8, id_len: usize) -> EncodedReply;
 
     /// This end issues these ids (RFC 9000, 5.1.1): the event `IssueIds`; an id has at most 20 bytes.
     pub fn recovery_ffi_issue_ids(
@@ -613,13 +613,13 @@ unsafe extern "C" {
         now: u64,
         given: *const Id,
         given_len: usize,
-    ) -> Reply;
+    ) -> EncodedReply;
 
     /// The timer for new ids expired: the event `IdTimeout`.
-    pub fn recovery_ffi_id_timeout(handle: *mut Handle) -> Reply;
+    pub fn recovery_ffi_id_timeout(handle: *mut Handle) -> EncodedReply;
 
     /// A RETIRE_CONNECTION_ID frame came in (RFC 9000, 19.16): the event `PeerRetired`.
-    pub fn recovery_ffi_peer_retired(handle: *mut Handle, sequence: u64, limit: u64) -> Reply;
+    pub fn recovery_ffi_peer_retired(handle: *mut Handle, sequence: u64, limit: u64) -> EncodedReply;
 
     /// Writes the bytes of the token that was answered last; all zeros before there was one, and where no recovery is held.
     pub fn recovery_ffi_token(handle: *mut Handle, out: *mut [u8; 16]);
@@ -648,28 +648,28 @@ unsafe extern "C" {
 
     /// Is a probe due? Its size is that of the answer (`ANSWER_PROBE`, otherwise `ANSWER_NO_PROBE`), and it is sent as the
     /// packet of this number.
-    pub fn recovery_ffi_mtu_poll(mtu: *mut MtuHandle, now: u64, number: u64) -> Reply;
+    pub fn recovery_ffi_mtu_poll(mtu: *mut MtuHandle, now: u64, number: u64) -> EncodedReply;
 
     /// The peer takes datagrams of at most so many bytes. Refused where they are none, and while a search runs: the limit
     /// is told before the first poll.
-    pub fn recovery_ffi_mtu_limit(mtu: *mut MtuHandle, size: u16) -> Reply;
+    pub fn recovery_ffi_mtu_limit(mtu: *mut MtuHandle, size: u16) -> EncodedReply;
 
     /// A packet of so many bytes was acknowledged (`ANSWER_ACKED`): the flag says whether it was the probe in flight, whose
     /// size is then the MTU.
-    pub fn recovery_ffi_mtu_acked(mtu: *mut MtuHandle, number: u64, bytes: u16) -> Reply;
+    pub fn recovery_ffi_mtu_acked(mtu: *mut MtuHandle, number: u64, bytes: u16) -> EncodedReply;
 
     /// The probe in flight was lost. Where none is, nothing changes.
-    pub fn recovery_ffi_mtu_probe_lost(mtu: *mut MtuHandle) -> Reply;
+    pub fn recovery_ffi_mtu_probe_lost(mtu: *mut MtuHandle) -> EncodedReply;
 
     /// A packet of so many bytes was lost that is no probe in flight. Numbers of one moment are told upward, and then
     /// `recovery_ffi_mtu_losses_done`.
-    pub fn recovery_ffi_mtu_lost(mtu: *mut MtuHandle, number: u64, bytes: u16) -> Reply;
+    pub fn recovery_ffi_mtu_lost(mtu: *mut MtuHandle, number: u64, bytes: u16) -> EncodedReply;
 
     /// All losses of a moment were told: the flag says whether they are a black hole, which leaves the least MTU.
-    pub fn recovery_ffi_mtu_losses_done(mtu: *mut MtuHandle, now: u64) -> Reply;
+    pub fn recovery_ffi_mtu_losses_done(mtu: *mut MtuHandle, now: u64) -> EncodedReply;
 
     /// All begins anew, with these sizes; refused where one is zero. The peer's limit stays.
-    pub fn recovery_ffi_mtu_reset(mtu: *mut MtuHandle, size: u16, least: u16) -> Reply;
+    pub fn recovery_ffi_mtu_reset(mtu: *mut MtuHandle, size: u16, least: u16) -> EncodedReply;
 
     /// A full bucket at the moment `now`, by the RTT (nanoseconds), the congestion window and the MTU (bytes). Of a window
     /// or an MTU of 0 it is all zeros, which is none.
@@ -677,7 +677,7 @@ unsafe extern "C" {
 
     /// A packet of so many bytes was sent (`ANSWER_TRANSMITTED`): it takes tokens, as far as they go. Refused where the
     /// bucket is none.
-    pub fn recovery_ffi_pacer_transmit(bucket: *mut Bucket, bytes: u16) -> Reply;
+    pub fn recovery_ffi_pacer_transmit(bucket: *mut Bucket, bytes: u16) -> EncodedReply;
 
     /// May so many bytes be sent at the moment `now` (`ANSWER_READY`), or when is it to be asked again (`ANSWER_DELAYED`)?
     /// By the RTT (nanoseconds), the MTU and the congestion window (bytes) of that moment. Refused where the window or the
@@ -689,7 +689,7 @@ unsafe extern "C" {
         mtu: u16,
         window: u64,
         now: u64,
-    ) -> Reply;
+    ) -> EncodedReply;
 
     /// A packet came in (RFC 9000, 12.3): the event `Received`.
     pub fn recovery_ffi_received(
@@ -698,7 +698,7 @@ unsafe extern "C" {
         now: u64,
         number: u64,
         ack_eliciting: bool,
-    ) -> Reply;
+    ) -> EncodedReply;
 
     /// A packet with these items goes out (RFC 9002, A.5): the event `Send`.
     pub fn recovery_ffi_send(
@@ -711,7 +711,7 @@ unsafe extern "C" {
         largest: u64,
         items: *const u64,
         items_len: usize,
-    ) -> Reply;
+    ) -> EncodedReply;
 
     /// A packet that was sent is acknowledged (RFC 9002, A.7): the event `Acked`.
     pub fn recovery_ffi_acked(
@@ -720,20 +720,20 @@ unsafe extern "C" {
         now: u64,
         number: u64,
         app_limited: bool,
-    ) -> Reply;
+    ) -> EncodedReply;
 
     /// A packet that was sent is declared lost (RFC 9002, A.10): the event `Lost`.
-    pub fn recovery_ffi_lost(handle: *mut Handle, space: u8, number: u64) -> Reply;
+    pub fn recovery_ffi_lost(handle: *mut Handle, space: u8, number: u64) -> EncodedReply;
 
     /// The keys of a space are dropped (RFC 9002, 6.4): the event `DiscardSpace`.
-    pub fn recovery_ffi_discard(handle: *mut Handle, space: u8) -> Reply;
+    pub fn recovery_ffi_discard(handle: *mut Handle, space: u8) -> EncodedReply;
 
     /// How many items the queue that was taken last has; they are written where there is room for all. None, before one was
     /// taken.
-    pub fn recovery_ffi_taken(handle: *mut Handle, out: *mut u64, out_len: usize) -> usize;
+    pub fn recovery_ffi_last_items(handle: *mut Handle, out: *mut u64, out_len: usize) -> usize;
 
     /// What is in flight on a path? The event `InFlight`.
-    pub fn recovery_ffi_in_flight(handle: *mut Handle, previous: bool) -> Reply;
+    pub fn recovery_ffi_in_flight(handle: *mut Handle, previous: bool) -> EncodedReply;
 
     /// A sample of the round-trip time (RFC 9002, 5): the event `Sample`; nanoseconds are below 10^9.
     pub fn recovery_ffi_sample(
@@ -742,20 +742,20 @@ unsafe extern "C" {
         delay_nanos: u32,
         rtt_secs: u64,
         rtt_nanos: u32,
-    ) -> Reply;
+    ) -> EncodedReply;
 
     /// A datagram came in on a path (RFC 9000, 8.1): the event `DatagramIn`.
-    pub fn recovery_ffi_datagram_in(handle: *mut Handle, previous: bool, bytes: u64) -> Reply;
+    pub fn recovery_ffi_datagram_in(handle: *mut Handle, previous: bool, bytes: u64) -> EncodedReply;
 
     /// The peer was seen to receive at the address of a path (RFC 9000, 8): the event `Validated`.
-    pub fn recovery_ffi_validated(handle: *mut Handle, previous: bool) -> Reply;
+    pub fn recovery_ffi_validated(handle: *mut Handle, previous: bool) -> EncodedReply;
 
     /// A datagram is to be transmitted on the current path: the event `Transmit`.
     pub fn recovery_ffi_transmit(handle: *mut Handle, now: u64, bytes: u16, checked: bool)
-        -> Reply;
+        -> EncodedReply;
 
     /// May so many bytes be transmitted (RFC 9002, 7.7)? The event `PacerCheck`.
-    pub fn recovery_ffi_pacer_check(handle: *mut Handle, now: u64, bytes: u64) -> Reply;
+    pub fn recovery_ffi_pacer_check(handle: *mut Handle, now: u64, bytes: u64) -> EncodedReply;
 
     /// Packets of the current path were lost, or marked (RFC 9002, 7.3): the event `Congestion`.
     pub fn recovery_ffi_congestion(
@@ -764,7 +764,7 @@ unsafe extern "C" {
         sent: u64,
         persistent: bool,
         bytes: u64,
-    ) -> Reply;
+    ) -> EncodedReply;
 
     /// All packets that one ACK newly acknowledges were told: the event `EndAcks`.
     pub fn recovery_ffi_end_acks(
@@ -773,7 +773,7 @@ unsafe extern "C" {
         app_limited: bool,
         has_largest: bool,
         largest: u64,
-    ) -> Reply;
+    ) -> EncodedReply;
 
     /// Another path is used from now on (RFC 9000, 9.3): the event `NewPath`.
     pub fn recovery_ffi_new_path(
@@ -781,16 +781,16 @@ unsafe extern "C" {
         now: u64,
         remote: *const Address,
         fresh: bool,
-    ) -> Reply;
+    ) -> EncodedReply;
 
     /// The current path begins anew (RFC 9000, 9.4): the event `ResetPath`.
-    pub fn recovery_ffi_reset_path(handle: *mut Handle, now: u64) -> Reply;
+    pub fn recovery_ffi_reset_path(handle: *mut Handle, now: u64) -> EncodedReply;
 
     /// The previous path is dropped (RFC 9000, 9.3.3): the event `DropPrevious`.
-    pub fn recovery_ffi_drop_previous(handle: *mut Handle) -> Reply;
+    pub fn recovery_ffi_drop_previous(handle: *mut Handle) -> EncodedReply;
 
     /// The previous path is used again, and the current one is dropped (RFC 9000, 9.3.2): the event `RevertPath`.
-    pub fn recovery_ffi_revert_path(handle: *mut Handle) -> Reply;
+    pub fn recovery_ffi_revert_path(handle: *mut Handle) -> EncodedReply;
 
     /// The counts of ECN of an ACK frame (RFC 9000, 13.4.2): the event `Ecn`.
     pub fn recovery_ffi_ecn(
@@ -800,16 +800,16 @@ unsafe extern "C" {
         ect0: u64,
         ect1: u64,
         ce: u64,
-    ) -> Reply;
+    ) -> EncodedReply;
 
     /// An ACK frame acknowledges a range of numbers (RFC 9000, 13.1): the event `CheckAck`.
-    pub fn recovery_ffi_check_ack(handle: *mut Handle, space: u8, low: u64, high: u64) -> Reply;
+    pub fn recovery_ffi_check_ack(handle: *mut Handle, space: u8, low: u64, high: u64) -> EncodedReply;
 
     /// A probe packet is to be sent (RFC 9002, 6.2.4): the event `QueueProbe`.
-    pub fn recovery_ffi_queue_probe(handle: *mut Handle, space: u8, immediate_ack: bool) -> Reply;
+    pub fn recovery_ffi_queue_probe(handle: *mut Handle, space: u8, immediate_ack: bool) -> EncodedReply;
 
-    /// What waits to be sent again is handed out, to be read by `recovery_ffi_taken`: the event `TakePending`.
-    pub fn recovery_ffi_take_pending(handle: *mut Handle, space: u8) -> Reply;
+    /// What waits to be sent again is handed out, to be read by `recovery_ffi_last_items`: the event `TakePending`.
+    pub fn recovery_ffi_take_pending(handle: *mut Handle, space: u8) -> EncodedReply;
 
     /// What is kept for a path.
     pub fn recovery_ffi_path(handle: *mut Handle, previous: bool) -> PathView;
@@ -822,17 +822,17 @@ unsafe extern "C" {
 
     /// How long ago the largest packet of a space came, which an ACK frame tells (RFC 9000, 13.2.5): zero before the first,
     /// none where there is no such space or it is discarded.
-    pub fn recovery_ffi_ack_delay(handle: *mut Handle, space: u8, now: u64) -> MomentView;
+    pub fn recovery_ffi_ack_delay(handle: *mut Handle, space: u8, now: u64) -> TimeView;
 
     /// When a timer expires.
-    pub fn recovery_ffi_timer(handle: *mut Handle, timer: u8) -> MomentView;
+    pub fn recovery_ffi_timer(handle: *mut Handle, timer: u8) -> TimeView;
 
     /// The ids of both ends, and how late ACKs may be.
     pub fn recovery_ffi_ids(handle: *mut Handle) -> IdsView;
 
     /// When the oldest of this end's ids is to be retired (RFC 9000, 5.1.2), where they end: what `TIMER_PUSH_NEW_CID` is
     /// set to.
-    pub fn recovery_ffi_next_id_timeout(handle: *mut Handle) -> MomentView;
+    pub fn recovery_ffi_next_id_timeout(handle: *mut Handle) -> TimeView;
 
     /// Makes a recovery of a sender, of the client or else of the server, whose peer is at this address and has this id of
     /// at most 20 bytes. A client's first path is validated, whatever the settings say (RFC 9000, 8.1). The answer is
@@ -858,11 +858,11 @@ unsafe extern "C" {
         bytes: u16,
         space: u8,
         in_flight: bool,
-    ) -> Reply;
+    ) -> EncodedReply;
 
     /// An ACK frame came in (RFC 9002, A.7), with its ranges, the highest first, as on the wire: `ANSWER_ACKNOWLEDGED`,
     /// with how many numbers it newly acknowledges in `first`, how many are found lost in `second`, and in `flag` whether
-    /// `recovery_ffi_told` says more than that; `recovery_ffi_told_numbers` says which they are. Refused, and nothing
+    /// `recovery_ffi_last_outcome` says more than that; `recovery_ffi_told_numbers` says which they are. Refused, and nothing
     /// changes, by `REFUSAL_SPACE_DISCARDED`, by `REFUSAL_BAD_RANGE` where there is no range, one ends before it begins, or
     /// two have no number between them (RFC 9000, 19.3.1), by `REFUSAL_UNSENT`, by `REFUSAL_SKIPPED_ACKED` (RFC 9000,
     /// 21.4), or by `REFUSAL_NO_MEMORY`.
@@ -873,35 +873,35 @@ unsafe extern "C" {
         frame: *const AckFrame,
         ranges: *const AckRange,
         ranges_len: usize,
-    ) -> Reply;
+    ) -> EncodedReply;
 
     /// The timer for losses may be due (RFC 9002, A.9): `ANSWER_NOTHING` where it is not; `ANSWER_LOSSES` where packets
-    /// were looked for that are lost, which `recovery_ffi_told` and `recovery_ffi_told_numbers` say; or `ANSWER_PROBES`,
+    /// were looked for that are lost, which `recovery_ffi_last_outcome` and `recovery_ffi_told_numbers` say; or `ANSWER_PROBES`,
     /// with the space in `first` and in `second` how many are to be sent, 1 or 2. `immediate_ack` asks for an IMMEDIATE_ACK
     /// frame in a probe. Refused by `REFUSAL_NO_MEMORY` where the first probe finds none; then nothing changed.
     pub fn recovery_ffi_sender_timeout(handle: *mut Handle, now: u64, immediate_ack: bool)
-        -> Reply;
+        -> EncodedReply;
 
     /// The keys of a space are dropped, and with them all that it tracks; probe timeouts are counted anew (RFC 9002, 6.2.2,
     /// 6.4 and A.11): `ANSWER_DONE`. Refused by `REFUSAL_SPACE_DISCARDED`.
-    pub fn recovery_ffi_sender_discard(handle: *mut Handle, space: u8, now: u64) -> Reply;
+    pub fn recovery_ffi_sender_discard(handle: *mut Handle, space: u8, now: u64) -> EncodedReply;
 
     /// What a space tracks was sent in vain, behind a Retry or where 0-RTT is refused (RFC 9002, 6.3 and 6.4): each packet
     /// is lost, which is no congestion, and probe timeouts are counted anew: `ANSWER_LOSSES`, and
     /// `recovery_ffi_told_numbers` says which. Refused by `REFUSAL_SPACE_DISCARDED`; by `REFUSAL_NO_MEMORY`, where the same
     /// call goes on with what is tracked still.
-    pub fn recovery_ffi_sender_abandon(handle: *mut Handle, space: u8, now: u64) -> Reply;
+    pub fn recovery_ffi_sender_abandon(handle: *mut Handle, space: u8, now: u64) -> EncodedReply;
 
     /// There are keys of Handshake packets (RFC 9002, A.8): `ANSWER_DONE`.
-    pub fn recovery_ffi_sender_handshake_keys(handle: *mut Handle) -> Reply;
+    pub fn recovery_ffi_sender_handshake_keys(handle: *mut Handle) -> EncodedReply;
 
     /// The handshake is confirmed (RFC 9001, 4.1.2): packets of 1-RTT keys are probed for from now on, and a client knows
     /// its address validated (RFC 9002, 6.2.1 and 6.2.2.1): `ANSWER_DONE`.
-    pub fn recovery_ffi_sender_handshake_confirmed(handle: *mut Handle) -> Reply;
+    pub fn recovery_ffi_sender_handshake_confirmed(handle: *mut Handle) -> EncodedReply;
 
     /// The peer delays its ACKs of 1-RTT packets at most so long (RFC 9000, 18.2: max_ack_delay): `ANSWER_DONE`. There are
     /// fewer than 10^9 nanoseconds.
-    pub fn recovery_ffi_sender_peer_delay(handle: *mut Handle, secs: u64, nanos: u32) -> Reply;
+    pub fn recovery_ffi_sender_peer_delay(handle: *mut Handle, secs: u64, nanos: u32) -> EncodedReply;
 
     /// A PATH_CHALLENGE frame with this content is open on the path in use, where `is_open`, and one is to be sent, where
     /// `pending` (RFC 9000, 8.2.1): `ANSWER_DONE`. While one is open the window does not grow: what is acknowledged may
@@ -911,7 +911,7 @@ unsafe extern "C" {
         content: u64,
         is_open: bool,
         pending: bool,
-    ) -> Reply;
+    ) -> EncodedReply;
 
     /// How many probe timeouts expired in a row, by which the next one is doubled (RFC 9002, 6.2.1); 0 where there is no
     /// sender.
@@ -919,7 +919,7 @@ unsafe extern "C" {
 
     /// What was told last: by an ACK frame that was not refused, by a timeout that looked for losses, or by an abandoned
     /// space. Nothing before it, and where there is no sender.
-    pub fn recovery_ffi_told(handle: *mut Handle) -> ToldView;
+    pub fn recovery_ffi_last_outcome(handle: *mut Handle) -> OutcomeView;
 
     /// How many numbers were newly acknowledged as something was told last, or, with `lost`, how many were found lost,
     /// without that of the MTU's probe; they are written, rising, where there is room for all.
@@ -940,11 +940,11 @@ unsafe extern "C" {
     pub fn recovery_ffi_default_settings() -> Settings;
 
     /// A timer is set to a moment in nanoseconds: the event `SetTimer`.
-    pub fn recovery_ffi_set_timer(handle: *mut Handle, timer: u8, time: u64) -> Reply;
+    pub fn recovery_ffi_set_timer(handle: *mut Handle, timer: u8, time: u64) -> EncodedReply;
 
     /// A timer is stopped: the event `StopTimer`.
-    pub fn recovery_ffi_stop_timer(handle: *mut Handle, timer: u8) -> Reply;
+    pub fn recovery_ffi_stop_timer(handle: *mut Handle, timer: u8) -> EncodedReply;
 
     /// When does the next timer expire? The event `NextTimeout`.
-    pub fn recovery_ffi_next_timeout(handle: *mut Handle) -> Reply;
+    pub fn recovery_ffi_next_timeout(handle: *mut Handle) -> EncodedReply;
 }

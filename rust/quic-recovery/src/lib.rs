@@ -66,11 +66,11 @@ pub use config::{
     TransportConfig,
 };
 pub use event::{Answer, EcnFault, Event, Refusal};
-pub use mtud::{MtuDiscovery, NotTaken};
+pub use mtud::{MtuDiscovery, InvalidArgument};
 pub use pacing::Pacer;
 pub use recovery::{IdStats, PacerStats, PathStats, Recovery, RttEstimate, SpaceStats};
 pub use sender::{
-    Ack, Acknowledged, EcnEnd, Losses, MtuProbe, Packets, Refused, Sender, Sent, Side, Timeout,
+    Ack, Acknowledged, EcnOutcome, Losses, MtuProbe, Packets, SenderError, Sender, Sent, Side, Timeout,
     Transmission,
 };
 pub use timer::Timer;

@@ -9,15 +9,15 @@ use std::ptr::null_mut;
 
 /// A call that is not taken: an argument lies out of its range, or it comes at the wrong time. Nothing changed.
 #[derive(Clone, Copy, Debug, PartialEq, Eq, Hash)]
-pub struct NotTaken;
+pub struct InvalidArgument;
 
-impl fmt::Display for NotTaken {
+impl fmt::Display for InvalidArgument {
     fn fmt(&self, f: &mut fmt::Formatter<'_>) -> fmt::Result {
         f.write_str("an argument lies out of its range, or the call comes at the wrong time")
     }
 }
 
-impl Error for NotTaken {}
+impl Error for InvalidArgument {}
 
 /// The search for the MTU of one path and the detection of black holes (RFC 8899), without a recovery: for a tunnel, or another
 /// datagram protocol. The packets are numbered by the caller, upward, probes among them; sizes are in bytes.
@@ -131,7 +131,7 @@ impl MtuDiscovery {
 
     /// The peer takes no packets larger than this. Not taken where it is 0, and while a search runs: the limit is told before the
     /// first poll.
-    pub fn on_peer_max_udp_payload_size_received(&mut self, size: u16) -> Result<(), NotTaken> {
+    pub fn on_peer_max_udp_payload_size_received(&mut self, size: u16) -> Result<(), InvalidArgument> {
         // SAFETY: the handle holds a discovery.
         taken(unsafe { ffi::recovery_ffi_mtu_limit(self.handle.get_mut(), size) })
     }
@@ -166,7 +166,7 @@ impl MtuDiscovery {
     }
 
     /// All begins anew, with these sizes; not taken where one is 0. The peer's limit stays.
-    pub fn reset(&mut self, current_mtu: u16, min_mtu: u16) -> Result<(), NotTaken> {
+    pub fn reset(&mut self, current_mtu: u16, min_mtu: u16) -> Result<(), InvalidArgument> {
         let handle = self.handle.get_mut();
         // SAFETY: the handle holds a discovery.
         taken(unsafe { ffi::recovery_ffi_mtu_reset(handle, current_mtu, min_mtu) })
@@ -174,9 +174,9 @@ impl MtuDiscovery {
 }
 
 /// Whether a call was taken.
-pub(crate) fn taken(reply: ffi::Reply) -> Result<(), NotTaken> {
+pub(crate) fn taken(reply: ffi::EncodedReply) -> Result<(), InvalidArgument> {
     if reply.kind == ffi::ANSWER_REFUSED {
-        Err(NotTaken)
+        Err(InvalidArgument)
     } else {
         Ok(())
     }

@@ -1,7 +1,7 @@
 //! The pacer of one path, alone.
 use crate::config::nanos;
 use crate::ffi;
-use crate::mtud::{taken, NotTaken};
+use crate::mtud::{taken, InvalidArgument};
 use crate::types::Instant;
 use std::time::Duration;
 
@@ -23,7 +23,7 @@ use std::time::Duration;
 /// }
 /// let until = pacer.delay(rtt, 1200, 1200, 12_000, start)?;
 /// assert_eq!(until, Some(Instant::from_nanos(266_400_000)));
-/// # Ok::<(), quic_recovery::NotTaken>(())
+/// # Ok::<(), quic_recovery::InvalidArgument>(())
 /// ```
 #[derive(Clone, Copy, Debug, PartialEq, Eq)]
 pub struct Pacer {
@@ -32,11 +32,11 @@ pub struct Pacer {
 
 impl Pacer {
     /// A full bucket at the moment `now`. Not taken where the window or the MTU is 0.
-    pub fn new(rtt: Duration, window: u64, mtu: u16, now: Instant) -> Result<Self, NotTaken> {
+    pub fn new(rtt: Duration, window: u64, mtu: u16, now: Instant) -> Result<Self, InvalidArgument> {
         // SAFETY: it requires nothing.
         let bucket = unsafe { ffi::recovery_ffi_pacer(nanos(rtt), window, mtu, now.as_nanos()) };
         if bucket.mtu == 0 {
-            return Err(NotTaken);
+            return Err(InvalidArgument);
         }
         Ok(Pacer { bucket })
     }
@@ -67,7 +67,7 @@ impl Pacer {
         mtu: u16,
         window: u64,
         now: Instant,
-    ) -> Result<Option<Instant>, NotTaken> {
+    ) -> Result<Option<Instant>, InvalidArgument> {
         let bucket = &mut self.bucket;
         // SAFETY: it requires nothing.
         let reply = unsafe {

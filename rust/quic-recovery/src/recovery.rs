@@ -132,7 +132,7 @@ fn is_previous(path: PathName) -> bool {
 ///
 /// The handle holds a recovery, and nothing else uses it during the call.
 #[inline(always)]
-unsafe fn hand_in(handle: *mut ffi::Handle, event: Event<'_>) -> ffi::Reply {
+unsafe fn hand_in(handle: *mut ffi::Handle, event: Event<'_>) -> ffi::EncodedReply {
     use ffi::*;
     // SAFETY: as this function's; slices are passed by their own pointers and lengths. That ids have at most 20 bytes, numbers
     // of frames lie below 2^62 and nanoseconds are fewer than a second's, their types keep, so that no call is refused for it.
@@ -329,7 +329,7 @@ impl Recovery {
 
     /// One event, with its reply in numbers.
     #[inline]
-    pub(crate) fn reply_to(&mut self, event: Event<'_>) -> ffi::Reply {
+    pub(crate) fn reply_to(&mut self, event: Event<'_>) -> ffi::EncodedReply {
         // SAFETY: the handle holds a recovery, and `self` is borrowed alone.
         unsafe { hand_in(self.handle.get_mut(), event) }
     }
@@ -341,8 +341,8 @@ impl Recovery {
 
     /// What a reply in numbers says.
     #[inline]
-    pub(crate) fn read(&self, reply: ffi::Reply) -> Result<Answer, Refusal> {
-        let ffi::Reply {
+    pub(crate) fn read(&self, reply: ffi::EncodedReply) -> Result<Answer, Refusal> {
+        let ffi::EncodedReply {
             kind,
             refusal,
             flag,
@@ -378,24 +378,24 @@ impl Recovery {
             ffi::ANSWER_NO_PROBE => Answer::NoProbe,
             ffi::ANSWER_BLACK_HOLE => Answer::BlackHole(flag),
             ffi::ANSWER_SENDABLE => Answer::Sendable(SendableFrames { acks: flag, other }),
-            ffi::ANSWER_QUEUE => Answer::Queue(self.taken()?),
+            ffi::ANSWER_QUEUE => Answer::Queue(self.last_items()?),
             ffi::ANSWER_DONE => Answer::Done,
             _ => return Err(Refusal::from_number(refusal, first)),
         })
     }
 
     /// The items that were taken last. Refused by `NoMemory` alone.
-    pub fn taken(&self) -> Result<Vec<u64>, Refusal> {
+    pub fn last_items(&self) -> Result<Vec<u64>, Refusal> {
         let mut items: Vec<u64> = Vec::new();
         // SAFETY: the handle holds a recovery, and a slice of no items is written to nowhere.
-        let count = unsafe { ffi::recovery_ffi_taken(self.handle.get(), items.as_mut_ptr(), 0) };
+        let count = unsafe { ffi::recovery_ffi_last_items(self.handle.get(), items.as_mut_ptr(), 0) };
         if count > 0 {
             items
                 .try_reserve_exact(count)
                 .map_err(|_| Refusal::NoMemory)?;
             items.resize(count, 0);
             // SAFETY: the same, and so many items are there.
-            unsafe { ffi::recovery_ffi_taken(self.handle.get(), items.as_mut_ptr(), count) };
+            unsafe { ffi::recovery_ffi_last_items(self.handle.get(), items.as_mut_ptr(), count) };
         }
         Ok(items)
     }

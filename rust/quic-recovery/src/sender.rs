@@ -18,10 +18,10 @@ pub enum Side {
     Server,
 }
 
-/// Why a call of a sender is refused; after it all is as it was before, but as [`Sender::abandon`] says.
+/// Why a call of a sender is refused; after it all is as it was before, but as [`Sender::retransmit_all`] says.
 #[derive(Clone, Copy, Debug, PartialEq, Eq, Hash)]
 #[non_exhaustive]
-pub enum Refused {
+pub enum SenderError {
     /// As an event of a recovery is.
     Event(Refusal),
     /// A number was acknowledged that was never sent (RFC 9000, 13.1).
@@ -30,23 +30,23 @@ pub enum Refused {
     Decided,
 }
 
-impl From<Refusal> for Refused {
+impl From<Refusal> for SenderError {
     fn from(refusal: Refusal) -> Self {
-        Refused::Event(refusal)
+        SenderError::Event(refusal)
     }
 }
 
-impl fmt::Display for Refused {
+impl fmt::Display for SenderError {
     fn fmt(&self, f: &mut fmt::Formatter<'_>) -> fmt::Result {
         match self {
-            Refused::Event(refusal) => refusal.fmt(f),
-            Refused::Unsent => f.write_str("a number was acknowledged that was never sent"),
-            Refused::Decided => f.write_str("the sender decides the event itself"),
+            SenderError::Event(refusal) => refusal.fmt(f),
+            SenderError::Unsent => f.write_str("a number was acknowledged that was never sent"),
+            SenderError::Decided => f.write_str("the sender decides the event itself"),
         }
     }
 }
 
-impl Error for Refused {}
+impl Error for SenderError {}
 
 /// Whether a datagram goes out.
 #[derive(Clone, Copy, Debug, PartialEq, Eq)]
@@ -92,7 +92,7 @@ pub struct Ack {
 
 /// What the counts of ECN of a frame come to (RFC 9000, 13.4.2.1).
 #[derive(Clone, Copy, Debug, Default, PartialEq, Eq)]
-pub enum EcnEnd {
+pub enum EcnOutcome {
     /// Nothing.
     #[default]
     Quiet,
@@ -136,7 +136,7 @@ pub struct Acknowledged {
     /// What was found lost.
     pub losses: Losses,
     /// What its counts of ECN come to.
-    pub ecn: EcnEnd,
+    pub ecn: EcnOutcome,
     /// Of each of these packets its number, how many items it carried, and these.
     words: Vec<u64>,
 }
@@ -211,12 +211,12 @@ pub struct Sender {
 }
 
 /// A reply, or why it is a refusal.
-fn taken(reply: ffi::Reply) -> Result<ffi::Reply, Refused> {
+fn taken(reply: ffi::EncodedReply) -> Result<ffi::EncodedReply, SenderError> {
     match (reply.kind, reply.refusal) {
-        (ffi::ANSWER_REFUSED, ffi::REFUSAL_UNSENT) => Err(Refused::Unsent),
-        (ffi::ANSWER_REFUSED, ffi::REFUSAL_DECIDED) => Err(Refused::Decided),
+        (ffi::ANSWER_REFUSED, ffi::REFUSAL_UNSENT) => Err(SenderError::Unsent),
+        (ffi::ANSWER_REFUSED, ffi::REFUSAL_DECIDED) => Err(SenderError::Decided),
         (ffi::ANSWER_REFUSED, number) => {
-            Err(Refused::Event(Refusal::from_number(number, reply.first)))
+            Err(SenderError::Event(Refusal::from_number(number, reply.first)))
         }
         _ => Ok(reply),
     }
@@ -259,7 +259,7 @@ impl Sender {
         bytes: u16,
         space: SpaceId,
         in_flight: bool,
-    ) -> Result<Transmission, Refused> {
+    ) -> Result<Transmission, SenderError> {
         let (handle, now) = (self.recovery.handle(), now.as_nanos());
         // SAFETY: the handle holds a recovery, and `self` is borrowed alone.
         let reply = unsafe {
@@ -284,7 +284,7 @@ impl Sender {
         ack_eliciting: bool,
         largest_acked: Option<u64>,
         queue: &[u64],
-    ) -> Result<Sent, Refused> {
+    ) -> Result<Sent, SenderError> {
         let reply = taken(self.recovery.reply_to(Event::Send {
             space,
             now,
@@ -301,7 +301,7 @@ impl Sender {
 
     /// A probe of the MTU goes out, where one is due, as [`Event::PollMtu`] has it, and is refused. The window is not
     /// asked: a probe of the MTU is let pass it (RFC 9000, 14.4).
-    pub fn poll_mtu(&mut self, now: Instant) -> Result<Option<MtuProbe>, Refused> {
+    pub fn poll_mtu(&mut self, now: Instant) -> Result<Option<MtuProbe>, SenderError> {
         let reply = taken(self.recovery.reply_to(Event::PollMtu { now }))?;
         Ok((reply.kind == ffi::ANSWER_PROBE).then_some(MtuProbe {
             number: reply.first,
@@ -313,9 +313,9 @@ impl Sender {
     /// first, as on the wire. What it newly acknowledges is told, the round-trip time sampled, and losses are looked for.
     ///
     /// Refused by `SpaceDiscarded`; by `BadRange` where there is no range, one ends before it begins, or two have no
-    /// number between them (RFC 9000, 19.3.1); by [`Refused::Unsent`] where a number was never sent (RFC 9000, 13.1); by
+    /// number between them (RFC 9000, 19.3.1); by [`SenderError::Unsent`] where a number was never sent (RFC 9000, 13.1); by
     /// `SkippedAcked` where it holds the number that was skipped last (RFC 9000, 21.4); by `NoMemory`. Where memory is
-    /// missing for the answer alone, the frame is taken: then [`Sender::told`] says what it came to. It costs its ranges,
+    /// missing for the answer alone, the frame is taken: then [`Sender::last_outcome`] says what it came to. It costs its ranges,
     /// what it newly acknowledges and what is lost or lies below the largest acknowledged, each with a logarithm.
     pub fn on_ack(
         &mut self,
@@ -323,7 +323,7 @@ impl Sender {
         now: Instant,
         ack: &Ack,
         ranges: &[(u64, u64)],
-    ) -> Result<Acknowledged, Refused> {
+    ) -> Result<Acknowledged, SenderError> {
         let mut told = Acknowledged::default();
         self.on_ack_into(space, now, ack, ranges, &mut told)?;
         Ok(told)
@@ -338,7 +338,7 @@ impl Sender {
         ack: &Ack,
         ranges: &[(u64, u64)],
         told: &mut Acknowledged,
-    ) -> Result<(), Refused> {
+    ) -> Result<(), SenderError> {
         self.ranges.clear();
         self.ranges
             .try_reserve(ranges.len())
@@ -370,10 +370,10 @@ impl Sender {
         };
         let reply = taken(reply)?;
         if reply.second > 0 || reply.flag {
-            self.told(told)?;
+            self.last_outcome(told)?;
         } else {
             told.losses.be_none();
-            told.ecn = EcnEnd::Quiet;
+            told.ecn = EcnOutcome::Quiet;
             self.packets(reply.first, told)?;
         }
         Ok(())
@@ -381,8 +381,8 @@ impl Sender {
 
     /// The timer for losses may be due (RFC 9002, A.9): losses are looked for, or probes are to be sent, with an
     /// IMMEDIATE_ACK frame where `immediate_ack` asks for one. Nothing, where it is not due. Refused by `NoMemory` where
-    /// the first probe finds none. Where memory is missing for the answer alone, [`Sender::told`] says what was lost.
-    pub fn on_timeout(&mut self, now: Instant, immediate_ack: bool) -> Result<Timeout, Refused> {
+    /// the first probe finds none. Where memory is missing for the answer alone, [`Sender::last_outcome`] says what was lost.
+    pub fn on_timeout(&mut self, now: Instant, immediate_ack: bool) -> Result<Timeout, SenderError> {
         let (handle, now) = (self.recovery.handle(), now.as_nanos());
         // SAFETY: the handle holds a recovery, and `self` is borrowed alone.
         let reply = unsafe { ffi::recovery_ffi_sender_timeout(handle, now, immediate_ack) };
@@ -390,7 +390,7 @@ impl Sender {
         Ok(match reply.kind {
             ffi::ANSWER_LOSSES => {
                 let mut told = Acknowledged::default();
-                self.told(&mut told)?;
+                self.last_outcome(&mut told)?;
                 Timeout::Lost(told.losses)
             }
             ffi::ANSWER_PROBES => {
@@ -407,7 +407,7 @@ impl Sender {
 
     /// A datagram of so many bytes came in on the path in use: what may be sent grows where its address is not validated,
     /// so that the timer may be due at once (RFC 9000, 8.1; RFC 9002, A.6). Refused by `Overflow`.
-    pub fn on_datagram(&mut self, bytes: u64) -> Result<(), Refused> {
+    pub fn on_datagram(&mut self, bytes: u64) -> Result<(), SenderError> {
         let path = PathName::Current;
         taken(self.recovery.reply_to(Event::DatagramIn { path, bytes }))?;
         Ok(())
@@ -451,7 +451,7 @@ impl Sender {
 
     /// The keys of a space are dropped, and with them all that it tracks; probe timeouts are counted anew (RFC 9002,
     /// 6.2.2, 6.4 and A.11). Refused by `SpaceDiscarded`.
-    pub fn discard(&mut self, space: SpaceId, now: Instant) -> Result<(), Refused> {
+    pub fn discard(&mut self, space: SpaceId, now: Instant) -> Result<(), SenderError> {
         let (handle, now) = (self.recovery.handle(), now.as_nanos());
         // SAFETY: the handle holds a recovery, and `self` is borrowed alone.
         let reply = unsafe { ffi::recovery_ffi_sender_discard(handle, space as u8, now) };
@@ -462,23 +462,23 @@ impl Sender {
     /// What a space tracks was sent in vain, behind a Retry or where 0-RTT is refused (RFC 9002, 6.3 and 6.4): each packet
     /// is lost, which is no congestion, what it carried waits to be sent again, and probe timeouts are counted anew. The
     /// numbers, rising. Refused by `SpaceDiscarded`; by `NoMemory`, where the same call goes on with what is tracked still.
-    /// Where memory is missing for the answer alone, [`Sender::told`] says what was lost.
-    pub fn abandon(&mut self, space: SpaceId, now: Instant) -> Result<Vec<u64>, Refused> {
+    /// Where memory is missing for the answer alone, [`Sender::last_outcome`] says what was lost.
+    pub fn retransmit_all(&mut self, space: SpaceId, now: Instant) -> Result<Vec<u64>, SenderError> {
         let (handle, now) = (self.recovery.handle(), now.as_nanos());
         // SAFETY: the handle holds a recovery, and `self` is borrowed alone.
         let reply = unsafe { ffi::recovery_ffi_sender_abandon(handle, space as u8, now) };
         taken(reply)?;
         let mut told = Acknowledged::default();
-        self.told(&mut told)?;
+        self.last_outcome(&mut told)?;
         Ok(told.losses.numbers)
     }
 
     /// An event, as [`Recovery::apply`] does it, and it is refused as there. The sender decides itself what is acknowledged
     /// and lost and what follows of it, what is probed for, what is transmitted, which spaces end, and when the timer for
-    /// losses is due: such an event is refused by [`Refused::Decided`]. These are `Acked`, `Lost`, `LossesDone`, `Sample`,
+    /// losses is due: such an event is refused by [`SenderError::Decided`]. These are `Acked`, `Lost`, `LossesDone`, `Sample`,
     /// `EndAcks`, `Congestion`, `Ecn`, `QueueProbe`, `Transmit`, `DiscardSpace`, and `SetTimer` and `StopTimer` of
     /// [`Timer::LossDetection`].
-    pub fn on_event(&mut self, event: Event<'_>) -> Result<Answer, Refused> {
+    pub fn on_event(&mut self, event: Event<'_>) -> Result<Answer, SenderError> {
         let reply = taken(self.recovery.reply_to(event))?;
         Ok(self.recovery.read(reply)?)
     }
@@ -486,9 +486,9 @@ impl Sender {
     /// What was told last, by an ACK frame that was not refused, by a timeout that looked for losses, or by an abandoned
     /// space; nothing before.
     /// Refused by `NoMemory` alone, where the vectors have to grow.
-    pub fn told(&self, into: &mut Acknowledged) -> Result<(), Refusal> {
+    pub fn last_outcome(&self, into: &mut Acknowledged) -> Result<(), Refusal> {
         // SAFETY: the handle holds a recovery, and no other call runs.
-        let view = unsafe { ffi::recovery_ffi_told(self.recovery.handle()) };
+        let view = unsafe { ffi::recovery_ffi_last_outcome(self.recovery.handle()) };
         self.packets(view.acked, into)?;
         self.lost(view.lost, &mut into.losses.numbers)?;
         into.losses.probe = view.has_probe.then_some(view.probe);
@@ -496,9 +496,9 @@ impl Sender {
         into.losses.is_persistent = view.is_persistent;
         into.losses.is_black_hole = view.is_black_hole;
         into.ecn = match view.ecn {
-            ffi::ECN_MARKED => EcnEnd::Marked,
-            ffi::ECN_FAILED => EcnEnd::Failed,
-            _ => EcnEnd::Quiet,
+            ffi::ECN_MARKED => EcnOutcome::Marked,
+            ffi::ECN_FAILED => EcnOutcome::Failed,
+            _ => EcnOutcome::Quiet,
         };
         Ok(())
     }

@@ -53,9 +53,9 @@ fn acked(found: &Acknowledged) -> String {
         text += &format!(" {}", lost(&found.losses));
     }
     text + match found.ecn {
-        EcnEnd::Quiet => "",
-        EcnEnd::Marked => " ecn-congestion",
-        EcnEnd::Failed => " ecn-failed",
+        EcnOutcome::Quiet => "",
+        EcnOutcome::Marked => " ecn-congestion",
+        EcnOutcome::Failed => " ecn-failed",
     }
 }
 
@@ -115,7 +115,7 @@ fn said(sender: &mut Sender, line: &Line) -> bool {
 }
 
 /// What a call of a line comes to.
-fn called(sender: &mut Sender, line: &Line) -> Result<String, Refused> {
+fn called(sender: &mut Sender, line: &Line) -> Result<String, SenderError> {
     let done = |()| String::from("done");
     if said(sender, line) {
         return Ok("done".into());
@@ -147,7 +147,7 @@ fn called(sender: &mut Sender, line: &Line) -> Result<String, Refused> {
         "timeout" => sender.on_timeout(line.moment(1), false).map(timed_out),
         "datagram" => sender.on_datagram(line.number(1)).map(done),
         "discard" => sender.discard(line.space(1), line.moment(2)).map(done),
-        "abandon" => sender.abandon(line.space(1), line.moment(2)).map(abandoned),
+        "abandon" => sender.retransmit_all(line.space(1), line.moment(2)).map(abandoned),
         _ => sender.on_event(line.event()).map(|it| written(&Ok(it))),
     }
 }
@@ -159,8 +159,8 @@ fn answer(sender: &mut Sender, line: &str) -> String {
     let timer = timer.unwrap_or("none".into());
     match reply {
         Ok(text) => format!("{text} timer {timer}"),
-        Err(Refused::Event(refusal)) => written(&Err(refusal)),
-        Err(Refused::Unsent) => "refused 21 Unsent".into(),
+        Err(SenderError::Event(refusal)) => written(&Err(refusal)),
+        Err(SenderError::Unsent) => "refused 21 Unsent".into(),
         Err(other) => panic!("{line}: {other}"),
     }
 }
@@ -242,7 +242,7 @@ fn vectors_that_are_kept() {
     assert_eq!(told.losses.congestion, Some(4000));
     assert_eq!(held(&told), before);
     let mut again = Acknowledged::default();
-    assert_eq!(sender.told(&mut again), Ok(()));
+    assert_eq!(sender.last_outcome(&mut again), Ok(()));
     assert_eq!(again, told);
     ack(&mut sender, 111, &[(6, 7)], &mut told);
     assert_eq!(told.numbers, [6]);
@@ -309,7 +309,7 @@ fn the_recovery_can_be_read() {
     assert!(can_send.other);
     let pending = sender.on_event(Event::TakePending { space });
     assert_eq!(pending, Ok(Answer::Queue(vec![0])));
-    assert_eq!(sender.recovery().taken(), Ok(vec![0]));
+    assert_eq!(sender.recovery().last_items(), Ok(vec![0]));
     let loss = sender.recovery().timer(Timer::LossDetection);
     assert!(loss.is_some() && loss == sender.timer());
     let marks = sender.recovery().marks(PathName::Current).unwrap();
@@ -377,13 +377,13 @@ fn refusals() {
     let mut sender = with_packets(4);
     let before = seen(&sender);
     for event in decided() {
-        assert_eq!(sender.on_event(event), Err(Refused::Decided), "{event:?}");
+        assert_eq!(sender.on_event(event), Err(SenderError::Decided), "{event:?}");
     }
-    let rows: [(&[(u64, u64)], Refused); 4] = [
+    let rows: [(&[(u64, u64)], SenderError); 4] = [
         (&[], Refusal::BadRange.into()),
         (&[(3, 2)], Refusal::BadRange.into()),
         (&[(1, 1), (3, 3)], Refusal::BadRange.into()),
-        (&[(0, 4)], Refused::Unsent),
+        (&[(0, 4)], SenderError::Unsent),
     ];
     let now = at(200);
     for (ranges, wanted) in rows {
@@ -393,7 +393,7 @@ fn refusals() {
     assert_eq!(seen(&sender), before);
     let space = SpaceId::Initial;
     assert_eq!(sender.discard(space, now), Ok(()));
-    let gone = Refused::Event(Refusal::SpaceDiscarded);
+    let gone = SenderError::Event(Refusal::SpaceDiscarded);
     assert_eq!(sender.discard(space, now), Err(gone));
     assert_eq!(sender.transmit(now, 1200, space, true), Err(gone));
     assert_eq!(sender.send(space, now, 1, true, None, &[]), Err(gone));

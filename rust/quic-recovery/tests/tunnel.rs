@@ -54,7 +54,7 @@ fn four_bursts_are_a_black_hole() {
     );
     assert_eq!(
         mtu.on_peer_max_udp_payload_size_received(1300),
-        Err(NotTaken)
+        Err(InvalidArgument)
     );
     assert!(!mtu.on_acked(99, 1200));
 }
@@ -62,11 +62,11 @@ fn four_bursts_are_a_black_hole() {
 #[test]
 fn limits_and_resets() {
     let mut mtu = MtuDiscovery::new(&TransportConfig::default(), Some(1300)).unwrap();
-    assert_eq!(mtu.on_peer_max_udp_payload_size_received(0), Err(NotTaken));
+    assert_eq!(mtu.on_peer_max_udp_payload_size_received(0), Err(InvalidArgument));
     assert_eq!(mtu.on_peer_max_udp_payload_size_received(1100), Ok(()));
     assert_eq!(mtu.current_mtu(), 1100);
-    assert_eq!(mtu.reset(0, 1200), Err(NotTaken));
-    assert_eq!(mtu.reset(1200, 0), Err(NotTaken));
+    assert_eq!(mtu.reset(0, 1200), Err(InvalidArgument));
+    assert_eq!(mtu.reset(1200, 0), Err(InvalidArgument));
     assert_eq!(mtu.current_mtu(), 1100);
     assert_eq!(mtu.reset(1000, 1000), Ok(()));
     assert_eq!(mtu.current_mtu(), 1000);
@@ -109,12 +109,12 @@ fn a_burst_is_paced() {
 #[test]
 fn no_pacer_of_nothing() {
     let rtt = Duration::from_millis(333);
-    assert_eq!(Pacer::new(rtt, 0, 1200, START), Err(NotTaken));
-    assert_eq!(Pacer::new(rtt, 12_000, 0, START), Err(NotTaken));
+    assert_eq!(Pacer::new(rtt, 0, 1200, START), Err(InvalidArgument));
+    assert_eq!(Pacer::new(rtt, 12_000, 0, START), Err(InvalidArgument));
     let mut pacer = Pacer::new(rtt, 12_000, 1200, START).unwrap();
     let before = pacer;
-    assert_eq!(pacer.delay(rtt, 1200, 0, 12_000, START), Err(NotTaken));
-    assert_eq!(pacer.delay(rtt, 1200, 1200, 0, START), Err(NotTaken));
+    assert_eq!(pacer.delay(rtt, 1200, 0, 12_000, START), Err(InvalidArgument));
+    assert_eq!(pacer.delay(rtt, 1200, 1200, 0, START), Err(InvalidArgument));
     assert_eq!(pacer, before);
-    assert_eq!(NotTaken.to_string().split(',').count(), 2);
+    assert_eq!(InvalidArgument.to_string().split(',').count(), 2);
 }

@@ -9,7 +9,7 @@ use std::{
     time::{Duration, Instant},
 };
 
-use qr::{Answer, Event, PathName, Recovery, Refusal, Refused};
+use qr::{Answer, Event, PathName, Recovery, Refusal, SenderError};
 use quic_recovery as qr;
 
 use super::{assembler, cid_state::CidState, pacing::Pacer, paths::RttEstimator};
@@ -93,7 +93,7 @@ impl Sender {
         &mut self.sender
     }
 
-    pub fn on_event(&mut self, event: Event<'_>) -> Result<Answer, Refused> {
+    pub fn on_event(&mut self, event: Event<'_>) -> Result<Answer, SenderError> {
         if !matches!(event, Event::AckDelayTimeout { .. }) {
             self.compare();
         }
@@ -110,7 +110,7 @@ impl Sender {
         ack_eliciting: bool,
         largest_acked: Option<u64>,
         queue: &[u64],
-    ) -> Result<qr::Sent, Refused> {
+    ) -> Result<qr::Sent, SenderError> {
         let event = Event::Send { space, now, size, ack_eliciting, largest_acked, queue };
         let qr::Sent { number, forgotten } =
             self.compare().send(space, now, size, ack_eliciting, largest_acked, queue)?;
@@ -125,7 +125,7 @@ impl Sender {
         bytes: u16,
         space: qr::SpaceId,
         in_flight: bool,
-    ) -> Result<qr::Transmission, Refused> {
+    ) -> Result<qr::Transmission, SenderError> {
         let sent = self.compare().transmit(now, bytes, space, in_flight)?;
         self.own.transmitted(bytes);
         Ok(sent)
@@ -138,33 +138,33 @@ impl Sender {
         ack: &qr::Ack,
         ranges: &[(u64, u64)],
         told: &mut qr::Acknowledged,
-    ) -> Result<(), Refused> {
+    ) -> Result<(), SenderError> {
         self.compare().on_ack_into(space, now, ack, ranges, told)?;
         self.own.acked(space, now, ack, ranges, told);
         Ok(())
     }
 
-    pub fn on_timeout(&mut self, now: qr::Instant, immediate_ack: bool) -> Result<qr::Timeout, Refused> {
+    pub fn on_timeout(&mut self, now: qr::Instant, immediate_ack: bool) -> Result<qr::Timeout, SenderError> {
         let told = self.compare().on_timeout(now, immediate_ack)?;
         self.own.timed_out(now, &told);
         Ok(told)
     }
 
-    pub fn discard(&mut self, space: qr::SpaceId, now: qr::Instant) -> Result<(), Refused> {
+    pub fn discard(&mut self, space: qr::SpaceId, now: qr::Instant) -> Result<(), SenderError> {
         self.compare().discard(space, now)?;
         self.own.discarded(space);
         self.own.begin_anew(now);
         Ok(())
     }
 
-    pub fn abandon(&mut self, space: qr::SpaceId, now: qr::Instant) -> Result<Vec<u64>, Refused> {
+    pub fn abandon(&mut self, space: qr::SpaceId, now: qr::Instant) -> Result<Vec<u64>, SenderError> {
         let numbers = self.compare().abandon(space, now)?;
         self.own.abandoned(space, &numbers);
         self.own.begin_anew(now);
         Ok(numbers)
     }
 
-    pub fn on_datagram(&mut self, bytes: u64) -> Result<(), Refused> {
+    pub fn on_datagram(&mut self, bytes: u64) -> Result<(), SenderError> {
         self.compare().on_datagram(bytes)?;
         self.own.path().total_recvd += bytes;
         Ok(())
@@ -333,14 +333,14 @@ impl Own {
     fn retired(
         &mut self,
         own: Result<Option<(std::ops::Range<u64>, ResetToken)>, InsertError>,
-        answer: &Result<Answer, Refused>,
+        answer: &Result<Answer, SenderError>,
         recovery: &Recovery,
     ) {
         let token = recovery.reset_token();
         let told = match answer {
             Ok(Answer::Retire(Some(range))) => Ok(Some((range.clone(), ResetToken::from(*token.bytes())))),
             Ok(_) => Ok(None),
-            Err(Refused::Event(Refusal::Retired)) => Err(InsertError::Retired),
+            Err(SenderError::Event(Refusal::Retired)) => Err(InsertError::Retired),
             Err(_) => Err(InsertError::ExceedsLimit),
         };
         self.same("ids to retire", own, told);
@@ -535,20 +535,20 @@ impl Own {
         let sent = it.largest_acked_packet_sent;
         let newly = told.numbers.len() as u64;
         let own = match it.detect_ecn(newly, frame::EcnCounts { ect0, ect1, ce }) {
-            Ok(false) => qr::EcnEnd::Quiet,
-            Ok(true) => qr::EcnEnd::Marked,
-            Err(_) => qr::EcnEnd::Failed,
+            Ok(false) => qr::EcnOutcome::Quiet,
+            Ok(true) => qr::EcnOutcome::Marked,
+            Err(_) => qr::EcnOutcome::Failed,
         };
         self.same("ecn", own, told.ecn);
         let path = self.path();
-        path.sending_ecn = own != qr::EcnEnd::Failed;
-        if own == qr::EcnEnd::Marked {
+        path.sending_ecn = own != qr::EcnOutcome::Failed;
+        if own == qr::EcnOutcome::Marked {
             path.congestion.on_congestion_event(now, sent, false, 0);
         }
     }
 
     /// An event that the library has answered
-    fn told(&mut self, event: &Event<'_>, answer: &Result<Answer, Refused>, recovery: &Recovery) {
+    fn told(&mut self, event: &Event<'_>, answer: &Result<Answer, SenderError>, recovery: &Recovery) {
         match *event {
             Event::Received { space, now, number, ack_eliciting } => {
                 let now = self.at(now);
@@ -599,7 +599,7 @@ impl Own {
             Event::TakePending { space } => {
                 let pending = mem::take(&mut self.spaces[space as usize].pending);
                 let own = match self.discarded[space as usize] {
-                    true => Err(Refused::Event(Refusal::SpaceDiscarded)),
+                    true => Err(SenderError::Event(Refusal::SpaceDiscarded)),
                     false => Ok(Answer::Queue(pending.retire_cids)),
                 };
                 self.same("queue", own, answer.clone());

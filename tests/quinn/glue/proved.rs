@@ -5,7 +5,7 @@ use super::own::Sender;
 #[cfg(not(feature = "shadow"))]
 use qr::Sender;
 
-use qr::{Answer, Event, PathName, Refusal, Refused};
+use qr::{Answer, Event, PathName, Refusal, SenderError};
 use quic_recovery as qr;
 use std::{
     cell::OnceCell,
@@ -121,11 +121,11 @@ fn token_of(token: &ResetToken) -> qr::ResetToken {
 }
 
 /// How a connection is closed whose peer broke the protocol
-impl From<Refused> for TransportError {
-    fn from(refused: Refused) -> Self {
+impl From<SenderError> for TransportError {
+    fn from(refused: SenderError) -> Self {
         match refused {
-            Refused::Event(Refusal::ExceedsLimit) => TransportError::CONNECTION_ID_LIMIT_ERROR(""),
-            Refused::Event(Refusal::NoMemory) => TransportError::INTERNAL_ERROR("out of memory"),
+            SenderError::Event(Refusal::ExceedsLimit) => TransportError::CONNECTION_ID_LIMIT_ERROR(""),
+            SenderError::Event(Refusal::NoMemory) => TransportError::INTERNAL_ERROR("out of memory"),
             _ => TransportError::PROTOCOL_VIOLATION(refused.to_string()),
         }
     }
@@ -341,7 +341,7 @@ impl Proved {
         now: Instant,
         ack: &qr::Ack,
         ranges: impl Iterator<Item = RangeInclusive<u64>>,
-    ) -> Result<qr::Acknowledged, Refused> {
+    ) -> Result<qr::Acknowledged, SenderError> {
         self.changing_in(space);
         let (space, now, mut told) = (space_of(space), self.at(now), mem::take(&mut self.told));
         self.heard.clear();
@@ -392,7 +392,7 @@ impl Proved {
         &mut self,
         event: Event<'_>,
         issued: Option<(u64, ConnectionId)>,
-    ) -> Result<Option<(Range<u64>, ResetToken)>, Refused> {
+    ) -> Result<Option<(Range<u64>, ResetToken)>, SenderError> {
         let told = self.sender.on_event(event)?;
         let is_held = |id: &(u64, ConnectionId)| self.rem_ids.iter().any(|it| it.0 == id.0);
         let (active, issued) = (self.active_seq(), issued.filter(|it| !is_held(it)));
@@ -406,7 +406,7 @@ impl Proved {
         Ok(Some((range, token)))
     }
 
-    pub fn new_id(&mut self, frame: &frame::NewConnectionId) -> Result<Option<(Range<u64>, ResetToken)>, Refused> {
+    pub fn new_id(&mut self, frame: &frame::NewConnectionId) -> Result<Option<(Range<u64>, ResetToken)>, SenderError> {
         let event = Event::NewId(qr::NewConnectionId {
             sequence: frame.sequence,
             retire_prior_to: frame.retire_prior_to,
@@ -452,7 +452,7 @@ impl Proved {
     }
 
     /// Whether there is room for one more id
-    pub fn peer_retired(&mut self, sequence: u64, limit: u64) -> Result<bool, Refused> {
+    pub fn peer_retired(&mut self, sequence: u64, limit: u64) -> Result<bool, SenderError> {
         let answer = self.sender.on_event(Event::PeerRetired { sequence, limit })?;
         Ok(answer == Answer::Flag(true))
     }

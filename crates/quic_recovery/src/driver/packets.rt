@@ -1,6 +1,6 @@
 //! The events of packets and spaces (RFC 9000, 12.3 and 13; RFC 9002, A).
 ghost use Rattle.std.specs.Prelude.{◌≡◌, ◌<◌, ◌^◌, Decides};
-ghost use Rattle.recovery_ledger.specs.Packets.{entry_number, IsTooLarge};
+ghost use Rattle.recovery_spaces.specs.Packets.{entry_number, IsTooLarge};
 ghost use Rattle.recovery_history.specs.Numbers.{number_behind, skipping_behind};
 ghost use Rattle.recovery_history.specs.Replies.{reply_to, refusal_of};
 
@@ -10,10 +10,10 @@ use recovery_base::below::{NoMemory, SpaceId};
 use recovery_base::time::Instant;
 use recovery_congestion::congestion::ControllerFactory;
 use recovery_events::event::{Answer, Refusal};
-use recovery_ledger::spaces::{NUMBER_LIMIT, Receipt, ReceiveError, SentPacket};
+use recovery_spaces::spaces::{NUMBER_LIMIT, Receipt, ReceiveError, SentPacket};
 use recovery_paths::paths::LedgerError;
 use recovery_queue::queue::RetransmitQueue;
-use recovery_skips::PacketNumberFilter;
+use recovery_packet_numbers::PacketNumberFilter;
 
 impl<F, Q, R> Recovery<F, Q, R>
 where
@@ -25,9 +25,9 @@ where
     R: Rng + Drop,
 {
     ghost use Rattle.recovery_events.specs.declared.event.Event.TheVariants.{Received, Send, Acked, Lost, DiscardSpace};
-    ghost use Rattle.recovery_history.specs.Known.{number_in};
-    ghost use Rattle.quic_recovery.specs.State.{Transition, parts_of};
-    ghost use Rattle.recovery_history.specs.Changes.{known_to};
+    ghost use Rattle.recovery_history.specs.ReplyInputs.{number_in};
+    ghost use Rattle.quic_recovery.specs.State.{Transition, state_of};
+    ghost use Rattle.recovery_history.specs.Transitions.{inputs_of};
 
     /// A packet comes in (RFC 9000, 12.3).
     #[inline(always)]
@@ -153,7 +153,7 @@ where
 
     /// The number that is given out next in a space.
     pub(super) fn number_in(&self, space: SpaceId) -> u64
-        ensures { result ≡ number_in (known_to (parts_of self.now)) space }
+        ensures { result ≡ number_in (inputs_of (state_of self.now)) space }
     {
         number_behind(&self.filter, space, self.spaces[space].next_packet_number())
     }

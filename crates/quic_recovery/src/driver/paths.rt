@@ -21,12 +21,12 @@ where
     R: Rng + Drop,
 {
     ghost use Rattle.recovery_events.specs.declared.event.Event.TheVariants.{InFlight, Sample, DatagramIn, Validated, Transmit, PacerCheck, Congestion, EndAcks, NewPath, ResetPath, DropPrevious, RevertPath};
-    ghost use Rattle.quic_recovery.specs.State.{Transition, OnlyTells};
+    ghost use Rattle.quic_recovery.specs.State.{Transition, ReadOnlyTransition};
 
     /// What is in flight on a path? (RFC 9002, B.2)
     #[inline(always)]
     pub(super) fn in_flight(&self, path: PathName) -> Result<Answer<Q>, Refusal>
-        ensures { OnlyTells (InFlight path) self.now result }
+        ensures { ReadOnlyTransition (InFlight path) self.now result }
     {
         match self.paths.in_flight(path) {
             Some(counters) => Ok(Answer::InFlight {

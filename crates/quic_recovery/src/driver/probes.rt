@@ -5,7 +5,7 @@ use rand_core::Rng;
 use recovery_base::below::{EcnCounts, NoMemory, SpaceId};
 use recovery_congestion::congestion::ControllerFactory;
 use recovery_events::event::{Answer, Refusal};
-use recovery_ledger::spaces::NUMBER_LIMIT;
+use recovery_spaces::spaces::NUMBER_LIMIT;
 use recovery_queue::queue::RetransmitQueue;
 
 impl<F, Q, R> Recovery<F, Q, R>
@@ -18,7 +18,7 @@ where
     R: Rng + Drop,
 {
     ghost use Rattle.recovery_events.specs.declared.event.Event.TheVariants.{Ecn, CheckAck, QueueProbe, TakePending};
-    ghost use Rattle.quic_recovery.specs.State.{Transition, OnlyTells};
+    ghost use Rattle.quic_recovery.specs.State.{Transition, ReadOnlyTransition};
 
     /// The counts of ECN of an ACK frame (RFC 9000, 13.4.2).
     #[inline(always)]
@@ -44,7 +44,7 @@ where
     /// order. Nothing changes.
     #[inline(always)]
     pub fn check_ack(&self, space: SpaceId, low: u64, high: u64) -> Result<Answer<Q>, Refusal>
-        ensures { OnlyTells (CheckAck space low high) self.now result }
+        ensures { ReadOnlyTransition (CheckAck space low high) self.now result }
     {
         if self.discarded.contains(space) {
             return Err(Refusal::SpaceDiscarded);

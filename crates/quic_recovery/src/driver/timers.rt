@@ -18,7 +18,7 @@ where
     R: Rng + Drop,
 {
     ghost use Rattle.recovery_events.specs.declared.event.Event.TheVariants.{SetTimer, StopTimer, NextTimeout};
-    ghost use Rattle.quic_recovery.specs.State.{Transition, OnlyTells};
+    ghost use Rattle.quic_recovery.specs.State.{Transition, ReadOnlyTransition};
 
     /// A timer is set, or set anew.
     #[inline(always)]
@@ -41,7 +41,7 @@ where
     /// When does the next timer expire?
     #[inline(always)]
     pub(super) fn next_timeout(&self) -> Result<Answer<Q>, Refusal>
-        ensures { OnlyTells NextTimeout self.now result }
+        ensures { ReadOnlyTransition NextTimeout self.now result }
     {
         Ok(Answer::Timeout(self.timers.next_timeout()))
     }

@@ -24,11 +24,11 @@ impl Model for ConnectionId {
 
     ghost Value = { List ℕ };
 
-    ghost use Rattle.recovery_base.specs.Ids.{bytes_of, IsPadded, padded, padded-bytes_of};
+    ghost use Rattle.recovery_base.specs.Ids.{bytes_of, IsPaddedId, padded, padded-bytes_of};
 
     ghost view = { bytes_of };
 
-    ghost invariant = { IsPadded };
+    ghost invariant = { IsPaddedId };
 
     ghost inverse = { padded };
 

@@ -5,21 +5,21 @@ use Rattle.recovery_acks.specs.Acks.{most_ranges}
 use Rattle.recovery_acks.specs.Runs.{LiesBelow}
 use Rattle.recovery_base.specs.declared.below.SpaceId.{SpaceId}
 use Rattle.recovery_base.specs.declared.below.SpaceId.TheVariants.{Data}
-use Rattle.recovery_base.specs.Numbers.{With}
+use Rattle.recovery_base.specs.Numbers.{InsertNumber}
 use Rattle.recovery_base.specs.Spaces.{same_space}
-use Rattle.recovery_ledger.specs.Acks.{ToAcknowledge}
+use Rattle.recovery_spaces.specs.Acks.{ToAcknowledge}
 use Rattle.recovery_events.specs.declared.event.Event.TheVariants.{Received, Send, Acked, PollMtu}
 use Rattle.recovery_events.specs.declared.event.Answer.TheVariants.{New, Sent, Probe}
-use Rattle.recovery_history.specs.Told.{logs_of}
+use Rattle.recovery_history.specs.RepliesAfter.{logs_of}
 use Rattle.recovery_history.specs.History.{Beginning, History}
 
 module _ {Q S M P : Type 0} (space : SpaceId) where
   -- a number was new in the space
-  abbrev pub HasCome : ℕ → History Q S M P → Type 0
-  HasCome n [] = ⊥
-  HasCome n ((Received there now m eliciting, Ok (New started)) ∷ earlier) =
-      ((same_space there space && m == n) ≡ true) ⊎ HasCome n earlier
-  HasCome n (happened ∷ earlier) = HasCome n earlier
+  abbrev pub WasReceived : ℕ → History Q S M P → Type 0
+  WasReceived n [] = ⊥
+  WasReceived n ((Received there now m eliciting, Ok (New started)) ∷ earlier) =
+      ((same_space there space && m == n) ≡ true) ⊎ WasReceived n earlier
+  WasReceived n (happened ∷ earlier) = WasReceived n earlier
 
   -- the largest number whose ACK the packet of a number carries; a probe of the MTU carries none
   abbrev pub largest_in : ℕ → History Q S M P → Option ℕ
@@ -37,12 +37,12 @@ module _ {Q S M P : Type 0} (space : SpaceId) where
       ((same_space there space ≡ true) × IsSomeAnd (largest_in m earlier) (λ l. n ≤ l)) ⊎ WasDropped n earlier
   WasDropped n ((Received there now m eliciting, Ok (New started)) ∷ earlier) =
       ((same_space there space ≡ true)
-      × LiesBelow most_ranges (With m (λ k. HasCome k earlier × ¬ WasDropped k earlier)) n)
+      × LiesBelow most_ranges (InsertNumber m (λ k. WasReceived k earlier × ¬ WasDropped k earlier)) n)
       ⊎ (((same_space there space && m == n) ≡ false) × WasDropped n earlier)
   WasDropped n (happened ∷ earlier) = WasDropped n earlier
 
 -- so says the table, to which the state is tied
-abbrev pub KeepsToAcknowledge : {F K Q S M P : Type 0} → Beginning F K Q S M P → History Q S M P → Type 0
-KeepsToAcknowledge beginning history = (space : SpaceId) (n : ℕ)
+abbrev pub TracksPendingAcks : {F K Q S M P : Type 0} → Beginning F K Q S M P → History Q S M P → Type 0
+TracksPendingAcks beginning history = (space : SpaceId) (n : ℕ)
     → ToAcknowledge beginning.queue.words ((logs_of beginning history).spaces space) n
-    ↔ (HasCome space n history × ¬ WasDropped space n history)
+    ↔ (WasReceived space n history × ¬ WasDropped space n history)

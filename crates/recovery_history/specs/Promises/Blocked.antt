@@ -11,13 +11,13 @@ use Rattle.recovery_history.specs.Promises.Datagrams.{datagrams_on, bytes_in, by
 
 -- what a datagram is replied, where the total would pass its type or not, it is checked or not, and the limit forbids
 -- it or not; a checked one that the limit allows may still have to wait for the pacer (RFC 9002, 7.7)
-abbrev pub IsPassage : {Q : Type 0} → Bool → Bool → Bool → Reply Q → Type 0
-IsPassage true checked forbidden reply = reply ≡ Err Overflow
-IsPassage false false forbidden reply = reply ≡ Ok Transmitted
-IsPassage false true true reply = reply ≡ Ok Blocked
-IsPassage false true false (Ok Transmitted) = Unit {0}
-IsPassage false true false (Ok (Delayed until)) = Unit {0}
-IsPassage false true false other = ⊥
+abbrev pub IsTransmitReply : {Q : Type 0} → Bool → Bool → Bool → Reply Q → Type 0
+IsTransmitReply true checked forbidden reply = reply ≡ Err Overflow
+IsTransmitReply false false forbidden reply = reply ≡ Ok Transmitted
+IsTransmitReply false true true reply = reply ≡ Ok Blocked
+IsTransmitReply false true false (Ok Transmitted) = Unit {0}
+IsTransmitReply false true false (Ok (Delayed until)) = Unit {0}
+IsTransmitReply false true false other = ⊥
 
 module _ {Q S M P : Type 0} where
   -- the first path is validated at the start, or not
@@ -26,5 +26,5 @@ module _ {Q S M P : Type 0} where
       let here = datagrams_on Current history in
       let total = sum_by bytes_out here + bytes in
       let forbidden = not (is_validated first Current history) && nat_lt (3 * sum_by bytes_in here) total in
-      IsPassage (nat_le (2 ^ 64) total) checked forbidden reply
+      IsTransmitReply (nat_le (2 ^ 64) total) checked forbidden reply
   BlocksExactly first history event reply = Unit {0}

@@ -7,7 +7,7 @@ use Rattle.recovery_events.specs.declared.event.Event.{Event}
 use Rattle.recovery_events.specs.declared.event.Event.TheVariants.{Send, PollMtu, Lost, LossesDone}
 use Rattle.recovery_events.specs.declared.event.Answer.TheVariants as answer
 use Rattle.recovery_history.specs.History.{History, Reply}
-use Rattle.recovery_history.specs.Promises.Few.{begins_anew}
+use Rattle.recovery_history.specs.Promises.ProbeCount.{begins_anew}
 
 module _ {Q S M P : Type 0} where
   -- the size of the packet of 1-RTT keys that went out under a number

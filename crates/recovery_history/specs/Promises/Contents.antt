@@ -2,18 +2,18 @@
 use Rattle.std.specs.Prelude.{◌≡◌, ℕ, [], ◌∷◌, Option, None, Some, Ok, if◌then◌else◌}
 use Rattle.recovery_base.specs.declared.below.SpaceId.{SpaceId}
 use Rattle.recovery_base.specs.Spaces.{same_space}
-use Rattle.recovery_ledger.specs.Packets.{Packets, contents_or, packet_at}
+use Rattle.recovery_spaces.specs.Packets.{Packets, contents_or, packet_at}
 use Rattle.recovery_events.specs.declared.event.Event.TheVariants.{Send, Acked, TakePending, DiscardSpace}
 use Rattle.recovery_events.specs.declared.event.Answer.TheVariants.{Sent, Queue}
-use Rattle.recovery_history.specs.Told.{known_by}
+use Rattle.recovery_history.specs.RepliesAfter.{inputs_after}
 use Rattle.recovery_history.specs.History.{Beginning, History}
-use Rattle.recovery_history.specs.Known.{SpaceKnown}
+use Rattle.recovery_history.specs.ReplyInputs.{SpaceReplyInputs}
 use Rattle.recovery_history.specs.Promises.Measures.{AddsUp, Totals}
 
 module _ {F K Q S M P T : Type 0} (run : Beginning F K Q S M P) (totals : Totals T) (measure : P → T) (space : SpaceId)
   where
-    abbrev known : History Q S M P → SpaceKnown P M
-    known history = (known_by run history).spaces space
+    abbrev known : History Q S M P → SpaceReplyInputs P M
+    known history = (inputs_after run history).spaces space
 
     -- what the packet of a number carries, if any
     abbrev pub carried : Option ℕ → History Q S M P → T
@@ -49,7 +49,7 @@ module _ {F K Q S M P T : Type 0} (run : Beginning F K Q S M P) (totals : Totals
     gone ((DiscardSpace there, Ok answer) ∷ earlier) = totals.plus (in_it there (held earlier)) (gone earlier)
     gone (happened ∷ earlier) = gone earlier
 
-abbrev pub LosesNothing : {F K Q S M P : Type 0} → Beginning F K Q S M P → History Q S M P → Type 0
-LosesNothing {P = P} run history = (totals : Totals ℕ) (measure : P → ℕ) → AddsUp run.queue.words totals measure →
+abbrev pub ConservesData : {F K Q S M P : Type 0} → Beginning F K Q S M P → History Q S M P → Type 0
+ConservesData {P = P} run history = (totals : Totals ℕ) (measure : P → ℕ) → AddsUp run.queue.words totals measure →
     (space : SpaceId) → outgoing run totals measure space history
     ≡ totals.plus (held run totals measure space history) (gone run totals measure space history)

@@ -6,7 +6,7 @@ use Rattle.recovery_base.specs.declared.below.SpaceId.{SpaceId}
 use Rattle.recovery_base.specs.declared.below.frames.EcnCounts.{EcnCounts}
 use Rattle.recovery_base.specs.Ecn.{ecn_fault}
 use Rattle.recovery_base.specs.Spaces.{same_space}
-use Rattle.recovery_ledger.specs.Queued.{no_ecn}
+use Rattle.recovery_spaces.specs.Queued.{no_ecn}
 use Rattle.recovery_events.specs.declared.event.Event.{Event}
 use Rattle.recovery_events.specs.declared.event.Event.TheVariants.{Ecn}
 use Rattle.recovery_events.specs.declared.event.Answer.TheVariants.{Flag}

@@ -44,6 +44,6 @@ module _ {Q S M P : Type 0} where
     fates history = more_if (is_tracked space n history)
         (times is_acked history + times is_lost history + times is_forgotten history + times goes_with_space history)
 
-  abbrev pub HaveOneFate : History Q S M P → Type 0
-  HaveOneFate history = (space : SpaceId) (n : ℕ) →
+  abbrev pub HaveOneOutcome : History Q S M P → Type 0
+  HaveOneOutcome history = (space : SpaceId) (n : ℕ) →
       (times (is_given space n) history ≤ 1) × (times (is_given space n) history ≡ fates space n history)

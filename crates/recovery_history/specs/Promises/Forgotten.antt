@@ -5,7 +5,7 @@ use Rattle.std.specs.Prelude.{◌≡◌, ℕ, Bool, false, not, ◌&&◌, ◌||�
 use Rattle.recovery_base.specs.declared.below.SpaceId.{SpaceId}
 use Rattle.recovery_base.specs.declared.below.SpaceId.TheVariants.{Data}
 use Rattle.recovery_base.specs.Spaces.{same_space}
-use Rattle.recovery_ledger.specs.Packets.{most_silent}
+use Rattle.recovery_spaces.specs.Packets.{most_silent}
 use Rattle.recovery_events.specs.declared.event.Event.{Event}
 use Rattle.recovery_events.specs.declared.event.Event.TheVariants.{Send, PollMtu}
 use Rattle.recovery_events.specs.declared.event.Answer.TheVariants.{Sent, Probe}
@@ -38,9 +38,9 @@ module _ {Q S M P : Type 0} (space : SpaceId) where
       else with_silent gone happened (silent_since (λ n. leaves happened space n || gone n) earlier)
 
 module _ {Q S M P : Type 0} where
-  abbrev pub ForgetsOldest : History Q S M P → Event Q S M P → Reply Q → Type 0
-  ForgetsOldest history (Send space now size eliciting largest queue frames) (Ok (Sent number forgotten)) =
+  abbrev pub ForgetsOldestNonEliciting : History Q S M P → Event Q S M P → Reply Q → Type 0
+  ForgetsOldestNonEliciting history (Send space now size eliciting largest queue frames) (Ok (Sent number forgotten)) =
       -- at the end of a history no number is gone yet
       let silent = silent_since space (λ n. false) history in
       forgotten ≡ (if not eliciting && nat_le most_silent (length silent) then oldest silent else None)
-  ForgetsOldest history event reply = Unit {0}
+  ForgetsOldestNonEliciting history event reply = Unit {0}

@@ -18,10 +18,10 @@ module _ {Q S M P : Type 0} where
   is_newest n ((AckFrequencyIn frame, Err DelayTooSmall) ∷ earlier) = nat_lt frame.sequence n && is_newest n earlier
   is_newest n (happened ∷ earlier) = is_newest n earlier
 
-  abbrev pub TakesNewest : History Q S M P → Event Q S M P → Reply Q → Type 0
-  TakesNewest history (AckFrequencyIn frame) reply =
+  abbrev pub AppliesNewestFrequency : History Q S M P → Event Q S M P → Reply Q → Type 0
+  AppliesNewestFrequency history (AckFrequencyIn frame) reply =
       reply ≡ (if is_discarded Data history then Err SpaceDiscarded
       else if not (is_newest frame.sequence history) then Ok (Flag false)
       else if nat_lt (delay_of frame) (10 ^ 6) then Err DelayTooSmall
       else Ok (Flag true))
-  TakesNewest history event reply = Unit {0}
+  AppliesNewestFrequency history event reply = Unit {0}

@@ -10,11 +10,11 @@ use Rattle.recovery_events.specs.declared.event.Event.TheVariants.{PollMtu}
 use Rattle.recovery_events.specs.declared.event.Answer.TheVariants as answer
 use Rattle.recovery_history.specs.History.{Beginning, History, Reply}
 use Rattle.recovery_history.specs.Table.{limit}
-use Rattle.recovery_history.specs.Promises.Few.{is_in_flight}
+use Rattle.recovery_history.specs.Promises.ProbeCount.{is_in_flight}
 use Rattle.recovery_history.specs.Promises.Mtu.{mtu_in_use}
-use Rattle.recovery_history.specs.Promises.Near.{next, start}
+use Rattle.recovery_history.specs.Promises.Convergence.{next, start}
 use Rattle.recovery_history.specs.Promises.Probes.{last_probe, lost_probes, runs}
-use Rattle.recovery_history.specs.Promises.Tries.{tries}
+use Rattle.recovery_history.specs.Promises.ProbesPerSize.{tries}
 use Rattle.recovery_history.specs.Search.{WhereSearched}
 
 -- the bound, or one below the least of these that was lost three times

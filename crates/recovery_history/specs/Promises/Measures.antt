@@ -1,7 +1,7 @@
 -- Measures of what is sent again when it is lost (RFC 9000, 13.3): how many items, how many bytes, which flags, which
 -- streams.
 use Rattle.std.specs.Prelude.{◌≡◌}
-use Rattle.recovery_queue.specs.Queues.{QueueWords}
+use Rattle.recovery_queue.specs.Queues.{QueueSemantics}
 
 -- what measures are added up by: sums of numbers, flags by 'or', sets by their unions
 pub record Totals (T : Type 0) : Type 0 where
@@ -12,6 +12,6 @@ pub record Totals (T : Type 0) : Type 0 where
   pub associates : (a b c : T) → plus (plus a b) c ≡ plus a (plus b c)
 
 -- the empty contents measure nothing, and joined ones the total
-pub record AddsUp {P S T : Type 0} (words : QueueWords P S) (totals : Totals T) (measure : P → T) : Type 0 where
+pub record AddsUp {P S T : Type 0} (words : QueueSemantics P S) (totals : Totals T) (measure : P → T) : Type 0 where
   pub empty : measure words.empty ≡ totals.zero
   pub joined : (p r : P) → measure (words.joined p r) ≡ totals.plus (measure p) (measure r)

@@ -9,7 +9,7 @@ use Rattle.recovery_events.specs.declared.event.Event.{Event}
 use Rattle.recovery_events.specs.declared.event.Event.TheVariants.{Acked, LossesDone, PeerLimit, ResetPath, NewPath, RevertPath}
 use Rattle.recovery_events.specs.declared.event.Answer.TheVariants as answer
 use Rattle.recovery_history.specs.History.{Beginning, History, Reply}
-use Rattle.recovery_history.specs.Told.{known_by}
+use Rattle.recovery_history.specs.RepliesAfter.{inputs_after}
 use Rattle.recovery_history.specs.Table.{limit}
 use Rattle.recovery_history.specs.Promises.Probes.{last_probe}
 use Rattle.recovery_history.specs.Search.{discovery_settings}
@@ -47,8 +47,8 @@ module _ {F K Q S M P : Type 0} (run : Beginning F K Q S M P) where
       let config = run.config.transport in mtu (is_some (discovery_settings run)) (initial_mtu_of config) config.min_mtu
 
   -- after an event the path in use has it, and so has the one before, where it lives, that of when it was left
-  abbrev pub UsesMtu : History Q S M P → Event Q S M P → Reply Q → Type 0
-  UsesMtu history event reply =
-      let now = (event, reply) ∷ history in let paths = (known_by run now).paths in
+  abbrev pub UsesAckedMtu : History Q S M P → Event Q S M P → Reply Q → Type 0
+  UsesAckedMtu history event reply =
+      let now = (event, reply) ∷ history in let paths = (inputs_after run now).paths in
       (paths.current.state.discovery.mtu ≡ mtu_in_use now)
       × ForSome paths.previous (λ path. path.state.discovery.mtu ≡ mtu_in_use (before_move now))

@@ -18,13 +18,13 @@ is_new came n = list_all (λ m. nat_lt m n) came
     || (not (is_member nat_eq came n) && list_all (λ m. nat_le m (n + most_below)) came)
 
 -- what a packet is replied, where its space was discarded or not, its number is too large or not, and new or not
-abbrev pub IsVerdict : {Q : Type 0} → Bool → Bool → Bool → Reply Q → Type 0
-IsVerdict true too_large new reply = reply ≡ Err SpaceDiscarded
-IsVerdict false true new reply = reply ≡ Err NumberTooLarge
-IsVerdict false false new (Ok (New arm)) = new ≡ true
-IsVerdict false false new (Ok Duplicate) = new ≡ false
-IsVerdict false false new (Err NoMemory) = new ≡ true
-IsVerdict false false new other = ⊥
+abbrev pub IsReceiveReply : {Q : Type 0} → Bool → Bool → Bool → Reply Q → Type 0
+IsReceiveReply true too_large new reply = reply ≡ Err SpaceDiscarded
+IsReceiveReply false true new reply = reply ≡ Err NumberTooLarge
+IsReceiveReply false false new (Ok (New arm)) = new ≡ true
+IsReceiveReply false false new (Ok Duplicate) = new ≡ false
+IsReceiveReply false false new (Err NoMemory) = new ≡ true
+IsReceiveReply false false new other = ⊥
 
 module _ {Q S M P : Type 0} where
   -- the numbers that came in a space
@@ -40,7 +40,7 @@ module _ {Q S M P : Type 0} where
   is_discarded space ((DiscardSpace there, Ok answer) ∷ earlier) = same_space there space || is_discarded space earlier
   is_discarded space (happened ∷ earlier) = is_discarded space earlier
 
-  abbrev pub CallsNew : History Q S M P → Event Q S M P → Reply Q → Type 0
-  CallsNew history (Received space now number eliciting) reply =
-      IsVerdict (is_discarded space history) (nat_le (2 ^ 62) number) (is_new (came_in space history) number) reply
-  CallsNew history event reply = Unit {0}
+  abbrev pub DetectsDuplicates : History Q S M P → Event Q S M P → Reply Q → Type 0
+  DetectsDuplicates history (Received space now number eliciting) reply =
+      IsReceiveReply (is_discarded space history) (nat_le (2 ^ 62) number) (is_new (came_in space history) number) reply
+  DetectsDuplicates history event reply = Unit {0}

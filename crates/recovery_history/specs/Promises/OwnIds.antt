@@ -38,11 +38,11 @@ module _ {Q S M P : Type 0} where
   is_retired (happened ∷ earlier) n = is_retired earlier n
 
   -- where so many ids were issued at the start, of so many bytes
-  abbrev pub IssuesIds : ℕ → ℕ → History Q S M P → Event Q S M P → Reply Q → Type 0
-  IssuesIds first bytes history (IssueIds now ids) reply = IsIssue (issued first history) ids.items reply
-  IssuesIds first bytes history (PeerRetired sequence limit) reply =
+  abbrev pub IssuesIdsInOrder : ℕ → ℕ → History Q S M P → Event Q S M P → Reply Q → Type 0
+  IssuesIdsInOrder first bytes history (IssueIds now ids) reply = IsIssue (issued first history) ids.items reply
+  IssuesIdsInOrder first bytes history (PeerRetired sequence limit) reply =
       let count = issued first history in
       let left = count_by (λ n. not (n == sequence || is_retired history n)) (range_with_len 0 count) in
       reply ≡ (if bytes == 0 then Err CidsNotInUse
       else if nat_le count sequence then Err UnissuedCid else Ok (Flag (nat_lt left limit)))
-  IssuesIds first bytes history event reply = Unit {0}
+  IssuesIdsInOrder first bytes history event reply = Unit {0}

@@ -2,7 +2,7 @@
 -- (9.3.2). The generation of a path is how many were made before it.
 use Rattle.std.specs.Prelude.{ℕ, ◌+◌, [], ◌∷◌, Option, None, Ok}
 use Rattle.recovery_paths.specs.declared.path_pair.PathName.{PathName}
-use Rattle.recovery_paths.specs.PathLog.{OfPaths, path_of, moved_to, reverted}
+use Rattle.recovery_paths.specs.PathLog.{PerPath, path_of, moved_to, reverted}
 use Rattle.recovery_events.specs.declared.event.Event.TheVariants.{NewPath, DropPrevious, RevertPath}
 use Rattle.recovery_history.specs.History.{History}
 
@@ -15,7 +15,7 @@ module _ {Q S M P : Type 0} where
 
   -- the generations of the paths that live: one that is made has the count as its own, and one that is used again keeps
   -- the one that it was made with
-  abbrev pub generations : History Q S M P → OfPaths ℕ
+  abbrev pub generations : History Q S M P → PerPath ℕ
   generations [] = record { current = 0; previous = None; made = 0 }
   generations ((NewPath now remote is_fresh, Ok answer) ∷ earlier) =
       moved_to (paths_made earlier + 1) (generations earlier)

@@ -5,14 +5,14 @@ use Rattle.std.specs.Prelude.{◌≡◌, ℕ, List, [], ◌∷◌, ◌++◌, Opt
 use Rattle.std.specs.Option.{option_and_then}
 use Rattle.recovery_base.specs.declared.below.SpaceId.{SpaceId}
 use Rattle.recovery_base.specs.Spaces.{same_space}
-use Rattle.recovery_ledger.specs.Packets.{packet_at}
+use Rattle.recovery_spaces.specs.Packets.{packet_at}
 use Rattle.recovery_events.specs.declared.event.Event.{Event}
 use Rattle.recovery_events.specs.declared.event.Event.TheVariants.{Lost, QueueProbe, TakePending, DiscardSpace}
 use Rattle.recovery_events.specs.declared.event.Answer.TheVariants.{Queue}
 use Rattle.recovery_history.specs.Entries.{found_in}
 use Rattle.recovery_history.specs.History.{Beginning, History, Reply}
-use Rattle.recovery_history.specs.Known.{tracked_known}
-use Rattle.recovery_history.specs.Told.{known_by}
+use Rattle.recovery_history.specs.ReplyInputs.{tracked_known}
+use Rattle.recovery_history.specs.RepliesAfter.{inputs_after}
 
 module _ {F K Q S M P : Type 0} (run : Beginning F K Q S M P) where
   -- these contents, one behind the other; the newest stand first
@@ -24,11 +24,11 @@ module _ {F K Q S M P : Type 0} (run : Beginning F K Q S M P) where
     -- what the packet of a number carries, where it is tracked, by the table
     abbrev pub carried : Option ℕ → History Q S M P → List P
     carried n history = option_to_list (option_map (λ packet. packet.retransmits)
-        (option_and_then (packet_at (tracked_known (known_by run history) space)) n))
+        (option_and_then (packet_at (tracked_known (inputs_after run history) space)) n))
 
     -- the packet of which a probe sends the contents again, if any, by the table
     abbrev pub found : S → History Q S M P → Option ℕ
-    found streams history = (found_in (known_by run history) run.queue.words streams space).moved
+    found streams history = (found_in (inputs_after run history) run.queue.words streams space).moved
 
     -- what came to wait since all was handed out, the newest first
     abbrev pub waiting : History Q S M P → List P

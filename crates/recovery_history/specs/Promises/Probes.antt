@@ -3,7 +3,7 @@ use Rattle.std.specs.Prelude.{ℕ, Bool, true, nat_lt, length, List, [], ◌∷�
 use Rattle.recovery_events.specs.declared.event.Event.TheVariants.{PollMtu, Acked, Lost}
 use Rattle.recovery_events.specs.declared.event.Answer.TheVariants as answer
 use Rattle.recovery_history.specs.History.{History}
-use Rattle.recovery_history.specs.Promises.Few.{sizes_probed}
+use Rattle.recovery_history.specs.Promises.ProbeCount.{sizes_probed}
 
 module _ {Q S M P : Type 0} where
   -- a search runs from its first probe until it ends

@@ -4,7 +4,7 @@
 use Rattle.std.specs.Prelude.{ℕ, ◌+◌, ◌≤◌, ◌^◌, ◌⊎◌, Bool, false, Ok, Err, if◌then◌else◌}
 use Rattle.recovery_base.specs.declared.below.SpaceId.{SpaceId}
 use Rattle.recovery_base.specs.declared.below.SpaceId.TheVariants.{Data}
-use Rattle.recovery_ledger.specs.Packets.{IsTooLarge}
+use Rattle.recovery_spaces.specs.Packets.{IsTooLarge}
 use Rattle.recovery_events.specs.declared.event.Event.{Event}
 use Rattle.recovery_events.specs.declared.event.Event.TheVariants.{Send, PollMtu}
 use Rattle.recovery_events.specs.declared.event.Answer.TheVariants.{Sent}
@@ -12,7 +12,7 @@ use Rattle.recovery_events.specs.declared.event.Refusal.TheVariants.{SpaceDiscar
 use Rattle.recovery_history.specs.History.{History, Reply}
 use Rattle.recovery_history.specs.Promises.Counted.{sum_on}
 use Rattle.recovery_history.specs.Promises.Paths.{generations}
-use Rattle.recovery_history.specs.Promises.Skipped.{IsNext}
+use Rattle.recovery_history.specs.Promises.Skipped.{IsNextNumber}
 
 module _ {Q S M P : Type 0} (history : History Q S M P) where
   -- a sum over the packets in flight on the path in use
@@ -20,25 +20,25 @@ module _ {Q S M P : Type 0} (history : History Q S M P) where
   sum_now weigh = sum_on weigh (generations history).current (λ space n. false) history
 
   -- with one packet more a counter would come to 2^64
-  abbrev pub Overfills : ℕ → Bool → Type 0
-  Overfills size eliciting = (2 ^ 64 ≤ sum_now (λ bytes elicits. bytes) + size)
+  abbrev pub OverflowsInFlight : ℕ → Bool → Type 0
+  OverflowsInFlight size eliciting = (2 ^ 64 ≤ sum_now (λ bytes elicits. bytes) + size)
       ⊎ (2 ^ 64 ≤ sum_now (λ bytes elicits. if elicits then 1 else 0) + (if eliciting then 1 else 0))
 
   -- the next number would be 2^62 or more
   abbrev pub HasNoNumber : SpaceId → Type 0
-  HasNoNumber space = (n : ℕ) × IsNext space n history × (2 ^ 62 ≤ n)
+  HasNoNumber space = (n : ℕ) × IsNextNumber space n history × (2 ^ 62 ≤ n)
 
   -- where the space was discarded is said by `refused`
-  abbrev pub SendsUnless : Event Q S M P → Reply Q → Type 0
-  SendsUnless (Send space now size eliciting largest queue frames) (Ok (Sent number forgotten)) =
-      (¬ IsTooLarge largest) × ¬ Overfills size eliciting
-  SendsUnless (Send space now size eliciting largest queue frames) (Err NumberTooLarge) = IsTooLarge largest
-  SendsUnless (Send space now size eliciting largest queue frames) (Err NumbersExhausted) =
+  abbrev pub SendsOrRejects : Event Q S M P → Reply Q → Type 0
+  SendsOrRejects (Send space now size eliciting largest queue frames) (Ok (Sent number forgotten)) =
+      (¬ IsTooLarge largest) × ¬ OverflowsInFlight size eliciting
+  SendsOrRejects (Send space now size eliciting largest queue frames) (Err NumberTooLarge) = IsTooLarge largest
+  SendsOrRejects (Send space now size eliciting largest queue frames) (Err NumbersExhausted) =
       (¬ IsTooLarge largest) × HasNoNumber space
-  SendsUnless (Send space now size eliciting largest queue frames) (Err Overflow) =
-      (¬ IsTooLarge largest) × Overfills size eliciting
-  SendsUnless (Send space now size eliciting largest queue frames) (Err SpaceDiscarded) = Unit {0}
-  SendsUnless (Send space now size eliciting largest queue frames) (Err NoMemory) = Unit {0}
-  SendsUnless (Send space now size eliciting largest queue frames) reply = ⊥
-  SendsUnless (PollMtu now) (Err NumbersExhausted) = HasNoNumber Data
-  SendsUnless event reply = Unit {0}
+  SendsOrRejects (Send space now size eliciting largest queue frames) (Err Overflow) =
+      (¬ IsTooLarge largest) × OverflowsInFlight size eliciting
+  SendsOrRejects (Send space now size eliciting largest queue frames) (Err SpaceDiscarded) = Unit {0}
+  SendsOrRejects (Send space now size eliciting largest queue frames) (Err NoMemory) = Unit {0}
+  SendsOrRejects (Send space now size eliciting largest queue frames) reply = ⊥
+  SendsOrRejects (PollMtu now) (Err NumbersExhausted) = HasNoNumber Data
+  SendsOrRejects event reply = Unit {0}

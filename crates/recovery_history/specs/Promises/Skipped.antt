@@ -14,13 +14,13 @@ use Rattle.recovery_history.specs.Promises.Tracked.{goes_out}
 
 module _ {Q S M P : Type 0} (space : SpaceId) where
   -- neither the number nor one above it was given out
-  abbrev pub IsAboveAll : ℕ → History Q S M P → Type 0
-  IsAboveAll n history = (m : ℕ) → n ≤ m → times (is_given space m) history ≡ 0
+  abbrev pub IsAboveAllSent : ℕ → History Q S M P → Type 0
+  IsAboveAllSent n history = (m : ℕ) → n ≤ m → times (is_given space m) history ≡ 0
 
   -- it is the first such number, or, of 1-RTT packets, the one behind that
-  abbrev pub IsNext : ℕ → History Q S M P → Type 0
-  IsNext n history =
-      IsAboveAll n history × ((m : ℕ) → IsAboveAll m history → m < n → (space ≡ Data) × (m + 1 ≡ n))
+  abbrev pub IsNextNumber : ℕ → History Q S M P → Type 0
+  IsNextNumber n history =
+      IsAboveAllSent n history × ((m : ℕ) → IsAboveAllSent m history → m < n → (space ≡ Data) × (m + 1 ≡ n))
 
   -- it was not given out, and one above it was
   abbrev pub WasSkipped : ℕ → History Q S M P → Type 0
@@ -28,22 +28,23 @@ module _ {Q S M P : Type 0} (space : SpaceId) where
       × ((m : ℕ) × (n < m) × (0 < times (is_given space m) history))
 
   -- the last such number lies in a range; those before it are not remembered
-  abbrev pub HoldsSkip : ℕ → ℕ → History Q S M P → Type 0
-  HoldsSkip low high history = (n : ℕ) × WasSkipped n history × ((m : ℕ) → WasSkipped m history → m ≤ n)
+  abbrev pub ContainsSkipped : ℕ → ℕ → History Q S M P → Type 0
+  ContainsSkipped low high history = (n : ℕ) × WasSkipped n history × ((m : ℕ) → WasSkipped m history → m ≤ n)
       × (low ≤ n) × (n ≤ high)
 
 module _ {Q S M P : Type 0} where
-  abbrev pub GivesNext : History Q S M P → Event Q S M P → Reply Q → Type 0
-  GivesNext history event reply =
-      (space : SpaceId) (number : ℕ) → goes_out (event, reply) space number ≡ true → IsNext space number history
+  abbrev pub AssignsNextNumber : History Q S M P → Event Q S M P → Reply Q → Type 0
+  AssignsNextNumber history event reply =
+      (space : SpaceId) (number : ℕ) → goes_out (event, reply) space number ≡ true → IsNextNumber space number history
 
   -- where the space was discarded is said by `refused`
-  abbrev pub ChecksAcks : History Q S M P → Event Q S M P → Reply Q → Type 0
-  ChecksAcks history (CheckAck space low high) (Ok given) =
-      (given ≡ Done) × (high < 2 ^ 62) × (low ≤ high) × ¬ HoldsSkip space low high history
-  ChecksAcks history (CheckAck space low high) (Err SpaceDiscarded) = Unit {0}
-  ChecksAcks history (CheckAck space low high) (Err NumberTooLarge) = 2 ^ 62 ≤ high
-  ChecksAcks history (CheckAck space low high) (Err BadRange) = (high < 2 ^ 62) × (high < low)
-  ChecksAcks history (CheckAck space low high) (Err SkippedAcked) = (high < 2 ^ 62) × HoldsSkip space low high history
-  ChecksAcks history (CheckAck space low high) (Err other) = ⊥
-  ChecksAcks history event reply = Unit {0}
+  abbrev pub RejectsSkippedAcks : History Q S M P → Event Q S M P → Reply Q → Type 0
+  RejectsSkippedAcks history (CheckAck space low high) (Ok given) =
+      (given ≡ Done) × (high < 2 ^ 62) × (low ≤ high) × ¬ ContainsSkipped space low high history
+  RejectsSkippedAcks history (CheckAck space low high) (Err SpaceDiscarded) = Unit {0}
+  RejectsSkippedAcks history (CheckAck space low high) (Err NumberTooLarge) = 2 ^ 62 ≤ high
+  RejectsSkippedAcks history (CheckAck space low high) (Err BadRange) = (high < 2 ^ 62) × (high < low)
+  RejectsSkippedAcks history (CheckAck space low high) (Err SkippedAcked) = (high < 2 ^ 62)
+      × ContainsSkipped space low high history
+  RejectsSkippedAcks history (CheckAck space low high) (Err other) = ⊥
+  RejectsSkippedAcks history event reply = Unit {0}

@@ -20,16 +20,16 @@ least (Some moment ∷ moments) = Some (unwrap_or (option_map (min moment) (leas
 
 module _ {Q S M P : Type 0} where
   -- the moment that a timer is set to
-  abbrev pub moment_of : History Q S M P → Timer → Option ℕ
-  moment_of [] timer = None
-  moment_of ((SetTimer other time, Ok answer) ∷ earlier) timer =
-      if same_timer timer other then Some time else moment_of earlier timer
-  moment_of ((StopTimer other, Ok answer) ∷ earlier) timer =
-      if same_timer timer other then None else moment_of earlier timer
-  moment_of (happened ∷ earlier) timer = moment_of earlier timer
+  abbrev pub timer_value : History Q S M P → Timer → Option ℕ
+  timer_value [] timer = None
+  timer_value ((SetTimer other time, Ok answer) ∷ earlier) timer =
+      if same_timer timer other then Some time else timer_value earlier timer
+  timer_value ((StopTimer other, Ok answer) ∷ earlier) timer =
+      if same_timer timer other then None else timer_value earlier timer
+  timer_value (happened ∷ earlier) timer = timer_value earlier timer
 
-  abbrev pub TellsTimers : History Q S M P → Event Q S M P → Reply Q → Type 0
-  TellsTimers history NextTimeout reply = reply ≡ Ok (Timeout (least (map (moment_of history) every_timer)))
-  TellsTimers history (SetTimer timer time) reply = reply ≡ Ok Done
-  TellsTimers history (StopTimer timer) reply = reply ≡ Ok Done
-  TellsTimers history event reply = Unit {0}
+  abbrev pub ReportsNextTimeout : History Q S M P → Event Q S M P → Reply Q → Type 0
+  ReportsNextTimeout history NextTimeout reply = reply ≡ Ok (Timeout (least (map (timer_value history) every_timer)))
+  ReportsNextTimeout history (SetTimer timer time) reply = reply ≡ Ok Done
+  ReportsNextTimeout history (StopTimer timer) reply = reply ≡ Ok Done
+  ReportsNextTimeout history event reply = Unit {0}

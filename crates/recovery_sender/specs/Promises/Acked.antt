@@ -3,15 +3,15 @@
 use Rattle.std.specs.Prelude.{◌≡◌, ℕ, ◌↔◌, true, List}
 use Rattle.recovery_base.specs.declared.below.SpaceId.{SpaceId}
 use Rattle.recovery_losses.specs.Losses.{IsOneOf}
-use Rattle.recovery_losses.specs.Frames.{IsWithin}
+use Rattle.recovery_losses.specs.Frames.{IsInAckRanges}
 use Rattle.recovery_history.specs.History.{History}
 use Rattle.recovery_history.specs.Promises.Tracked.{is_tracked}
 
 module _ {Q S M P : Type 0} (space : SpaceId) where
   abbrev pub AcksTracked : List (ℕ × ℕ) → List ℕ → History Q S M P → Type 0
   AcksTracked ranges numbers past =
-      (number : ℕ) → IsOneOf number numbers ↔ (IsWithin number ranges × (is_tracked space number past ≡ true))
+      (number : ℕ) → IsOneOf number numbers ↔ (IsInAckRanges number ranges × (is_tracked space number past ≡ true))
 
   -- a space is abandoned: all that is tracked there is told lost (RFC 9002, 6.3 and 6.4)
-  abbrev pub LosesAll : List ℕ → History Q S M P → Type 0
-  LosesAll numbers past = (number : ℕ) → IsOneOf number numbers ↔ (is_tracked space number past ≡ true)
+  abbrev pub LosesWholeSpace : List ℕ → History Q S M P → Type 0
+  LosesWholeSpace numbers past = (number : ℕ) → IsOneOf number numbers ↔ (is_tracked space number past ≡ true)

@@ -7,8 +7,8 @@ use Rattle.recovery_base.specs.declared.below.SpaceId.TheVariants.{Data}
 use Rattle.recovery_base.specs.Spaces.{same_space}
 use Rattle.recovery_events.specs.declared.event.Answer.TheVariants.{Sent, Probe}
 use Rattle.recovery_events.specs.declared.event.Event.TheVariants.{Send, PollMtu}
-use Rattle.recovery_losses.specs.declared.looks.Look.{Look}
-use Rattle.recovery_losses.specs.Losses.{IsLost, IsTold}
+use Rattle.recovery_losses.specs.declared.looks.LossPass.{LossPass}
+use Rattle.recovery_losses.specs.Losses.{IsLost, IsDeclaredLost}
 use Rattle.recovery_history.specs.History.{History}
 use Rattle.recovery_history.specs.Promises.Tracked.{is_tracked}
 use Rattle.recovery_sender.specs.declared.sender.losses.Losses.{Losses}
@@ -24,12 +24,12 @@ module _ {Q S M P : Type 0} where
   sent_at space (happened ∷ earlier) n = sent_at space earlier n
 
   -- it is tracked below the largest number acknowledged, and one of the two thresholds holds
-  abbrev pub IsLostBy : Look → History Q S M P → ℕ → Type 0
+  abbrev pub IsLostBy : LossPass → History Q S M P → ℕ → Type 0
   IsLostBy look past number = (is_tracked look.space number past ≡ true) × (number < look.largest)
       × IsLost look number (sent_at look.space past number)
 
   -- these are told, and the next look is at that moment
-  pub record LosesTracked (look : Look) (losses : Losses) (time : Option ℕ) (past : History Q S M P) : Type 0 where
-    pub told : (number : ℕ) → IsTold losses.numbers.items losses.probe number → IsLostBy look past number
-    pub all : (number : ℕ) → IsLostBy look past number → IsTold losses.numbers.items losses.probe number
+  pub record LosesTracked (look : LossPass) (losses : Losses) (time : Option ℕ) (past : History Q S M P) : Type 0 where
+    pub told : (number : ℕ) → IsDeclaredLost losses.numbers.items losses.probe number → IsLostBy look past number
+    pub all : (number : ℕ) → IsLostBy look past number → IsDeclaredLost losses.numbers.items losses.probe number
         ⊎ (due : ℕ) × (time ≡ Some due) × (due ≤ look.at)

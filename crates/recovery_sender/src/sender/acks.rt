@@ -1,22 +1,22 @@
 //! An ACK frame comes in (RFC 9002, A.7; RFC 9000, 13.1 and 13.4.2).
 ghost use Rattle.std.specs.Prelude.{◌≡◌, ◌≢◌, ◌∷◌, [], None, ◌+◌, ◌^◌, ◌≤◌, ◌<◌, true, false, Decides, MatchOption, IfSome, IfOk, IfErr, OnOk, ℕ, Err, length, get_or, option_copied};
 ghost use Rattle.recovery_events.specs.declared.event.Event.TheVariants.{CheckAck, EndAcks};
-ghost use Rattle.recovery_losses.specs.Losses.{AreRising, IsOneOf};
+ghost use Rattle.recovery_losses.specs.Losses.{AreIncreasing, IsOneOf};
 ghost use Rattle.recovery_losses.specs.Variables.{heard_in};
-ghost use Rattle.quic_recovery.specs.State.{OnlyTells};
+ghost use Rattle.quic_recovery.specs.State.{ReadOnlyTransition};
 ghost use Rattle.recovery_losses.specs.Frames.{are_ranges, is_unsent, largest_of};
-ghost use Rattle.recovery_sender.specs.Acks.{AckChecked, AreAllowed, AreNewly, IsFirstIn, NoneIn, SomeElicits, TakesFrom};
+ghost use Rattle.recovery_sender.specs.Acks.{AckChecked, AreNotSkipped, AreNewlyAcked, IsFirstIn, HasNoneTracked, HasAckEliciting, TrackedInRange};
 ghost use Rattle.recovery_sender.specs.Losses.{largest_in};
 ghost use Rattle.recovery_sender.specs.Promises.Acked.{AcksTracked};
-ghost use Rattle.recovery_sender.specs.Promises.Pasts.{ByPasts};
-ghost use Rattle.recovery_sender.specs.Senders.{parts_in};
+ghost use Rattle.recovery_sender.specs.Promises.Pasts.{ForEveryPast};
+ghost use Rattle.recovery_sender.specs.Senders.{state_in};
 ghost use Rattle.recovery_sender.specs.Spaces.{packets_in, space_in};
-ghost use Rattle.recovery_sender.specs.Acking.{IsNewly, OnAck, TakesNewly, acking, first_marked, is_limited, is_marked, is_raised, largest_sent, marks_now, rtt_of, sent_on, unmarked, with_marks_now, Acknowledges, EcnCompared, EcnComes, Samples};
-ghost use Rattle.recovery_sender.specs.Steps.{marked, occurs, Does, Goes};
-ghost use Rattle.recovery_ledger.specs.Discarded.{is_discarded};
-ghost use Rattle.recovery_ledger.specs.Packets.{packet_at};
+ghost use Rattle.recovery_sender.specs.Acking.{IsNewly, AckResult, ProcessesNewlyAcked, acking, first_marked, is_limited, is_marked, is_raised, largest_sent, marks_now, rtt_of, sent_on, unmarked, with_marks_now, Acknowledges, EcnCompared, EcnResult, SamplesRtt};
+ghost use Rattle.recovery_sender.specs.Steps.{marked, occurs, CompletesCall, TakesSteps};
+ghost use Rattle.recovery_spaces.specs.Discarded.{is_discarded};
+ghost use Rattle.recovery_spaces.specs.Packets.{packet_at};
 
-use super::{Losses, Refused, Sender};
+use super::{Losses, SenderError, Sender};
 use quic_recovery::below::{EcnCounts, SpaceId};
 use quic_recovery::congestion::ControllerFactory;
 use quic_recovery::event::PathName;
@@ -30,7 +30,7 @@ use recovery_losses::{Ack, are_ranges, is_unsent, largest_of};
 
 /// What the counts of ECN of a frame come to (RFC 9000, 13.4.2.1).
 #[derive(Clone, Copy)]
-pub enum EcnEnd {
+pub enum EcnOutcome {
     /// Nothing.
     Quiet,
     /// More packets were marked: there is congestion (RFC 9002, 7.1).
@@ -47,12 +47,12 @@ pub struct Acknowledged {
     /// What was found lost.
     pub losses: Losses,
     /// What its counts of ECN come to.
-    pub ecn: EcnEnd,
+    pub ecn: EcnOutcome,
 }
 
 /// What a frame newly acknowledges, before anything is done.
 #[derive(Drop)]
-pub struct Newly {
+pub struct NewlyAcked {
     /// The numbers, rising.
     pub numbers: Vec<u64>,
     /// Whether one of them elicits an ACK.
@@ -106,8 +106,8 @@ where
         now: Instant,
         ranges: &[(u64, u64)],
         ack: Ack,
-    ) -> Result<Acknowledged, Refused>
-        ensures { OnAck space now ranges.now ack self.old self.new result }
+    ) -> Result<Acknowledged, SenderError>
+        ensures { AckResult space now ranges.now ack self.old self.new result }
     {
         let room = Vec::new(self.alloc);
         self.on_ack_into(space, now, ranges, ack, room)
@@ -122,8 +122,8 @@ where
         ranges: &[(u64, u64)],
         ack: Ack,
         room: Vec<u64>,
-    ) -> Result<Acknowledged, Refused>
-        ensures { OnAck space now ranges.now ack self.old self.new result }
+    ) -> Result<Acknowledged, SenderError>
+        ensures { AckResult space now ranges.now ack self.old self.new result }
     {
         let newly = match self.newly_acked(space, ranges, room) {
             Ok(newly) => newly,
@@ -139,7 +139,7 @@ where
         space: SpaceId,
         ranges: &[(u64, u64)],
         room: Vec<u64>,
-    ) -> Result<Newly, Refused>
+    ) -> Result<NewlyAcked, SenderError>
         ensures { IsNewly space ranges.now self.now result }
     {
         if let Err(refused) = self.check_ack(space, ranges) {
@@ -155,18 +155,18 @@ where
         now: Instant,
         ranges: &[(u64, u64)],
         ack: Ack,
-        newly: Newly,
+        newly: NewlyAcked,
     ) -> Acknowledged
-        requires newly { AreNewly (packets_in (parts_in self.old) space) ranges.now 0
+        requires newly { AreNewlyAcked (packets_in (state_in self.old) space) ranges.now 0
             newly.numbers.items newly.elicits }
-        ensures { TakesNewly space now ranges.now ack self.old self.new newly result }
+        ensures { ProcessesNewlyAcked space now ranges.now ack self.old self.new newly result }
     {
         if newly.numbers.is_empty() {
             self.set_loss_detection_timer();
             return Acknowledged {
                 numbers: newly.numbers,
                 losses: Losses::none(self.alloc),
-                ecn: EcnEnd::Quiet,
+                ecn: EcnOutcome::Quiet,
             };
         }
         self.acknowledge(space, now, ranges, ack, newly)
@@ -174,32 +174,33 @@ where
 
     /// Whether a frame may be taken. Refused by `SpaceDiscarded`, by `BadRange` where its ranges are none, by `Unsent`
     /// where a number was never sent, or by `SkippedAcked`, in this order.
-    fn check_ack(&self, space: SpaceId, ranges: &[(u64, u64)]) -> Result<(), Refused>
+    fn check_ack(&self, space: SpaceId, ranges: &[(u64, u64)]) -> Result<(), SenderError>
         ensures small { OnOk result (IfSome (largest_of ranges.now)
             (λ largest. largest + 1 < 2 ^ 64)) }
         ensures checked { AckChecked space ranges.now self.now.recovery.recovery result }
     {
         let Some(here) = self.space(space) else {
-            return Err(Refused::Event(Refusal::SpaceDiscarded));
+            return Err(SenderError::Event(Refusal::SpaceDiscarded));
         };
         if !are_ranges(ranges) {
-            return Err(Refused::Event(Refusal::BadRange));
+            return Err(SenderError::Event(Refusal::BadRange));
         }
         if is_unsent(largest_of(ranges), here.next_packet_number()) {
-            return Err(Refused::Unsent);
+            return Err(SenderError::Unsent);
         }
         match self.check_ranges(space, ranges) {
             Ok(()) => Ok(()),
-            Err(refusal) => Err(Refused::Event(refusal)),
+            Err(refusal) => Err(SenderError::Event(refusal)),
         }
     }
 
     /// None of the ranges holds the number that was skipped last (RFC 9000, 21.4).
     fn check_ranges(&self, space: SpaceId, ranges: &[(u64, u64)]) -> Result<(), Refusal>
-        ensures ok { OnOk result (AreAllowed space ranges.now self.now.recovery.recovery) }
+        ensures ok { OnOk result (AreNotSkipped space ranges.now self.now.recovery.recovery) }
         ensures refused { IfErr result (λ refusal. (at : ℕ) × (at < length ranges.now)
             × (let range = get_or ranges.now at (0, 0) in
-            OnlyTells (CheckAck space range.0 range.1) self.now.recovery.recovery (Err refusal))) }
+            ReadOnlyTransition (CheckAck space range.0 range.1) self.now.recovery.recovery
+                (Err refusal))) }
     {
         for (low, high) in ranges {
             if let Err(refusal) = self.recovery.recovery().check_ack(space, *low, *high) {
@@ -211,8 +212,9 @@ where
 
     /// The first tracked number from one on, up to another, and whether its packet elicits an ACK.
     fn first_in(&self, space: SpaceId, from: u64, last: u64) -> Option<(u64, bool)>
-        ensures { MatchOption result (NoneIn (packets_in (parts_in self.now) space) from last)
-            (λ found. IsFirstIn (packets_in (parts_in self.now) space) from last found) }
+        ensures { MatchOption result
+            (HasNoneTracked (packets_in (state_in self.now) space) from last)
+            (λ found. IsFirstIn (packets_in (state_in self.now) space) from last found) }
     {
         if from > last {
             return None;
@@ -231,21 +233,21 @@ where
         space: SpaceId,
         first: u64,
         last: u64,
-        newly: &mut Newly,
-    ) -> Result<(), Refused>
+        newly: &mut NewlyAcked,
+    ) -> Result<(), SenderError>
         requires whole { first ≤ last }
         requires small { last + 1 < 2 ^ 64 }
-        requires rising { AreRising 0 newly.old.numbers.items first }
+        requires rising { AreIncreasing 0 newly.old.numbers.items first }
         requires elicits { Decides newly.old.elicits
-            (SomeElicits (packets_in (parts_in self.now) space) newly.old.numbers.items) }
-        ensures memory { IfErr result (λ refused. refused ≡ Refused.Event Refusal.NoMemory) }
-        ensures taken { OnOk result (TakesFrom (packets_in (parts_in self.now) space) first
+            (HasAckEliciting (packets_in (state_in self.now) space) newly.old.numbers.items) }
+        ensures memory { IfErr result (λ refused. refused ≡ SenderError.Event Refusal.NoMemory) }
+        ensures taken { OnOk result (TrackedInRange (packets_in (state_in self.now) space) first
             (last + 1) newly.old.numbers.items newly.new.numbers.items newly.new.elicits) }
     {
         let mut from = first;
         while let Some((number, elicits)) = self.first_in(space, from, last) {
             if newly.numbers.reserve(1).is_err() {
-                return Err(Refused::Event(Refusal::NoMemory));
+                return Err(SenderError::Event(Refusal::NoMemory));
             }
             newly.numbers.push_reserved(number);
             newly.elicits |= elicits;
@@ -261,19 +263,19 @@ where
         space: SpaceId,
         ranges: &[(u64, u64)],
         room: Vec<u64>,
-    ) -> Result<Newly, Refused>
-        requires there { is_discarded space (parts_in self.now).discarded ≡ false }
+    ) -> Result<NewlyAcked, SenderError>
+        requires there { is_discarded space (state_in self.now).discarded ≡ false }
         requires whole { are_ranges ranges.now ≡ true }
         requires small { IfSome (largest_of ranges.now) (λ largest. largest + 1 < 2 ^ 64) }
-        ensures memory { IfErr result (λ refused. refused ≡ Refused.Event Refusal.NoMemory) }
-        ensures newly { IfOk result (λ newly. AreNewly (packets_in (parts_in self.now) space)
+        ensures memory { IfErr result (λ refused. refused ≡ SenderError.Event Refusal.NoMemory) }
+        ensures newly { IfOk result (λ newly. AreNewlyAcked (packets_in (state_in self.now) space)
             ranges.now 0 newly.numbers.items newly.elicits) }
         ensures tracked { IfOk result (λ newly.
-            ByPasts self.now (AcksTracked space ranges.now newly.numbers.items)) }
+            ForEveryPast self.now (AcksTracked space ranges.now newly.numbers.items)) }
     {
         let mut numbers = room;
         numbers.clear();
-        let mut newly = Newly {
+        let mut newly = NewlyAcked {
             numbers,
             elicits: false,
         };
@@ -291,9 +293,9 @@ where
     /// Each of these numbers is told acknowledged.
     fn tell_acked(&mut self, space: SpaceId, now: Instant, app_limited: bool, numbers: &[u64])
         requires tracked { (number : ℕ) → IsOneOf number numbers.now
-            → packet_at (packets_in (parts_in self.old) space) number ≢ None }
-        requires rising { (end : ℕ) × AreRising 0 numbers.now end }
-        ensures { Goes (acking space now app_limited numbers.now) self.old self.new }
+            → packet_at (packets_in (state_in self.old) space) number ≢ None }
+        requires rising { (end : ℕ) × AreIncreasing 0 numbers.now end }
+        ensures { TakesSteps (acking space now app_limited numbers.now) self.old self.new }
     {
         for number in numbers {
             self.tell(Event::Acked {
@@ -307,7 +309,7 @@ where
 
     /// A packet that is tracked in a space, by its number. It costs a logarithm.
     pub fn tracked(&self, space: SpaceId, number: u64) -> Option<&SentPacket<Q>>
-        ensures { option_copied result ≡ packet_at (packets_in (parts_in self.now) space) number }
+        ensures { option_copied result ≡ packet_at (packets_in (state_in self.now) space) number }
     {
         let here = self.space(space)?;
         let (found, packet) = here.sent_packets.tracked_from(number)?;
@@ -319,7 +321,7 @@ where
 
     /// When a tracked packet was sent, where that was on the path in use (RFC 9000, 9.4).
     fn sent_on(&self, space: SpaceId, number: u64) -> Option<Instant>
-        ensures { result ≡ sent_on (parts_in self.now) space number }
+        ensures { result ≡ sent_on (state_in self.now) space number }
     {
         let packet = self.tracked(space, number)?;
         if packet.path_generation != self.path().generation() {
@@ -331,7 +333,7 @@ where
     /// A sample of the round-trip time, where there is one (RFC 9002, 5.1 and 5.3): the peer's delay counts in the
     /// space of 1-RTT packets, up to the longest that it said.
     fn sample(&mut self, space: SpaceId, delay: Duration, rtt: Option<Duration>)
-        ensures { Samples space delay self.old self.new rtt }
+        ensures { SamplesRtt space delay self.old self.new rtt }
     {
         let Some(rtt) = rtt else {
             return;
@@ -343,7 +345,7 @@ where
 
     /// The next packet of a space is the first one behind a sample, where none is (RFC 9002, 7.6.2).
     fn mark_first_packet(&mut self, space: SpaceId)
-        ensures { let old = parts_in self.old in Goes (first_marked old space
+        ensures { let old = state_in self.old in TakesSteps (first_marked old space
             (marks_now old).first_after_sample (space_in old space)) self.old self.new }
     {
         let path = self.path();
@@ -360,7 +362,7 @@ where
 
     /// Packets are marked no more on the path in use (RFC 9000, 13.4.2.1).
     fn stop_ecn(&mut self)
-        ensures { Goes (unmarked (parts_in self.old) ∷ []) self.old self.new }
+        ensures { TakesSteps (unmarked (state_in self.old) ∷ []) self.old self.new }
     {
         let first = self.path().first_packet_after_rtt_sample;
         self.set_marks(false, first);
@@ -368,7 +370,7 @@ where
 
     /// Whether packets are marked on the path in use, and which of them is the first one behind a sample, are set anew.
     fn set_marks(&mut self, sending_ecn: bool, first: Option<(SpaceId, u64)>)
-        ensures { Goes (marked (with_marks_now (parts_in self.old) sending_ecn first) ∷ [])
+        ensures { TakesSteps (marked (with_marks_now (state_in self.old) sending_ecn first) ∷ [])
             self.old self.new }
     {
         let blank = PathMarks {
@@ -378,7 +380,7 @@ where
             path_responses: PathResponses::new(),
             first_packet_after_rtt_sample: first,
         };
-        self.is_timed = false;
+        self.is_timer_current = false;
         let Some(mut marks) = self.recovery.set_marks(PathName::Current, blank) else {
             unreachable!();
         };
@@ -395,19 +397,19 @@ where
         newly_acked: u64,
         counts: Option<EcnCounts>,
         is_raised: bool,
-    ) -> EcnEnd
-        ensures { EcnComes space now newly_acked self.old self.new
-            (marks_now (parts_in self.old)).sending_ecn counts is_raised result }
+    ) -> EcnOutcome
+        ensures { EcnResult space now newly_acked self.old self.new
+            (marks_now (state_in self.old)).sending_ecn counts is_raised result }
     {
         if !self.path().sending_ecn {
-            return EcnEnd::Quiet;
+            return EcnOutcome::Quiet;
         }
         let Some(counts) = counts else {
             self.stop_ecn();
-            return EcnEnd::Quiet;
+            return EcnOutcome::Quiet;
         };
         if !is_raised {
-            return EcnEnd::Quiet;
+            return EcnOutcome::Quiet;
         }
         self.compare_ecn(space, now, newly_acked, counts)
     }
@@ -419,10 +421,10 @@ where
         now: Instant,
         newly_acked: u64,
         counts: EcnCounts,
-    ) -> EcnEnd
+    ) -> EcnOutcome
         ensures { EcnCompared space now newly_acked self.old self.new counts result }
     {
-        self.is_timed = false;
+        self.is_timer_current = false;
         let Ok(answer) = self.recovery.apply(Event::Ecn {
             space,
             newly_acked,
@@ -430,19 +432,19 @@ where
         })
         else {
             self.stop_ecn();
-            return EcnEnd::Failed;
+            return EcnOutcome::Failed;
         };
         if !is_marked(&answer) {
-            return EcnEnd::Quiet;
+            return EcnOutcome::Quiet;
         }
         let sent = self.largest_acked_sent(space);
         self.congested(now, sent, false, 0);
-        EcnEnd::Marked
+        EcnOutcome::Marked
     }
 
     /// When the largest acknowledged number of a space was sent.
     fn largest_acked_sent(&self, space: SpaceId) -> Option<Instant>
-        ensures { result ≡ largest_sent (parts_in self.now) space }
+        ensures { result ≡ largest_sent (state_in self.now) space }
     {
         let here = self.space(space)?;
         Some(here.largest_acked_packet_sent)
@@ -450,7 +452,7 @@ where
 
     /// The largest number acknowledged in a space, if any.
     fn largest_acked(&self, space: SpaceId) -> Option<u64>
-        ensures { result ≡ largest_in (parts_in self.now) space }
+        ensures { result ≡ largest_in (state_in self.now) space }
     {
         self.space(space)?.largest_acked_packet
     }
@@ -464,7 +466,7 @@ where
         ranges: &[(u64, u64)],
         elicits: bool,
     ) -> Option<Duration>
-        ensures { result ≡ rtt_of (parts_in self.now) space now ranges.now elicits }
+        ensures { result ≡ rtt_of (state_in self.now) space now ranges.now elicits }
     {
         if !elicits {
             return None;
@@ -476,15 +478,15 @@ where
     /// Whether the window is not to grow: the stack had too little to send to fill it (RFC 9002, 7.8), or the path in
     /// use is being validated, so that what comes may be for the path before it (RFC 9000, 9.4).
     fn is_limited(&self, app_limited: bool) -> bool
-        ensures { result ≡ is_limited (parts_in self.now) app_limited }
+        ensures { result ≡ is_limited (state_in self.now) app_limited }
     {
         app_limited || self.path().challenge.is_some()
     }
 
     /// The acknowledged numbers were all (RFC 9002, 7).
     fn end_acks(&mut self, space: SpaceId, now: Instant, app_limited: bool)
-        ensures { Goes (occurs (EndAcks now app_limited
-            (largest_in (parts_in self.old) space)) ∷ []) self.old self.new }
+        ensures { TakesSteps (occurs (EndAcks now app_limited
+            (largest_in (state_in self.old) space)) ∷ []) self.old self.new }
     {
         let largest = self.largest_acked(space);
         self.tell(Event::EndAcks {
@@ -501,9 +503,9 @@ where
         now: Instant,
         ranges: &[(u64, u64)],
         ack: Ack,
-        newly: Newly,
+        newly: NewlyAcked,
     ) -> Acknowledged
-        requires newly { AreNewly (packets_in (parts_in self.old) space) ranges.now 0
+        requires newly { AreNewlyAcked (packets_in (state_in self.old) space) ranges.now 0
             newly.numbers.items newly.elicits }
         ensures numbers { result.numbers.items ≡ newly.numbers.items }
         ensures stages { Acknowledges space now ranges.now ack newly.elicits
@@ -530,9 +532,9 @@ where
 
     /// The peer was heard so far. The timer is set.
     fn hear(&mut self, space: SpaceId, now: Instant)
-        ensures { Does [] (heard_in space now self.old.variables) self.old self.new }
+        ensures { CompletesCall [] (heard_in space now self.old.variables) self.old self.new }
     {
-        self.is_timed = false;
+        self.is_timer_current = false;
         self.variables = self.variables.heard(space, now);
         self.set_loss_detection_timer();
     }

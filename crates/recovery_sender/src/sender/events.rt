@@ -1,14 +1,14 @@
 //! How a sender begins, and the events that pass through it.
 ghost use Rattle.std.specs.Prelude.{◌≡◌, true, ◌<◌, ◌≤◌, ◌+◌, ◌^◌, ◌∷◌, [], Ok, IfOk, OnOk, OnErr, Decides};
-ghost use Rattle.recovery_skips.specs.Skips.{IsSkips};
-ghost use Rattle.recovery_sender.specs.Calls.{challenged, config_of, datagram_reply, to_send, Begins, Passes, Takes};
-ghost use Rattle.recovery_sender.specs.Leaving.{leaves_timer};
-ghost use Rattle.recovery_sender.specs.Senders.{parts_in};
-ghost use Rattle.recovery_sender.specs.Steps.{marked, told, Goes, Does};
+ghost use Rattle.recovery_packet_numbers.specs.Skips.{IsSkips};
+ghost use Rattle.recovery_sender.specs.Calls.{challenged, config_of, datagram_reply, to_send, IsNewSender, IsPassedThrough, EventResult};
+ghost use Rattle.recovery_sender.specs.TimerUnchanged.{leaves_timer};
+ghost use Rattle.recovery_sender.specs.Senders.{state_in};
+ghost use Rattle.recovery_sender.specs.Steps.{marked, told, TakesSteps, CompletesCall};
 ghost use Rattle.recovery_sender.specs.Timer.{TimerIsSet};
 
 use super::packets::counted_at;
-use super::{Refused, Sender};
+use super::{SenderError, Sender};
 use quic_recovery::below::NoMemory;
 use quic_recovery::congestion::ControllerFactory;
 use quic_recovery::event::PathName;
@@ -47,7 +47,7 @@ fn to_send<Q: RetransmitQueue>(event: &Event<Q>) -> Option<Instant>
 /// due.
 #[inline(always)]
 pub fn passes<Q: RetransmitQueue>(event: &Event<Q>) -> bool
-    ensures { Decides result (Passes event.now) }
+    ensures { Decides result (IsPassedThrough event.now) }
 {
     match event {
         Event::Acked { .. }
@@ -112,7 +112,7 @@ where
     ) -> Result<Self, NoMemory>
         requires issued { config.issued ≤ 2 ^ 62 }
         requires skips { IsSkips config.skips }
-        ensures begins { IfOk result (λ sender. Begins side config now (R.stream rng) sender) }
+        ensures begins { IfOk result (λ sender. IsNewSender side config now (R.stream rng) sender) }
         ensures memory { OnErr result (0 < config.issued) }
     {
         let recovery = LiveRecovery::new(alloc, config_of(side, config), rng, now)?;
@@ -120,7 +120,7 @@ where
             alloc,
             recovery,
             variables: Variables::new(side, now),
-            is_timed: false,
+            is_timer_current: false,
         };
         sender.set_loss_detection_timer();
         Ok(sender)
@@ -129,26 +129,26 @@ where
     /// An event that passes, [`Event::Send`] and [`Event::PollMtu`] among them, as [`LiveRecovery::apply`] does it; and
     /// it is refused as there.
     #[inline(always)]
-    pub fn on_event(&mut self, event: Event<Q>) -> Result<Answer<Q>, Refused>
-        requires passes { Passes event }
-        ensures { Takes event self.old self.new result }
+    pub fn on_event(&mut self, event: Event<Q>) -> Result<Answer<Q>, SenderError>
+        requires passes { IsPassedThrough event }
+        ensures { EventResult event self.old self.new result }
     {
         let was_timed = self.is_left_by(&event);
         let time = to_send(&event);
-        self.is_timed = false;
+        self.is_timer_current = false;
         match self.recovery.apply(event) {
             Ok(answer) => {
                 self.goes_on(time, &answer, was_timed);
                 Ok(answer)
             }
-            Err(refusal) => Err(Refused::Event(refusal)),
+            Err(refusal) => Err(SenderError::Event(refusal)),
         }
     }
 
     /// A probe of the MTU goes out, where one is due, as [`Event::PollMtu`] has it, and is refused. The window is
     /// not asked: a probe of the MTU is let pass it (RFC 9000, 14.4).
-    pub fn poll_mtu(&mut self, now: Instant) -> Result<Answer<Q>, Refused>
-        ensures { Takes (Event.PollMtu now) self.old self.new result }
+    pub fn poll_mtu(&mut self, now: Instant) -> Result<Answer<Q>, SenderError>
+        ensures { EventResult (Event.PollMtu now) self.old self.new result }
     {
         self.on_event(Event::PollMtu { now })
     }
@@ -156,15 +156,15 @@ where
     /// A datagram of so many bytes came in on the path in use: what may be sent grows, where its address is not
     /// validated, so that the timer may be due at once (RFC 9000, 8.1; RFC 9002, A.6). Refused by `Overflow` where the
     /// bytes that came in on the path would pass `u64::MAX`.
-    pub fn on_datagram(&mut self, bytes: u64) -> Result<(), Refused>
-        ensures reply { result ≡ datagram_reply (parts_in self.old) bytes }
+    pub fn on_datagram(&mut self, bytes: u64) -> Result<(), SenderError>
+        ensures reply { result ≡ datagram_reply (state_in self.old) bytes }
         ensures steps { let event = Event.DatagramIn PathName.Current bytes in
-            OnOk result (Does (told event (Ok Answer.Done) ∷ [])
+            OnOk result (CompletesCall (told event (Ok Answer.Done) ∷ [])
             self.old.variables self.old self.new) }
         ensures refused { OnErr result (self.new ≡ self.old) }
     {
         if self.path().total_recvd.checked_add(bytes).is_none() {
-            return Err(Refused::Event(Refusal::Overflow));
+            return Err(SenderError::Event(Refusal::Overflow));
         }
         let was_timed = self.is_timed_unlimited();
         self.receive(bytes);
@@ -174,7 +174,7 @@ where
 
     /// The peer was seen to receive at the address of the path in use (RFC 9000, 8.1 and 8.2).
     pub fn on_address_validated(&mut self)
-        ensures { Does (told (Event.Validated PathName.Current) (Ok Answer.Done) ∷ [])
+        ensures { CompletesCall (told (Event.Validated PathName.Current) (Ok Answer.Done) ∷ [])
             self.old.variables self.old self.new }
     {
         self.validate();
@@ -185,7 +185,7 @@ where
     /// 9000, 8.2.1). While one is open the window does not grow: what is acknowledged may have gone by the path before
     /// it (RFC 9000, 9.4).
     pub fn set_challenge(&mut self, challenge: Option<u64>, pending: bool)
-        ensures { Does (marked (challenged (parts_in self.old) challenge pending) ∷ [])
+        ensures { CompletesCall (marked (challenged (state_in self.old) challenge pending) ∷ [])
             self.old.variables self.old self.new }
     {
         let was_timed = self.is_known_timed();
@@ -196,15 +196,15 @@ where
     /// Whether the timer is known to be set, and an event leaves it so.
     #[inline(always)]
     fn is_left_by(&self, event: &Event<Q>) -> bool
-        ensures timed { result ≡ true → TimerIsSet (parts_in self.now) self.now.variables }
+        ensures timed { result ≡ true → TimerIsSet (state_in self.now) self.now.variables }
         ensures leaves { result ≡ true → leaves_timer event.now ≡ true }
     {
-        self.is_timed && leaves_timer(event)
+        self.is_timer_current && leaves_timer(event)
     }
 
     /// The path in use is marked so.
     fn mark_challenge(&mut self, challenge: Option<u64>, pending: bool)
-        ensures { Goes (marked (challenged (parts_in self.old) challenge pending) ∷ [])
+        ensures { TakesSteps (marked (challenged (state_in self.old) challenge pending) ∷ [])
             self.old self.new }
     {
         let blank = PathMarks {
@@ -214,7 +214,7 @@ where
             path_responses: PathResponses::new(),
             first_packet_after_rtt_sample: None,
         };
-        self.is_timed = false;
+        self.is_timer_current = false;
         let Some(mut marks) = self.recovery.set_marks(PathName::Current, blank) else {
             unreachable!();
         };
@@ -225,8 +225,8 @@ where
 
     /// A datagram came in of which the total has room.
     fn receive(&mut self, bytes: u64)
-        requires { (parts_in self.old).paths.current.state.total_recvd + bytes < 2 ^ 64 }
-        ensures { Goes (told (Event.DatagramIn PathName.Current bytes) (Ok Answer.Done) ∷ [])
+        requires { (state_in self.old).paths.current.state.total_recvd + bytes < 2 ^ 64 }
+        ensures { TakesSteps (told (Event.DatagramIn PathName.Current bytes) (Ok Answer.Done) ∷ [])
             self.old self.new }
     {
         self.tell(Event::DatagramIn {
@@ -237,7 +237,7 @@ where
 
     /// The address of the path in use is validated.
     fn validate(&mut self)
-        ensures { Goes (told (Event.Validated PathName.Current) (Ok Answer.Done) ∷ [])
+        ensures { TakesSteps (told (Event.Validated PathName.Current) (Ok Answer.Done) ∷ [])
             self.old self.new }
     {
         self.tell(Event::Validated {

@@ -1,6 +1,6 @@
 //! What is told of the handshake and of the peer (RFC 9001, 4.1.2; RFC 9002, A.8).
 ghost use Rattle.std.specs.Prelude.{true, []};
-ghost use Rattle.recovery_sender.specs.Steps.{Does};
+ghost use Rattle.recovery_sender.specs.Steps.{CompletesCall};
 
 use super::Sender;
 use quic_recovery::congestion::ControllerFactory;
@@ -19,10 +19,10 @@ where
 {
     /// There are keys of Handshake packets (RFC 9002, A.8).
     pub fn on_handshake_keys(&mut self)
-        ensures { Does [] (record self.old.variables { has_handshake_keys = true })
+        ensures { CompletesCall [] (record self.old.variables { has_handshake_keys = true })
             self.old self.new }
     {
-        self.is_timed = false;
+        self.is_timer_current = false;
         self.variables.has_handshake_keys = true;
         self.set_loss_detection_timer();
     }
@@ -30,12 +30,12 @@ where
     /// The handshake is confirmed (RFC 9001, 4.1.2): packets of 1-RTT keys are probed for from now on, and a client
     /// knows its address validated (RFC 9002, 6.2.1 and 6.2.2.1).
     pub fn on_handshake_confirmed(&mut self)
-        ensures { Does [] (record self.old.variables {
+        ensures { CompletesCall [] (record self.old.variables {
           is_handshake_confirmed = true;
           is_address_known = true;
         }) self.old self.new }
     {
-        self.is_timed = false;
+        self.is_timer_current = false;
         self.variables.is_handshake_confirmed = true;
         self.variables.is_address_known = true;
         self.set_loss_detection_timer();
@@ -43,10 +43,10 @@ where
 
     /// The peer delays its ACKs of 1-RTT packets at most so long (RFC 9000, 18.2: max_ack_delay).
     pub fn set_peer_max_ack_delay(&mut self, span: Duration)
-        ensures { Does [] (record self.old.variables { max_ack_delay = span })
+        ensures { CompletesCall [] (record self.old.variables { max_ack_delay = span })
             self.old self.new }
     {
-        self.is_timed = false;
+        self.is_timer_current = false;
         self.variables.max_ack_delay = span;
         self.set_loss_detection_timer();
     }

@@ -2,13 +2,13 @@
 ghost use Rattle.std.specs.Prelude.{◌≡◌, ◌≢◌, ℕ, ◌+◌, ◌-◌, ◌^◌, ◌<◌, ◌≤◌, ◌++◌, ◌∷◌, [], true, false, None, Some, Decides, MatchOption, IfSome, IfNone, ◌⊎◌, option_map};
 ghost use Rattle.std.specs.Option.{ForSome};
 ghost use Rattle.recovery_events.specs.declared.event.Event.TheVariants.{Lost};
-ghost use Rattle.recovery_ledger.specs.Packets.{packet_at};
-ghost use Rattle.recovery_losses.specs.Losses.{waiting, IsNext, NoneFrom};
-ghost use Rattle.recovery_sender.specs.Senders.{parts_in};
+ghost use Rattle.recovery_spaces.specs.Packets.{packet_at};
+ghost use Rattle.recovery_losses.specs.Losses.{waiting, IsNextLossCandidate, NoneFrom};
+ghost use Rattle.recovery_sender.specs.Senders.{state_in};
 ghost use Rattle.recovery_sender.specs.Spaces.{packets_in};
-ghost use Rattle.recovery_sender.specs.Steps.{occurs, Goes};
-ghost use Rattle.recovery_sender.specs.Losses.{look_of, largest_in, NothingLost};
-ghost use Rattle.recovery_sender.specs.Judging.{Judges, Finds, Detects, HasNoGap, congested, ended, is_reported, losing, one_of};
+ghost use Rattle.recovery_sender.specs.Steps.{occurs, TakesSteps};
+ghost use Rattle.recovery_sender.specs.Losses.{look_of, largest_in, IsEmptyLosses};
+ghost use Rattle.recovery_sender.specs.Detection.{ClassifiesPacket, HasScanned, DetectsLosses, HasNoGap, congested, ended, is_reported, losing, one_of};
 
 use super::Sender;
 use quic_recovery::below::SpaceId;
@@ -17,7 +17,7 @@ use quic_recovery::queue::RetransmitQueue;
 use quic_recovery::time::Instant;
 use quic_recovery::{Answer, Event};
 use rand_core::Rng;
-use recovery_losses::{Candidate, Look, Tally, first_of, loss_delay};
+use recovery_losses::{Candidate, LossPass, Tally, first_of, loss_delay};
 use std::alloc::Global;
 
 /// How many probe timeouts make congestion persistent (RFC 9002, 7.6.1: kPersistentCongestionThreshold).
@@ -41,7 +41,7 @@ pub struct Losses {
 impl Losses {
     /// Nothing was lost. It takes no memory.
     pub(super) fn none(alloc: Global) -> Self
-        ensures { NothingLost result }
+        ensures { IsEmptyLosses result }
     {
         Losses {
             numbers: Vec::new(alloc),
@@ -73,9 +73,9 @@ where
     R: Rng + Drop,
 {
     /// What a look at a space goes by, of which this is the largest number acknowledged.
-    fn look(&self, space: SpaceId, now: Instant, due_to_ack: bool, largest: u64) -> Look
+    fn look(&self, space: SpaceId, now: Instant, due_to_ack: bool, largest: u64) -> LossPass
         ensures { result
-            ≡ look_of (parts_in self.now) self.now.variables space now due_to_ack largest }
+            ≡ look_of (state_in self.now) self.now.variables space now due_to_ack largest }
     {
         let path = self.path();
         let first_of_run = if due_to_ack {
@@ -89,7 +89,7 @@ where
         } else {
             None
         };
-        Look {
+        LossPass {
             space,
             at: now,
             largest,
@@ -102,11 +102,12 @@ where
     }
 
     /// The first tracked packet from a number on that lies below the largest acknowledged.
-    fn candidate(&self, look: &Look, from: u64) -> Option<Candidate>
+    fn candidate(&self, look: &LossPass, from: u64) -> Option<Candidate>
         ensures fits { IfSome result (λ found. found.number + 1 < 2 ^ 64) }
         ensures next { MatchOption result
-            (NoneFrom look.now (packets_in (parts_in self.now) look.now.space) from)
-            (λ found. IsNext look.now (packets_in (parts_in self.now) look.now.space) from found) }
+            (NoneFrom look.now (packets_in (state_in self.now) look.now.space) from)
+            (λ found. IsNextLossCandidate look.now (packets_in (state_in self.now) look.now.space)
+                from found) }
     {
         let here = self.space(look.space)?;
         let (number, packet) = here.sent_packets.tracked_from(from)?;
@@ -123,12 +124,13 @@ where
     }
 
     /// A tracked packet is told lost; false, and nothing, where memory is refused.
-    fn tell_lost(&mut self, space: SpaceId, number: u64) -> bool
-        requires tracked { packet_at (packets_in (parts_in self.old) space) number ≢ None }
-        ensures lost { result ≡ true → Goes (occurs (Lost space number) ∷ []) self.old self.new }
-        ensures refused { result ≡ false → Goes [] self.old self.new }
+    fn declare_lost(&mut self, space: SpaceId, number: u64) -> bool
+        requires tracked { packet_at (packets_in (state_in self.old) space) number ≢ None }
+        ensures lost { result ≡ true
+            → TakesSteps (occurs (Lost space number) ∷ []) self.old self.new }
+        ensures refused { result ≡ false → TakesSteps [] self.old self.new }
     {
-        self.is_timed = false;
+        self.is_timer_current = false;
         let Ok(_answer) = self.recovery.apply(Event::Lost { space, number }) else {
             return false;
         };
@@ -137,13 +139,14 @@ where
 
     /// The same, and its number is put behind the others.
     pub(super) fn lose(&mut self, space: SpaceId, number: u64, numbers: &mut Vec<u64>) -> bool
-        requires tracked { packet_at (packets_in (parts_in self.old) space) number ≢ None }
-        ensures lost { result ≡ true → Goes (occurs (Lost space number) ∷ []) self.old self.new
+        requires tracked { packet_at (packets_in (state_in self.old) space) number ≢ None }
+        ensures lost { result ≡ true
+            → TakesSteps (occurs (Lost space number) ∷ []) self.old self.new
             × (numbers.new.items ≡ numbers.old.items ++ number ∷ []) }
-        ensures refused { result ≡ false → Goes [] self.old self.new
+        ensures refused { result ≡ false → TakesSteps [] self.old self.new
             × (numbers.new.items ≡ numbers.old.items) }
     {
-        if numbers.reserve(1).is_err() || !self.tell_lost(space, number) {
+        if numbers.reserve(1).is_err() || !self.declare_lost(space, number) {
             return false;
         }
         numbers.push_reserved(number);
@@ -151,11 +154,11 @@ where
     }
 
     /// What becomes of a packet below the largest acknowledged.
-    fn judge(&mut self, look: &Look, packet: &Candidate, tally: &mut Tally, numbers: &mut Vec<u64>)
+    fn judge(&mut self, look: &LossPass, packet: &Candidate, tally: &mut Tally, numbers: &mut Vec<u64>)
         requires below { packet.now.number < look.now.largest }
-        requires tracked { packet_at (packets_in (parts_in self.old) look.now.space)
+        requires tracked { packet_at (packets_in (state_in self.old) look.now.space)
             packet.now.number ≢ None }
-        ensures { Judges look.now packet.now self.old numbers.old.items tally.old
+        ensures { ClassifiesPacket look.now packet.now self.old numbers.old.items tally.old
             self.new numbers.new.items tally.new }
     {
         if !look.is_lost(packet) {
@@ -171,9 +174,9 @@ where
 
     /// The packets of a space are gone over upward, below the largest acknowledged: each that is lost is told so, but
     /// for the probe of the MTU.
-    fn find_lost(&mut self, look: &Look, numbers: &mut Vec<u64>) -> Tally
+    fn find_lost(&mut self, look: &LossPass, numbers: &mut Vec<u64>) -> Tally
         requires none { numbers.old.items ≡ [] }
-        ensures { Finds look.now self.old look.now.largest numbers.new.items result self.new }
+        ensures { HasScanned look.now self.old look.now.largest numbers.new.items result self.new }
     {
         let mut tally = Tally::new();
         let mut from = 0;
@@ -186,7 +189,7 @@ where
 
     /// All that was found lost was told, where something was: whether a black hole is reported (RFC 8899, 4.3).
     fn losses_done(&mut self, now: Instant, numbers: &[u64]) -> bool
-        ensures goes { Goes (ended now result numbers.now) self.old self.new }
+        ensures goes { TakesSteps (ended now result numbers.now) self.old self.new }
         ensures none { numbers.now ≡ [] → result ≡ false }
     {
         if numbers.is_empty() {
@@ -204,7 +207,7 @@ where
         persistent: bool,
         bytes: u64,
     )
-        ensures { Goes (congested now persistent bytes sent) self.old self.new }
+        ensures { TakesSteps (congested now persistent bytes sent) self.old self.new }
     {
         if let Some(sent) = sent {
             self.tell(Event::Congestion {
@@ -217,17 +220,17 @@ where
     }
 
     /// The probe of the MTU is told lost, where it is: where memory is refused, it waits.
-    fn lose_probe(&mut self, look: &Look, tally: &mut Tally) -> Option<u64>
+    fn lose_probe(&mut self, look: &LossPass, tally: &mut Tally) -> Option<u64>
         requires tracked { ForSome tally.old.probe (λ number.
-            packet_at (packets_in (parts_in self.old) look.now.space) number ≢ None) }
+            packet_at (packets_in (state_in self.old) look.now.space) number ≢ None) }
         ensures told { IfSome result (λ number. (tally.old.probe ≡ Some number)
             × (tally.new ≡ tally.old)) }
         ensures waits { IfNone result ((tally.old.probe ≡ None) × (tally.new ≡ tally.old)
             ⊎ (tally.old.probe ≢ None) × (tally.new ≡ waiting look.now.at tally.old)) }
-        ensures goes { Goes (losing look.now.space (one_of result)) self.old self.new }
+        ensures goes { TakesSteps (losing look.now.space (one_of result)) self.old self.new }
     {
         let number = tally.probe?;
-        if self.tell_lost(look.space, number) {
+        if self.declare_lost(look.space, number) {
             return Some(number);
         }
         tally.waits(look.at);
@@ -236,9 +239,9 @@ where
 
     /// The largest number acknowledged in a space, where a packet is tracked below it: most ACKs leave none.
     fn gap(&self, space: SpaceId) -> Option<u64>
-        ensures none { IfNone result (HasNoGap (parts_in self.now) space) }
+        ensures none { IfNone result (HasNoGap (state_in self.now) space) }
         ensures some { IfSome result
-            (λ largest. largest_in (parts_in self.now) space ≡ Some largest) }
+            (λ largest. largest_in (state_in self.now) space ≡ Some largest) }
     {
         let here = self.space(space)?;
         let largest = here.largest_acked_packet?;
@@ -255,10 +258,10 @@ where
         now: Instant,
         due_to_ack: bool,
     ) -> Losses
-        ensures { Detects space now due_to_ack self.old result self.new }
+        ensures { DetectsLosses space now due_to_ack self.old result self.new }
     {
         let Some(largest) = self.gap(space) else {
-            self.is_timed = false;
+            self.is_timer_current = false;
             self.recovery.set_loss_time(space, None);
             return Losses::none(self.alloc);
         };
@@ -270,7 +273,7 @@ where
         let congestion = tally.congestion();
         self.congested(now, tally.last_sent, is_persistent, tally.bytes);
         let probe = self.lose_probe(&look, &mut tally);
-        self.is_timed = false;
+        self.is_timer_current = false;
         self.recovery.set_loss_time(space, tally.loss_time);
         Losses {
             numbers,

@@ -1,15 +1,15 @@
 //! What goes out (RFC 9002, 7; RFC 9000, 8.1).
 ghost use Rattle.std.specs.Prelude.{◌≡◌, ◌<◌, ◌≤◌, ◌+◌, ◌^◌, ◌∷◌, [], true, false, None, Some, if◌then◌else◌, nat_lt, Ok, IfOk, OnOk, OnErr};
-ghost use Rattle.recovery_ledger.specs.Discarded.{is_discarded};
-ghost use Rattle.recovery_ledger.specs.Spaces.{space_of};
+ghost use Rattle.recovery_spaces.specs.Discarded.{is_discarded};
+ghost use Rattle.recovery_spaces.specs.Spaces.{space_of};
 ghost use Rattle.recovery_paths.specs.PathStates.{is_blocked};
 ghost use Rattle.recovery_losses.specs.Variables.{based};
-ghost use Rattle.recovery_sender.specs.Senders.{parts_in};
-ghost use Rattle.recovery_sender.specs.Calls.{bytes_in_flight, is_checked, is_full, sent_at, transmission, transmit_reply, transmit_steps, window_of, Takes};
-ghost use Rattle.recovery_sender.specs.Steps.{told, Goes, Does};
+ghost use Rattle.recovery_sender.specs.Senders.{state_in};
+ghost use Rattle.recovery_sender.specs.Calls.{bytes_in_flight, is_checked, is_full, sent_at, transmission, transmit_reply, transmit_steps, window_of, EventResult};
+ghost use Rattle.recovery_sender.specs.Steps.{told, TakesSteps, CompletesCall};
 ghost use Rattle.recovery_sender.specs.Timer.{TimerIsSet};
 
-use super::{Refused, Sender};
+use super::{SenderError, Sender};
 use quic_recovery::below::SpaceId;
 use quic_recovery::congestion::{Controller, ControllerFactory};
 use quic_recovery::queue::RetransmitQueue;
@@ -66,28 +66,28 @@ where
         bytes: u16,
         space: SpaceId,
         in_flight: bool,
-    ) -> Result<Transmission, Refused>
+    ) -> Result<Transmission, SenderError>
         // By the state before it,
         ensures reply { result
-            ≡ transmit_reply F.Controller.words (parts_in self.old) now bytes space in_flight }
+            ≡ transmit_reply F.Controller.words (state_in self.old) now bytes space in_flight }
 
         // so that what counts in flight finds room in the window, where no probe is due (RFC 9002, 7).
         ensures window { result ≡ Ok Transmission.Transmitted → in_flight ≡ true
-            → (space_of space (parts_in self.old).spaces).loss_probes ≡ 0
-            → bytes_in_flight (parts_in self.old) + bytes
-            ≤ window_of F.Controller.words (parts_in self.old) }
+            → (space_of space (state_in self.old).spaces).loss_probes ≡ 0
+            → bytes_in_flight (state_in self.old) + bytes
+            ≤ window_of F.Controller.words (state_in self.old) }
 
         // The recovery is asked for what limit and window let pass.
-        ensures steps { IfOk result (λ sent. let old = parts_in self.old in
-            Does (transmit_steps now bytes (is_checked old space in_flight) sent)
+        ensures steps { IfOk result (λ sent. let old = state_in self.old in
+            CompletesCall (transmit_steps now bytes (is_checked old space in_flight) sent)
             self.old.variables self.old self.new) }
         ensures refused { OnErr result (self.new ≡ self.old) }
     {
         let Some(is_checked) = self.is_checked(space, in_flight) else {
-            return Err(Refused::Event(Refusal::SpaceDiscarded));
+            return Err(SenderError::Event(Refusal::SpaceDiscarded));
         };
         if !self.path().has_room(bytes) {
-            return Err(Refused::Event(Refusal::Overflow));
+            return Err(SenderError::Event(Refusal::Overflow));
         }
         let was_timed = self.is_timed_unlimited();
         let sent = self.transmit_where_it_may(now, bytes, is_checked);
@@ -106,11 +106,12 @@ where
         largest_acked: Option<u64>,
         queue: Q,
         stream_frames: Q::Meta,
-    ) -> Result<Answer<Q>, Refused>
-        ensures { Takes (Event.Send space now size ack_eliciting largest_acked queue stream_frames)
+    ) -> Result<Answer<Q>, SenderError>
+        ensures { EventResult
+            (Event.Send space now size ack_eliciting largest_acked queue stream_frames)
             self.old self.new result }
     {
-        self.is_timed = false;
+        self.is_timer_current = false;
         let sent = self.recovery.apply(Event::Send {
             space,
             now,
@@ -125,7 +126,7 @@ where
                 self.goes_on(counted_at(now, size), &answer, false);
                 Ok(answer)
             }
-            Err(refusal) => Err(Refused::Event(refusal)),
+            Err(refusal) => Err(SenderError::Event(refusal)),
         }
     }
 
@@ -133,18 +134,19 @@ where
     /// is not known to be.
     #[inline(always)]
     pub(super) fn goes_on(&mut self, time: Option<Instant>, answer: &Answer<Q>, was_timed: bool)
-        requires { was_timed ≡ true → TimerIsSet (parts_in self.old)
+        requires { was_timed ≡ true → TimerIsSet (state_in self.old)
             (based (sent_at time answer.now) self.old.variables) }
-        ensures { Does [] (based (sent_at time answer.now) self.old.variables) self.old self.new }
+        ensures { CompletesCall [] (based (sent_at time answer.now) self.old.variables) self.old
+            self.new }
     {
-        self.is_timed = false;
+        self.is_timer_current = false;
         self.variables = self.variables.based(sent_at(time, answer));
         self.time_on(was_timed);
     }
 
     /// Whether window and pacer are asked for a datagram with packets of a space that is not discarded.
     fn is_checked(&self, space: SpaceId, in_flight: bool) -> Option<bool>
-        ensures { let recovery = parts_in self.now in result
+        ensures { let recovery = state_in self.now in result
             ≡ (if is_discarded space recovery.discarded then None
             else Some (is_checked recovery space in_flight)) }
     {
@@ -154,10 +156,10 @@ where
 
     /// The datagram goes out, where limit, window and pacer let it.
     fn transmit_where_it_may(&mut self, now: Instant, bytes: u16, is_checked: bool) -> Transmission
-        requires total { (parts_in self.old).paths.current.state.total_sent + bytes < 2 ^ 64 }
+        requires total { (state_in self.old).paths.current.state.total_sent + bytes < 2 ^ 64 }
         ensures value { result
-            ≡ transmission F.Controller.words (parts_in self.old) now bytes is_checked }
-        ensures steps { Goes (transmit_steps now bytes is_checked result) self.old self.new }
+            ≡ transmission F.Controller.words (state_in self.old) now bytes is_checked }
+        ensures steps { TakesSteps (transmit_steps now bytes is_checked result) self.old self.new }
     {
         if self.path().anti_amplification_blocked(u64::from(bytes)) {
             Transmission::Blocked
@@ -170,7 +172,7 @@ where
 
     /// Whether the window has no room for so many bytes more (RFC 9002, 7).
     fn is_full(&self, bytes: u16) -> bool
-        ensures { result ≡ is_full F.Controller.words (parts_in self.now) bytes }
+        ensures { result ≡ is_full F.Controller.words (state_in self.now) bytes }
     {
         let path = self.path();
         let after = u128::from(path.in_flight().bytes) + u128::from(bytes);
@@ -179,13 +181,13 @@ where
 
     /// The datagram goes out, where the pacer lets it.
     fn transmit_now(&mut self, now: Instant, bytes: u16, is_checked: bool) -> Transmission
-        requires total { (parts_in self.old).paths.current.state.total_sent + bytes < 2 ^ 64 }
-        requires limit { is_blocked (parts_in self.old).paths.current.state bytes ≡ false }
+        requires total { (state_in self.old).paths.current.state.total_sent + bytes < 2 ^ 64 }
+        requires limit { is_blocked (state_in self.old).paths.current.state bytes ≡ false }
         requires window { is_checked ≡ true
-            → is_full F.Controller.words (parts_in self.old) bytes ≡ false }
+            → is_full F.Controller.words (state_in self.old) bytes ≡ false }
         ensures value { result
-            ≡ transmission F.Controller.words (parts_in self.old) now bytes is_checked }
-        ensures steps { Goes (transmit_steps now bytes is_checked result) self.old self.new }
+            ≡ transmission F.Controller.words (state_in self.old) now bytes is_checked }
+        ensures steps { TakesSteps (transmit_steps now bytes is_checked result) self.old self.new }
     {
         let event = Event::Transmit {
             now,

@@ -1,14 +1,14 @@
 //! The timer for losses expires (RFC 9002, 6.2 and A.9).
 ghost use Rattle.std.specs.Prelude.{◌≡◌, ◌∷◌, [], false, IfSome};
-ghost use Rattle.recovery_ledger.specs.Discarded.{is_discarded};
+ghost use Rattle.recovery_spaces.specs.Discarded.{is_discarded};
 ghost use Rattle.recovery_history.specs.History.{Reply};
 ghost use Rattle.recovery_sender.specs.Calls.{done_of, due_now, probes_with, space_due, ProbesOnce, ProbesTwice, QueuesProbe};
 ghost use Rattle.recovery_losses.specs.Variables.{timed_out};
-ghost use Rattle.recovery_sender.specs.Senders.{parts_in};
-ghost use Rattle.recovery_sender.specs.Steps.{told, Goes, Does};
-ghost use Rattle.recovery_sender.specs.Timeouts.{LosesByTime, TimesOut};
+ghost use Rattle.recovery_sender.specs.Senders.{state_in};
+ghost use Rattle.recovery_sender.specs.Steps.{told, TakesSteps, CompletesCall};
+ghost use Rattle.recovery_sender.specs.Timeouts.{DetectsByTime, TimeoutResult};
 
-use super::{Losses, Refused, Sender};
+use super::{Losses, SenderError, Sender};
 use quic_recovery::below::SpaceId;
 use quic_recovery::congestion::ControllerFactory;
 use quic_recovery::queue::RetransmitQueue;
@@ -34,12 +34,12 @@ pub enum Timeout {
 }
 
 /// Done or refused, whatever the answer is.
-fn done<Q: Drop>(reply: Result<Answer<Q>, Refusal>) -> Result<(), Refused>
+fn done<Q: Drop>(reply: Result<Answer<Q>, Refusal>) -> Result<(), SenderError>
     ensures { result ≡ done_of reply }
 {
     match reply {
         Ok(_) => Ok(()),
-        Err(refusal) => Err(Refused::Event(refusal)),
+        Err(refusal) => Err(SenderError::Event(refusal)),
     }
 }
 
@@ -61,8 +61,8 @@ where
         immediate_ack: bool,
         first: Q::Streams,
         second: Q::Streams,
-    ) -> Result<Timeout, Refused>
-        ensures { TimesOut now immediate_ack first second self.old self.new result }
+    ) -> Result<Timeout, SenderError>
+        ensures { TimeoutResult now immediate_ack first second self.old self.new result }
     {
         match self.due_now(now) {
             None => Ok(Timeout::Nothing),
@@ -87,10 +87,10 @@ where
 
     /// Packets of a space may be lost: they are looked for.
     fn find_losses(&mut self, space: SpaceId, now: Instant) -> Losses
-        ensures { LosesByTime space now self.old result self.new }
+        ensures { DetectsByTime space now self.old result self.new }
     {
         let losses = self.detect_and_remove_lost_packets(space, now, false);
-        self.is_timed = false;
+        self.is_timer_current = false;
         self.variables.base = now;
         self.set_loss_detection_timer();
         losses
@@ -98,9 +98,9 @@ where
 
     /// What is due now, where something is.
     fn due_now(&self, now: Instant) -> Option<Due>
-        ensures value { result ≡ due_now now (parts_in self.now) self.now.variables }
+        ensures value { result ≡ due_now now (state_in self.now) self.now.variables }
         ensures there { IfSome result (λ due.
-            is_discarded (space_due due) (parts_in self.now).discarded ≡ false) }
+            is_discarded (space_due due) (state_in self.now).discarded ≡ false) }
     {
         match self.due() {
             Some((time, due)) if time <= now => Some(due),
@@ -115,8 +115,8 @@ where
         now: Instant,
         immediate_ack: bool,
         streams: Q::Streams,
-    ) -> Result<u8, Refused>
-        requires there { is_discarded space (parts_in self.old).discarded ≡ false }
+    ) -> Result<u8, SenderError>
+        requires there { is_discarded space (state_in self.old).discarded ≡ false }
         ensures { ProbesOnce space immediate_ack streams self.old self.new now result }
     {
         if let Err(refused) = self.queue_probe(space, immediate_ack, streams) {
@@ -135,8 +135,8 @@ where
         immediate_ack: bool,
         first: Q::Streams,
         second: Q::Streams,
-    ) -> Result<u8, Refused>
-        requires there { is_discarded space (parts_in self.old).discarded ≡ false }
+    ) -> Result<u8, SenderError>
+        requires there { is_discarded space (state_in self.old).discarded ≡ false }
         ensures { ProbesTwice space immediate_ack first self.old self.new second now result }
     {
         if let Err(refused) = self.queue_probe(space, immediate_ack, first) {
@@ -153,8 +153,8 @@ where
         space: SpaceId,
         immediate_ack: bool,
         streams: Q::Streams,
-    ) -> Result<(), Refused>
-        requires there { is_discarded space (parts_in self.old).discarded ≡ false }
+    ) -> Result<(), SenderError>
+        requires there { is_discarded space (state_in self.old).discarded ≡ false }
         ensures { QueuesProbe space immediate_ack streams self.old self.new result }
     {
         let event = Event::QueueProbe {
@@ -162,15 +162,15 @@ where
             immediate_ack,
             streams,
         };
-        self.is_timed = false;
+        self.is_timer_current = false;
         done(self.recovery.apply(event))
     }
 
     /// A second probe is asked for: how many there are then.
     fn queue_second(&mut self, space: SpaceId, immediate_ack: bool, streams: Q::Streams) -> u8
-        requires there { is_discarded space (parts_in self.old).discarded ≡ false }
+        requires there { is_discarded space (state_in self.old).discarded ≡ false }
         ensures { (again : Reply Q) × (result ≡ probes_with again)
-            × Goes (told (Event.QueueProbe space immediate_ack streams) again ∷ [])
+            × TakesSteps (told (Event.QueueProbe space immediate_ack streams) again ∷ [])
             self.old self.new }
     {
         match self.queue_probe(space, immediate_ack, streams) {
@@ -181,9 +181,9 @@ where
 
     /// A probe timeout expired (RFC 9002, 6.2.1).
     fn time_out(&mut self, now: Instant)
-        ensures { Does [] (timed_out now self.old.variables) self.old self.new }
+        ensures { CompletesCall [] (timed_out now self.old.variables) self.old self.new }
     {
-        self.is_timed = false;
+        self.is_timer_current = false;
         self.variables = self.variables.timed_out(now);
         self.set_loss_detection_timer();
     }

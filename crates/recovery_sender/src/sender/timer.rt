@@ -3,12 +3,12 @@ ghost use Rattle.std.specs.Prelude.{◌≡◌, ◌∷◌, [], true, Decides, Ok,
 ghost use Rattle.recovery_base.specs.declared.timer.Timer.TheVariants.{LossDetection};
 ghost use Rattle.recovery_base.specs.Timers.{moment};
 ghost use Rattle.recovery_events.specs.declared.event.Refusal.{Refusal};
-ghost use Rattle.recovery_ledger.specs.Spaces.{packets_of};
-ghost use Rattle.quic_recovery.specs.State.{OnlyTells};
-ghost use Rattle.recovery_sender.specs.Senders.{parts_in};
+ghost use Rattle.recovery_spaces.specs.Spaces.{packets_of};
+ghost use Rattle.quic_recovery.specs.State.{ReadOnlyTransition};
+ghost use Rattle.recovery_sender.specs.Senders.{state_in};
 ghost use Rattle.recovery_sender.specs.Spaces.{space_in};
 ghost use Rattle.recovery_sender.specs.Timer.{TimerIsSet, due_of, has_eliciting, loss_due, probe_due, probe_in, deadlock_due, deadlock_space, pto_of};
-ghost use Rattle.recovery_sender.specs.Steps.{told, timer_event, Goes, Does};
+ghost use Rattle.recovery_sender.specs.Steps.{told, timer_event, TakesSteps, CompletesCall};
 
 use super::Sender;
 use quic_recovery::below::SpaceId;
@@ -43,50 +43,50 @@ where
 {
     /// The moment of the timer for losses (RFC 9002, A.8), as each call leaves it.
     pub fn loss_detection_timer(&self) -> Option<Instant>
-        ensures { result ≡ moment LossDetection (parts_in self.now).timers }
+        ensures { result ≡ moment LossDetection (state_in self.now).timers }
     {
         self.recovery.recovery().timers().get(Timer::LossDetection)
     }
 
     /// Sets the timer, or stops it (RFC 9002, A.8: SetLossDetectionTimer); where it is so already, no event is told.
     pub(super) fn set_loss_detection_timer(&mut self)
-        ensures { Does [] self.old.variables self.old self.new }
+        ensures { CompletesCall [] self.old.variables self.old self.new }
     {
         let due = self.due();
         if self.is_set_to(&due) {
-            self.is_timed = true;
+            self.is_timer_current = true;
             return;
         }
         self.tell_timer(due);
-        self.is_timed = true;
+        self.is_timer_current = true;
     }
 
     /// Whether the timer is known to be set as it is due.
     #[inline(always)]
     pub(super) fn is_known_timed(&self) -> bool
-        ensures { result ≡ true → TimerIsSet (parts_in self.now) self.now.variables }
+        ensures { result ≡ true → TimerIsSet (state_in self.now) self.now.variables }
     {
-        self.is_timed
+        self.is_timer_current
     }
 
     /// The same on a path that no limit against amplification binds (RFC 9000, 8.1).
     #[inline(always)]
     pub(super) fn is_timed_unlimited(&self) -> bool
-        ensures timed { result ≡ true → TimerIsSet (parts_in self.now) self.now.variables }
+        ensures timed { result ≡ true → TimerIsSet (state_in self.now) self.now.variables }
         ensures unlimited { result ≡ true
-            → (parts_in self.now).paths.current.state.validated ≡ true }
+            → (state_in self.now).paths.current.state.validated ≡ true }
     {
-        self.is_timed && self.path().validated
+        self.is_timer_current && self.path().validated
     }
 
     /// Sets it behind what moved nothing of it, where it was not known to be set.
     #[inline(always)]
     pub(super) fn time_on(&mut self, was_timed: bool)
-        requires { was_timed ≡ true → TimerIsSet (parts_in self.old) self.old.variables }
-        ensures { Does [] self.old.variables self.old self.new }
+        requires { was_timed ≡ true → TimerIsSet (state_in self.old) self.old.variables }
+        ensures { CompletesCall [] self.old.variables self.old self.new }
     {
         if was_timed {
-            self.is_timed = true;
+            self.is_timer_current = true;
             return;
         }
         self.set_loss_detection_timer();
@@ -94,7 +94,7 @@ where
 
     /// Whether the timer is set to the moment of what is due, or to none where nothing is.
     fn is_set_to(&self, due: &Option<(Instant, Due)>) -> bool
-        ensures { Decides result (moment LossDetection (parts_in self.now).timers
+        ensures { Decides result (moment LossDetection (state_in self.now).timers
             ≡ option_map (λ due. due.0) due.now) }
     {
         match (self.loss_detection_timer(), due) {
@@ -106,7 +106,7 @@ where
 
     /// The timer is set to the moment of what is due, or stopped where nothing is.
     fn tell_timer(&mut self, due: Option<(Instant, Due)>) -> Answer<Q>
-        ensures { Goes (told (timer_event due) (Ok result) ∷ []) self.old self.new }
+        ensures { TakesSteps (told (timer_event due) (Ok result) ∷ []) self.old self.new }
     {
         let timer = Timer::LossDetection;
         match due {
@@ -117,7 +117,7 @@ where
 
     /// When the timer is due, and what for.
     pub(super) fn due(&self) -> Option<(Instant, Due)>
-        ensures { result ≡ due_of (parts_in self.now) self.now.variables }
+        ensures { result ≡ due_of (state_in self.now) self.now.variables }
     {
         let losses = sooner(
             sooner(
@@ -148,7 +148,7 @@ where
     /// When packets of a space may be lost.
     #[inline(always)]
     fn loss_due(&self, space: SpaceId) -> Option<(Instant, Due)>
-        ensures { result ≡ loss_due (parts_in self.now) space }
+        ensures { result ≡ loss_due (state_in self.now) space }
     {
         let time = self.space(space)?.loss_time?;
         Some((time, Due::Losses(space)))
@@ -157,7 +157,7 @@ where
     /// When a space is to be probed: that of 1-RTT packets only once the handshake is confirmed (RFC 9002, 6.2.1).
     #[inline(always)]
     fn probe_due(&self, space: SpaceId) -> Option<(Instant, Due)>
-        ensures { result ≡ probe_due (parts_in self.now) self.now.variables space }
+        ensures { result ≡ probe_due (state_in self.now) self.now.variables space }
     {
         if space == SpaceId::Data && !self.variables.is_handshake_confirmed {
             return None;
@@ -168,7 +168,7 @@ where
     /// When it is, by what is kept for it.
     #[inline(always)]
     fn probe_in(&self, space: SpaceId, here: &PacketSpace<Q>) -> Option<(Instant, Due)>
-        ensures { result ≡ probe_in (parts_in self.now) self.now.variables space here.now }
+        ensures { result ≡ probe_in (state_in self.now) self.now.variables space here.now }
     {
         if !has_eliciting(here) {
             return None;
@@ -179,7 +179,7 @@ where
 
     /// When a client sends, that else might wait for a server that may not (RFC 9002, 6.2.2.1).
     fn deadlock_due(&self) -> Option<(Instant, Due)>
-        ensures { result ≡ deadlock_due (parts_in self.now) self.now.variables }
+        ensures { result ≡ deadlock_due (state_in self.now) self.now.variables }
     {
         if self.variables.is_address_validated() {
             return None;
@@ -194,7 +194,7 @@ where
 
     /// In which space it sends then.
     fn deadlock_space(&self) -> SpaceId
-        ensures { result ≡ deadlock_space (parts_in self.now) self.now.variables }
+        ensures { result ≡ deadlock_space (state_in self.now) self.now.variables }
     {
         if self.variables.has_handshake_keys && self.space(SpaceId::Handshake).is_some() {
             SpaceId::Handshake
@@ -205,21 +205,21 @@ where
 
     /// The probe timeout of a space, by the path in use (RFC 9002, 6.2.1).
     fn pto(&self, space: SpaceId) -> Duration
-        ensures { result ≡ pto_of (parts_in self.now) self.now.variables space }
+        ensures { result ≡ pto_of (state_in self.now) self.now.variables space }
     {
         self.variables.pto(self.path().rtt.pto_base(), space)
     }
 
     /// What is kept for a space that is not discarded.
     pub(super) fn space(&self, space: SpaceId) -> Option<&PacketSpace<Q>>
-        ensures { option_copied result ≡ space_in (parts_in self.now) space }
+        ensures { option_copied result ≡ space_in (state_in self.now) space }
     {
         self.recovery.recovery().space(space)
     }
 
     /// The path in use.
     pub(super) fn path(&self) -> &PathData<F::Controller>
-        ensures { result.now ≡ (parts_in self.now).paths.current }
+        ensures { result.now ≡ (state_in self.now).paths.current }
     {
         self.recovery.recovery().current()
     }
@@ -228,10 +228,10 @@ where
     #[inline(always)]
     pub(super) fn tell(&mut self, event: Event<Q>) -> Answer<Q>
         requires answered { (refusal : Refusal)
-            → ¬ OnlyTells event self.old.recovery.recovery (Err refusal) }
-        ensures { Goes (told event (Ok result) ∷ []) self.old self.new }
+            → ¬ ReadOnlyTransition event self.old.recovery.recovery (Err refusal) }
+        ensures { TakesSteps (told event (Ok result) ∷ []) self.old self.new }
     {
-        self.is_timed = false;
+        self.is_timer_current = false;
         match self.recovery.apply(event) {
             Ok(answer) => answer,
             Err(_) => unreachable!(),

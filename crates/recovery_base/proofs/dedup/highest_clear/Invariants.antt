@@ -1,7 +1,7 @@
 use Rattle.std.proofs.Common.{◌*◌}
-use Rattle.recovery_base.specs.Received.{IsSet, AreSet}
+use Rattle.recovery_base.specs.Received.{IsBitSetAt, AreBitsSet}
 use Rattle.recovery_base.proofs.dedup.highest_clear.Given as goal
 
 -- the places of the words that were looked at are set
 abbrev pub invariant-loop-word : goal.invariant-loop-word
-invariant-loop-word l = AreSet (IsSet l.window) (32 * l.word) l.places
+invariant-loop-word l = AreBitsSet (IsBitSetAt l.window) (32 * l.word) l.places

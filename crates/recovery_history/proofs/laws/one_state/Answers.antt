@@ -1,9 +1,9 @@
-use Rattle.recovery_history.specs.History.{begins, queue_meaning}
+use Rattle.recovery_history.specs.History.{begins, queue_model}
 use Rattle.recovery_history.proofs.TableLaws.{one_state_left}
 use Rattle.recovery_history.proofs.laws.one_state.Goals as goal
 
 pub returns : goal.returns
 returns g c = λ config start random history.
-    let queues = queue_meaning g.Q.RetransmitQueue.contents g.Q.RetransmitQueue.words g.Q.RetransmitQueue.blank in
+    let queues = queue_model g.Q.RetransmitQueue.contents g.Q.RetransmitQueue.words g.Q.RetransmitQueue.blank in
     one_state_left (begins g.F.ControllerFactory.built g.F.Controller.Controller.words queues config start random)
     history

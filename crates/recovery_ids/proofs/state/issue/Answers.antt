@@ -2,7 +2,7 @@ use Rattle.std.proofs.Common.{◌+◌, ◌-◌, ◌≡◌, ◌∙◌, ◌∷◌,
 use Rattle.std.specs.Map.{keys_of}
 use Rattle.recovery_queue.specs.Slots.{entries_in}
 use Rattle.recovery_ids.specs.CidState.{numbers_in}
-use Rattle.recovery_ids.specs.LocalIds.{Rise}
+use Rattle.recovery_ids.specs.LocalIds.{AreIncreasingWithin}
 use Rattle.recovery_ids.proofs.RiseLaws.{range_more, Rise-append}
 use Rattle.recovery_ids.proofs.SetLaws.{is_above, keys-append}
 use Rattle.recovery_ids.proofs.state.issue.Goals as goal
@@ -10,7 +10,7 @@ use Rattle.recovery_ids.proofs.state.issue.Goals as goal
 pub push-requires : goal.push-requires
 push-requires c =
     let number = c.loop-number.number in
-    let rise : Rise 0 number (numbers_in c.loop-number.numbers) = rw c.loop-number.invariant
+    let rise : AreIncreasingWithin 0 number (numbers_in c.loop-number.numbers) = rw c.loop-number.invariant
     (Rise-append 0 c.args.first (number - c.args.first) number (numbers_in c.args.numbers.now) c.requires.above
     (omega arith)) in
     is_above 0 number (entries_in c.loop-number.numbers) rise

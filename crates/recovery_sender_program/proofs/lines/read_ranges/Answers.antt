@@ -1,5 +1,5 @@
 use Rattle.std.proofs.Common.{arith}
-use Rattle.recovery_lines.proofs.ItemLaws.{item_first}
+use Rattle.recovery_script_syntax.proofs.ItemLaws.{item_first}
 use Rattle.recovery_sender_program.proofs.WordLaws.{one_less}
 use Rattle.recovery_sender_program.proofs.lines.read_ranges.Goals as goal
 

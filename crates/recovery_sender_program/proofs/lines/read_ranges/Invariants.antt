@@ -1,5 +1,5 @@
 use Rattle.std.proofs.Common.{length}
-use Rattle.recovery_lines.specs.Reading.{words_left}
+use Rattle.recovery_script_syntax.specs.Reading.{words_left}
 use Rattle.recovery_sender_program.proofs.lines.read_ranges.Given as goal
 
 abbrev pub decreases-loop-word : goal.decreases-loop-word

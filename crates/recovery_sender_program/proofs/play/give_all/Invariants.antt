@@ -1,5 +1,5 @@
-use Rattle.recovery_sender_program.specs.Giving.{Gives}
+use Rattle.recovery_sender_program.specs.Giving.{YieldsItems}
 use Rattle.recovery_sender_program.proofs.play.give_all.Given as goal
 
 abbrev pub invariant-loop-number : goal.invariant-loop-number
-invariant-loop-number g l = Gives (g.S.Sink.takes) l.fn.sink l.sink
+invariant-loop-number g l = YieldsItems (g.S.Sink.takes) l.fn.sink l.sink

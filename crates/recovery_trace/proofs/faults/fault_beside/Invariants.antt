@@ -1,6 +1,6 @@
 use Rattle.std.proofs.Common.{◌≡◌, ◌-◌, ◌+◌, ◌≤◌, ◌==◌, ◌⊎◌, length, take, slice_index}
 use Rattle.std.specs.List.{count_by}
-use Rattle.recovery_trace.specs.Faults.{Begins}
+use Rattle.recovery_trace.specs.Faults.{IsEventPrefix}
 use Rattle.recovery_trace.proofs.faults.fault_beside.Given as goal
 
 abbrev pub invariant-loop-start : goal.invariant-loop-start
@@ -8,7 +8,7 @@ invariant-loop-start l = (l.start ≤ length l.line + 1)
     × (l.start ≤ length l.line → l.number ≡ count_by (λ byte. byte == 32) (take l.start l.line) + 1)
     × (l.number ≤ l.start + 1)
     × ((l.start ≡ 0)
-    ⊎ (l.start ≤ length l.line → slice_index l.line (l.start - 1) ≡ 32) × Begins (take (l.start - 1) l.line))
+    ⊎ (l.start ≤ length l.line → slice_index l.line (l.start - 1) ≡ 32) × IsEventPrefix (take (l.start - 1) l.line))
 
 abbrev pub decreases-loop-start : goal.decreases-loop-start
 decreases-loop-start l = length l.line + 1 - l.start

@@ -1,6 +1,6 @@
 use Rattle.std.proofs.Common.{rules, string_bytes}
 use lib.Chars.{codes}
-use Rattle.recovery_ledger.specs.Paths.{counters_of}
+use Rattle.recovery_spaces.specs.Paths.{counters_of}
 use Rattle.recovery_trace.specs.Qlog.{metrics_named}
 use Rattle.recovery_trace.specs.States.{flight_text, window_text, rtt_text}
 use Rattle.recovery_trace.proofs.StateTextLaws.{five}

@@ -1,5 +1,5 @@
 use Rattle.std.proofs.Common.{rules, string_bytes}
-use Rattle.recovery_ledger.specs.Paths.{counters_of}
+use Rattle.recovery_spaces.specs.Paths.{counters_of}
 use Rattle.recovery_trace.specs.States.{time_text, flight_text, window_text, rtt_text, room_text}
 use Rattle.recovery_trace.proofs.StateTextLaws.{five}
 use Rattle.recovery_trace.proofs.states.write_state.Goals as goal

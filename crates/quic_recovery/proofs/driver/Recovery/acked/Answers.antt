@@ -1,9 +1,9 @@
 use Rattle.std.proofs.Common.{sym, ap, ◌∙◌}
-use Rattle.recovery_ledger.specs.Packets.{Tracking}
-use Rattle.recovery_ledger.specs.Spaces.{tracking_of, next_number_of, space_takes}
-use Rattle.recovery_ledger.proofs.SpaceAckLaws.{acked_greatest}
-use Rattle.recovery_ledger.proofs.AmongLaws.{acknowledging_found}
-use Rattle.recovery_ledger.proofs.CoherentLaws.{coherent_taken}
+use Rattle.recovery_spaces.specs.Packets.{Tracking}
+use Rattle.recovery_spaces.specs.Spaces.{tracking_of, next_number_of, space_takes}
+use Rattle.recovery_spaces.proofs.SpaceAckLaws.{acked_greatest}
+use Rattle.recovery_spaces.proofs.AmongLaws.{acknowledging_found}
+use Rattle.recovery_spaces.proofs.CoherentLaws.{coherent_taken}
 use Rattle.recovery_paths.proofs.BalanceLaws.{counted, paths_balanced_acked}
 use Rattle.recovery_history.proofs.AckedLostLaws.{acked_changes}
 use Rattle.quic_recovery.proofs.driver.Recovery.acked.Goals as goal

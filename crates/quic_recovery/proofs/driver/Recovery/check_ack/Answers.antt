@@ -1,7 +1,7 @@
 use Rattle.std.proofs.Common.{refl, sym, arith}
-use Rattle.recovery_ledger.proofs.ReceivedLaws.{fails}
-use Rattle.recovery_history.specs.Changes.{known_to}
-use Rattle.quic_recovery.specs.State.{parts_of}
+use Rattle.recovery_spaces.proofs.ReceivedLaws.{fails}
+use Rattle.recovery_history.specs.Transitions.{inputs_of}
+use Rattle.quic_recovery.specs.State.{state_of}
 use Rattle.recovery_history.proofs.ProbeStepLaws.{skip_acked, acks_skip}
 use Rattle.quic_recovery.proofs.driver.Recovery.check_ack.Goals as goal
 
@@ -13,7 +13,7 @@ returns-in-Ok g c = (
     (
       (λ less. omega arith),
       (
-        (λ acked. c.in-Ok.ensures (acks_skip (known_to (parts_of c.args.self.now)) _ _ _ c.new.ensures.start
+        (λ acked. c.in-Ok.ensures (acks_skip (inputs_of (state_of c.args.self.now)) _ _ _ c.new.ensures.start
             c.new.ensures.end c.new.ensures.exhausted c.args.space acked)),
         refl,
       ),
@@ -28,7 +28,7 @@ returns-in-Err g c = (
     (λ large. omega arith),
     (
       (λ less. omega arith),
-      skip_acked (known_to (parts_of c.args.self.now)) _ _ _ c.new.ensures.start c.new.ensures.end
+      skip_acked (inputs_of (state_of c.args.self.now)) _ _ _ c.new.ensures.start c.new.ensures.end
           c.new.ensures.exhausted c.args.space c.in-Err.ensures.0,
     ),
   ),

@@ -1,6 +1,6 @@
 use Rattle.std.proofs.Common.{sym, ap}
-use Rattle.recovery_ledger.specs.Spaces.{tracking_of, packets_of, next_number_of}
-use Rattle.recovery_ledger.proofs.CoherentLaws.{coherent_emptied}
+use Rattle.recovery_spaces.specs.Spaces.{tracking_of, packets_of, next_number_of}
+use Rattle.recovery_spaces.proofs.CoherentLaws.{coherent_emptied}
 use Rattle.recovery_paths.proofs.BalanceLaws.{emptied}
 use Rattle.recovery_history.proofs.PathStepLaws.{discard_changes}
 use Rattle.quic_recovery.proofs.driver.Recovery.discard.Goals as goal

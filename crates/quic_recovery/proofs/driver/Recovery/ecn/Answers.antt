@@ -1,5 +1,5 @@
 use Rattle.std.proofs.Common.{subst}
-use Rattle.recovery_ledger.specs.Spaces.{Space}
+use Rattle.recovery_spaces.specs.Spaces.{Space}
 use Rattle.recovery_history.proofs.ProbeStepLaws.{Stays, stays_balanced, fed_back_stays}
 use Rattle.quic_recovery.proofs.driver.Recovery.ecn.Goals as goal
 

@@ -1,6 +1,6 @@
 use Rattle.std.proofs.Common.{sym, ap, ◌∙◌}
-use Rattle.recovery_ledger.specs.Spaces.{packets_of}
-use Rattle.recovery_ledger.proofs.CoherentLaws.{coherent_lost}
+use Rattle.recovery_spaces.specs.Spaces.{packets_of}
+use Rattle.recovery_spaces.proofs.CoherentLaws.{coherent_lost}
 use Rattle.recovery_paths.proofs.BalanceLaws.{paths_balanced_lost, lost_counted_on}
 use Rattle.quic_recovery.proofs.driver.Recovery.lost.Goals as goal
 

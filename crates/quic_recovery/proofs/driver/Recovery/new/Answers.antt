@@ -1,9 +1,9 @@
 use Rattle.std.proofs.Common.{◌<◌, ◌^◌, rules, [], refl}
 use Rattle.std.proofs.lemmas.Option.{none-some}
 use Rattle.recovery_base.specs.declared.below.SpaceId.{SpaceId}
-use Rattle.recovery_ledger.specs.Spaces.{space_of, SpaceLeft}
-use Rattle.recovery_ledger.proofs.SpaceLaws.{fresh_space}
-use Rattle.recovery_history.specs.History.{begins, queue_meaning}
+use Rattle.recovery_spaces.specs.Spaces.{space_of, SpaceAfter}
+use Rattle.recovery_spaces.proofs.SpaceLaws.{fresh_space}
+use Rattle.recovery_history.specs.History.{begins, queue_model}
 use Rattle.recovery_history.proofs.AboveLaws.{untouched_made}
 use Rattle.recovery_history.proofs.LeftLaws.{balanced_first, in_flight_law, paths_first}
 use Rattle.recovery_history.proofs.SearchLaws.{where_allowed}
@@ -20,13 +20,13 @@ pub returns-clause-left : goal.returns-clause-left
 returns-clause-left g c =
     let words = g.Q.RetransmitQueue.words in
     let random = g.R.Rng.stream c.args.rng in
-    let queues = queue_meaning g.Q.RetransmitQueue.contents words g.Q.RetransmitQueue.blank in
+    let queues = queue_model g.Q.RetransmitQueue.contents words g.Q.RetransmitQueue.blank in
     let beginning = begins g.F.ControllerFactory.built g.F.Controller.Controller.words queues c.args.config c.args.now
     random in
     let made = c.new-2.ensures in
     let balanced = balanced_first _ _ _ c.new-4.ensures made
     c.first_path.ensures.ledger in
-    let spaces : (space : SpaceId) → SpaceLeft words c.args.now [] (space_of space c.new-2.result) = λ space.
+    let spaces : (space : SpaceId) → SpaceAfter words c.args.now [] (space_of space c.new-2.result) = λ space.
     fresh_space words c.args.now _ (made space) in
     record {
       parts = record {

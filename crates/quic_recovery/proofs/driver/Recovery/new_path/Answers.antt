@@ -1,12 +1,12 @@
 use Rattle.std.proofs.Common.{rules, arith, ◌≡◌, ◌+◌, ◌<◌, ◌^◌, refl, ap, sym, ◌∙◌}
-use Rattle.recovery_ledger.specs.Paths.{fresh_ledger}
+use Rattle.recovery_spaces.specs.Paths.{fresh_ledger}
 use Rattle.recovery_paths.specs.PathLog.{paths_marks}
 use Rattle.recovery_paths.specs.PathStates.{Path}
 use Rattle.recovery_paths.proofs.BalanceLaws.{moved}
 use Rattle.recovery_events.specs.declared.event.Event.{Event}
 use Rattle.recovery_events.specs.declared.event.Event.TheVariants.{NewPath}
 use Rattle.recovery_events.specs.declared.event.Refusal.TheVariants.{NoMemory}
-use Rattle.quic_recovery.specs.State.{parts_of}
+use Rattle.quic_recovery.specs.State.{state_of}
 use Rattle.recovery_history.proofs.AboveLaws.{marks_refused}
 use Rattle.recovery_history.proofs.DriverLaws.{nothing_changes}
 use Rattle.quic_recovery.proofs.driver.Recovery.new_path.Goals.{then-fresh, else-fresh+in-Ok}
@@ -21,7 +21,7 @@ returns-in-Err g c =
     NewPath c.args.now c.args.remote c.args.fresh in
     record {
       told = ((λ most. omega arith), search (rules, c.if-fresh.false));
-      steps = nothing_changes g.Q.RetransmitQueue.words (parts_of now) (parts_of now) refl;
+      steps = nothing_changes g.Q.RetransmitQueue.words (state_of now) (state_of now) refl;
       plain = refl;
       marks = sym (marks_refused event NoMemory (paths_marks now.paths));
       refused = refl;

@@ -1,5 +1,5 @@
-use Rattle.recovery_ledger.specs.Probes.{probe_found}
-use Rattle.recovery_ledger.specs.Spaces.{space_of, packets_of}
+use Rattle.recovery_spaces.specs.Probes.{probe_found}
+use Rattle.recovery_spaces.specs.Spaces.{space_of, packets_of}
 use Rattle.recovery_history.proofs.ProbeStepLaws.{probe_balanced}
 use Rattle.quic_recovery.proofs.driver.Recovery.queue_probe.Goals as goal
 

@@ -1,16 +1,16 @@
 use Rattle.recovery_paths.proofs.BalanceLaws.{can_track}
 use Rattle.std.proofs.Common.{◌≡◌, ℕ, Option, Ok, Err, refl, sym, ap, ◌∙◌, arith}
 use Rattle.recovery_congestion.specs.Calls.{sends as sends_bytes}
-use Rattle.recovery_ledger.specs.declared.paths.LedgerError.{LedgerError}
-use Rattle.recovery_ledger.specs.Packets.{Packet, entry_number}
-use Rattle.recovery_ledger.specs.Spaces.{next_number_of}
-use Rattle.recovery_ledger.specs.Tracked.{packet_sent}
-use Rattle.recovery_ledger.proofs.ReceivedLaws.{fails}
+use Rattle.recovery_spaces.specs.declared.paths.LedgerError.{LedgerError}
+use Rattle.recovery_spaces.specs.Packets.{Packet, entry_number}
+use Rattle.recovery_spaces.specs.Spaces.{next_number_of}
+use Rattle.recovery_spaces.specs.Tracked.{packet_sent}
+use Rattle.recovery_spaces.proofs.ReceivedLaws.{fails}
 use Rattle.recovery_paths.specs.PathStates.{after_telling}
 use Rattle.recovery_paths.specs.declared.path_pair.PathName.TheVariants.{Current}
 use Rattle.recovery_paths.proofs.BalanceLaws.{on_state_kept}
 use Rattle.recovery_history.specs.Numbers.{number_behind, skipping_behind}
-use Rattle.quic_recovery.specs.State.{parts_of}
+use Rattle.quic_recovery.specs.State.{state_of}
 use Rattle.recovery_history.proofs.NumberLaws.{number_above}
 use Rattle.recovery_history.proofs.SendLaws.{sent_balanced, send_changes}
 use Rattle.quic_recovery.proofs.driver.Recovery.send.Goals as goal
@@ -47,7 +47,7 @@ invariant_of-self-2 g c =
 
 pub returns : goal.returns
 returns g c =
-    let old = parts_of c.args.self.now in
+    let old = state_of c.args.self.now in
     let there = c.index_mut-here.ensures.value in
     let next = c.next_packet_number-next.ensures ∙ ap next_number_of there in
     let number = c.number_behind-number.ensures ∙ ap (number_behind old.skipping.filter c.args.space) next in

@@ -1,5 +1,5 @@
 use Rattle.std.proofs.Common.{ap, ◌∙◌}
-use Rattle.recovery_ledger.specs.Spaces.{tracking_of, next_number_of, acks_of}
+use Rattle.recovery_spaces.specs.Spaces.{tracking_of, next_number_of, acks_of}
 use Rattle.recovery_history.proofs.LossTimeLaws.{reached_with_loss_time}
 use Rattle.recovery_history.proofs.ProbeStepLaws.{stays_balanced}
 use Rattle.quic_recovery.proofs.driver.Recovery.set_loss_time.Goals as goal

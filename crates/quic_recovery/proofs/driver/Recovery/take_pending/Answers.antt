@@ -1,5 +1,5 @@
 use Rattle.std.proofs.Common.{refl, ap, ◌∙◌}
-use Rattle.recovery_ledger.specs.Spaces.{space_hands_out}
+use Rattle.recovery_spaces.specs.Spaces.{space_hands_out}
 use Rattle.recovery_history.proofs.ProbeStepLaws.{stays_balanced, stays_as}
 use Rattle.quic_recovery.proofs.driver.Recovery.take_pending.Goals as goal
 

@@ -1,11 +1,12 @@
 use Rattle.std.proofs.Common.{true, false, not, sym, ap}
-use Rattle.recovery_base.specs.Received.{Has}
+use Rattle.recovery_base.specs.Received.{HasReceived}
 use Rattle.recovery_acks.proofs.AckLaws.{reaches, eliciting_receives, received}
 use Rattle.recovery_acks.proofs.pending.PendingAcks.packet_received.Goals as goal
 
 pub is_out_of_order-out_of_order-requires-clause-reached : goal.is_out_of_order-out_of_order-requires-clause-reached
 is_out_of_order-out_of_order-requires-clause-reached c = rw (c.max-greatest.ensures, c.unwrap_or-before.ensures)
-    (reaches (Has c.args.dedup.now) c.self.inside.largest_ack_eliciting_packet c.args.packet_number c.requires.number
+    (reaches (HasReceived c.args.dedup.now) c.self.inside.largest_ack_eliciting_packet c.args.packet_number
+        c.requires.number
     (rw (← c.self.view_is) at c.requires.earlier))
 
 pub returns-then-is_noticed-clause-receives : goal.returns-then-is_noticed-clause-receives

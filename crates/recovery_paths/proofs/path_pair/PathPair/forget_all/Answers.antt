@@ -1,8 +1,8 @@
 use Rattle.std.proofs.Common.{sym, ap, ◌∙◌}
-use Rattle.recovery_ledger.specs.Packets.{Packets}
-use Rattle.recovery_ledger.specs.Spaces.{Space, tracking_of, with_tracking, packets_of}
+use Rattle.recovery_spaces.specs.Packets.{Packets}
+use Rattle.recovery_spaces.specs.Spaces.{Space, tracking_of, with_tracking, packets_of}
 use Rattle.recovery_paths.specs.PathPair.{paths_without}
-use Rattle.recovery_paths.specs.PathLog.{OfPaths}
+use Rattle.recovery_paths.specs.PathLog.{PerPath}
 use Rattle.recovery_paths.specs.PathStates.{Path}
 use Rattle.recovery_paths.proofs.PathPairLaws.{counted_first, without_first}
 use Rattle.recovery_paths.proofs.path_pair.PathPair.forget_all.Goals as goal
@@ -23,7 +23,7 @@ loop-packet-preserved g c =
           i.others;
       last = c.in-Some.ensures.last ∙ i.last;
       counted = rw c.remove_in_flight.ensures both.1;
-      paths = ap (λ (p : OfPaths (Path _)). paths_without rest p) c.remove_in_flight.ensures
+      paths = ap (λ (p : PerPath (Path _)). paths_without rest p) c.remove_in_flight.ensures
           ∙ without_first (c.in-Some.field-0-0, c.in-Some.packet) rest c.loop-packet.self
           ∙ ap (λ (packets : Packets _ _). paths_without packets c.loop-packet.self) (sym c.in-Some.ensures.first)
           ∙ i.paths;

@@ -1,5 +1,5 @@
 use Rattle.std.proofs.Common.{◌≡◌, length}
-use Rattle.recovery_ledger.specs.Spaces.{tracking_of, with_tracking, packets_of}
+use Rattle.recovery_spaces.specs.Spaces.{tracking_of, with_tracking, packets_of}
 use Rattle.recovery_paths.specs.PathPair.{AreCountedOnEach, paths_without}
 use Rattle.recovery_paths.proofs.path_pair.PathPair.forget_all.Given as goal
 

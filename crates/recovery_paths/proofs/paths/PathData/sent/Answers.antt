@@ -1,7 +1,7 @@
 use Rattle.std.proofs.Common.{arith, sym, ap, subst, ◌∙◌}
-use Rattle.recovery_ledger.specs.Packets.{AreBelow, forgotten_entry}
-use Rattle.recovery_ledger.specs.Paths.{generation_of, counters_of}
-use Rattle.recovery_ledger.specs.Spaces.{Space, packets_of, tracking_of}
+use Rattle.recovery_spaces.specs.Packets.{AreBelow, forgotten_entry}
+use Rattle.recovery_spaces.specs.Paths.{generation_of, counters_of}
+use Rattle.recovery_spaces.specs.Spaces.{Space, packets_of, tracking_of}
 use Rattle.recovery_paths.specs.PathStates.{Path}
 use Rattle.recovery_paths.proofs.paths.PathData.sent.Goals as goal
 

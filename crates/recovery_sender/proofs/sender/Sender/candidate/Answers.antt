@@ -1,6 +1,6 @@
 use Rattle.std.proofs.Common.{[], ap, ◌∙◌}
 use Rattle.std.specs.Option.{option_map_or}
-use Rattle.recovery_ledger.specs.Spaces.{packets_of}
+use Rattle.recovery_spaces.specs.Spaces.{packets_of}
 use Rattle.recovery_losses.proofs.LossLaws.{next_in, none_below, none_in}
 use Rattle.recovery_sender.proofs.sender.Sender.candidate.Goals as goal
 

@@ -1,5 +1,5 @@
 use Rattle.std.proofs.Common.{refl, ap, sym, ◌∙◌}
-use Rattle.recovery_ledger.specs.Packets.{packet_at}
+use Rattle.recovery_spaces.specs.Packets.{packet_at}
 use Rattle.recovery_losses.proofs.LookLaws.{probe_tracked}
 use Rattle.recovery_sender.proofs.LeadLaws.{packets_ended, packets_congested}
 use Rattle.recovery_sender.proofs.DetectLaws.{detects_all, detects_none, found_all}

@@ -1,6 +1,6 @@
 use Rattle.std.proofs.Common.{◌-◌, None, sym, subst, ◌∙◌, arith}
-use Rattle.recovery_sender.specs.Acks.{AreNewly}
-use Rattle.recovery_sender.specs.Senders.{parts_in}
+use Rattle.recovery_sender.specs.Acks.{AreNewlyAcked}
+use Rattle.recovery_sender.specs.Senders.{state_in}
 use Rattle.recovery_sender.specs.Spaces.{packets_in}
 use Rattle.recovery_sender.proofs.AckLaws.{newly_on}
 use Rattle.recovery_losses.proofs.FrameLaws.{are_fine, ranges_are, small_all}
@@ -28,10 +28,10 @@ loop-at-preserved g c =
     let some = c.loop-at-test.true in
     let one = c.in_default.ensures.taken in
     record {
-      newly = newly_on (packets_in (parts_in c.args.self.now) c.args.space) c.args.ranges.now
+      newly = newly_on (packets_in (state_in c.args.self.now) c.args.space) c.args.ranges.now
           (are_fine None c.args.ranges.now (sym (ranges_are c.args.ranges.now (omega (arith, some, i.within)))
           ∙ c.requires.whole)) (c.loop-at.at - 1) (omega (arith, some, i.within)) c.loop-at.newly.numbers.items _
-          c.loop-at.newly.elicits _ (subst (λ at. AreNewly (packets_in (parts_in c.args.self.now) c.args.space)
+          c.loop-at.newly.elicits _ (subst (λ at. AreNewlyAcked (packets_in (state_in c.args.self.now) c.args.space)
           c.args.ranges.now at c.loop-at.newly.numbers.items c.loop-at.newly.elicits) (omega (arith, some)) i.newly)
           one;
       within = omega (arith, i.within);
@@ -39,7 +39,7 @@ loop-at-preserved g c =
 
 pub returns-clause-newly : goal.returns-clause-newly
 returns-clause-newly g c =
-    subst (λ at. AreNewly (packets_in (parts_in c.args.self.now) c.args.space) c.args.ranges.now at
+    subst (λ at. AreNewlyAcked (packets_in (state_in c.args.self.now) c.args.space) c.args.ranges.now at
     c.loop-at.newly.numbers.items c.loop-at.newly.elicits) (omega (arith, c.loop-at-test.false))
     c.loop-at.invariant.newly
 

@@ -1,6 +1,6 @@
 use Rattle.std.proofs.Common.{[], ap, ◌∙◌, arith}
 use Rattle.std.specs.Option.{option_map_or}
-use Rattle.recovery_ledger.specs.Spaces.{packets_of}
+use Rattle.recovery_spaces.specs.Spaces.{packets_of}
 use Rattle.recovery_sender.proofs.AckLaws.{first_of_range, none_in_range, none_of_range}
 use Rattle.recovery_sender.proofs.sender.Sender.first_in.Goals as goal
 

@@ -1,8 +1,8 @@
 use Rattle.std.proofs.Common.{[], ap, sym, ◌∙◌, arith}
 use Rattle.std.specs.Option.{option_and_then, option_map_or}
 use Rattle.std.proofs.lemmas.Option.{same_Some}
-use Rattle.recovery_ledger.specs.Packets.{packet_at}
-use Rattle.recovery_ledger.specs.Spaces.{packets_of}
+use Rattle.recovery_spaces.specs.Packets.{packet_at}
+use Rattle.recovery_spaces.specs.Spaces.{packets_of}
 use Rattle.recovery_losses.proofs.LossLaws.{lowest_from, none_from}
 use Rattle.recovery_sender.proofs.sender.Sender.gap.Goals as goal
 

@@ -8,7 +8,7 @@ returns-clause-begins g c = record {
     alloc = c.args.alloc;
     recovery = c.in_ok-recovery.recovery;
     variables = c.new-2.result;
-    is_timed = false;
+    is_timer_current = false;
     timed = λ is. absurd cc;
   };
   came = rw c.config_of.ensures at c.in_ok-recovery.ensures.came;

@@ -1,5 +1,5 @@
-use Rattle.recovery_history.specs.History.{queue_meaning}
-use Rattle.recovery_sender.specs.Senders.{parts_in}
+use Rattle.recovery_history.specs.History.{queue_model}
+use Rattle.recovery_sender.specs.Senders.{state_in}
 use Rattle.recovery_sender.proofs.LeftLaws.{event_left}
 use Rattle.recovery_sender.proofs.StepLaws.{does_event}
 use Rattle.recovery_sender.proofs.sender.Sender.on_event.Goals as goal
@@ -12,6 +12,6 @@ returns-in-Ok g c =
 pub goes_on-requires : goal.goes_on-requires
 goes_on-requires g c = λ was. let known = c.is_left_by-was_timed.ensures in
     rw c.to_send-time.ensures (event_left
-    (queue_meaning g.Q.RetransmitQueue.contents g.Q.RetransmitQueue.words g.Q.RetransmitQueue.blank)
-    c.args.self.now.variables (parts_in c.args.self.now) _ c.args.event c.in-Ok.answer (known.leaves was)
+    (queue_model g.Q.RetransmitQueue.contents g.Q.RetransmitQueue.words g.Q.RetransmitQueue.blank)
+    c.args.self.now.variables (state_in c.args.self.now) _ c.args.event c.in-Ok.answer (known.leaves was)
     c.in-Ok.ensures.changes (known.timed was))

@@ -1,6 +1,6 @@
 use Rattle.std.proofs.Common.{inl, inr, refl, sym, true≢false, ◌∙◌}
-use Rattle.recovery_history.specs.History.{queue_meaning}
-use Rattle.recovery_sender.specs.Senders.{parts_in}
+use Rattle.recovery_history.specs.History.{queue_model}
+use Rattle.recovery_sender.specs.Senders.{state_in}
 use Rattle.recovery_sender.specs.Timer.{TimerIsSet}
 use Rattle.recovery_sender.proofs.AliveLaws.{never_stalls}
 use Rattle.recovery_sender.proofs.TimerLaws.{timer_sets}
@@ -13,10 +13,10 @@ invariant_of-self g c = record {
 
 pub returns-then-is_set_to : goal.returns-then-is_set_to
 returns-then-is_set_to g c =
-    let timer : TimerIsSet (parts_in c.args.self.now) c.args.self.now.variables =
+    let timer : TimerIsSet (state_in c.args.self.now) c.args.self.now.variables =
     rw c.due-due.ensures at c.is_set_to.ensures.0 c.if-is_set_to.true in
     record {
-      between = parts_in c.args.self.now;
+      between = state_in c.args.self.now;
       leads = refl;
       sets = inl (timer, refl);
       variables = refl;
@@ -27,8 +27,8 @@ returns-then-is_set_to g c =
 pub invariant_of-self-2 : goal.invariant_of-self-2
 invariant_of-self-2 g c =
     let sets = timer_sets g.F.ControllerFactory.built g.F.Controller.Controller.words
-    (queue_meaning g.Q.RetransmitQueue.contents g.Q.RetransmitQueue.words g.Q.RetransmitQueue.blank)
-    c.args.self.now.variables (parts_in c.args.self.now) c.tell_timer.result (parts_in c.tell_timer.new.self)
+    (queue_model g.Q.RetransmitQueue.contents g.Q.RetransmitQueue.words g.Q.RetransmitQueue.blank)
+    c.args.self.now.variables (state_in c.args.self.now) c.tell_timer.result (state_in c.tell_timer.new.self)
     (rw c.due-due.ensures at c.tell_timer.ensures.leads) in
     record { timed = λ is. rw c.tell_timer.ensures.variables sets.1 }
 
@@ -36,14 +36,14 @@ pub returns : goal.returns
 returns g c =
     let variables = c.args.self.now.variables in
     let sets = timer_sets g.F.ControllerFactory.built g.F.Controller.Controller.words
-    (queue_meaning g.Q.RetransmitQueue.contents g.Q.RetransmitQueue.words g.Q.RetransmitQueue.blank) variables
-    (parts_in c.args.self.now) c.tell_timer.result (parts_in c.tell_timer.new.self)
+    (queue_model g.Q.RetransmitQueue.contents g.Q.RetransmitQueue.words g.Q.RetransmitQueue.blank) variables
+    (state_in c.args.self.now) c.tell_timer.result (state_in c.tell_timer.new.self)
     (rw c.due-due.ensures at c.tell_timer.ensures.leads) in
-    let timer : TimerIsSet (parts_in c.tell_timer.new.self) c.tell_timer.new.self.variables =
+    let timer : TimerIsSet (state_in c.tell_timer.new.self) c.tell_timer.new.self.variables =
     rw c.tell_timer.ensures.variables sets.1 in
     let was_set = rw c.due-due.ensures at c.is_set_to.ensures.1 in
     record {
-      between = parts_in c.args.self.now;
+      between = state_in c.args.self.now;
       leads = refl;
       sets = inr (λ set. true≢false (sym (was_set set) ∙ c.if-is_set_to.false), sets.0);
       variables = c.tell_timer.ensures.variables;

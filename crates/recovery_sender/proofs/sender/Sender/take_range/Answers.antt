@@ -1,5 +1,5 @@
 use Rattle.std.proofs.Common.{arith}
-use Rattle.recovery_sender.specs.Senders.{parts_in}
+use Rattle.recovery_sender.specs.Senders.{state_in}
 use Rattle.recovery_sender.specs.Spaces.{packets_in}
 use Rattle.recovery_sender.proofs.AckLaws.{takes_all, takes_none, takes_one}
 use Rattle.recovery_sender.proofs.sender.Sender.take_range.Goals as goal
@@ -17,7 +17,7 @@ loop-number-preserved g c =
     let is = c.in-Some.ensures in
     record {
       takes = rw (c.push_reserved.ensures.items, c.reserve.ensures.items) (takes_one
-          (packets_in (parts_in c.args.self.now) c.args.space) c.args.first c.args.last
+          (packets_in (state_in c.args.self.now) c.args.space) c.args.first c.args.last
           c.args.newly.now.numbers.items _ _ _ _ i.above i.takes is);
       above = omega (arith, i.above, is.from_on);
       within = omega (arith, is.up_to);

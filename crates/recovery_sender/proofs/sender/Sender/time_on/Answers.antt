@@ -1,5 +1,5 @@
 use Rattle.std.proofs.Common.{inl, refl}
-use Rattle.recovery_sender.specs.Senders.{parts_in}
+use Rattle.recovery_sender.specs.Senders.{state_in}
 use Rattle.recovery_sender.proofs.AliveLaws.{never_stalls}
 use Rattle.recovery_sender.proofs.sender.Sender.time_on.Goals as goal
 
@@ -7,7 +7,7 @@ pub returns-then-was_timed : goal.returns-then-was_timed
 returns-then-was_timed g c =
     let timer = c.requires c.if-was_timed.true in
     record {
-      between = parts_in c.args.self.now;
+      between = state_in c.args.self.now;
       leads = refl;
       sets = inl (timer, refl);
       variables = refl;

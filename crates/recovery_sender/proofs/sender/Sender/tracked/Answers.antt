@@ -1,6 +1,6 @@
 use Rattle.std.proofs.Common.{[], ap, refl, ◌∙◌}
 use Rattle.std.specs.Option.{option_map_or}
-use Rattle.recovery_ledger.specs.Spaces.{packets_of}
+use Rattle.recovery_spaces.specs.Spaces.{packets_of}
 use Rattle.recovery_losses.proofs.LossLaws.{found_from}
 use Rattle.recovery_sender.proofs.AckedLaws.{absent_below, absent_from, at_same}
 use Rattle.recovery_sender.proofs.sender.Sender.tracked.Goals as goal

@@ -1,5 +1,5 @@
 use Rattle.std.proofs.Common.{ap, ◌∙◌}
-use Rattle.recovery_ledger.specs.Spaces.{packets_of}
+use Rattle.recovery_spaces.specs.Spaces.{packets_of}
 use Rattle.recovery_sender.specs.Timer.{has_eliciting}
 use Rattle.recovery_sender.proofs.TimerLaws.{eliciting_found}
 use Rattle.recovery_sender.proofs.sender.timer.has_eliciting.Goals as goal

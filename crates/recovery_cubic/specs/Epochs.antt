@@ -1,0 +1,140 @@
+-- CUBIC's window goes by the curve from a reduction until the next (RFC 9438, 4.2). Lists are newest first.
+use Rattle.std.specs.Prelude.{ℕ, ◌≡◌, ◌+◌, ◌-◌, ◌*◌, ◌/◌, ◌<◌, ◌≤◌, min, max, nat_lt, if◌then◌else◌, List, [], ◌∷◌, ◌++◌}
+use Rattle.recovery_congestion.specs.Calls.{ControllerCall}
+use Rattle.recovery_congestion.specs.NewReno.{most, sum_to_most}
+use Rattle.recovery_cubic.specs.declared.curve.Curve.{Curve}
+use Rattle.recovery_cubic.specs.Stage.{parts, quotient_up}
+use Rattle.recovery_cubic.specs.Curve.{curve_at, micros, IsGreatestK}
+use Rattle.recovery_cubic.specs.Cubic.{datagram_of}
+use Rattle.recovery_cubic.specs.History.{CubicEntry, grows, waits, reduces, persists, starts, turn_at, window_by}
+use Rattle.recovery_cubic.specs.Growth.{bytes_of}
+use Rattle.recovery_cubic.specs.RealCurve.{IsSteady, IsNearReal}
+use Rattle.recovery_cubic.specs.Reno.{mtu_by, reno_by}
+
+-- ---- the time that counts, in nanoseconds (RFC 9438, 4.2 and 5.8)
+
+-- up to where time has passed: from where a stage begins, to each acknowledgement
+abbrev pub last_next : CubicEntry → ℕ → ℕ
+last_next (grows now bytes) last = max last now
+last_next (waits now) last = max last now
+last_next (reduces now) last = now
+last_next (persists now) last = now
+last_next (starts now bytes) last = now
+last_next turn last = last
+
+-- what passes up to an acknowledgement counts, unless the application limits then
+abbrev pub time_next : CubicEntry → ℕ → ℕ → ℕ
+time_next (grows now bytes) last time = sum_to_most time (now - last)
+time_next (reduces now) last time = 0
+time_next (persists now) last time = 0
+time_next (starts now bytes) last time = 0
+time_next turn last time = time
+
+-- ---- W_max (RFC 9438, 4.6 to 4.8)
+
+abbrev pub plateau_next : CubicEntry → ℕ → ℕ → ℕ → ℕ
+plateau_next (reduces now) before after plateau = if nat_lt before plateau then before * 17 / 20 else before
+plateau_next (persists now) before after plateau = after
+plateau_next (starts now bytes) before after plateau = after
+plateau_next turn before after plateau = plateau
+
+module _ (window now mtu : ℕ) where
+  abbrev pub last_by : List ControllerCall → ℕ
+  last_by [] = now
+  last_by (call ∷ earlier) = last_next (turn_at window now mtu call earlier) (last_by earlier)
+
+  abbrev pub time_by : List ControllerCall → ℕ
+  time_by [] = 0
+  time_by (call ∷ earlier) = time_next (turn_at window now mtu call earlier) (last_by earlier) (time_by earlier)
+
+  abbrev pub plateau_by : List ControllerCall → ℕ
+  plateau_by [] = window
+  plateau_by (call ∷ earlier) =
+      plateau_next (turn_at window now mtu call earlier) (window_by window now mtu earlier)
+      (window_by window now mtu (call ∷ earlier)) (plateau_by earlier)
+
+  -- a call reduced the window, both within 64 bits, and K is that of the way back to the plateau
+  pub record BeginsEpoch (reduction : ControllerCall) (earlier : List ControllerCall) (k : ℕ) : Type 0 where
+    pub moment : ℕ
+    pub reduced : turn_at window now mtu reduction earlier ≡ reduces moment
+    pub before : window_by window now mtu earlier ≤ most
+    pub after : window_by window now mtu (reduction ∷ earlier) ≤ most
+    pub k_is : IsGreatestK micros (datagram_of (mtu_by window now mtu earlier))
+        (plateau_by (reduction ∷ earlier) - window_by window now mtu (reduction ∷ earlier)) k
+
+  -- the curve behind a reduction, and what it is at the whole microseconds that count
+  abbrev pub curve_of : ControllerCall → List ControllerCall → ℕ → Curve
+  curve_of reduction earlier k = record {
+    w_max = plateau_by (reduction ∷ earlier);
+    k = k;
+    datagram = datagram_of (mtu_by window now mtu earlier);
+  }
+
+  abbrev pub curve_then : List ControllerCall → ControllerCall → List ControllerCall → ℕ → ℕ
+  curve_then later reduction earlier k =
+      curve_at (curve_of reduction earlier k) (time_by (later ++ reduction ∷ earlier) / 1000)
+
+  -- the window is at most the greatest of the curve, of Reno's, and of the window that the reduction left
+  abbrev pub IsBelowCurve : List ControllerCall → ControllerCall → List ControllerCall → ℕ → Type 0
+  IsBelowCurve later reduction earlier k =
+      window_by window now mtu (later ++ reduction ∷ earlier)
+      ≤ max (max (window_by window now mtu (reduction ∷ earlier)) (curve_then later reduction earlier k))
+      (quotient_up (reno_by window now mtu (later ++ reduction ∷ earlier)) parts)
+
+  -- while the curve moves by less than a datagram in a microsecond, it is within one datagram of the real one
+  abbrev pub IsReal : List ControllerCall → ControllerCall → List ControllerCall → ℕ → Type 0
+  IsReal later reduction earlier k =
+      let curve = curve_of reduction earlier k in
+      let time = time_by (later ++ reduction ∷ earlier) in
+      curve_then later reduction earlier k < most → IsSteady curve time
+      → IsNearReal curve (window_by window now mtu (reduction ∷ earlier)) time
+
+  -- an acknowledgement in congestion avoidance, of so many bytes, behind later calls behind a reduction
+  pub record MovesTowardCurve (call : ControllerCall) (later : List ControllerCall) (reduction : ControllerCall)
+      (earlier : List ControllerCall) (k bytes : ℕ) : Type 0 where
+    -- it makes the window the curve's, or half of its bytes above what it was
+    pub up : min (curve_then (call ∷ later) reduction earlier k)
+        (sum_to_most (window_by window now mtu (later ++ reduction ∷ earlier)) (bytes / 2))
+        ≤ window_by window now mtu (call ∷ later ++ reduction ∷ earlier)
+    -- just the curve's, where half of the bytes reach the curve, and neither Reno's window nor what the reduction left
+    -- is above it
+    pub on : curve_then (call ∷ later) reduction earlier k
+        ≤ sum_to_most (window_by window now mtu (later ++ reduction ∷ earlier)) (bytes / 2)
+        → window_by window now mtu (reduction ∷ earlier) ≤ curve_then (call ∷ later) reduction earlier k
+        → reno_by window now mtu (call ∷ later ++ reduction ∷ earlier)
+        ≤ parts * curve_then (call ∷ later) reduction earlier k
+        → window_by window now mtu (call ∷ later ++ reduction ∷ earlier)
+        ≡ curve_then (call ∷ later) reduction earlier k
+
+  -- the sum of half the bytes of each acknowledgement behind earlier calls
+  abbrev pub halves_in : List ControllerCall → List ControllerCall → ℕ
+  halves_in [] earlier = 0
+  halves_in (call ∷ later) earlier =
+      bytes_of (turn_at window now mtu call (later ++ earlier)) / 2 + halves_in later earlier
+
+  -- the window is back at the plateau, as far as acknowledgements let it rise since: by half of their bytes each
+  abbrev pub HasReturnedToWmax : List ControllerCall → List ControllerCall → ControllerCall → List ControllerCall
+      → Type 0
+  HasReturnedToWmax later until reduction earlier =
+      let there = until ++ reduction ∷ earlier in
+      min (plateau_by (reduction ∷ earlier)) (window_by window now mtu there + halves_in later there)
+      ≤ window_by window now mtu (later ++ there)
+
+  -- from K on
+  abbrev pub ReturnsToWmax : List ControllerCall → List ControllerCall → ControllerCall → List ControllerCall → ℕ
+      → Type 0
+  ReturnsToWmax later until reduction earlier k =
+      k ≤ time_by (until ++ reduction ∷ earlier) / 1000 → HasReturnedToWmax later until reduction earlier
+
+  -- so the window before the reduction is reached again at K, in whole microseconds, as soon as acknowledgements let
+  -- it: until then no more than 3/10 of it is lacking, which those of a round trip come up for
+  pub record IsReachedAtK (later until : List ControllerCall) (reduction : ControllerCall)
+      (earlier : List ControllerCall) (k : ℕ) : Type 0 where
+    -- the plateau is the window before, unless that was below the last plateau
+    pub plateau : plateau_by earlier ≤ window_by window now mtu earlier
+        → plateau_by (reduction ∷ earlier) ≡ window_by window now mtu earlier
+    pub lacking : 7 * window_by window now mtu earlier
+        ≤ 10 * window_by window now mtu (until ++ reduction ∷ earlier) + 9
+    pub sooner : time_by (until ++ reduction ∷ earlier) / 1000 < k
+        → curve_then until reduction earlier k ≤ plateau_by (reduction ∷ earlier)
+    pub back : ReturnsToWmax later until reduction earlier k

@@ -1,0 +1,258 @@
+-- What a call of a sender comes to, in numbers.
+use Rattle.std.specs.Prelude.{◌≡◌, ◌⊎◌, ℕ, ◌+◌, ◌<◌, ◌≤◌, ◌||◌, not, Bool, true, false, List, [], length, map, Option, None, is_some, Result, Ok, Err, IfOk, OnOk, OnErr, Vec, ◌∷◌}
+use Rattle.std.specs.Global.{Global}
+use Rattle.std.specs.Option.{option_map_or}
+use Rattle.recovery_base.specs.declared.below.SpaceId.{SpaceId}
+use Rattle.recovery_events.specs.declared.event.Answer.TheVariants.{Done}
+use Rattle.recovery_events.specs.declared.event.Event.TheVariants.{DiscardSpace}
+use Rattle.recovery_spaces.specs.Packets.{Packets}
+use Rattle.recovery_spaces.specs.Spaces.{space_of}
+use Rattle.recovery_sender.specs.RetransmitAll.{DeclaresAllLost}
+use Rattle.recovery_sender.specs.Acking.{AckResult}
+use Rattle.recovery_losses.specs.Variables.{begun_anew}
+use Rattle.recovery_sender.specs.Calls.{bytes_in_flight, challenged, discard_reply, is_checked, transmit_reply, transmit_steps, window_of}
+use Rattle.recovery_sender.specs.Senders.{state_in}
+use Rattle.recovery_sender.specs.Spaces.{packets_in}
+use Rattle.recovery_sender.specs.Steps as Steps
+use Rattle.recovery_sender.specs.Steps.{CompletesCall, marked}
+use Rattle.recovery_sender.specs.Timeouts.{TimeoutResult}
+use Rattle.recovery_losses.specs.declared.frames.Ack.{Ack}
+use Rattle.recovery_sender.specs.declared.sender.acks.Acknowledged.{Acknowledged}
+use Rattle.recovery_sender.specs.declared.sender.acks.EcnOutcome.{EcnOutcome}
+use Rattle.recovery_sender.specs.declared.sender.acks.EcnOutcome.TheVariants.{Quiet, Marked, Failed}
+use Rattle.recovery_sender.specs.declared.sender.losses.Losses.{Losses}
+use Rattle.recovery_sender.specs.declared.sender.packets.Transmission.{Transmission}
+use Rattle.recovery_sender.specs.declared.sender.packets.Transmission.TheVariants.{Transmitted, Blocked, Full, Delayed}
+use Rattle.recovery_sender.specs.declared.sender.probes.Timeout.{Timeout}
+use Rattle.recovery_sender.specs.declared.sender.probes.Timeout.TheVariants.{Nothing, Lost, Probe}
+use Rattle.recovery_sender.specs.declared.sender.SenderError.{SenderError}
+use Rattle.recovery_sender.specs.declared.sender.SenderError.TheVariants as refused
+use Rattle.recovery_losses.specs.declared.variables.Variables.{Variables}
+use Rattle.recovery_engine.specs.Controllers.{chosen_words}
+use Rattle.recovery_engine.specs.Kept.{packets_listed, HasLossesOnly}
+use Rattle.recovery_engine.specs.Replies.{no_memory, no_sender, plain, refusal_spelled, space_number}
+use Rattle.recovery_engine.specs.declared.kept.Engine.{Engine}
+use Rattle.recovery_engine.specs.declared.kept.Engine.TheVariants.{Alone, Sends}
+use Rattle.recovery_engine.specs.declared.numbers.TheConstants.{ANSWER_ACKNOWLEDGED, ANSWER_BLOCKED, ANSWER_DELAYED, ANSWER_DONE, ANSWER_FULL, ANSWER_LOSSES, ANSWER_NOTHING, ANSWER_PROBES, ANSWER_REFUSED, ANSWER_TRANSMITTED, ECN_FAILED, ECN_MARKED, ECN_QUIET, REFUSAL_UNSENT}
+use Rattle.recovery_engine.specs.declared.sending.AckRange.{AckRange}
+use Rattle.recovery_engine.specs.declared.sending.Call.{Call}
+use Rattle.recovery_engine.specs.declared.sending.Call.TheVariants.{Transmit, TakeAck, Expire, Discard, Abandon, HandshakeKeys, HandshakeConfirmed, PeerDelay, Challenge}
+use Rattle.recovery_engine.specs.declared.sending.Sending.{Sending}
+use Rattle.recovery_engine.specs.declared.sending.LastOutcome.{LastOutcome}
+use Rattle.recovery_engine.specs.declared.sending.OutcomeView.{OutcomeView}
+use Rattle.recovery_engine.specs.declared.spelling.EncodedReply.{EncodedReply}
+
+-- ---- answers in numbers
+
+abbrev pub refused_spelled : SenderError → EncodedReply
+refused_spelled (refused.Event refusal) = refusal_spelled refusal
+refused_spelled refused.Unsent = record (plain ANSWER_REFUSED) { refusal = REFUSAL_UNSENT }
+
+abbrev pub spelled_by : {T : Type 0} → (T → EncodedReply) → Result T SenderError → EncodedReply
+spelled_by spell (Ok answer) = spell answer
+spelled_by spell (Err refusal) = refused_spelled refusal
+
+abbrev pub transmission_spelled : Transmission → EncodedReply
+transmission_spelled Transmitted = plain ANSWER_TRANSMITTED
+transmission_spelled Blocked = plain ANSWER_BLOCKED
+transmission_spelled Full = plain ANSWER_FULL
+transmission_spelled (Delayed until) = record (plain ANSWER_DELAYED) { first = until }
+
+abbrev pub timeout_spelled : Timeout → EncodedReply
+timeout_spelled Nothing = plain ANSWER_NOTHING
+timeout_spelled (Lost losses) = plain ANSWER_LOSSES
+timeout_spelled (Probe space count) = record (plain ANSWER_PROBES) { first = space_number space; second = count }
+
+-- a frame: how many numbers are newly acknowledged, how many lost, and whether more is told than these
+abbrev pub is_quiet : EcnOutcome → Bool
+is_quiet Quiet = true
+is_quiet end = false
+
+abbrev pub tells_more : Acknowledged → Bool
+tells_more told = is_some told.losses.probe || is_some told.losses.congestion || told.losses.is_black_hole
+    || not (is_quiet told.ecn)
+
+abbrev pub acknowledged_spelled : Acknowledged → EncodedReply
+acknowledged_spelled told = record (plain ANSWER_ACKNOWLEDGED) {
+  first = length told.numbers.items;
+  second = length told.losses.numbers.items;
+  flag = tells_more told;
+}
+
+-- ---- what a call comes to
+
+-- a datagram goes out, or does not (RFC 9002, 7; RFC 9000, 8.1)
+pub record TransmitReply (now bytes : ℕ) (space : SpaceId) (in_flight : Bool) (old : Sending) (spelling : EncodedReply)
+    (new : Sending) : Type 0 where
+  pub reply : Result Transmission SenderError
+  pub is : reply ≡ transmit_reply chosen_words (state_in old.sender) now bytes space in_flight
+  pub window : reply ≡ Ok Transmitted → in_flight ≡ true
+      → (space_of space (state_in old.sender).spaces).loss_probes ≡ 0
+      → bytes_in_flight (state_in old.sender) + bytes ≤ window_of chosen_words (state_in old.sender)
+  pub steps : IfOk reply (λ sent. let checked = is_checked (state_in old.sender) space in_flight in
+      CompletesCall (transmit_steps now bytes checked sent) old.sender.variables old.sender new.sender)
+  pub stays : OnErr reply (new.sender ≡ old.sender)
+  pub spells : spelling ≡ spelled_by transmission_spelled reply
+  pub told : new.told ≡ old.told
+
+-- an ACK frame: what it comes to is kept, to be read, with what its packets carried (RFC 9002, A.7)
+abbrev pub IsOutcomeOfAck : Packets (List ℕ) (Unit {0}) → Result Acknowledged SenderError → LastOutcome → LastOutcome
+    → Type 0
+IsOutcomeOfAck packets (Ok acked) old new =
+    (new.acked ≡ acked) × (new.packets.items ≡ packets_listed packets acked.numbers.items)
+IsOutcomeOfAck packets (Err refusal) old new = new ≡ old
+
+pub record AckReply (space : SpaceId) (now : ℕ) (ranges : List (ℕ × ℕ)) (ack : Ack) (old : Sending)
+    (spelling : EncodedReply)
+    (new : Sending) : Type 0 where
+  pub reply : Result Acknowledged SenderError
+  pub comes : AckResult space now ranges ack old.sender new.sender reply
+  pub spells : spelling ≡ spelled_by acknowledged_spelled reply
+  pub told : IsOutcomeOfAck (packets_in (state_in old.sender) space) reply old.told new.told
+
+-- with its ranges as they are given, or there is no memory to hand them in
+abbrev pub range_given : AckRange → ℕ × ℕ
+range_given range = (range.first, range.last)
+
+pub record LacksRangeMemory (given : List AckRange) (old : Sending) (spelling : EncodedReply)
+    (new : Sending) : Type 0 where
+  pub some : 0 < length given
+  pub spells : spelling ≡ no_memory
+  pub sender : new.sender ≡ old.sender
+  pub told : new.told ≡ old.told
+
+abbrev pub AckFrameReply : SpaceId → ℕ → List AckRange → Ack → Sending → EncodedReply → Sending → Type 0
+AckFrameReply space now given ack old spelling new =
+    AckReply space now (map range_given given) ack old spelling new ⊎ LacksRangeMemory given old spelling new
+
+-- a timeout: so are losses that it finds (RFC 9002, A.9)
+abbrev pub IsOutcomeOfTimeout : Result Timeout SenderError → LastOutcome → LastOutcome → Type 0
+IsOutcomeOfTimeout (Ok (Lost losses)) old new = HasLossesOnly losses new
+IsOutcomeOfTimeout reply old new = new ≡ old
+
+pub record TimeoutReply (now : ℕ) (immediate : Bool) (old : Sending) (spelling : EncodedReply)
+    (new : Sending) : Type 0 where
+  pub reply : Result Timeout SenderError
+  pub comes : TimeoutResult now immediate (tt {0}) (tt {0}) old.sender new.sender reply
+  pub spells : spelling ≡ spelled_by timeout_spelled reply
+  pub told : IsOutcomeOfTimeout reply old.told new.told
+
+-- a space ends (RFC 9002, 6.2.2, 6.4 and A.11)
+pub record DiscardReply (space : SpaceId) (now : ℕ) (old : Sending) (spelling : EncodedReply)
+    (new : Sending) : Type 0 where
+  pub reply : Result (Unit {0}) SenderError
+  pub is : reply ≡ discard_reply (state_in old.sender) space
+  pub steps : OnOk reply (CompletesCall (Steps.told (DiscardSpace space) (Ok Done) ∷ [])
+      (begun_anew now old.sender.variables)
+      old.sender new.sender)
+  pub stays : OnErr reply (new.sender ≡ old.sender)
+  pub spells : spelling ≡ spelled_by (λ done. plain ANSWER_DONE) reply
+  pub told : new.told ≡ old.told
+
+-- what a space tracks is lost, all of it or what memory lets: so are these numbers kept (RFC 9002, 6.3 and 6.4)
+abbrev pub lost_alone : Vec ℕ Global → Losses
+lost_alone numbers = record {
+  numbers = numbers;
+  probe = None;
+  congestion = None;
+  is_persistent = false;
+  is_black_hole = false;
+}
+
+abbrev pub ReportsLost : Result (Vec ℕ Global) SenderError → LastOutcome → LastOutcome → Type 0
+ReportsLost (Ok numbers) old new = HasLossesOnly (lost_alone numbers) new
+ReportsLost (Err refusal) old new = new ≡ old
+
+pub record RetransmitAllReply (space : SpaceId) (now : ℕ) (old : Sending) (spelling : EncodedReply)
+    (new : Sending) : Type 0 where
+  pub reply : Result (Vec ℕ Global) SenderError
+  pub comes : DeclaresAllLost space old.sender now new.sender reply
+  pub spells : spelling ≡ spelled_by (λ numbers. plain ANSWER_LOSSES) reply
+  pub told : ReportsLost reply old.told new.told
+
+-- something is said of the connection, and the timer set
+pub record UpdatesVariables (change : Variables → Variables) (old : Sending) (spelling : EncodedReply)
+    (new : Sending) : Type 0 where
+  pub does : CompletesCall [] (change old.sender.variables) old.sender new.sender
+  pub spells : spelling ≡ plain ANSWER_DONE
+  pub told : new.told ≡ old.told
+
+-- there are keys of Handshake packets (RFC 9002, A.8)
+abbrev pub keyed : Variables → Variables
+keyed variables = record variables { has_handshake_keys = true }
+
+-- the handshake is confirmed (RFC 9001, 4.1.2)
+abbrev pub confirmed : Variables → Variables
+confirmed variables = record variables { is_handshake_confirmed = true; is_address_known = true }
+
+-- the peer delays its ACKs at most so long (RFC 9000, 18.2)
+abbrev pub delayed_by : ℕ → Variables → Variables
+delayed_by span variables = record variables { max_ack_delay = span }
+
+-- a challenge of the path in use is open, or none (RFC 9000, 8.2.1)
+pub record ChallengeReply (content : Option ℕ) (pending : Bool) (old : Sending) (spelling : EncodedReply)
+    (new : Sending) : Type 0
+  where
+    pub does : CompletesCall (marked (challenged (state_in old.sender) content pending) ∷ []) old.sender.variables
+        old.sender
+        new.sender
+    pub spells : spelling ≡ plain ANSWER_DONE
+    pub told : new.told ≡ old.told
+
+-- a call, with the ranges of an ACK frame beside it
+abbrev pub SenderCallReply : Call → List AckRange → Sending → EncodedReply → Sending → Type 0
+SenderCallReply (Transmit now bytes space in_flight) given old spelling new =
+    TransmitReply now bytes space in_flight old spelling new
+SenderCallReply (TakeAck space now ack) given old spelling new = AckFrameReply space now given ack old spelling new
+SenderCallReply (Expire now immediate) given old spelling new = TimeoutReply now immediate old spelling new
+SenderCallReply (Discard space now) given old spelling new = DiscardReply space now old spelling new
+SenderCallReply (Abandon space now) given old spelling new = RetransmitAllReply space now old spelling new
+SenderCallReply HandshakeKeys given old spelling new = UpdatesVariables keyed old spelling new
+SenderCallReply HandshakeConfirmed given old spelling new = UpdatesVariables confirmed old spelling new
+SenderCallReply (PeerDelay span) given old spelling new = UpdatesVariables (delayed_by span) old spelling new
+SenderCallReply (Challenge challenge pending) given old spelling new = ChallengeReply challenge pending old spelling new
+
+-- ---- of what is kept
+
+-- a recovery that stands alone refuses a call of a sender, and stays
+abbrev pub UnlessNoSender : Call → List AckRange → Engine → EncodedReply → Engine → Type 0
+UnlessNoSender call given (Alone old) spelling new = (spelling ≡ no_sender) × (new ≡ Alone old)
+UnlessNoSender call given (Sends old) spelling (Sends new) = SenderCallReply call given old spelling new
+UnlessNoSender call given (Sends old) spelling (Alone new) = ⊥
+
+-- ---- what was told last, in numbers
+
+abbrev pub ecn_number : EcnOutcome → ℕ
+ecn_number Quiet = ECN_QUIET
+ecn_number Marked = ECN_MARKED
+ecn_number Failed = ECN_FAILED
+
+abbrev pub told_shown : Acknowledged → OutcomeView
+told_shown told = record {
+  acked = length told.numbers.items;
+  lost = length told.losses.numbers.items;
+  probe = option_map_or (λ number. number) told.losses.probe 0;
+  congestion = option_map_or (λ bytes. bytes) told.losses.congestion 0;
+  ecn = ecn_number told.ecn;
+  has_probe = is_some told.losses.probe;
+  has_congestion = is_some told.losses.congestion;
+  is_persistent = told.losses.is_persistent;
+  is_black_hole = told.losses.is_black_hole;
+}
+
+abbrev pub no_told : OutcomeView
+no_told = record {
+  acked = 0;
+  lost = 0;
+  probe = 0;
+  congestion = 0;
+  ecn = ECN_QUIET;
+  has_probe = false;
+  has_congestion = false;
+  is_persistent = false;
+  is_black_hole = false;
+}
+
+abbrev pub told_view : Engine → OutcomeView
+told_view (Alone recovery) = no_told
+told_view (Sends sending) = told_shown sending.told.acked

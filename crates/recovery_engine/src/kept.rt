@@ -1,0 +1,218 @@
+//! The recovery that a stack keeps: one that stands alone, or one of a sender.
+ghost use Rattle.std.specs.Prelude.{◌≡◌, ◌≤◌, ◌^◌, Decides, IfOk};
+ghost use Rattle.rand_core.specs.Steps.{stream_of, steps_u32};
+ghost use Rattle.rand_pcg.specs.Pcg.{pcg32};
+ghost use Rattle.quic_recovery.specs.State.{state_of};
+ghost use Rattle.recovery_packet_numbers.specs.Skips.{IsSkips};
+ghost use Rattle.recovery_sender.specs.Calls.{IsPassedThrough, EventResult};
+ghost use Rattle.recovery_engine.specs.Kept.{by_sender, numbers_told, packets_told, parts_kept, pto_count_of, EventOutcome, IsFreshAlone, IsFreshSender, IsFresh, AcceptsEvent, MarksKept};
+ghost use Rattle.recovery_engine.specs.Sending.{told_view, UnlessNoSender};
+ghost use Rattle.recovery_engine.specs.Replies.{IsWritten};
+
+use crate::controllers::ChosenConfig;
+use crate::sending::{AckRange, Call, Sending, OutcomeView, no_outcome};
+use crate::spelling::{EncodedReply, copy_numbers};
+use quic_recovery::below::NoMemory;
+use quic_recovery::event::PathName;
+use quic_recovery::paths::PathMarks;
+use quic_recovery::{Answer, Event, LiveRecovery, Recovery, RecoveryConfig, Refusal};
+use rand_pcg::Pcg32;
+use recovery_base::time::Instant;
+use recovery_queue::items::ItemQueue;
+use recovery_sender::{SenderError, Sender, Side, passes};
+use std::alloc::Global;
+
+/// A recovery over a chosen controller, whose packets carry numbered items and whose skips are drawn by PCG32.
+pub type ItemRecovery = LiveRecovery<ChosenConfig, ItemQueue, Pcg32>;
+
+/// A sender over such a one.
+pub type ItemSender = Sender<ChosenConfig, ItemQueue, Pcg32>;
+
+/// The recovery of a stack.
+#[derive(Drop)]
+pub enum Engine {
+    /// It takes each event.
+    Alone(ItemRecovery),
+    /// It takes the events that its sender lets pass, and those of the sender's calls.
+    Sends(Sending),
+}
+
+/// One event that a sender lets pass: out of line, so that one of a recovery that stands alone is compiled in.
+#[inline(never)]
+fn passed(sending: &mut Sending, event: Event<ItemQueue>) -> Result<Answer<ItemQueue>, Refusal>
+    requires { IsPassedThrough event }
+    ensures takes { EventResult event sending.old.sender sending.new.sender (by_sender result) }
+    ensures told { sending.new.told ≡ sending.old.told }
+{
+    match sending.sender.on_event(event) {
+        Ok(answer) => Ok(answer),
+        Err(SenderError::Event(refusal)) => Err(refusal),
+        Err(SenderError::Unsent) => unreachable!(),
+    }
+}
+
+impl Engine {
+    /// A recovery to which nothing has happened yet: of a sender of this side, if there is one.
+    pub fn new(
+        alloc: Global,
+        side: Option<Side>,
+        config: RecoveryConfig<ChosenConfig>,
+        rng: Pcg32,
+        now: Instant,
+    ) -> Result<Engine, NoMemory>
+        requires issued { config.issued ≤ 2 ^ 62 }
+        requires skips { IsSkips config.skips }
+        ensures { IfOk result
+            (λ kept. IsFresh side config now (stream_of (steps_u32 pcg32) rng) kept) }
+    {
+        match side {
+            Some(side) => Engine::sends(alloc, side, config, rng, now),
+            None => Engine::alone(alloc, config, rng, now),
+        }
+    }
+
+    fn alone(
+        alloc: Global,
+        config: RecoveryConfig<ChosenConfig>,
+        rng: Pcg32,
+        now: Instant,
+    ) -> Result<Engine, NoMemory>
+        requires issued { config.issued ≤ 2 ^ 62 }
+        requires skips { IsSkips config.skips }
+        ensures { IfOk result
+            (λ kept. IsFreshAlone config now (stream_of (steps_u32 pcg32) rng) kept) }
+    {
+        let recovery = LiveRecovery::new(alloc, config, rng, now)?;
+        Ok(Engine::Alone(recovery))
+    }
+
+    fn sends(
+        alloc: Global,
+        side: Side,
+        config: RecoveryConfig<ChosenConfig>,
+        rng: Pcg32,
+        now: Instant,
+    ) -> Result<Engine, NoMemory>
+        requires issued { config.issued ≤ 2 ^ 62 }
+        requires skips { IsSkips config.skips }
+        ensures { IfOk result
+            (λ kept. IsFreshSender side config now (stream_of (steps_u32 pcg32) rng) kept) }
+    {
+        let sender = Sender::new(alloc, side, config, rng, now)?;
+        Ok(Engine::Sends(Sending {
+            sender,
+            told: no_outcome(alloc),
+            ranges: Vec::new(alloc),
+            numbers_room: Vec::new(alloc),
+            packets_room: Vec::new(alloc),
+        }))
+    }
+
+    /// The recovery, to look at.
+    pub fn recovery(&self) -> &Recovery<ChosenConfig, ItemQueue, Pcg32>
+        ensures { state_of result.now ≡ parts_kept self.now }
+    {
+        match self {
+            Engine::Alone(recovery) => recovery.recovery(),
+            Engine::Sends(sending) => sending.sender.recovery(),
+        }
+    }
+
+    /// Whether it takes an event: a sender decides some itself.
+    #[inline(always)]
+    pub fn accepts(&self, event: &Event<ItemQueue>) -> bool
+        ensures { Decides result (AcceptsEvent self.now event.now) }
+    {
+        match self {
+            Engine::Alone(_) => true,
+            Engine::Sends(_) => passes(event),
+        }
+    }
+
+    /// One event that it takes.
+    #[inline(always)]
+    pub fn apply(&mut self, event: Event<ItemQueue>) -> Result<Answer<ItemQueue>, Refusal>
+        requires { AcceptsEvent self.old event }
+        ensures { EventOutcome self.old event result self.new }
+    {
+        match self {
+            Engine::Alone(recovery) => recovery.apply(event),
+            Engine::Sends(sending) => passed(sending, event),
+        }
+    }
+
+    /// How many probe timeouts of a sender expired in a row.
+    pub fn pto_count(&self) -> u32
+        ensures { result ≡ pto_count_of self.now }
+    {
+        match self {
+            Engine::Alone(_) => 0,
+            Engine::Sends(sending) => sending.sender.variables().pto_count,
+        }
+    }
+
+    /// The numbers that the last ACK frame newly acknowledged, or those that were lost as something was told last.
+    fn numbers(&self, lost: bool) -> &[u64]
+        ensures { result.now ≡ numbers_told lost self.now }
+    {
+        match self {
+            Engine::Alone(_) => &[],
+            Engine::Sends(sending) => sending.numbers(lost),
+        }
+    }
+
+    /// How many of these there are; they are written where there is room for all.
+    pub fn copy_numbers(&self, lost: bool, out: &mut [u64]) -> usize
+        ensures { IsWritten (numbers_told lost self.now) out.old result out.new }
+    {
+        copy_numbers(self.numbers(lost), out)
+    }
+
+    /// The packets that the last ACK frame newly acknowledged, with their items.
+    fn packets(&self) -> &[u64]
+        ensures { result.now ≡ packets_told self.now }
+    {
+        match self {
+            Engine::Alone(_) => &[],
+            Engine::Sends(sending) => sending.told.packets.as_slice(),
+        }
+    }
+
+    /// How many words they are; they are written where there is room for all.
+    pub fn copy_packets(&self, out: &mut [u64]) -> usize
+        ensures { IsWritten (packets_told self.now) out.old result out.new }
+    {
+        copy_numbers(self.packets(), out)
+    }
+
+    /// What was told last by a sender.
+    pub fn last_outcome(&self) -> OutcomeView
+        ensures { result ≡ told_view self.now }
+    {
+        match self {
+            Engine::Alone(_) => OutcomeView::none(),
+            Engine::Sends(sending) => OutcomeView::of(&sending.told.acked),
+        }
+    }
+
+    /// One call of a sender; refused where there is none.
+    pub fn call_sender(&mut self, alloc: Global, call: Call, ranges: &[AckRange]) -> EncodedReply
+        ensures { UnlessNoSender call ranges.now self.old result self.new }
+    {
+        match self {
+            Engine::Alone(_) => EncodedReply::no_sender(),
+            Engine::Sends(sending) => sending.call_sender(alloc, call, ranges),
+        }
+    }
+
+    /// The layer above keeps this with a path from now on: of a recovery that stands alone; a sender sets its marks
+    /// itself.
+    pub fn set_marks(&mut self, path: PathName, marks: PathMarks) -> bool
+        ensures { MarksKept path marks result self.old self.new }
+    {
+        match self {
+            Engine::Alone(recovery) => recovery.set_marks(path, marks).is_some(),
+            Engine::Sends(_) => false,
+        }
+    }
+}

@@ -1,0 +1,486 @@
+//! A sender, and what it told last.
+ghost use Rattle.std.specs.Prelude.{◌≡◌, ◌<◌, ◌++◌, ◌∷◌, [], length, map, true, false};
+ghost use Rattle.recovery_sender.specs.declared.sender.probes.Timeout.TheVariants.{Probe};
+ghost use Rattle.recovery_sender.specs.Senders.{state_in};
+ghost use Rattle.recovery_sender.specs.Spaces.{packets_in};
+ghost use Rattle.recovery_engine.specs.Kept.{items_of, numbers_of, packets_listed, IsEmptyOutcome, HasLossesOnly};
+ghost use Rattle.recovery_engine.specs.Replies.{plain};
+ghost use Rattle.recovery_engine.specs.Sending.{acknowledged_spelled, confirmed, delayed_by, ecn_number, is_quiet, keyed, lost_alone, no_told, range_given, refused_spelled, timeout_spelled, tells_more, told_shown, transmission_spelled, AckReply, ChallengeReply, DiscardReply, TimeoutReply, RetransmitAllReply, UpdatesVariables, SenderCallReply, AckFrameReply, TransmitReply};
+
+use crate::kept::ItemSender;
+use crate::numbers::{
+    ANSWER_ACKNOWLEDGED, ANSWER_BLOCKED, ANSWER_DELAYED, ANSWER_DONE, ANSWER_FULL, ANSWER_LOSSES,
+    ANSWER_NOTHING, ANSWER_PROBES, ANSWER_REFUSED, ANSWER_TRANSMITTED, ECN_FAILED, ECN_MARKED,
+    ECN_QUIET, REFUSAL_UNSENT,
+};
+use crate::spelling::{EncodedReply, space_number, encode_number, encode_refusal};
+use quic_recovery::time::{Duration, Instant};
+use recovery_base::below::SpaceId;
+use recovery_sender::{Ack, Acknowledged, EcnOutcome, Losses, SenderError, Timeout, Transmission};
+use std::alloc::Global;
+use std::mem;
+
+/// A range of numbers that an ACK frame acknowledges (RFC 9000, 19.3.1).
+#[repr(C)]
+#[derive(Clone, Copy)]
+pub struct AckRange {
+    /// The first number.
+    pub first: u64,
+    /// The last number.
+    pub last: u64,
+}
+
+/// What a call came to, with the packets that it newly acknowledged.
+#[derive(Drop)]
+pub struct LastOutcome {
+    pub acked: Acknowledged,
+    /// Of each of these packets, rising: its number, how many items it carried, and these.
+    pub packets: Vec<u64>,
+}
+
+/// A sender, and what it told last.
+#[derive(Drop)]
+pub struct Sending {
+    pub sender: ItemSender,
+    /// What the last ACK frame, timeout or abandoned space came to that told something; nothing before the first.
+    pub told: LastOutcome,
+    /// What takes the ranges of an ACK frame, kept for its memory.
+    pub ranges: Vec<(u64, u64)>,
+    /// What takes the numbers that one newly acknowledges, likewise.
+    pub numbers_room: Vec<u64>,
+    /// What takes these packets, likewise.
+    pub packets_room: Vec<u64>,
+}
+
+/// A call of a sender; the ranges of an ACK frame stand beside it.
+#[derive(Clone, Copy)]
+pub enum Call {
+    /// A datagram is to go out.
+    Transmit {
+        now: Instant,
+        bytes: u16,
+        space: SpaceId,
+        in_flight: bool,
+    },
+    /// An ACK frame came in.
+    TakeAck {
+        space: SpaceId,
+        now: Instant,
+        ack: Ack,
+    },
+    /// The timer for losses may be due.
+    Expire {
+        now: Instant,
+        immediate_ack: bool,
+    },
+    /// The keys of a space are dropped.
+    Discard {
+        space: SpaceId,
+        now: Instant,
+    },
+    /// What a space tracks was sent in vain.
+    Abandon {
+        space: SpaceId,
+        now: Instant,
+    },
+    /// There are keys of Handshake packets.
+    HandshakeKeys,
+    /// The handshake is confirmed.
+    HandshakeConfirmed,
+    /// The peer delays its ACKs at most so long.
+    PeerDelay(Duration),
+    /// A PATH_CHALLENGE frame is open on the path in use, or none, and one is to be sent, or none.
+    Challenge {
+        challenge: Option<u64>,
+        pending: bool,
+    },
+}
+
+/// What was told last: of an ACK frame, of a timeout that found losses, or of an abandoned space.
+#[repr(C)]
+#[derive(Clone, Copy)]
+pub struct OutcomeView {
+    /// How many numbers the frame newly acknowledged; else 0.
+    pub acked: u64,
+    /// How many numbers were found lost, without that of the MTU's probe.
+    pub lost: u64,
+    /// The number of the MTU's probe, where that was lost: no sign of congestion (RFC 9000, 14.4).
+    pub probe: u64,
+    /// The bytes lost on the path in use, where there was congestion (RFC 9002, 7.3.2).
+    pub congestion: u64,
+    /// What the frame's counts of ECN came to (RFC 9000, 13.4.2.1).
+    pub ecn: u8,
+    /// Whether the MTU's probe was lost.
+    pub has_probe: bool,
+    /// Whether there was congestion.
+    pub has_congestion: bool,
+    /// Whether it is persistent (RFC 9002, 7.6).
+    pub is_persistent: bool,
+    /// Whether a black hole was reported (RFC 8899, 4.3).
+    pub is_black_hole: bool,
+}
+
+/// Of a timeout, or of an abandoned space: what is lost.
+fn told_lost(alloc: Global, losses: Losses) -> LastOutcome
+    ensures { HasLossesOnly losses result }
+{
+    let acked = Acknowledged {
+        numbers: Vec::new(alloc),
+        losses,
+        ecn: EcnOutcome::Quiet,
+    };
+    LastOutcome {
+        acked,
+        packets: Vec::new(alloc),
+    }
+}
+
+/// These are lost, and nothing more is said of them.
+fn lost_alone(numbers: Vec<u64>) -> Losses
+    ensures { result ≡ lost_alone numbers }
+{
+    Losses {
+        numbers,
+        probe: None,
+        congestion: None,
+        is_persistent: false,
+        is_black_hole: false,
+    }
+}
+
+/// Nothing was told yet. It takes no memory.
+pub fn no_outcome(alloc: Global) -> LastOutcome
+    ensures { IsEmptyOutcome result }
+{
+    told_lost(alloc, lost_alone(Vec::new(alloc)))
+}
+
+fn ecn_number(ecn: EcnOutcome) -> u8
+    ensures { result ≡ ecn_number ecn }
+{
+    match ecn {
+        EcnOutcome::Quiet => ECN_QUIET,
+        EcnOutcome::Marked => ECN_MARKED,
+        EcnOutcome::Failed => ECN_FAILED,
+    }
+}
+
+impl OutcomeView {
+    /// In numbers.
+    pub fn of(told: &Acknowledged) -> OutcomeView
+        ensures { result ≡ told_shown told.now }
+    {
+        let losses = &told.losses;
+        OutcomeView {
+            acked: told.numbers.len() as u64,
+            lost: losses.numbers.len() as u64,
+            probe: losses.probe.unwrap_or(0),
+            congestion: losses.congestion.unwrap_or(0),
+            ecn: ecn_number(told.ecn),
+            has_probe: losses.probe.is_some(),
+            has_congestion: losses.congestion.is_some(),
+            is_persistent: losses.is_persistent,
+            is_black_hole: losses.is_black_hole,
+        }
+    }
+
+    /// There is no sender, or it told nothing yet.
+    pub fn none() -> OutcomeView
+        ensures { result ≡ no_told }
+    {
+        OutcomeView {
+            acked: 0,
+            lost: 0,
+            probe: 0,
+            congestion: 0,
+            ecn: ECN_QUIET,
+            has_probe: false,
+            has_congestion: false,
+            is_persistent: false,
+            is_black_hole: false,
+        }
+    }
+}
+
+fn is_quiet(ecn: EcnOutcome) -> bool
+    ensures { result ≡ is_quiet ecn }
+{
+    match ecn {
+        EcnOutcome::Quiet => true,
+        _ => false,
+    }
+}
+
+/// Whether more is told of an ACK frame than numbers.
+fn tells_more(told: &Acknowledged) -> bool
+    ensures { result ≡ tells_more told.now }
+{
+    let losses = &told.losses;
+    losses.probe.is_some()
+        || losses.congestion.is_some()
+        || losses.is_black_hole
+        || !is_quiet(told.ecn)
+}
+
+fn spell_acknowledged(told: &Acknowledged) -> EncodedReply
+    ensures { result ≡ acknowledged_spelled told.now }
+{
+    EncodedReply {
+        first: told.numbers.len() as u64,
+        second: told.losses.numbers.len() as u64,
+        flag: tells_more(told),
+        ..EncodedReply::plain(ANSWER_ACKNOWLEDGED)
+    }
+}
+
+fn spell_refused(refused: SenderError) -> EncodedReply
+    ensures { result ≡ refused_spelled refused }
+{
+    match refused {
+        SenderError::Event(refusal) => encode_refusal(refusal),
+        SenderError::Unsent => EncodedReply {
+            refusal: REFUSAL_UNSENT,
+            ..EncodedReply::plain(ANSWER_REFUSED)
+        },
+    }
+}
+
+fn spell_transmission(sent: Transmission) -> EncodedReply
+    ensures { result ≡ transmission_spelled sent }
+{
+    match sent {
+        Transmission::Transmitted => EncodedReply::plain(ANSWER_TRANSMITTED),
+        Transmission::Blocked => EncodedReply::plain(ANSWER_BLOCKED),
+        Transmission::Full => EncodedReply::plain(ANSWER_FULL),
+        Transmission::Delayed(until) => encode_number(ANSWER_DELAYED, until.as_nanos()),
+    }
+}
+
+/// So many probes are due in a space.
+fn spell_probes(space: SpaceId, count: u8) -> EncodedReply
+    ensures { result ≡ timeout_spelled (Probe space count) }
+{
+    EncodedReply {
+        first: u64::from(space_number(space)),
+        second: u64::from(count),
+        ..EncodedReply::plain(ANSWER_PROBES)
+    }
+}
+
+/// Ranges as the sender takes them, in the same order, in place of what a list held; false, where there is no memory.
+fn fill(ranges: &mut Vec<(u64, u64)>, given: &[AckRange]) -> bool
+    ensures ranges { result ≡ true → ranges.new.items ≡ map range_given given.now }
+    ensures memory { result ≡ false → 0 < length given.now }
+{
+    ranges.clear();
+    if ranges.reserve(given.len()).is_err() {
+        return false;
+    }
+    for range in given {
+        ranges.push_reserved((range.first, range.last));
+    }
+    true
+}
+
+/// The items that a tracked packet carries; none where it is not tracked.
+fn items_of(sender: &ItemSender, space: SpaceId, number: u64) -> &[u64]
+    ensures { result.now ≡ items_of (packets_in (state_in sender.now) space) number }
+{
+    match sender.tracked(space, number) {
+        Some(packet) => packet.retransmits.items(),
+        None => &[],
+    }
+}
+
+/// The number of a packet, how many items it has, and these go behind others; false, where there is no memory.
+fn list_packet(number: u64, items: &[u64], packets: &mut Vec<u64>) -> bool
+    ensures { result ≡ true
+        → packets.new.items ≡ packets.old.items ++ number ∷ length items.now ∷ items.now }
+{
+    if packets.push(number).is_err() || packets.push(items.len() as u64).is_err() {
+        return false;
+    }
+    items.is_empty() || packets.extend_from_slice(items).is_ok()
+}
+
+/// These packets, with the items that they carry, in place of what a list held; false, where there is no memory.
+fn list_packets(
+    sender: &ItemSender,
+    space: SpaceId,
+    numbers: &[u64],
+    packets: &mut Vec<u64>,
+) -> bool
+    ensures { result ≡ true → packets.new.items
+        ≡ packets_listed (packets_in (state_in sender.now) space) numbers.now }
+{
+    packets.clear();
+    for number in numbers {
+        if !list_packet(*number, items_of(sender, space, *number), packets) {
+            return false;
+        }
+    }
+    true
+}
+
+impl Sending {
+    /// The numbers that were newly acknowledged, or those that were lost.
+    pub fn numbers(&self, lost: bool) -> &[u64]
+        ensures { result.now ≡ numbers_of lost self.now.told.acked }
+    {
+        let acked = &self.told.acked;
+        if lost {
+            acked.losses.numbers.as_slice()
+        } else {
+            acked.numbers.as_slice()
+        }
+    }
+
+    /// One call.
+    pub fn call_sender(&mut self, alloc: Global, call: Call, ranges: &[AckRange]) -> EncodedReply
+        ensures { SenderCallReply call ranges.now self.old result self.new }
+    {
+        match call {
+            Call::Transmit {
+                now,
+                bytes,
+                space,
+                in_flight,
+            } => self.transmit(now, bytes, space, in_flight),
+            Call::TakeAck { space, now, ack } => self.take_frame(alloc, space, now, ranges, ack),
+            Call::Expire { now, immediate_ack } => self.expire(alloc, now, immediate_ack),
+            Call::Discard { space, now } => self.discard(space, now),
+            Call::Abandon { space, now } => self.retransmit_all(alloc, space, now),
+            Call::HandshakeKeys => self.handshake_keys(),
+            Call::HandshakeConfirmed => self.handshake_confirmed(),
+            Call::PeerDelay(span) => self.peer_delay(span),
+            Call::Challenge { challenge, pending } => self.challenge(challenge, pending),
+        }
+    }
+
+    fn transmit(&mut self, now: Instant, bytes: u16, space: SpaceId, in_flight: bool) -> EncodedReply
+        ensures { TransmitReply now bytes space in_flight self.old result self.new }
+    {
+        match self.sender.transmit(now, bytes, space, in_flight) {
+            Ok(sent) => spell_transmission(sent),
+            Err(refused) => spell_refused(refused),
+        }
+    }
+
+    fn take_frame(
+        &mut self,
+        alloc: Global,
+        space: SpaceId,
+        now: Instant,
+        given: &[AckRange],
+        ack: Ack,
+    ) -> EncodedReply
+        ensures { AckFrameReply space now given.now ack self.old result self.new }
+    {
+        if !fill(&mut self.ranges, given) {
+            return EncodedReply::no_memory();
+        }
+        let ranges = mem::replace(&mut self.ranges, Vec::new(alloc));
+        let reply = self.take_ack(alloc, space, now, &ranges, ack);
+        self.ranges = ranges;
+        reply
+    }
+
+    /// A frame with these ranges.
+    fn take_ack(
+        &mut self,
+        alloc: Global,
+        space: SpaceId,
+        now: Instant,
+        ranges: &[(u64, u64)],
+        ack: Ack,
+    ) -> EncodedReply
+        ensures { AckReply space now ranges.now ack self.old result self.new }
+    {
+        let room = mem::replace(&mut self.numbers_room, Vec::new(alloc));
+        let newly = match self.sender.newly_acked(space, ranges, room) {
+            Ok(newly) => newly,
+            Err(refused) => return spell_refused(refused),
+        };
+        let mut packets = mem::replace(&mut self.packets_room, Vec::new(alloc));
+        if !list_packets(&self.sender, space, &newly.numbers, &mut packets) {
+            return EncodedReply::no_memory();
+        }
+        let acked = self.sender.on_newly_acked(space, now, ranges, ack, newly);
+        let reply = spell_acknowledged(&acked);
+        self.keep(LastOutcome { acked, packets });
+        reply
+    }
+
+    /// This was told last; what was before it is kept for its memory.
+    fn keep(&mut self, told: LastOutcome)
+        ensures told { self.new.told ≡ told }
+        ensures sender { self.new.sender ≡ self.old.sender }
+    {
+        let LastOutcome { acked, packets } = mem::replace(&mut self.told, told);
+        self.numbers_room = acked.numbers;
+        self.packets_room = packets;
+    }
+
+    fn expire(&mut self, alloc: Global, now: Instant, immediate_ack: bool) -> EncodedReply
+        ensures { TimeoutReply now immediate_ack self.old result self.new }
+    {
+        match self.sender.on_timeout(now, immediate_ack, (), ()) {
+            Ok(Timeout::Nothing) => EncodedReply::plain(ANSWER_NOTHING),
+            Ok(Timeout::Lost(losses)) => {
+                self.told = told_lost(alloc, losses);
+                EncodedReply::plain(ANSWER_LOSSES)
+            }
+            Ok(Timeout::Probe { space, count }) => spell_probes(space, count),
+            Err(refused) => spell_refused(refused),
+        }
+    }
+
+    fn discard(&mut self, space: SpaceId, now: Instant) -> EncodedReply
+        ensures { DiscardReply space now self.old result self.new }
+    {
+        match self.sender.discard(space, now) {
+            Ok(()) => EncodedReply::plain(ANSWER_DONE),
+            Err(refused) => spell_refused(refused),
+        }
+    }
+
+    fn retransmit_all(&mut self, alloc: Global, space: SpaceId, now: Instant) -> EncodedReply
+        ensures { RetransmitAllReply space now self.old result self.new }
+    {
+        match self.sender.retransmit_all(space, now) {
+            Ok(numbers) => {
+                self.told = told_lost(alloc, lost_alone(numbers));
+                EncodedReply::plain(ANSWER_LOSSES)
+            }
+            Err(refused) => spell_refused(refused),
+        }
+    }
+
+    fn handshake_keys(&mut self) -> EncodedReply
+        ensures { UpdatesVariables keyed self.old result self.new }
+    {
+        self.sender.on_handshake_keys();
+        EncodedReply::plain(ANSWER_DONE)
+    }
+
+    fn handshake_confirmed(&mut self) -> EncodedReply
+        ensures { UpdatesVariables confirmed self.old result self.new }
+    {
+        self.sender.on_handshake_confirmed();
+        EncodedReply::plain(ANSWER_DONE)
+    }
+
+    fn peer_delay(&mut self, span: Duration) -> EncodedReply
+        ensures { UpdatesVariables (delayed_by span) self.old result self.new }
+    {
+        self.sender.set_peer_max_ack_delay(span);
+        EncodedReply::plain(ANSWER_DONE)
+    }
+
+    fn challenge(&mut self, challenge: Option<u64>, pending: bool) -> EncodedReply
+        ensures { ChallengeReply challenge pending self.old result self.new }
+    {
+        self.sender.set_challenge(challenge, pending);
+        EncodedReply::plain(ANSWER_DONE)
+    }
+}

@@ -1,0 +1,47 @@
+-- Black holes (RFC 8899, 4.3): a report needs four bursts of losses of large packets that no acknowledgement refuted,
+-- and it comes at four since the first of which no large packet was acknowledged, though small ones may be.
+use Rattle.std.specs.Prelude.{◌≡◌, ℕ, ◌≤◌, nat_lt, true, ◌||◌, List, [], ◌∷◌, ◌++◌, drop, length, filter, Ok, if◌then◌else◌}
+use Rattle.std.specs.List.{list_any}
+use Rattle.recovery_base.specs.declared.below.SpaceId.TheVariants.{Data}
+use Rattle.recovery_mtud.specs.BurstRuns.{Loss, is_above, is_past}
+use Rattle.recovery_events.specs.declared.event.Event.{Event}
+use Rattle.recovery_events.specs.declared.event.Event.TheVariants.{Acked, LossesDone, NewPath, RevertPath}
+use Rattle.recovery_events.specs.declared.event.Answer.TheVariants as answer
+use Rattle.recovery_history.specs.History.{History, Reply}
+use Rattle.recovery_history.specs.Promises.ProbeCount.{begins_anew}
+use Rattle.recovery_history.specs.Promises.Bursts.{size_of, open_run, closed}
+
+module _ {Q S M P : Type 0} where
+  -- the bursts closed since all began anew, but those that an acknowledged packet refutes: a probe all, another one
+  -- those with a packet no larger
+  abbrev pub standing : History Q S M P → List (List Loss)
+  standing [] = []
+  standing ((Acked Data now n app_limited, Ok (answer.Acked probe)) ∷ earlier) =
+      if probe then [] else filter (is_above (size_of earlier n)) (standing earlier)
+  standing (happened ∷ earlier) = if begins_anew happened then [] else closed happened earlier ++ standing earlier
+
+  -- those closed since then with neither a probe nor a packet larger than this acknowledged since
+  abbrev pub unanswered : ℕ → History Q S M P → List (List Loss)
+  unanswered size [] = []
+  unanswered size ((Acked Data now n app_limited, Ok (answer.Acked probe)) ∷ earlier) =
+      if probe || nat_lt size (size_of earlier n) then [] else unanswered size earlier
+  unanswered size (happened ∷ earlier) =
+      if begins_anew happened then [] else closed happened earlier ++ unanswered size earlier
+
+  -- the numbers of those acknowledged since the last fresh path, or the last that was used again
+  abbrev pub larger_acked : ℕ → History Q S M P → List ℕ
+  larger_acked size [] = []
+  larger_acked size ((Acked Data now n app_limited, Ok (answer.Acked probe)) ∷ earlier) =
+      if probe || nat_lt size (size_of earlier n) then n ∷ larger_acked size earlier else larger_acked size earlier
+  larger_acked size ((NewPath now remote true, Ok given) ∷ earlier) = []
+  larger_acked size ((RevertPath, Ok given) ∷ earlier) = []
+  larger_acked size (happened ∷ earlier) = larger_acked size earlier
+
+  -- bursts count whose packets are all above the least MTU; a report is forced by one that ends past each such number
+  -- with three behind it
+  abbrev pub ReportsBlackHoleAtFour : ℕ → History Q S M P → Event Q S M P → Reply Q → Type 0
+  ReportsBlackHoleAtFour least history (LossesDone now) reply =
+      let bursts = filter (is_above least) (open_run history ∷ unanswered least history) in
+      (reply ≡ Ok (answer.BlackHole true) → 4 ≤ length (filter (is_above least) (open_run history ∷ standing history)))
+      × (list_any (is_past (larger_acked least history)) (drop 3 bursts) ≡ true → reply ≡ Ok (answer.BlackHole true))
+  ReportsBlackHoleAtFour least history event reply = Unit {0}

@@ -1,0 +1,35 @@
+-- The search for the MTU in turn (RFC 8899, 5.1 and 5.3; RFC 9000, 14.4): a probe goes out in a search alone, while
+-- none is in flight; a packet that leaves is told to be a probe exactly where it is the one in flight; a limit above
+-- zero is taken exactly while no search runs.
+use Rattle.std.specs.Prelude.{◌≡◌, ℕ, ◌==◌, Bool, true, false, ◌&&◌, ◌||◌, nat_le, IsSomeAnd, Ok, Err, if◌then◌else◌}
+use Rattle.recovery_base.specs.declared.below.SpaceId.{SpaceId}
+use Rattle.recovery_base.specs.declared.below.SpaceId.TheVariants.{Data}
+use Rattle.recovery_base.specs.Spaces.{same_space}
+use Rattle.recovery_events.specs.declared.event.Event.{Event}
+use Rattle.recovery_events.specs.declared.event.Event.TheVariants.{Acked, Lost, PollMtu, PeerLimit}
+use Rattle.recovery_events.specs.declared.event.Answer.TheVariants as answer
+use Rattle.recovery_events.specs.declared.event.Refusal.TheVariants.{Searching, ZeroMtu}
+use Rattle.recovery_history.specs.History.{Beginning, History, Reply}
+use Rattle.recovery_history.specs.Promises.ProbeCount.{is_in_flight}
+use Rattle.recovery_history.specs.Promises.Convergence.{next}
+use Rattle.recovery_history.specs.Promises.Probes.{last_probe, runs}
+use Rattle.recovery_history.specs.Search.{discovery_settings}
+
+module _ {Q S M P : Type 0} where
+  -- the packet of 1-RTT keys of this number is the probe in flight
+  abbrev pub is_probe_in_flight : SpaceId → ℕ → History Q S M P → Bool
+  is_probe_in_flight space number history =
+      same_space space Data && (is_in_flight history && number == (last_probe history).0)
+
+module _ {F K Q S M P : Type 0} (beginning : Beginning F K Q S M P) where
+  abbrev pub OneProbeAtATime : History Q S M P → Event Q S M P → Reply Q → Type 0
+  OneProbeAtATime history (PollMtu now) (Ok (answer.Probe number size)) =
+      (is_in_flight history ≡ false)
+      × IsSomeAnd (discovery_settings beginning) (λ settings. (runs history || nat_le (next settings history) now)
+      ≡ true)
+  OneProbeAtATime history (Acked space now number app_limited) (Ok given) =
+      given ≡ answer.Acked (is_probe_in_flight space number history)
+  OneProbeAtATime history (Lost space number) (Ok given) = given ≡ answer.Lost (is_probe_in_flight space number history)
+  OneProbeAtATime history (PeerLimit size) reply =
+      reply ≡ (if size == 0 then Err ZeroMtu else if runs history then Err Searching else Ok answer.Done)
+  OneProbeAtATime history event reply = Unit {0}

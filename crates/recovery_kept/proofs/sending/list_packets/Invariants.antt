@@ -1,9 +1,0 @@
-use Rattle.std.proofs.Common.{◌≡◌, take}
-use Rattle.recovery_sender.specs.Senders.{parts_in}
-use Rattle.recovery_sender.specs.Spaces.{packets_in}
-use Rattle.recovery_kept.specs.Kept.{packets_listed}
-use Rattle.recovery_kept.proofs.sending.list_packets.Given as goal
-
-abbrev pub invariant-loop-number : goal.invariant-loop-number
-invariant-loop-number l =
-    l.packets.items ≡ packets_listed (packets_in (parts_in l.sender) l.space) (take l.number-index l.numbers)

@@ -1,5 +1,0 @@
-use Rattle.recovery_ledger.proofs.TrackedLaws.{finds_packet}
-use Rattle.recovery_ledger.proofs.sent_packets.SentPackets.find.Goals as goal
-
-pub returns : goal.returns
-returns g c = rw (← c.self.view_is) (finds_packet c.self.invariant c.find.ensures)

@@ -1,9 +1,0 @@
-use Rattle.std.proofs.Common.{arith}
-use Rattle.std.proofs.lemmas.Bool.Decides.{nat_tests}
-use Rattle.recovery_queue.specs.Slots.{entries_in}
-use Rattle.recovery_ledger.proofs.PacketLaws.{sized_counted}
-use Rattle.recovery_ledger.proofs.sent_packets.SentPackets.has_size.Goals as goal
-
-pub returns : goal.returns
-returns g c =
-    rw (← c.self.view_is) (grind (arith, nat_tests, c.self.invariant, sized_counted (entries_in c.self.inside.packets)))

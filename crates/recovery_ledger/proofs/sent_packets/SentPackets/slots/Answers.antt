@@ -1,5 +1,0 @@
-use Rattle.recovery_ledger.proofs.TrackedLaws.{has_slots}
-use Rattle.recovery_ledger.proofs.sent_packets.SentPackets.slots.Goals as goal
-
-pub returns : goal.returns
-returns g c = rw (c.len.ensures, ← c.self.view_is) (has_slots c.self.invariant)

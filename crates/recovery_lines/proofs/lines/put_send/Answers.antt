@@ -1,5 +1,0 @@
-use Rattle.recovery_lines.proofs.PushLaws.{send_read}
-use Rattle.recovery_lines.proofs.lines.put_send.Goals as goal
-
-pub returns : goal.returns
-returns g c = send_read g.S.Sink.takes _ _ _ _ _ _ c.in_ok-line.ensures.found c.put_read.ensures

@@ -1,0 +1,19 @@
+-- What a look for losses found of the packets below a number.
+use Rattle.std.specs.Prelude.{◌≡◌, ℕ, ◌-◌, ◌^◌, ◌<◌, min, List, Some}
+use Rattle.std.specs.Option.{ForSome}
+use Rattle.recovery_spaces.specs.Packets.{Packets}
+use Rattle.recovery_losses.specs.declared.looks.LossPass.{LossPass}
+use Rattle.recovery_losses.specs.declared.tally.Tally.{Tally}
+use Rattle.recovery_losses.specs.Losses.{AreLost, IsEarliest, IsLostBelow, IsDeclaredLost, bytes_counted, last_counted, without_all}
+use Rattle.recovery_losses.specs.PersistentCongestion.{IsEndAt, IsLossRun}
+
+pub record PassSoFar {P M : Type 0} (look : LossPass) (old : Packets P M) (end : ℕ) (numbers : List ℕ) (tally : Tally)
+    (new : Packets P M) : Type 0 where
+  pub lost : AreLost look old end numbers
+  pub taken : new ≡ without_all old numbers
+  pub probe : ForSome tally.probe (λ number. (look.probe ≡ Some number) × (number < end) × IsLostBelow look old number)
+  pub earliest : IsEarliest look old end (IsDeclaredLost numbers tally.probe) tally.loss_time
+  pub bytes : tally.bytes ≡ min (bytes_counted look old numbers) (2 ^ 64 - 1)
+  pub last_sent : tally.last_sent ≡ last_counted look old numbers
+  -- the numbers that are lost now, one behind another
+  pub run : IsLossRun (IsDeclaredLost numbers tally.probe) (IsEndAt look old numbers) look.period end tally.run

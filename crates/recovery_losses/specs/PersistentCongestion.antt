@@ -1,0 +1,45 @@
+-- Persistent congestion (RFC 9002, 7.6): by what is lost now.
+use Rattle.std.specs.Prelude.{◌≡◌, ℕ, ◌-◌, ◌<◌, ◌≤◌, IsTrue, Decides, List, Some}
+use Rattle.recovery_spaces.specs.Packets.{Packet, Packets, packet_at}
+use Rattle.recovery_losses.specs.declared.looks.LossPass.{LossPass}
+use Rattle.recovery_losses.specs.declared.tally.Run.{Run}
+use Rattle.recovery_losses.specs.Losses.{IsOneOf, is_counted, is_end}
+
+-- a packet that was told lost may begin or end persistent congestion: it counts, elicits an ACK, and is no earlier than
+-- the first packet behind a sample of the RTT; it was sent then (RFC 9002, 7.6.2)
+pub record IsEndAt {P M : Type 0} (look : LossPass) (packets : Packets P M) (numbers : List ℕ)
+    (number sent : ℕ) : Type 0
+  where
+    pub told : IsOneOf number numbers
+    pub packet : Packet P M
+    pub is : packet_at packets number ≡ Some packet
+    pub counts : IsTrue (is_counted look packet.size packet.path_generation)
+    pub ends : IsTrue (is_end look number packet.ack_eliciting)
+    pub sent_then : packet.time_sent ≡ sent
+
+-- two such, the higher sent so long after the lower, with all numbers between them lost now
+pub record IsPersistentCongestion (IsLostNow : ℕ → Type 0) (IsEnd : ℕ → ℕ → Type 0) (period : ℕ) : Type 0 where
+  pub first : ℕ
+  pub last : ℕ
+  pub first_sent : ℕ
+  pub last_sent : ℕ
+  pub rises : first < last
+  pub begins : IsEnd first first_sent
+  pub ends : IsEnd last last_sent
+  pub between : (number : ℕ) → first ≤ number → number ≤ last → IsLostNow number
+  pub long : period < last_sent - first_sent
+
+-- what was found of the numbers below an end, in a run of numbers that are lost now
+module _ (IsLostNow : ℕ → Type 0) (IsEnd : ℕ → ℕ → Type 0) (period end : ℕ) (run : Run) where
+  -- all numbers from this one on are lost, up to the last that is
+  abbrev pub IsInRun : ℕ → Type 0
+  IsInRun number = (last : ℕ) → run.previous ≡ Some last → (other : ℕ) → number ≤ other → other ≤ last → IsLostNow other
+
+  pub record IsLossRun : Type 0 where
+    pub previous : (last : ℕ) → run.previous ≡ Some last → IsLostNow last × (last < end)
+    pub last : (number : ℕ) → IsLostNow number → (last : ℕ) × (run.previous ≡ Some last) × (number ≤ last)
+    pub told : (number sent : ℕ) → IsEnd number sent → IsLostNow number
+    pub one : (time : ℕ) → run.oldest ≡ Some time → (number : ℕ) × IsEnd number time × IsInRun number
+    pub oldest : (number sent : ℕ) → IsEnd number sent → IsInRun number
+        → (time : ℕ) × (run.oldest ≡ Some time) × (time ≤ sent)
+    pub persists : Decides run.is_persistent (IsPersistentCongestion IsLostNow IsEnd period)

@@ -1,0 +1,135 @@
+-- What becomes of the packets that a look for losses goes over, one after another.
+use Rattle.std.specs.Prelude.{◌≡◌, ◌≢◌, ℕ, ◌-◌, ◌^◌, ◌<◌, ◌⊎◌, Decides, min, List, [], ◌∷◌, ◌++◌, Bool, false, Option, None, Some, option_map, map, Ok}
+use Rattle.std.specs.Option.{ForSome}
+use Rattle.recovery_base.specs.declared.below.SpaceId.{SpaceId}
+use Rattle.recovery_events.specs.declared.event.Answer.{Answer}
+use Rattle.recovery_events.specs.declared.event.Answer.TheVariants.{BlackHole}
+use Rattle.recovery_events.specs.declared.event.Event.TheVariants.{Lost, LossesDone, Congestion}
+use Rattle.recovery_spaces.specs.Packets.{Packet, Packets, packet_at}
+use Rattle.recovery_losses.specs.declared.looks.Candidate.{Candidate}
+use Rattle.recovery_losses.specs.declared.looks.LossPass.{LossPass}
+use Rattle.recovery_losses.specs.declared.tally.Tally.{Tally}
+use Rattle.recovery_losses.specs.Losses.{AreLost, IsDueAt, IsEarliest, IsLost, IsLostBelow, IsDeclaredLost, bytes_counted, counting, finding_probe, last_counted, waiting}
+use Rattle.recovery_losses.specs.DetectionPass.{PassSoFar}
+use Rattle.recovery_losses.specs.PersistentCongestion.{IsEndAt, IsPersistentCongestion}
+use Rattle.recovery_history.specs.RecoveryState.{RecoveryState}
+use Rattle.recovery_sender.specs.declared.sender.losses.Losses.{Losses}
+use Rattle.recovery_sender.specs.declared.sender.Sender.{Sender}
+use Rattle.recovery_sender.specs.Losses.{largest_in, look_of, IsEmptyLosses}
+use Rattle.recovery_sender.specs.Promises.Lost.{LosesTracked}
+use Rattle.recovery_sender.specs.Promises.Pasts.{ForEveryPast}
+use Rattle.recovery_sender.specs.Senders.{state_in}
+use Rattle.recovery_sender.specs.Spaces.{packets_in}
+use Rattle.recovery_sender.specs.Steps.{SenderStep, loss_time, occurs, told, TakesSteps}
+
+-- each of these is told lost
+abbrev pub losing : {Q S M P : Type 0} → SpaceId → List ℕ → List (SenderStep Q S M P)
+losing space numbers = map (λ number. occurs (Lost space number)) numbers
+
+module _ {F Q R C K S M P : Type 0} {f : _} {c : _} {q : _} {m : _} {r : _} (look : LossPass) (packet : Candidate)
+    (old : Sender F Q R C K S M P f c q m r) (before : List ℕ) (found : Tally) (new : Sender F Q R C K S M P f c q m r)
+    (behind : List ℕ) (now : Tally) where
+  -- it waits: it is not lost yet, or memory was refused
+  pub record IsNotYetLost : Type 0 where
+    pub goes : TakesSteps [] old new
+    pub numbers : behind ≡ before
+    pub due : ℕ
+    pub is_due : IsDueAt look packet.number packet.time_sent due
+    pub tally : now ≡ waiting due found
+
+  -- it is the probe of the MTU, which is told last
+  pub record IsLostMtuProbe : Type 0 where
+    pub goes : TakesSteps [] old new
+    pub numbers : behind ≡ before
+    pub lost : IsLost look packet.number packet.time_sent
+    pub probe : look.probe ≡ Some packet.number
+    pub tally : now ≡ finding_probe look packet found
+
+  -- it is told lost
+  pub record DeclaresLost : Type 0 where
+    pub goes : TakesSteps (occurs (Lost look.space packet.number) ∷ []) old new
+    pub numbers : behind ≡ before ++ packet.number ∷ []
+    pub lost : IsLost look packet.number packet.time_sent
+    pub other : look.probe ≢ Some packet.number
+    pub tally : now ≡ counting look packet found
+
+  abbrev pub ClassifiesPacket : Type 0
+  ClassifiesPacket = IsNotYetLost ⊎ (IsLostMtuProbe ⊎ DeclaresLost)
+
+-- the packets below a number were gone over
+pub record HasScanned {F Q R C K S M P : Type 0} {f : _} {c : _} {q : _} {m : _} {r : _} (look : LossPass)
+    (start : Sender F Q R C K S M P f c q m r) (end : ℕ) (numbers : List ℕ) (found : Tally)
+    (now : Sender F Q R C K S M P f c q m r) : Type 0 where
+  pub looked : PassSoFar look (packets_in (state_in start) look.space) end numbers found
+      (packets_in (state_in now) look.space)
+  pub goes : TakesSteps (losing look.space numbers) start now
+
+-- ---- behind them
+
+-- an answer says that a black hole is reported
+abbrev pub is_reported : {Q : Type 0} → Answer Q → Bool
+is_reported (BlackHole reported) = reported
+is_reported answer = false
+
+-- that these were all is told, where there was one, and answered with whether a black hole is reported (RFC 8899, 4.3)
+abbrev pub ended : {Q S M P : Type 0} → ℕ → Bool → List ℕ → List (SenderStep Q S M P)
+ended now reported [] = []
+ended now reported (number ∷ numbers) = told (LossesDone now) (Ok (BlackHole reported)) ∷ []
+
+-- there is congestion, where one that counts was sent last at this moment
+abbrev pub congested : {Q S M P : Type 0} → ℕ → Bool → ℕ → Option ℕ → List (SenderStep Q S M P)
+congested now persistent bytes None = []
+congested now persistent bytes (Some sent) = occurs (Congestion now sent persistent bytes) ∷ []
+
+abbrev pub one_of : Option ℕ → List ℕ
+one_of None = []
+one_of (Some number) = number ∷ []
+
+-- ---- a look as a whole
+
+-- what a look comes to, and when the next one is due
+pub record PassResult {P M : Type 0} (look : LossPass) (packets : Packets P M) (losses : Losses)
+    (time : Option ℕ) : Type 0
+  where
+    -- the probe of the MTU, where it is lost: told so last, unless memory was refused
+    pub found : Option ℕ
+    pub is_found : ForSome found (λ number. (look.probe ≡ Some number) × IsLostBelow look packets number)
+    pub lost : AreLost look packets look.largest losses.numbers.items
+    pub probe : ForSome losses.probe (λ number. (look.probe ≡ Some number) × IsLostBelow look packets number)
+    -- each that is lost was told so, unless memory was refused: then the next look is due at once
+    pub earliest : IsEarliest look packets look.largest (IsDeclaredLost losses.numbers.items losses.probe) time
+    -- whether congestion is persistent (RFC 9002, 7.6)
+    pub persistent : Decides losses.is_persistent (IsPersistentCongestion (IsDeclaredLost losses.numbers.items found)
+        (IsEndAt look packets losses.numbers.items) look.period)
+    -- the bytes of those that count, where there is one
+    pub congestion : losses.congestion
+        ≡ option_map (λ sent. min (bytes_counted look packets losses.numbers.items) (2 ^ 64 - 1))
+        (last_counted look packets losses.numbers.items)
+    -- where nothing was told lost, no black hole is reported
+    pub black_hole : losses.numbers.items ≡ [] → losses.is_black_hole ≡ false
+
+-- what is told, in its order (RFC 9002, A.10; RFC 9000, 14.4)
+abbrev pub detecting : {Q S M P : Type 0} → LossPass → Losses → Bool → ℕ → Option ℕ → Option ℕ → List
+    (SenderStep Q S M P)
+detecting look losses persistent bytes sent time = losing look.space losses.numbers.items
+    ++ (ended look.at losses.is_black_hole losses.numbers.items ++ (congested look.at persistent bytes sent
+    ++ (losing look.space (one_of losses.probe) ++ loss_time look.space time ∷ [])))
+
+-- nothing was acknowledged, or nothing is tracked below what was
+abbrev pub HasNoGap : {K P M : Type 0} → RecoveryState K P M → SpaceId → Type 0
+HasNoGap {K} {P} {M} recovery space = (largest : ℕ) → largest_in recovery space ≡ Some largest → (number : ℕ)
+    (packet : Packet P M) → packet_at (packets_in recovery space) number ≡ Some packet → number < largest → ⊥
+
+-- the look at a space, where these are lost
+pub record DetectsLosses {F Q R C K S M P : Type 0} {f : _} {c : _} {q : _} {m : _} {r : _} (space : SpaceId) (now : ℕ)
+    (due_to_ack : Bool) (old : Sender F Q R C K S M P f c q m r) (losses : Losses)
+    (new : Sender F Q R C K S M P f c q m r) : Type 0 where
+  pub looks : (largest : ℕ) → largest_in (state_in old) space ≡ Some largest →
+      (let look : LossPass = look_of (state_in old) old.variables space now due_to_ack largest in
+      (time : Option ℕ) × PassResult look (packets_in (state_in old) space) losses time
+      × ForEveryPast old (LosesTracked look losses time)
+      × TakesSteps (detecting look losses losses.is_persistent
+      (min (bytes_counted look (packets_in (state_in old) space) losses.numbers.items) (2 ^ 64 - 1))
+      (last_counted look (packets_in (state_in old) space) losses.numbers.items) time) old new)
+  pub none : largest_in (state_in old) space ≡ None
+      → IsEmptyLosses losses × TakesSteps (loss_time space None ∷ []) old new

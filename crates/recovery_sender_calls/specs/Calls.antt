@@ -1,0 +1,96 @@
+-- What each call of a sender comes to (RFC 9002, Appendices A and B), in one place. What is promised by the events
+-- before it, and that it never stalls, is part of it (`ProcessesAck`, `DetectsLosses`, `DeclaresAllLost`,
+-- `CompletesCall`).
+use Rattle.std.specs.Prelude.{◌≡◌, ℕ, ◌+◌, ◌≤◌, Bool, true, Result, Ok, Err, IfOk, OnOk, OnErr, [], ◌∷◌}
+use Rattle.recovery_base.specs.declared.below.SpaceId.{SpaceId}
+use Rattle.recovery_events.specs.declared.event.Answer.TheVariants as answers
+use Rattle.recovery_events.specs.declared.event.Event.{Event}
+use Rattle.recovery_events.specs.declared.event.Event.TheVariants.{DatagramIn, DiscardSpace, Validated}
+use Rattle.recovery_spaces.specs.Spaces.{space_of}
+use Rattle.recovery_paths.specs.declared.path_pair.PathName.TheVariants.{Current}
+use Rattle.recovery_sender.specs.RetransmitAll.{DeclaresAllLost}
+use Rattle.recovery_sender.specs.Acking.{AckResult}
+use Rattle.recovery_losses.specs.Variables.{begun_anew}
+use Rattle.recovery_sender.specs.Calls.{bytes_in_flight, datagram_reply, discard_reply, is_checked, transmit_reply, transmit_steps, window_of, IsPassedThrough, EventResult}
+use Rattle.recovery_sender.specs.Senders.{state_in}
+use Rattle.recovery_sender.specs.Steps.{told, CompletesCall}
+use Rattle.recovery_sender.specs.Timeouts.{TimeoutResult}
+use Rattle.recovery_sender.specs.declared.sender.SenderError.{SenderError}
+use Rattle.recovery_sender.specs.declared.sender.Sender.{Sender}
+use Rattle.recovery_losses.specs.declared.variables.Variables.{Variables}
+use Rattle.recovery_sender.specs.declared.sender.packets.Transmission.{Transmission}
+use Rattle.recovery_sender.specs.declared.sender.packets.Transmission.TheVariants.{Transmitted}
+use Rattle.recovery_sender_calls.specs.declared.calls.Call.{Call}
+use Rattle.recovery_sender_calls.specs.declared.calls.Call.TheVariants as calls
+use Rattle.recovery_sender_calls.specs.declared.calls.Datagram.{Datagram}
+use Rattle.recovery_sender_calls.specs.declared.calls.CallReplyValue.{CallReplyValue}
+use Rattle.recovery_sender_calls.specs.declared.calls.CallReplyValue.TheVariants as replies
+
+-- done or refused
+abbrev pub is_done : {Q : Type 0} → Result (Unit {0}) SenderError → Result (CallReplyValue Q) SenderError
+is_done (Ok done) = Ok replies.Done
+is_done (Err refusal) = Err refusal
+
+module _ {F Q R C K S M P : Type 0} {f : _} {c : _} {q : _} {m : _} {r : _} (old new : Sender F Q R C K S M P f c q m r)
+  where
+    -- a datagram goes out, or does not: what counts in flight finds room in the window, where no probe is due (RFC
+    -- 9002, 7; RFC 9000, 8.1)
+    pub record TransmitCall (datagram : Datagram) (reply : Result Transmission SenderError) : Type 0 where
+      pub is : reply
+          ≡ transmit_reply c.words (state_in old) datagram.now datagram.bytes datagram.space datagram.in_flight
+      pub window : reply ≡ Ok Transmitted → datagram.in_flight ≡ true
+          → (space_of datagram.space (state_in old).spaces).loss_probes ≡ 0
+          → bytes_in_flight (state_in old) + datagram.bytes ≤ window_of c.words (state_in old)
+      pub steps : IfOk reply (λ sent. CompletesCall (transmit_steps datagram.now datagram.bytes
+          (is_checked (state_in old) datagram.space datagram.in_flight) sent) old.variables old new)
+      pub stays : OnErr reply (new ≡ old)
+
+    -- one event is done, and leaves these variables; or it is refused so, and nothing changes
+    pub record IsOneEvent (event : Event Q S M P) (kept : Variables)
+        (reply is : Result (Unit {0}) SenderError) : Type 0 where
+      pub same : reply ≡ is
+      pub steps : OnOk reply (CompletesCall (told event (Ok answers.Done) ∷ []) kept old new)
+      pub stays : OnErr reply (new ≡ old)
+
+    abbrev pub DatagramCall : ℕ → Result (Unit {0}) SenderError → Type 0
+    DatagramCall bytes reply =
+        IsOneEvent (DatagramIn Current bytes) old.variables reply (datagram_reply (state_in old) bytes)
+
+    abbrev pub DiscardCall : SpaceId → ℕ → Result (Unit {0}) SenderError → Type 0
+    DiscardCall space now reply =
+        IsOneEvent (DiscardSpace space) (begun_anew now old.variables) reply (discard_reply (state_in old) space)
+
+-- a call is replied so
+abbrev pub CallReply : {F Q R C K S M P : Type 0} {f : _} {c : _} {q : _} {m : _} {r : _} → Call Q S M P
+    → Sender F Q R C K S M P f c q m r → Sender F Q R C K S M P f c q m r → Result (CallReplyValue Q) SenderError
+        → Type 0
+CallReply (calls.Transmit datagram) old new (Ok (replies.Transmission sent)) = TransmitCall old new datagram (Ok sent)
+CallReply (calls.Transmit datagram) old new (Err refusal) = TransmitCall old new datagram (Err refusal)
+CallReply (calls.Ack frame) old new (Ok (replies.Acknowledged acked)) =
+    AckResult frame.space frame.now frame.ranges.items frame.ack old new (Ok acked)
+CallReply (calls.Ack frame) old new (Err refusal) =
+    AckResult frame.space frame.now frame.ranges.items frame.ack old new (Err refusal)
+CallReply (calls.Timeout expiry) old new (Ok (replies.Timeout timeout)) =
+    TimeoutResult expiry.now expiry.immediate_ack expiry.first expiry.second old new (Ok timeout)
+CallReply (calls.Timeout expiry) old new (Err refusal) =
+    TimeoutResult expiry.now expiry.immediate_ack expiry.first expiry.second old new (Err refusal)
+CallReply (calls.Datagram bytes) old new (Ok replies.Done) = DatagramCall old new bytes (Ok (tt {0}))
+CallReply (calls.Datagram bytes) old new (Err refusal) = DatagramCall old new bytes (Err refusal)
+CallReply calls.HandshakeKeys old new (Ok replies.Done) =
+    CompletesCall [] (record old.variables { has_handshake_keys = true }) old new
+CallReply calls.HandshakeConfirmed old new (Ok replies.Done) =
+    CompletesCall [] (record old.variables { is_handshake_confirmed = true; is_address_known = true }) old new
+CallReply calls.AddressValidated old new (Ok replies.Done) =
+    CompletesCall (told (Validated Current) (Ok answers.Done) ∷ []) old.variables old new
+CallReply (calls.PeerDelay span) old new (Ok replies.Done) =
+    CompletesCall [] (record old.variables { max_ack_delay = span }) old new
+CallReply (calls.Discard space now) old new (Ok replies.Done) = DiscardCall old new space now (Ok (tt {0}))
+CallReply (calls.Discard space now) old new (Err refusal) = DiscardCall old new space now (Err refusal)
+CallReply (calls.Abandon space now) old new (Ok (replies.Abandoned numbers)) = DeclaresAllLost space old now new
+    (Ok numbers)
+CallReply (calls.Abandon space now) old new (Err refusal) = DeclaresAllLost space old now new (Err refusal)
+CallReply (calls.Event event) old new (Ok (replies.Answer answer)) = IsPassedThrough event × EventResult event old new
+    (Ok answer)
+CallReply (calls.Event event) old new (Err refusal) = IsPassedThrough event × EventResult event old new (Err refusal)
+CallReply (calls.Event event) old new (Ok replies.Decided) = (IsPassedThrough event → ⊥) × (new ≡ old)
+CallReply call old new reply = ⊥

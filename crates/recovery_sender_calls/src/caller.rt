@@ -1,0 +1,160 @@
+//! A sender that takes calls as values.
+ghost use Rattle.std.specs.Prelude.{◌≡◌};
+ghost use Rattle.recovery_sender_calls.specs.Calls.{is_done, CallReply};
+
+use crate::calls::{Call, Datagram, Expiry, Frame, CallReplyValue};
+use quic_recovery::Event;
+use quic_recovery::below::SpaceId;
+use quic_recovery::congestion::ControllerFactory;
+use quic_recovery::queue::RetransmitQueue;
+use quic_recovery::time::{Duration, Instant};
+use rand_core::Rng;
+use recovery_sender::{SenderError, Sender, passes};
+
+/// A sender that takes calls as values.
+#[derive(Drop)]
+pub struct Caller<F: ControllerFactory, Q: RetransmitQueue, R: Rng> {
+    pub sender: Sender<F, Q, R>,
+}
+
+/// It is done, or refused.
+fn done<Q>(done: Result<(), SenderError>) -> Result<CallReplyValue<Q>, SenderError>
+    ensures { result ≡ is_done done }
+{
+    match done {
+        Ok(()) => Ok(CallReplyValue::Done),
+        Err(refused) => Err(refused),
+    }
+}
+
+impl<F, Q, R> Caller<F, Q, R>
+where
+    F: ControllerFactory + Drop,
+    F::Controller: Drop,
+    Q: RetransmitQueue + Drop,
+    Q::Meta: Drop,
+    Q::Streams: Drop,
+    R: Rng + Drop,
+{
+    /// One call, as the sender's own of its name does it.
+    pub fn call(&mut self, call: Call<Q>) -> Result<CallReplyValue<Q>, SenderError>
+        ensures { CallReply call self.old.sender self.new.sender result }
+    {
+        match call {
+            Call::Transmit(datagram) => self.transmit(datagram),
+            Call::Ack(frame) => self.take_ack(frame),
+            Call::Timeout(expiry) => self.expire(expiry),
+            Call::Datagram(bytes) => self.receive(bytes),
+            Call::HandshakeKeys => self.handshake_keys(),
+            Call::HandshakeConfirmed => self.handshake_confirmed(),
+            Call::AddressValidated => self.address_validated(),
+            Call::PeerDelay(span) => self.peer_delay(span),
+            Call::Discard(space, now) => self.discard(space, now),
+            Call::Abandon(space, now) => self.retransmit_all(space, now),
+            Call::Event(event) => self.pass(event),
+        }
+    }
+
+    fn transmit(&mut self, datagram: Datagram) -> Result<CallReplyValue<Q>, SenderError>
+        ensures { CallReply (Call.Transmit datagram) self.old.sender self.new.sender result }
+    {
+        let Datagram {
+            space,
+            now,
+            bytes,
+            in_flight,
+        } = datagram;
+        match self.sender.transmit(now, bytes, space, in_flight) {
+            Ok(sent) => Ok(CallReplyValue::Transmission(sent)),
+            Err(refused) => Err(refused),
+        }
+    }
+
+    fn take_ack(&mut self, frame: Frame) -> Result<CallReplyValue<Q>, SenderError>
+        ensures { CallReply (Call.Ack frame) self.old.sender self.new.sender result }
+    {
+        match self
+            .sender
+            .on_ack(frame.space, frame.now, &frame.ranges, frame.ack)
+        {
+            Ok(acknowledged) => Ok(CallReplyValue::Acknowledged(acknowledged)),
+            Err(refused) => Err(refused),
+        }
+    }
+
+    fn expire(&mut self, expiry: Expiry<Q>) -> Result<CallReplyValue<Q>, SenderError>
+        ensures { CallReply (Call.Timeout expiry) self.old.sender self.new.sender result }
+    {
+        let Expiry {
+            now,
+            immediate_ack,
+            first,
+            second,
+        } = expiry;
+        match self.sender.on_timeout(now, immediate_ack, first, second) {
+            Ok(timeout) => Ok(CallReplyValue::Timeout(timeout)),
+            Err(refused) => Err(refused),
+        }
+    }
+
+    fn receive(&mut self, bytes: u64) -> Result<CallReplyValue<Q>, SenderError>
+        ensures { CallReply (Call.Datagram bytes) self.old.sender self.new.sender result }
+    {
+        done(self.sender.on_datagram(bytes))
+    }
+
+    fn handshake_keys(&mut self) -> Result<CallReplyValue<Q>, SenderError>
+        ensures { CallReply Call.HandshakeKeys self.old.sender self.new.sender result }
+    {
+        self.sender.on_handshake_keys();
+        Ok(CallReplyValue::Done)
+    }
+
+    fn handshake_confirmed(&mut self) -> Result<CallReplyValue<Q>, SenderError>
+        ensures { CallReply Call.HandshakeConfirmed self.old.sender self.new.sender result }
+    {
+        self.sender.on_handshake_confirmed();
+        Ok(CallReplyValue::Done)
+    }
+
+    fn address_validated(&mut self) -> Result<CallReplyValue<Q>, SenderError>
+        ensures { CallReply Call.AddressValidated self.old.sender self.new.sender result }
+    {
+        self.sender.on_address_validated();
+        Ok(CallReplyValue::Done)
+    }
+
+    fn peer_delay(&mut self, span: Duration) -> Result<CallReplyValue<Q>, SenderError>
+        ensures { CallReply (Call.PeerDelay span) self.old.sender self.new.sender result }
+    {
+        self.sender.set_peer_max_ack_delay(span);
+        Ok(CallReplyValue::Done)
+    }
+
+    fn discard(&mut self, space: SpaceId, now: Instant) -> Result<CallReplyValue<Q>, SenderError>
+        ensures { CallReply (Call.Discard space now) self.old.sender self.new.sender result }
+    {
+        done(self.sender.discard(space, now))
+    }
+
+    fn retransmit_all(&mut self, space: SpaceId, now: Instant) -> Result<CallReplyValue<Q>, SenderError>
+        ensures { CallReply (Call.Abandon space now) self.old.sender self.new.sender result }
+    {
+        match self.sender.retransmit_all(space, now) {
+            Ok(numbers) => Ok(CallReplyValue::Abandoned(numbers)),
+            Err(refused) => Err(refused),
+        }
+    }
+
+    fn pass(&mut self, event: Event<Q>) -> Result<CallReplyValue<Q>, SenderError>
+        ensures { CallReply (Call.Event event) self.old.sender self.new.sender result }
+    {
+        if !passes(&event) {
+            return Ok(CallReplyValue::Decided);
+        }
+        match self.sender.on_event(event) {
+            Ok(answer) => Ok(CallReplyValue::Answer(answer)),
+            Err(refused) => Err(refused),
+        }
+    }
+}

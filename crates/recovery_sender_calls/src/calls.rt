@@ -1,0 +1,100 @@
+//! Calls, and what they come to.
+use quic_recovery::below::SpaceId;
+use quic_recovery::queue::RetransmitQueue;
+use quic_recovery::time::{Duration, Instant};
+use quic_recovery::{Answer, Event};
+use recovery_sender::{Ack, Acknowledged, SenderError, Timeout, Transmission};
+
+/// A datagram that is to go out.
+#[derive(Clone, Copy)]
+pub struct Datagram {
+    /// The space of its packets.
+    pub space: SpaceId,
+    /// When it is to go.
+    pub now: Instant,
+    /// Its size in bytes.
+    pub bytes: u16,
+    /// Whether something in it counts in flight.
+    pub in_flight: bool,
+}
+
+/// An ACK frame that came in.
+#[derive(Drop)]
+pub struct Frame {
+    /// The space of the packet that held it.
+    pub space: SpaceId,
+    /// When it came in.
+    pub now: Instant,
+    /// The first and last number of each of its ranges, the highest range first.
+    pub ranges: Vec<(u64, u64)>,
+    /// What it says beside.
+    pub ack: Ack,
+}
+
+/// The timer for losses may be due.
+#[derive(Drop)]
+pub struct Expiry<Q: RetransmitQueue> {
+    /// When it is looked at.
+    pub now: Instant,
+    /// Whether probes ask for an ACK at once.
+    pub immediate_ack: bool,
+    /// What queues are asked with for the first of two probes.
+    pub first: Q::Streams,
+    /// What they are asked with for the second.
+    pub second: Q::Streams,
+}
+
+/// A call of a sender.
+#[derive(Drop)]
+pub enum Call<Q: RetransmitQueue> {
+    /// A datagram is to go out.
+    Transmit(Datagram),
+    /// An ACK frame came in.
+    Ack(Frame),
+    /// The timer for losses may be due.
+    Timeout(Expiry<Q>),
+    /// A datagram of so many bytes came in.
+    Datagram(u64),
+    /// There are keys of Handshake packets.
+    HandshakeKeys,
+    /// The handshake is confirmed.
+    HandshakeConfirmed,
+    /// The peer's address is validated.
+    AddressValidated,
+    /// The peer delays its ACKs at most so long.
+    PeerDelay(Duration),
+    /// The keys of a space are dropped.
+    Discard(SpaceId, Instant),
+    /// What was sent in a space was sent in vain.
+    Abandon(SpaceId, Instant),
+    /// An event: a packet is sent, a probe of the MTU asked for, and what else a recovery is told.
+    Event(Event<Q>),
+}
+
+/// What a call comes to.
+#[derive(Drop)]
+pub enum CallReplyValue<Q> {
+    /// Whether a datagram goes out.
+    Transmission(Transmission),
+    /// What an ACK frame comes to.
+    Acknowledged(Acknowledged),
+    /// What a timeout comes to.
+    Timeout(Timeout),
+    /// The numbers that are lost with a space.
+    Abandoned(Vec<u64>),
+    /// What an event is answered.
+    Answer(Answer<Q>),
+    /// The sender decides the event itself; nothing is done.
+    Decided,
+    /// It is done.
+    Done,
+}
+
+/// What is said to a call.
+#[derive(Drop)]
+pub struct CallRecord<Q> {
+    /// What it comes to, or why it is refused.
+    pub reply: Result<CallReplyValue<Q>, SenderError>,
+    /// When the timer for losses is due behind it.
+    pub timer: Option<Instant>,
+}

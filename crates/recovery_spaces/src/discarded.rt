@@ -1,0 +1,49 @@
+//! Which packet number spaces were discarded with their keys (RFC 9001, 4.9).
+ghost use Rattle.std.specs.Prelude.{◌≡◌, false};
+ghost use Rattle.recovery_base.specs.declared.below.SpaceId.{SpaceId};
+ghost use Rattle.recovery_spaces.specs.Discarded.{is_discarded, DiscardedStep};
+
+use recovery_base::below::SpaceId;
+
+/// Which spaces were discarded.
+#[derive(Clone, Copy)]
+pub struct DiscardedSpaces {
+    initial: bool,
+    handshake: bool,
+    data: bool,
+}
+
+impl DiscardedSpaces {
+    /// None was discarded yet.
+    pub fn new() -> Self
+        ensures { (space : SpaceId) → is_discarded space result ≡ false }
+    {
+        DiscardedSpaces {
+            initial: false,
+            handshake: false,
+            data: false,
+        }
+    }
+
+    /// Whether a space was discarded.
+    pub fn contains(&self, space: SpaceId) -> bool
+        ensures { result ≡ is_discarded space self.now }
+    {
+        match space {
+            SpaceId::Initial => self.initial,
+            SpaceId::Handshake => self.handshake,
+            SpaceId::Data => self.data,
+        }
+    }
+
+    /// A space is discarded with its keys (RFC 9001, 4.9). The others stay, and so does all where it was so before.
+    pub fn insert(&mut self, space: SpaceId)
+        ensures { DiscardedStep space self.old self.new }
+    {
+        match space {
+            SpaceId::Initial => self.initial = true,
+            SpaceId::Handshake => self.handshake = true,
+            SpaceId::Data => self.data = true,
+        }
+    }
+}

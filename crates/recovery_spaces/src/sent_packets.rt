@@ -1,0 +1,329 @@
+//! The packets that a packet number space tracks (RFC 9002, A.1), by number.
+ghost use Rattle.std.specs.Prelude.{◌≡◌, Decides, ◌^◌, ◌<◌, ◌≤◌, [], ◌∷◌, None, Some, IfSome, IfOk, OnOk, OnErr, IfNone, MatchOption, length, filter};
+ghost use Rattle.std.specs.Option.{is_some};
+ghost use Rattle.recovery_spaces.specs.Packets.{Tracking, no_packets, packet_at, AreBelow, IsAboveLast, HasSize, HasEliciting, first_from, most_silent, is_above, least_number, silent_in, forgotten_number, forgotten_entry, after_sending, after_taking, after_carrying, contents_or};
+ghost use Rattle.recovery_queue.specs.Queues.{IsVoid};
+ghost use Rattle.recovery_queue.specs.Slots.{entries_in, is_from, AreFrom};
+ghost use Rattle.recovery_spaces.specs.Places.{HasSlots, FindsPacket};
+ghost use Rattle.recovery_spaces.specs.Probes.{first_filled};
+ghost use Rattle.recovery_spaces.specs.Counts.{silent_count, size_count, elicits_count, AreAboveFrom, AreVoidBelow};
+
+use crate::spaces::SentPacket;
+use recovery_base::below::NoMemory;
+use recovery_queue::queue::RetransmitQueue;
+use recovery_queue::slots::SlotQueue;
+use std::alloc::Global;
+use std::marker::Model;
+use std::mem;
+
+/// How many silent packets (RFC 9002, 2: not ack-eliciting) are tracked above the last ack-eliciting one: a peer need
+/// not acknowledge them (RFC 9000, 13.2.1), so that without a limit they would be kept for good. quinn-proto keeps 1000
+/// beside the newest.
+pub const MAX_SILENT: u64 = 1001;
+
+/// Tracked packets in the order of their numbers, with what is known of them all.
+///
+/// The silent packets above the last ack-eliciting one are looked for from `silent_from` on: none stands below it, so
+/// that a slot which one of them left is passed over once. Packets with contents are looked for from `filled_from` on:
+/// those below have none, whatever they are asked with, and so are passed over once.
+#[derive(Drop)]
+pub struct SentPackets<Q: RetransmitQueue> {
+    packets: SlotQueue<SentPacket<Q>>,
+    last_eliciting: Option<u64>,
+    silent: u64,
+    sized: u64,
+    eliciting: u64,
+    silent_from: u64,
+    filled_from: u64,
+}
+
+impl<Q: RetransmitQueue> Model for SentPackets<Q> {
+    ghost use Rattle.recovery_queue.specs.Slots.{entries_in};
+    ghost use Rattle.recovery_spaces.specs.Packets.{Tracking};
+    ghost use Rattle.recovery_spaces.specs.Counts.{AreTracked};
+
+    ghost Value = { Tracking Q.Contents Q.Meta };
+
+    ghost view = { λ a.
+        record { packets = entries_in a.packets; last_eliciting = a.last_eliciting } };
+
+    ghost invariant = { λ a.
+        AreTracked Q.words a.packets a.last_eliciting
+        a.silent a.sized a.eliciting a.silent_from a.filled_from };
+}
+
+impl<Q> SentPackets<Q>
+where
+    Q: RetransmitQueue + Drop,
+    Q::Meta: Drop,
+{
+    /// None is tracked yet, and none was sent. It takes no memory before the first packet.
+    pub fn new(alloc: Global) -> Self
+        ensures { result ≡ no_packets }
+    {
+        SentPackets {
+            packets: SlotQueue::new(alloc),
+            last_eliciting: None,
+            silent: 0,
+            sized: 0,
+            eliciting: 0,
+            silent_from: 0,
+            filled_from: 0,
+        }
+    }
+
+    /// How many slots stand for the packets: one that is taken leaves its slot empty. At most 64 are empty beside as
+    /// many as there are packets: past that they are closed up in place. Constant cost.
+    pub fn slots(&self) -> usize
+        ensures { HasSlots self.now.packets result }
+    {
+        self.packets.len()
+    }
+
+    /// The place of the packet of a number among the slots, `None` where it is not tracked, and how many slots were
+    /// looked at: at most as many as the count of slots has binary digits.
+    pub fn find(&self, number: u64) -> (Option<usize>, u32)
+        ensures { FindsPacket self.now.packets number result }
+    {
+        self.packets.find(number)
+    }
+
+    /// The number of the last packet sent that elicits an ACK, tracked or not.
+    pub fn last_eliciting(&self) -> Option<u64>
+        ensures { result ≡ self.now.last_eliciting }
+    {
+        self.last_eliciting
+    }
+
+    /// The number that is forgotten when a packet is sent.
+    fn forgotten(&self, packet: &SentPacket<Q>) -> Option<u64>
+        ensures number { result
+            ≡ forgotten_number self.now.last_eliciting packet.now self.now.packets }
+        ensures least { IfSome result
+            (λ least. AreAboveFrom self.now.last_eliciting least self.now.packets) }
+    {
+        if packet.ack_eliciting || self.silent < MAX_SILENT {
+            return None;
+        }
+        first_silent(&self.packets, self.last_eliciting, self.silent_from)
+    }
+
+    /// Tracks a packet under a number above all that were sent. A silent one (RFC 9002, 2: it elicits no ACK) makes the
+    /// least of 1001 silent packets be forgotten that are tracked above the last one that elicits an ACK: that one is
+    /// handed back with its number. `NoMemory`, which comes only where a slot was refused, drops the packet and changes
+    /// nothing else. Cost: constant over all calls, but for a forgotten packet that of `remove`.
+    #[inline(always)]
+    pub fn insert(
+        &mut self,
+        number: u64,
+        packet: SentPacket<Q>,
+    ) -> Result<Option<(u64, SentPacket<Q>)>, NoMemory>
+        requires above { AreBelow self.old.packets number }
+        requires above_last { IsAboveLast self.old.last_eliciting number }
+        ensures ok { OnOk result (self.new ≡ after_sending number packet self.old) }
+        ensures forgotten { IfOk result (λ gone. gone ≡ forgotten_entry packet self.old) }
+        ensures bound { length (silent_in self.new) ≤ most_silent }
+        ensures err { OnErr result (self.new ≡ self.old) }
+    {
+        let least = self.forgotten(&packet);
+        let is_eliciting = packet.ack_eliciting;
+        let count = size_count(&packet);
+        // For the prover: that a count was read bounds the others, which are at most that.
+        let _filled = self.packets.filled();
+        self.packets.push(number, packet)?;
+        self.sized += count;
+        self.filled_from = self.filled_from.min(number);
+        if is_eliciting {
+            self.last_eliciting = Some(number);
+            self.eliciting += 1;
+            self.silent = 0;
+            return Ok(None);
+        }
+        let Some(least) = least else {
+            self.silent += 1;
+            self.silent_from = self.silent_from.min(number);
+            return Ok(None);
+        };
+        let Some(gone) = self.packets.take(least) else {
+            unreachable!();
+        };
+        self.silent_from = least;
+        self.sized -= size_count(&gone);
+        Ok(Some((least, gone)))
+    }
+
+    /// Takes the packet of a number out. `None`, and nothing changed, where it is not tracked. It takes no memory.
+    /// Cost: that of `find`, and constant beside it over all calls: empty slots are closed up once there are more than
+    /// 64 beside as many as there are packets, so that at least half as many packets were taken since the last time as
+    /// slots are gone over.
+    #[inline(always)]
+    pub fn remove(&mut self, number: u64) -> Option<SentPacket<Q>>
+        ensures value { result ≡ packet_at self.old.packets number }
+        ensures after { self.new ≡ after_taking number self.old }
+        ensures none { IfNone result (self.new ≡ self.old) }
+    {
+        let packet = self.packets.take(number)?;
+        self.silent -= silent_count(self.last_eliciting, number, &packet);
+        self.sized -= size_count(&packet);
+        self.eliciting -= elicits_count(&packet);
+        Some(packet)
+    }
+
+    /// Takes the packet with the least number out. `None`, and nothing changed, where none is tracked. Cost as of
+    /// `remove`.
+    pub fn pop_first(&mut self) -> Option<(u64, SentPacket<Q>)>
+        ensures packets { MatchOption result (self.old.packets ≡ [])
+            (λ entry. self.old.packets ≡ entry ∷ self.new.packets) }
+        ensures none { IfNone result (self.new ≡ self.old) }
+        ensures last { self.new.last_eliciting ≡ self.old.last_eliciting }
+    {
+        let (number, packet) = self.packets.pop_first()?;
+        self.silent -= silent_count(self.last_eliciting, number, &packet);
+        self.sized -= size_count(&packet);
+        self.eliciting -= elicits_count(&packet);
+        Some((number, packet))
+    }
+
+    /// Exchanges the queue of a tracked packet for another: false, and nothing, where the packet is not tracked.
+    pub fn swap_queue(&mut self, number: u64, queue: &mut Q) -> bool
+        ensures found { result ≡ is_some (packet_at self.old.packets number) }
+        ensures after { self.new ≡ after_carrying number (Q.contents queue.old) self.old }
+        ensures queue { Q.contents queue.new
+            ≡ contents_or (Q.contents queue.old) (packet_at self.old.packets number) }
+    {
+        let Some(place) = self.packets.find(number).0 else {
+            return false;
+        };
+        let Some(mut packet) = self.packets.replace(place, None) else {
+            unreachable!();
+        };
+        self.filled_from = filled_with(self.filled_from, number, queue);
+        mem::swap(&mut packet.retransmits, queue);
+        self.packets.replace(place, Some(packet));
+        true
+    }
+
+    /// The least number of a packet whose queue has something to be sent. Cost: logarithmic in the packets tracked,
+    /// beside those that are passed over: a packet that is known to have nothing is passed over once.
+    pub fn first_filled(&mut self, streams: &Q::Streams) -> Option<u64>
+        ensures number { result ≡ first_filled Q.words streams.now self.old.packets }
+        ensures unchanged { self.new ≡ self.old }
+    {
+        let (found, from) = first_filled(&self.packets, self.filled_from, streams);
+        self.filled_from = from;
+        found
+    }
+
+    /// The first tracked packet at or above a number, with its number: so that the packets can be gone over by number,
+    /// upward (RFC 9002, 6.1). Cost: that of `find`, beside the empty slots that are passed over.
+    pub fn tracked_from(&self, number: u64) -> Option<(u64, &SentPacket<Q>)>
+        ensures first { MatchOption result (first_from number self.now.packets ≡ None)
+            (λ found. first_from number self.now.packets ≡ Some (found.0, found.1.now)) }
+        ensures lowest { IfSome result
+            (λ found. AreFrom found.0 (filter (is_from number) self.now.packets)) }
+    {
+        self.packets.entry_from(number)
+    }
+
+    /// Whether some tracked packet elicits an ACK (RFC 9002, 2). Constant cost.
+    pub fn has_ack_eliciting(&self) -> bool
+        ensures { Decides result (HasEliciting self.now.packets) }
+    {
+        self.eliciting != 0
+    }
+
+    /// Whether some tracked packet has a size other than 0. Constant cost.
+    pub fn has_size(&self) -> bool
+        ensures { Decides result (HasSize self.now.packets) }
+    {
+        self.sized != 0
+    }
+}
+
+/// One for a packet with a size.
+fn size_count<Q: RetransmitQueue>(packet: &SentPacket<Q>) -> u64
+    ensures { result ≡ size_count packet.now }
+{
+    if packet.size == 0 { 0 } else { 1 }
+}
+
+/// One for a packet that elicits an ACK.
+fn elicits_count<Q: RetransmitQueue>(packet: &SentPacket<Q>) -> u64
+    ensures { result ≡ elicits_count packet.now }
+{
+    if packet.ack_eliciting { 1 } else { 0 }
+}
+
+/// One for a silent packet with a number above another, where there is one.
+fn silent_count<Q: RetransmitQueue>(last: Option<u64>, number: u64, packet: &SentPacket<Q>) -> u64
+    ensures { result ≡ silent_count last (number, packet.now) }
+{
+    let is_above = match last {
+        Some(last) => last < number,
+        None => true,
+    };
+    if is_above && !packet.ack_eliciting {
+        1
+    } else {
+        0
+    }
+}
+
+/// The least number above another, or of all where there is no other. None of those stands below `from`.
+fn first_silent<Q>(packets: &SlotQueue<SentPacket<Q>>, last: Option<u64>, from: u64) -> Option<u64>
+where
+    Q: RetransmitQueue + Drop,
+    Q::Meta: Drop,
+    requires found { AreAboveFrom last from (entries_in packets.now) }
+    requires small { AreBelow (entries_in packets.now) (2 ^ 64) }
+    ensures first { result
+        ≡ least_number (filter (λ entry. is_above last entry.0) (entries_in packets.now)) }
+    ensures least { IfSome result (λ least. AreAboveFrom last least (entries_in packets.now)) }
+{
+    match last {
+        Some(last) => packets.first_from(last.checked_add(1)?.max(from)),
+        None => packets.first_from(from),
+    }
+}
+
+/// Below which number no packet has contents, once the packet of a number has these.
+fn filled_with<Q: RetransmitQueue>(from: u64, number: u64, queue: &Q) -> u64
+    ensures below { result ≤ from }
+    ensures void { number < result → IsVoid Q.words (Q.contents queue.now) }
+{
+    if queue.is_void() {
+        from
+    } else {
+        from.min(number)
+    }
+}
+
+/// The least number of a packet whose queue has something to be sent, and a number below which no packet has anything,
+/// whatever it is asked with. None has below `from`.
+fn first_filled<Q>(
+    packets: &SlotQueue<SentPacket<Q>>,
+    mut from: u64,
+    streams: &Q::Streams,
+) -> (Option<u64>, u64)
+where
+    Q: RetransmitQueue + Drop,
+    Q::Meta: Drop,
+    requires { AreVoidBelow Q.words from (entries_in packets.now) }
+    ensures number { result.0 ≡ first_filled Q.words streams.now (entries_in packets.now) }
+    ensures void { AreVoidBelow Q.words result.1 (entries_in packets.now) }
+{
+    let mut are_void = true;
+    for place in packets.place_from(from)..packets.len() {
+        let Some((number, packet)) = packets.get(place) else {
+            continue;
+        };
+        if are_void {
+            from = number;
+            are_void = packet.retransmits.is_void();
+        }
+        if !packet.retransmits.is_empty(streams) {
+            return (Some(number), from);
+        }
+    }
+    (None, from)
+}

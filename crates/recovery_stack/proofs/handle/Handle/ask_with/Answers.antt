@@ -1,8 +1,0 @@
-use Rattle.std.proofs.Common.{Some, ap, sym, ◌∙◌}
-use Rattle.recovery_stack.proofs.HeldLaws.{asks_held}
-use Rattle.recovery_stack.proofs.handle.Handle.ask_with.Goals as goal
-
-pub returns : goal.returns
-returns c =
-    asks_held c.deref_mut.result.now c.ask-reply.new.self
-    (c.in-Some.ensures.taken ∙ ap Some (sym c.deref_mut.ensures.value)) c.put.ensures c.ask-reply.ensures

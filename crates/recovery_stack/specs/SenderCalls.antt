@@ -1,0 +1,62 @@
+-- What a call of a sender comes to, of what a handle holds.
+use Rattle.std.specs.Prelude.{◌≡◌, ℕ, List, [], Option, None, Some, option_map, option_and_then, if◌then◌else◌}
+use Rattle.recovery_base.specs.declared.below.SpaceId.{SpaceId}
+use Rattle.recovery_losses.specs.declared.frames.Ack.{Ack}
+use Rattle.recovery_engine.specs.Replies.{no_recovery}
+use Rattle.recovery_engine.specs.Sending.{UnlessNoSender}
+use Rattle.recovery_engine.specs.declared.sending.AckRange.{AckRange}
+use Rattle.recovery_engine.specs.declared.sending.Call.{Call}
+use Rattle.recovery_engine.specs.declared.sending.Call.TheVariants.{TakeAck}
+use Rattle.recovery_engine.specs.declared.spelling.EncodedReply.{EncodedReply}
+use Rattle.recovery_stack.specs.Answers.{IsBadArgument}
+use Rattle.recovery_stack.specs.Codes.{counts, space_coded, span}
+use Rattle.recovery_stack.specs.declared.sender.AckFrame.{AckFrame}
+use Rattle.recovery_stack.specs.declared.stack.Stack.{Stack}
+
+pub record AsksStack (call : Call) (given : List AckRange) (was : Stack) (spelling : EncodedReply)
+    (is : Stack) : Type 0 where
+  pub comes : UnlessNoSender call given was.kept spelling is.kept
+  pub taken : is.taken ≡ was.taken
+  pub token : is.token ≡ was.token
+
+pub record HandsOn (was : Stack) (call : Call) (given : List AckRange) (spelling : EncodedReply)
+    (new : Option Stack) : Type 0
+  where
+    pub is : Stack
+    pub holds : new ≡ Some is
+    pub asks : AsksStack call given was spelling is
+
+-- where a handle holds none, the call is refused
+abbrev pub AsksWith : Option Stack → Call → List AckRange → EncodedReply → Option Stack → Type 0
+AsksWith None call given spelling new = (spelling ≡ no_recovery) × (new ≡ None)
+AsksWith (Some was) call given spelling new = HandsOn was call given spelling new
+
+-- a call of anything but an ACK frame
+abbrev pub CallsSender : Option Stack → Call → EncodedReply → Option Stack → Type 0
+CallsSender old call spelling new = AsksWith old call [] spelling new
+
+-- the call of what an argument names, where it names something
+abbrev pub CallsSenderTo : {C : Type 0} → Option C → (C → Call) → Option Stack → EncodedReply → Option Stack → Type 0
+CallsSenderTo None call old spelling new = IsBadArgument old spelling new
+CallsSenderTo (Some named) call old spelling new = CallsSender old (call named) spelling new
+
+-- ---- an ACK frame as it is given
+
+abbrev pub ack_with : AckFrame → ℕ → Ack
+ack_with frame delay = record {
+  delay = delay;
+  ecn = (if frame.has_ecn then Some (counts frame.ect0 frame.ect1 frame.ce) else None);
+  app_limited = frame.app_limited;
+}
+
+-- the delay has fewer nanoseconds than a second
+abbrev pub ack_given : AckFrame → Option Ack
+ack_given frame = option_map (ack_with frame) (span frame.delay_secs frame.delay_nanos)
+
+abbrev pub frame_given : ℕ → AckFrame → Option (SpaceId × Ack)
+frame_given space frame =
+    option_and_then (λ space. option_map (λ ack. (space, ack)) (ack_given frame)) (space_coded space)
+
+abbrev pub AsksAck : Option (SpaceId × Ack) → ℕ → List AckRange → Option Stack → EncodedReply → Option Stack → Type 0
+AsksAck None now given old spelling new = IsBadArgument old spelling new
+AsksAck (Some named) now given old spelling new = AsksWith old (TakeAck named.0 now named.1) given spelling new

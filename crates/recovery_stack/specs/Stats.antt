@@ -1,0 +1,31 @@
+-- What of a recovery can be read in a few instructions, in numbers.
+use Rattle.std.specs.Prelude.{Option, None, Some}
+use Rattle.recovery_congestion.specs.Rtt.{rtt_get, pto_base_of}
+use Rattle.recovery_spaces.specs.Packets.{HasSize}
+use Rattle.recovery_spaces.specs.Paths.{counters_of}
+use Rattle.recovery_spaces.specs.Spaces.{Space, packets_of}
+use Rattle.recovery_paths.specs.PathStates.{Path}
+use Rattle.recovery_stack.specs.Codes.{nanos_shown}
+use Rattle.recovery_engine.specs.Controllers.{window_of}
+use Rattle.recovery_engine.specs.declared.controllers.Chosen.{Chosen}
+use Rattle.recovery_stack.specs.declared.glances.RttView.{RttView}
+use Rattle.recovery_stack.specs.declared.glances.WindowView.{WindowView}
+
+abbrev pub window_shown : Path Chosen → WindowView
+window_shown path =
+    record { window = window_of path.state.controller; in_flight = (counters_of path.ledger).bytes }
+
+abbrev pub no_window : WindowView
+no_window = record { window = 0; in_flight = 0 }
+
+abbrev pub rtt_shown : Path Chosen → RttView
+rtt_shown path =
+    record { rtt = nanos_shown (rtt_get path.state.rtt); pto_base = nanos_shown (pto_base_of path.state.rtt) }
+
+abbrev pub no_rtt : RttView
+no_rtt = record { rtt = 0; pto_base = 0 }
+
+-- a tracked packet of a space has a size
+abbrev pub HasInFlight : {P M : Type 0} → Option (Space P M) → Type 0
+HasInFlight None = ⊥
+HasInFlight (Some space) = HasSize (packets_of space)

@@ -1,0 +1,34 @@
+-- What is told of a line that cannot be read.
+use Rattle.std.specs.Prelude.{◌≡◌, ℕ, List, [], ◌∷◌, ◌++◌, take, decimal, slice_range}
+use Rattle.std.specs.List.{flat_map}
+use Rattle.std.specs.Str.{IsAscii}
+use Rattle.std.specs.Fmt.{debug_escape}
+use lib.Chars.{codes}
+use Rattle.recovery_trace.specs.declared.faults.Fault.{Fault}
+use Rattle.recovery_trace.specs.declared.faults.Fault.TheVariants.{TooLong, TooShort, Word}
+use Rattle.recovery_trace.specs.Faults.{NamesWordOf}
+
+-- the first 64 bytes of a word between quotes, each as Rust escapes it in a text
+abbrev pub quoted : List ℕ → List ℕ
+quoted word = 34 ∷ (flat_map (debug_escape 34) (take 64 word) ++ 34 ∷ [])
+
+-- how the line of this number is named, and a word of it
+abbrev pub line_named : ℕ → List ℕ
+line_named number = codes "line " ++ (decimal number ++ codes ": ")
+
+abbrev pub word_named : ℕ → List ℕ
+word_named number = codes "cannot read word " ++ (decimal number ++ codes ", ")
+
+-- Behind what stood before, the line that tells a fault of the line of this number; of a word that is not ASCII alone
+-- nothing is said.
+abbrev pub TellsFault : List ℕ → ℕ → Fault → List ℕ → List ℕ → Type 0
+TellsFault line number TooLong before text = text ≡ (before ++ line_named number) ++ codes "longer than 4096 bytes\n"
+TellsFault line number TooShort before text =
+    text ≡ (before ++ line_named number) ++ codes "words are missing behind the last one\n"
+TellsFault line number (Word word start end) before text =
+    IsAscii (slice_range line start end)
+    → text ≡ (((before ++ line_named number) ++ word_named word) ++ quoted (slice_range line start end)) ++ codes "\n"
+
+-- it tells a fault that the line has
+abbrev pub ReportsFault : List ℕ → ℕ → List ℕ → Type 0
+ReportsFault line number text = (fault : Fault) × NamesWordOf line fault × TellsFault line number fault [] text
