@@ -126,7 +126,7 @@ module _ {F K Q S M P : Type 0} (beginning : Beginning F K Q S M P) (events : Li
     of_lists (recovery_of run.0) run.1 (Throughout (StepGuarantees beginning)) over over.keeps,
     of_lists (recovery_of run.0) run.1 (λ given taken. StateAfter beginning (history given taken) (recovery_of run.0))
         over
-        (record { parts = over.came.left; loss_times = over.loss_times }),
+        (record { parts = over.came.state_after; loss_times = over.loss_times }),
     over.marks,
   )
   over_lists recovery_of (Err error) over = (tt, tt, tt)

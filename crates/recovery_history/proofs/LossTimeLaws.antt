@@ -49,9 +49,9 @@ module _ {F K Q S M P : Type 0} (beginning : Beginning F K Q S M P) (past : Hist
       → ReachedBy beginning past (record recovery { spaces = with_space recovery.spaces set
           (with_loss_time time there) })
   reached_with_loss_time set time there recovery is came =
-      let left = came.left in rw is (record {
-        told = came.told;
-        left = record {
+      let left = came.state_after in rw is (record {
+        replies = came.replies;
+        state_after = record {
           settings = left.settings;
           spaces = each_with_loss_time _ time (λ space. left_with_loss_time _ _ _ time) recovery.spaces left.spaces
               set;

@@ -58,7 +58,7 @@ pub session_of : {F K : Type 0} (built : F → ℕ → ℕ → K) (words : Contr
 session_of built words factory seed config start random IsSaid recovery remote empty new bytes is_config is_start
     is_random at none whole is run =
     let told : Throughout (RepliesAfter (begun_over built words factory seed remote)) run.events run.replies =
-    (run.keeps.0, rw (is_config, is_start, is_random) at run.came.told) in
+    (run.keeps.0, rw (is_config, is_start, is_random) at run.came.replies) in
     record {
       events = run.events;
       replies = run.replies;

@@ -271,10 +271,10 @@ module _ {F Q R C K S M P : Type 0} {f : _} {c : _} {q : _} {m : _} {r : _} wher
               let log = (logs_of (begins f.built c.words (queue_model q.contents q.words q.blank) config start random)
               past).spaces space in
               let same : packets_of (space_of space (state_in sender).spaces) ≡ (sent_by q.words log).tracked =
-              ap (λ (sent : SentState P M). sent.tracked) (came.left.spaces space).sent in
+              ap (λ (sent : SentState P M). sent.tracked) (came.state_after.spaces space).sent in
               let elicits : has_eliciting (sent_by q.words log).tracked ≡ true =
               ap (λ (packets : Packets P M). has_eliciting packets) (sym same) ∙ log_elicits in
-              some_sent q.words log elicits (sym (came.left.spaces space).last_sent
+              some_sent q.words log elicits (sym (came.state_after.spaces space).last_sent
               ∙ ap (λ (here : Space P M). here.time_of_last_ack_eliciting_packet) here_is ∙ none)
 
           by : (last : Option ℕ) → owed.here.time_of_last_ack_eliciting_packet ≡ last

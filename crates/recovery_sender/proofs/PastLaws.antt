@@ -68,17 +68,17 @@ module _ {F Q R C K S M P : Type 0} {f : _} {c : _} {q : _} {m : _} {r : _} (sen
   beginning = begins f.built c.words (queue_model q.contents q.words q.blank) config start random
 
   packets_by : packets_in (state_in sender) space ≡ (sent_in beginning past space).tracked
-  packets_by = rw kept (ap (λ (sent : SentState P M). sent.tracked) (came.left.spaces space).sent)
+  packets_by = rw kept (ap (λ (sent : SentState P M). sent.tracked) (came.state_after.spaces space).sent)
 
   pub tracked_by : (n : ℕ) → (packet_at (packets_in (state_in sender) space) n ≢ None)
       ↔ (is_tracked space n past ≡ true)
   tracked_by n = some_iff (packet_at (packets_in (state_in sender) space) n) (is_tracked space n past) (rw packets_by
       (tracked_found beginning past (kept_after (RepliesAfter beginning) (AllTracked beginning)
           (keeps_tracked beginning)
-      (none_tracked beginning) past came.told) space n))
+      (none_tracked beginning) past came.replies) space n))
 
   pub sent_by_past : (n : ℕ) (packet : Packet P M) → packet_at (packets_in (state_in sender) space) n ≡ Some packet
       → packet.time_sent ≡ sent_at space past n
   sent_by_past n packet is = said_found time_in (sent_at space past) (sent_in beginning past space).next
-      (sent_in beginning past space).tracked (all_timed beginning space past came.told) n packet
+      (sent_in beginning past space).tracked (all_timed beginning space past came.replies) n packet
       (rw packets_by at is)

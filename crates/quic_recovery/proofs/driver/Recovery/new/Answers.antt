@@ -16,8 +16,8 @@ invariant_of-result g c = record {
   limited = λ limit is. absurd (none-some limit is);
 }
 
-pub returns-clause-left : goal.returns-clause-left
-returns-clause-left g c =
+pub returns-clause-state_after : goal.returns-clause-state_after
+returns-clause-state_after g c =
     let words = g.Q.RetransmitQueue.words in
     let random = g.R.Rng.stream c.args.rng in
     let queues = queue_model g.Q.RetransmitQueue.contents words g.Q.RetransmitQueue.blank in
@@ -50,8 +50,8 @@ returns-clause-left g c =
 -- by no event
 pub returns-clause-came : goal.returns-clause-came
 returns-clause-came g c = record {
-  told = tt;
-  left = (returns-clause-left g c).parts;
+  replies = tt;
+  state_after = (returns-clause-state_after g c).parts;
   small = where_allowed (λ settings. settings.upper_bound < 2 ^ 16) c.args.config.allow_mtud _
       c.upper_bound_fits.ensures;
 }

@@ -11,4 +11,4 @@ returns-clause-runs g c = runs_from g.F.ControllerFactory.built g.F.Controller.C
     (λ runner. state_of runner.recovery) (λ runner. runner.replies)
     (λ old event new passes. (passes.reply, passes.changes, passes.extends, passes.taken)) c.args.replies
     c.feed.ensures.items _ c.feed.new.sink c.feed.ensures.taken c.in_ok-recovery.ensures.came
-    c.in_ok-recovery.ensures.marks c.in_ok-recovery.ensures.left.loss_times refl _ c.feed.ensures.given
+    c.in_ok-recovery.ensures.marks c.in_ok-recovery.ensures.state_after.loss_times refl _ c.feed.ensures.given
