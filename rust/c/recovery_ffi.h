@@ -69,57 +69,57 @@ enum recovery_answer {
 // Why it is refused: `refusal` of a reply.
 enum recovery_refusal {
     // A growth was refused by the allocator.
-    RECOVERY_ERROR_NO_MEMORY = 1,
+    RECOVERY_REFUSAL_NO_MEMORY = 1,
     // A packet number is 2^62 or more (RFC 9000, 12.3).
-    RECOVERY_ERROR_NUMBER_TOO_LARGE = 2,
+    RECOVERY_REFUSAL_NUMBER_TOO_LARGE = 2,
     // The space has given out all packet numbers below 2^62 (RFC 9000, 12.3).
-    RECOVERY_ERROR_NUMBERS_EXHAUSTED = 3,
+    RECOVERY_REFUSAL_NUMBERS_EXHAUSTED = 3,
     // The packet is not tracked: it was not sent, or it was acknowledged, lost or forgotten.
-    RECOVERY_ERROR_NOT_TRACKED = 4,
+    RECOVERY_REFUSAL_NOT_TRACKED = 4,
     // The keys of the space were dropped (RFC 9001, 4.9).
-    RECOVERY_ERROR_SPACE_DISCARDED = 5,
+    RECOVERY_REFUSAL_SPACE_DISCARDED = 5,
     // There is no such path.
-    RECOVERY_ERROR_NO_SUCH_PATH = 6,
+    RECOVERY_REFUSAL_NO_SUCH_PATH = 6,
     // The MTU of the current path is searched for (RFC 8899, 5).
-    RECOVERY_ERROR_SEARCHING = 7,
+    RECOVERY_REFUSAL_SEARCHING = 7,
     // A size of no bytes is none that a path carries.
-    RECOVERY_ERROR_ZERO_MTU = 8,
+    RECOVERY_REFUSAL_ZERO_MTU = 8,
     // A counter would pass the end of its type.
-    RECOVERY_ERROR_OVERFLOW = 9,
+    RECOVERY_REFUSAL_OVERFLOW = 9,
     // The number of the peer's id lies below the active one (RFC 9000, 19.15).
-    RECOVERY_ERROR_RETIRED = 10,
+    RECOVERY_REFUSAL_RETIRED = 10,
     // The number of the peer's id lies past the ids that are held (RFC 9000, 5.1.1).
-    RECOVERY_ERROR_EXCEEDS_LIMIT = 11,
+    RECOVERY_REFUSAL_EXCEEDS_LIMIT = 11,
     // The frame retires numbers past its own (RFC 9000, 19.15).
-    RECOVERY_ERROR_BAD_RETIRE_PRIOR_TO = 12,
+    RECOVERY_REFUSAL_BAD_RETIRE_PRIOR_TO = 12,
     // This end uses ids of no bytes, of which none can be retired (RFC 9000, 19.16).
-    RECOVERY_ERROR_CIDS_NOT_IN_USE = 13,
+    RECOVERY_REFUSAL_CIDS_NOT_IN_USE = 13,
     // The number was not issued (RFC 9000, 19.16).
-    RECOVERY_ERROR_UNISSUED_CID = 14,
+    RECOVERY_REFUSAL_UNISSUED_CID = 14,
     // An ACK_FREQUENCY frame asks for a delay below 1 ms (draft-ietf-quic-ack-frequency-04, section 4). The number of
     // the frame is kept.
-    RECOVERY_ERROR_DELAY_TOO_SMALL = 15,
+    RECOVERY_REFUSAL_DELAY_TOO_SMALL = 15,
     // A number was acknowledged that was skipped, and never sent (RFC 9000, 21.4).
-    RECOVERY_ERROR_SKIPPED_ACKED = 16,
+    RECOVERY_REFUSAL_SKIPPED_ACKED = 16,
     // The peer's counts of ECN cannot be right (RFC 9000, 13.4.2.1), in these words.
-    RECOVERY_ERROR_ECN = 17,
+    RECOVERY_REFUSAL_ECN = 17,
     // The initial id is no longer the active one (RFC 9000, 7.2).
-    RECOVERY_ERROR_NOT_INITIAL_ID = 18,
+    RECOVERY_REFUSAL_NOT_INITIAL_ID = 18,
     // Numbers do not go on where they should, or a range ends before it begins.
-    RECOVERY_ERROR_BAD_RANGE = 19,
+    RECOVERY_REFUSAL_BAD_RANGE = 19,
     // The number of the peer's id is held with another id, or with a token that is not the frame's (RFC 9000, 19.15).
-    RECOVERY_ERROR_CONFLICT = 20,
+    RECOVERY_REFUSAL_CONFLICT = 20,
     // A number was acknowledged that was never sent (RFC 9000, 13.1): of a sender alone.
-    RECOVERY_ERROR_UNSENT = 21,
+    RECOVERY_REFUSAL_UNSENT = 21,
     // The event is one that the sender decides itself: it is not handed in around it.
-    RECOVERY_ERROR_DECIDED = 252,
+    RECOVERY_REFUSAL_DECIDED = 252,
     // The handle holds a recovery that stands alone, without a sender.
-    RECOVERY_ERROR_NO_SENDER = 253,
+    RECOVERY_REFUSAL_NO_SENDER = 253,
     // The handle holds no recovery.
-    RECOVERY_ERROR_NO_RECOVERY = 254,
+    RECOVERY_REFUSAL_NO_RECOVERY = 254,
     // An argument lies out of its range: a space or a timer that there is not, an id of more than 20 bytes, a number of a
     // frame of 2^62 or more, nanoseconds of a second or more.
-    RECOVERY_ERROR_BAD_ARGUMENT = 255,
+    RECOVERY_REFUSAL_BAD_ARGUMENT = 255,
 };
 
 // What is wrong with the peer's counts of ECN (RFC 9000, 13.4.2.1): `first` of a reply that is refused by ECN.
@@ -356,7 +356,7 @@ struct recovery_ackrange {
 };
 
 // What was told last: of an ACK frame, of a timeout that found losses, or of an abandoned space.
-struct recovery_toldview {
+struct recovery_outcomeview {
     // How many numbers the frame newly acknowledged; else 0.
     uint64_t acked;
     // How many numbers were found lost, without that of the MTU's probe.
@@ -426,7 +426,7 @@ struct recovery_settings {
 };
 
 // What an event was replied, in numbers.
-struct recovery_reply {
+struct recovery_encodedreply {
     // Which answer, or that it was refused.
     uint8_t kind;
     // The number of the refusal, or 0; of one by ECN `first` is the number of the fault.
@@ -516,7 +516,7 @@ struct recovery_rangeview {
 };
 
 // A moment, or a span, if there is one.
-struct recovery_momentview {
+struct recovery_timeview {
     // In nanoseconds.
     uint64_t nanos;
     // Whether there is one; if not, all else is 0.
@@ -545,22 +545,22 @@ uint8_t recovery_ffi_new(struct recovery_handle *handle, const struct recovery_s
 void recovery_ffi_drop(struct recovery_handle *handle);
 
 // An ACK_FREQUENCY frame came in: the event `AckFrequencyIn`; its numbers lie below 2^62.
-struct recovery_reply recovery_ffi_ack_frequency(struct recovery_handle *handle, uint64_t sequence, uint64_t threshold, uint64_t micros, uint64_t reordering);
+struct recovery_encodedreply recovery_ffi_ack_frequency(struct recovery_handle *handle, uint64_t sequence, uint64_t threshold, uint64_t micros, uint64_t reordering);
 
 // An ACK frame was sent (RFC 9000, 13.2.1): the event `AcksSent`.
-struct recovery_reply recovery_ffi_acks_sent(struct recovery_handle *handle, uint8_t space);
+struct recovery_encodedreply recovery_ffi_acks_sent(struct recovery_handle *handle, uint8_t space);
 
 // The timer for a late ACK expired: the event `AckDelayTimeout`.
-struct recovery_reply recovery_ffi_ack_delay_timeout(struct recovery_handle *handle, uint8_t space);
+struct recovery_encodedreply recovery_ffi_ack_delay_timeout(struct recovery_handle *handle, uint8_t space);
 
 // Is a probe of the MTU due (RFC 9000, 14.3)? The event `PollMtu`.
-struct recovery_reply recovery_ffi_poll_mtu(struct recovery_handle *handle, uint64_t now);
+struct recovery_encodedreply recovery_ffi_poll_mtu(struct recovery_handle *handle, uint64_t now);
 
 // The peer takes datagrams of at most so many bytes (RFC 9000, 18.2): the event `PeerLimit`.
-struct recovery_reply recovery_ffi_peer_limit(struct recovery_handle *handle, uint16_t size);
+struct recovery_encodedreply recovery_ffi_peer_limit(struct recovery_handle *handle, uint16_t size);
 
 // All packets that were found lost together were told: the event `LossesDone`.
-struct recovery_reply recovery_ffi_losses_done(struct recovery_handle *handle, uint64_t now);
+struct recovery_encodedreply recovery_ffi_losses_done(struct recovery_handle *handle, uint64_t now);
 
 // Window and bytes in flight of the path in use.
 struct recovery_windowview recovery_ffi_window(struct recovery_handle *handle);
@@ -575,22 +575,22 @@ uint64_t recovery_ffi_active_id(struct recovery_handle *handle);
 bool recovery_ffi_has_in_flight(struct recovery_handle *handle, uint8_t space);
 
 // A NEW_CONNECTION_ID frame came in (RFC 9000, 19.15): the event `NewId`; an id has at most 20 bytes.
-struct recovery_reply recovery_ffi_new_id(struct recovery_handle *handle, uint64_t sequence, uint64_t retire_prior_to, const uint8_t *id, size_t id_len, const uint8_t *token);
+struct recovery_encodedreply recovery_ffi_new_id(struct recovery_handle *handle, uint64_t sequence, uint64_t retire_prior_to, const uint8_t *id, size_t id_len, const uint8_t *token);
 
 // The next id of the peer is to be used: the event `NextId`.
-struct recovery_reply recovery_ffi_next_id(struct recovery_handle *handle);
+struct recovery_encodedreply recovery_ffi_next_id(struct recovery_handle *handle);
 
 // The server chose another id (RFC 9000, 7.2): the event `InitialId`; an id has at most 20 bytes.
-struct recovery_reply recovery_ffi_initial_id(struct recovery_handle *handle, const uint8_t *id, size_t id_len);
+struct recovery_encodedreply recovery_ffi_initial_id(struct recovery_handle *handle, const uint8_t *id, size_t id_len);
 
 // This end issues these ids (RFC 9000, 5.1.1): the event `IssueIds`; an id has at most 20 bytes.
-struct recovery_reply recovery_ffi_issue_ids(struct recovery_handle *handle, uint64_t now, const struct recovery_id *given, size_t given_len);
+struct recovery_encodedreply recovery_ffi_issue_ids(struct recovery_handle *handle, uint64_t now, const struct recovery_id *given, size_t given_len);
 
 // The timer for new ids expired: the event `IdTimeout`.
-struct recovery_reply recovery_ffi_id_timeout(struct recovery_handle *handle);
+struct recovery_encodedreply recovery_ffi_id_timeout(struct recovery_handle *handle);
 
 // A RETIRE_CONNECTION_ID frame came in (RFC 9000, 19.16): the event `PeerRetired`.
-struct recovery_reply recovery_ffi_peer_retired(struct recovery_handle *handle, uint64_t sequence, uint64_t limit);
+struct recovery_encodedreply recovery_ffi_peer_retired(struct recovery_handle *handle, uint64_t sequence, uint64_t limit);
 
 // Writes the bytes of the token that was answered last; all zeros before there was one, and where no recovery is held.
 void recovery_ffi_token(struct recovery_handle *handle, uint8_t *out);
@@ -618,28 +618,28 @@ struct recovery_mtuview recovery_ffi_mtu(struct recovery_mtuhandle *mtu);
 
 // Is a probe due? Its size is that of the answer (`RECOVERY_ANSWER_PROBE`, otherwise `RECOVERY_ANSWER_NO_PROBE`), and it is sent as the
 // packet of this number.
-struct recovery_reply recovery_ffi_mtu_poll(struct recovery_mtuhandle *mtu, uint64_t now, uint64_t number);
+struct recovery_encodedreply recovery_ffi_mtu_poll(struct recovery_mtuhandle *mtu, uint64_t now, uint64_t number);
 
 // The peer takes datagrams of at most so many bytes. Refused where they are none, and while a search runs: the limit
 // is told before the first poll.
-struct recovery_reply recovery_ffi_mtu_limit(struct recovery_mtuhandle *mtu, uint16_t size);
+struct recovery_encodedreply recovery_ffi_mtu_limit(struct recovery_mtuhandle *mtu, uint16_t size);
 
 // A packet of so many bytes was acknowledged (`RECOVERY_ANSWER_ACKED`): the flag says whether it was the probe in flight, whose
 // size is then the MTU.
-struct recovery_reply recovery_ffi_mtu_acked(struct recovery_mtuhandle *mtu, uint64_t number, uint16_t bytes);
+struct recovery_encodedreply recovery_ffi_mtu_acked(struct recovery_mtuhandle *mtu, uint64_t number, uint16_t bytes);
 
 // The probe in flight was lost. Where none is, nothing changes.
-struct recovery_reply recovery_ffi_mtu_probe_lost(struct recovery_mtuhandle *mtu);
+struct recovery_encodedreply recovery_ffi_mtu_probe_lost(struct recovery_mtuhandle *mtu);
 
 // A packet of so many bytes was lost that is no probe in flight. Numbers of one moment are told upward, and then
 // `recovery_ffi_mtu_losses_done`.
-struct recovery_reply recovery_ffi_mtu_lost(struct recovery_mtuhandle *mtu, uint64_t number, uint16_t bytes);
+struct recovery_encodedreply recovery_ffi_mtu_lost(struct recovery_mtuhandle *mtu, uint64_t number, uint16_t bytes);
 
 // All losses of a moment were told: the flag says whether they are a black hole, which leaves the least MTU.
-struct recovery_reply recovery_ffi_mtu_losses_done(struct recovery_mtuhandle *mtu, uint64_t now);
+struct recovery_encodedreply recovery_ffi_mtu_losses_done(struct recovery_mtuhandle *mtu, uint64_t now);
 
 // All begins anew, with these sizes; refused where one is zero. The peer's limit stays.
-struct recovery_reply recovery_ffi_mtu_reset(struct recovery_mtuhandle *mtu, uint16_t size, uint16_t least);
+struct recovery_encodedreply recovery_ffi_mtu_reset(struct recovery_mtuhandle *mtu, uint16_t size, uint16_t least);
 
 // A full bucket at the moment `now`, by the RTT (nanoseconds), the congestion window and the MTU (bytes). Of a window
 // or an MTU of 0 it is all zeros, which is none.
@@ -647,79 +647,79 @@ struct recovery_bucket recovery_ffi_pacer(uint64_t rtt, uint64_t window, uint16_
 
 // A packet of so many bytes was sent (`RECOVERY_ANSWER_TRANSMITTED`): it takes tokens, as far as they go. Refused where the
 // bucket is none.
-struct recovery_reply recovery_ffi_pacer_transmit(struct recovery_bucket *bucket, uint16_t bytes);
+struct recovery_encodedreply recovery_ffi_pacer_transmit(struct recovery_bucket *bucket, uint16_t bytes);
 
 // May so many bytes be sent at the moment `now` (`RECOVERY_ANSWER_READY`), or when is it to be asked again (`RECOVERY_ANSWER_DELAYED`)?
 // By the RTT (nanoseconds), the MTU and the congestion window (bytes) of that moment. Refused where the window or the
 // MTU is 0, or the bucket is none.
-struct recovery_reply recovery_ffi_pacer_delay(struct recovery_bucket *bucket, uint64_t rtt, uint64_t bytes, uint16_t mtu, uint64_t window, uint64_t now);
+struct recovery_encodedreply recovery_ffi_pacer_delay(struct recovery_bucket *bucket, uint64_t rtt, uint64_t bytes, uint16_t mtu, uint64_t window, uint64_t now);
 
 // A packet came in (RFC 9000, 12.3): the event `Received`.
-struct recovery_reply recovery_ffi_received(struct recovery_handle *handle, uint8_t space, uint64_t now, uint64_t number, bool ack_eliciting);
+struct recovery_encodedreply recovery_ffi_received(struct recovery_handle *handle, uint8_t space, uint64_t now, uint64_t number, bool ack_eliciting);
 
 // A packet with these items goes out (RFC 9002, A.5): the event `Send`.
-struct recovery_reply recovery_ffi_send(struct recovery_handle *handle, uint8_t space, uint64_t now, uint16_t size, bool ack_eliciting, bool has_largest, uint64_t largest, const uint64_t *items, size_t items_len);
+struct recovery_encodedreply recovery_ffi_send(struct recovery_handle *handle, uint8_t space, uint64_t now, uint16_t size, bool ack_eliciting, bool has_largest, uint64_t largest, const uint64_t *items, size_t items_len);
 
 // A packet that was sent is acknowledged (RFC 9002, A.7): the event `Acked`.
-struct recovery_reply recovery_ffi_acked(struct recovery_handle *handle, uint8_t space, uint64_t now, uint64_t number, bool app_limited);
+struct recovery_encodedreply recovery_ffi_acked(struct recovery_handle *handle, uint8_t space, uint64_t now, uint64_t number, bool app_limited);
 
 // A packet that was sent is declared lost (RFC 9002, A.10): the event `Lost`.
-struct recovery_reply recovery_ffi_lost(struct recovery_handle *handle, uint8_t space, uint64_t number);
+struct recovery_encodedreply recovery_ffi_lost(struct recovery_handle *handle, uint8_t space, uint64_t number);
 
 // The keys of a space are dropped (RFC 9002, 6.4): the event `DiscardSpace`.
-struct recovery_reply recovery_ffi_discard(struct recovery_handle *handle, uint8_t space);
+struct recovery_encodedreply recovery_ffi_discard(struct recovery_handle *handle, uint8_t space);
 
 // How many items the queue that was taken last has; they are written where there is room for all. None, before one was
 // taken.
 size_t recovery_ffi_last_items(struct recovery_handle *handle, uint64_t *out, size_t out_len);
 
 // What is in flight on a path? The event `InFlight`.
-struct recovery_reply recovery_ffi_in_flight(struct recovery_handle *handle, bool previous);
+struct recovery_encodedreply recovery_ffi_in_flight(struct recovery_handle *handle, bool previous);
 
 // A sample of the round-trip time (RFC 9002, 5): the event `Sample`; nanoseconds are below 10^9.
-struct recovery_reply recovery_ffi_sample(struct recovery_handle *handle, uint64_t delay_secs, uint32_t delay_nanos, uint64_t rtt_secs, uint32_t rtt_nanos);
+struct recovery_encodedreply recovery_ffi_sample(struct recovery_handle *handle, uint64_t delay_secs, uint32_t delay_nanos, uint64_t rtt_secs, uint32_t rtt_nanos);
 
 // A datagram came in on a path (RFC 9000, 8.1): the event `DatagramIn`.
-struct recovery_reply recovery_ffi_datagram_in(struct recovery_handle *handle, bool previous, uint64_t bytes);
+struct recovery_encodedreply recovery_ffi_datagram_in(struct recovery_handle *handle, bool previous, uint64_t bytes);
 
 // The peer was seen to receive at the address of a path (RFC 9000, 8): the event `Validated`.
-struct recovery_reply recovery_ffi_validated(struct recovery_handle *handle, bool previous);
+struct recovery_encodedreply recovery_ffi_validated(struct recovery_handle *handle, bool previous);
 
 // A datagram is to be transmitted on the current path: the event `Transmit`.
-struct recovery_reply recovery_ffi_transmit(struct recovery_handle *handle, uint64_t now, uint16_t bytes, bool checked);
+struct recovery_encodedreply recovery_ffi_transmit(struct recovery_handle *handle, uint64_t now, uint16_t bytes, bool checked);
 
 // May so many bytes be transmitted (RFC 9002, 7.7)? The event `PacerCheck`.
-struct recovery_reply recovery_ffi_pacer_check(struct recovery_handle *handle, uint64_t now, uint64_t bytes);
+struct recovery_encodedreply recovery_ffi_pacer_check(struct recovery_handle *handle, uint64_t now, uint64_t bytes);
 
 // Packets of the current path were lost, or marked (RFC 9002, 7.3): the event `Congestion`.
-struct recovery_reply recovery_ffi_congestion(struct recovery_handle *handle, uint64_t now, uint64_t sent, bool persistent, uint64_t bytes);
+struct recovery_encodedreply recovery_ffi_congestion(struct recovery_handle *handle, uint64_t now, uint64_t sent, bool persistent, uint64_t bytes);
 
 // All packets that one ACK newly acknowledges were told: the event `EndAcks`.
-struct recovery_reply recovery_ffi_end_acks(struct recovery_handle *handle, uint64_t now, bool app_limited, bool has_largest, uint64_t largest);
+struct recovery_encodedreply recovery_ffi_end_acks(struct recovery_handle *handle, uint64_t now, bool app_limited, bool has_largest, uint64_t largest);
 
 // Another path is used from now on (RFC 9000, 9.3): the event `NewPath`.
-struct recovery_reply recovery_ffi_new_path(struct recovery_handle *handle, uint64_t now, const struct recovery_address *remote, bool fresh);
+struct recovery_encodedreply recovery_ffi_new_path(struct recovery_handle *handle, uint64_t now, const struct recovery_address *remote, bool fresh);
 
 // The current path begins anew (RFC 9000, 9.4): the event `ResetPath`.
-struct recovery_reply recovery_ffi_reset_path(struct recovery_handle *handle, uint64_t now);
+struct recovery_encodedreply recovery_ffi_reset_path(struct recovery_handle *handle, uint64_t now);
 
 // The previous path is dropped (RFC 9000, 9.3.3): the event `DropPrevious`.
-struct recovery_reply recovery_ffi_drop_previous(struct recovery_handle *handle);
+struct recovery_encodedreply recovery_ffi_drop_previous(struct recovery_handle *handle);
 
 // The previous path is used again, and the current one is dropped (RFC 9000, 9.3.2): the event `RevertPath`.
-struct recovery_reply recovery_ffi_revert_path(struct recovery_handle *handle);
+struct recovery_encodedreply recovery_ffi_revert_path(struct recovery_handle *handle);
 
 // The counts of ECN of an ACK frame (RFC 9000, 13.4.2): the event `Ecn`.
-struct recovery_reply recovery_ffi_ecn(struct recovery_handle *handle, uint8_t space, uint64_t newly_acked, uint64_t ect0, uint64_t ect1, uint64_t ce);
+struct recovery_encodedreply recovery_ffi_ecn(struct recovery_handle *handle, uint8_t space, uint64_t newly_acked, uint64_t ect0, uint64_t ect1, uint64_t ce);
 
 // An ACK frame acknowledges a range of numbers (RFC 9000, 13.1): the event `CheckAck`.
-struct recovery_reply recovery_ffi_check_ack(struct recovery_handle *handle, uint8_t space, uint64_t low, uint64_t high);
+struct recovery_encodedreply recovery_ffi_check_ack(struct recovery_handle *handle, uint8_t space, uint64_t low, uint64_t high);
 
 // A probe packet is to be sent (RFC 9002, 6.2.4): the event `QueueProbe`.
-struct recovery_reply recovery_ffi_queue_probe(struct recovery_handle *handle, uint8_t space, bool immediate_ack);
+struct recovery_encodedreply recovery_ffi_queue_probe(struct recovery_handle *handle, uint8_t space, bool immediate_ack);
 
 // What waits to be sent again is handed out, to be read by `recovery_ffi_last_items`: the event `TakePending`.
-struct recovery_reply recovery_ffi_take_pending(struct recovery_handle *handle, uint8_t space);
+struct recovery_encodedreply recovery_ffi_take_pending(struct recovery_handle *handle, uint8_t space);
 
 // What is kept for a path.
 struct recovery_pathview recovery_ffi_path(struct recovery_handle *handle, bool previous);
@@ -732,17 +732,17 @@ struct recovery_rangeview recovery_ffi_range(struct recovery_handle *handle, uin
 
 // How long ago the largest packet of a space came, which an ACK frame tells (RFC 9000, 13.2.5): zero before the first,
 // none where there is no such space or it is discarded.
-struct recovery_momentview recovery_ffi_ack_delay(struct recovery_handle *handle, uint8_t space, uint64_t now);
+struct recovery_timeview recovery_ffi_ack_delay(struct recovery_handle *handle, uint8_t space, uint64_t now);
 
 // When a timer expires.
-struct recovery_momentview recovery_ffi_timer(struct recovery_handle *handle, uint8_t timer);
+struct recovery_timeview recovery_ffi_timer(struct recovery_handle *handle, uint8_t timer);
 
 // The ids of both ends, and how late ACKs may be.
 struct recovery_idsview recovery_ffi_ids(struct recovery_handle *handle);
 
 // When the oldest of this end's ids is to be retired (RFC 9000, 5.1.2), where they end: what `RECOVERY_TIMER_PUSH_NEW_CID` is
 // set to.
-struct recovery_momentview recovery_ffi_next_id_timeout(struct recovery_handle *handle);
+struct recovery_timeview recovery_ffi_next_id_timeout(struct recovery_handle *handle);
 
 // Makes a recovery of a sender, of the client or else of the server, whose peer is at this address and has this id of
 // at most 20 bytes. A client's first path is validated, whatever the settings say (RFC 9000, 8.1). The answer is
@@ -753,48 +753,50 @@ uint8_t recovery_ffi_sender_new(struct recovery_handle *handle, bool client, con
 // `RECOVERY_ANSWER_BLOCKED` by the limit against amplification (RFC 9000, 8.1); `RECOVERY_ANSWER_FULL` where the window has no room (RFC
 // 9002, 7); `RECOVERY_ANSWER_DELAYED` by the pacer, until `first` (RFC 9002, 7.7). Where nothing in it counts in flight, or a
 // probe is due in the space, the limit alone is asked. The packets in it are told by `recovery_ffi_send` before the
-// next datagram is asked for. Refused by `RECOVERY_ERROR_SPACE_DISCARDED`, then by `RECOVERY_ERROR_OVERFLOW`.
-struct recovery_reply recovery_ffi_sender_transmit(struct recovery_handle *handle, uint64_t now, uint16_t bytes, uint8_t space, bool in_flight);
+// next datagram is asked for. Refused by `RECOVERY_REFUSAL_SPACE_DISCARDED`, then by `RECOVERY_REFUSAL_OVERFLOW`.
+struct recovery_encodedreply recovery_ffi_sender_transmit(struct recovery_handle *handle, uint64_t now, uint16_t bytes, uint8_t space, bool in_flight);
 
 // An ACK frame came in (RFC 9002, A.7), with its ranges, the highest first, as on the wire: `RECOVERY_ANSWER_ACKNOWLEDGED`,
 // with how many numbers it newly acknowledges in `first`, how many are found lost in `second`, and in `flag` whether
-// `recovery_ffi_last_outcome` says more than that; `recovery_ffi_told_numbers` says which they are. Refused, and nothing
-// changes, by `RECOVERY_ERROR_SPACE_DISCARDED`, by `RECOVERY_ERROR_BAD_RANGE` where there is no range, one ends before it begins, or
-// two have no number between them (RFC 9000, 19.3.1), by `RECOVERY_ERROR_UNSENT`, by `RECOVERY_ERROR_SKIPPED_ACKED` (RFC 9000,
-// 21.4), or by `RECOVERY_ERROR_NO_MEMORY`.
-struct recovery_reply recovery_ffi_sender_ack(struct recovery_handle *handle, uint8_t space, uint64_t now, const struct recovery_ackframe *frame, const struct recovery_ackrange *ranges, size_t ranges_len);
+// `recovery_ffi_last_outcome` says more than that; `recovery_ffi_told_numbers` says which they are. Refused, and
+// nothing
+// changes, by `RECOVERY_REFUSAL_SPACE_DISCARDED`, by `RECOVERY_REFUSAL_BAD_RANGE` where there is no range, one ends before it begins, or
+// two have no number between them (RFC 9000, 19.3.1), by `RECOVERY_REFUSAL_UNSENT`, by `RECOVERY_REFUSAL_SKIPPED_ACKED` (RFC 9000,
+// 21.4), or by `RECOVERY_REFUSAL_NO_MEMORY`.
+struct recovery_encodedreply recovery_ffi_sender_ack(struct recovery_handle *handle, uint8_t space, uint64_t now, const struct recovery_ackframe *frame, const struct recovery_ackrange *ranges, size_t ranges_len);
 
 // The timer for losses may be due (RFC 9002, A.9): `RECOVERY_ANSWER_NOTHING` where it is not; `RECOVERY_ANSWER_LOSSES` where packets
-// were looked for that are lost, which `recovery_ffi_last_outcome` and `recovery_ffi_told_numbers` say; or `RECOVERY_ANSWER_PROBES`,
+// were looked for that are lost, which `recovery_ffi_last_outcome` and `recovery_ffi_told_numbers` say; or
+// `RECOVERY_ANSWER_PROBES`,
 // with the space in `first` and in `second` how many are to be sent, 1 or 2. `immediate_ack` asks for an IMMEDIATE_ACK
-// frame in a probe. Refused by `RECOVERY_ERROR_NO_MEMORY` where the first probe finds none; then nothing changed.
-struct recovery_reply recovery_ffi_sender_timeout(struct recovery_handle *handle, uint64_t now, bool immediate_ack);
+// frame in a probe. Refused by `RECOVERY_REFUSAL_NO_MEMORY` where the first probe finds none; then nothing changed.
+struct recovery_encodedreply recovery_ffi_sender_timeout(struct recovery_handle *handle, uint64_t now, bool immediate_ack);
 
 // The keys of a space are dropped, and with them all that it tracks; probe timeouts are counted anew (RFC 9002, 6.2.2,
-// 6.4 and A.11): `RECOVERY_ANSWER_DONE`. Refused by `RECOVERY_ERROR_SPACE_DISCARDED`.
-struct recovery_reply recovery_ffi_sender_discard(struct recovery_handle *handle, uint8_t space, uint64_t now);
+// 6.4 and A.11): `RECOVERY_ANSWER_DONE`. Refused by `RECOVERY_REFUSAL_SPACE_DISCARDED`.
+struct recovery_encodedreply recovery_ffi_sender_discard(struct recovery_handle *handle, uint8_t space, uint64_t now);
 
 // What a space tracks was sent in vain, behind a Retry or where 0-RTT is refused (RFC 9002, 6.3 and 6.4): each packet
 // is lost, which is no congestion, and probe timeouts are counted anew: `RECOVERY_ANSWER_LOSSES`, and
-// `recovery_ffi_told_numbers` says which. Refused by `RECOVERY_ERROR_SPACE_DISCARDED`; by `RECOVERY_ERROR_NO_MEMORY`, where the same
+// `recovery_ffi_told_numbers` says which. Refused by `RECOVERY_REFUSAL_SPACE_DISCARDED`; by `RECOVERY_REFUSAL_NO_MEMORY`, where the same
 // call goes on with what is tracked still.
-struct recovery_reply recovery_ffi_sender_abandon(struct recovery_handle *handle, uint8_t space, uint64_t now);
+struct recovery_encodedreply recovery_ffi_sender_abandon(struct recovery_handle *handle, uint8_t space, uint64_t now);
 
 // There are keys of Handshake packets (RFC 9002, A.8): `RECOVERY_ANSWER_DONE`.
-struct recovery_reply recovery_ffi_sender_handshake_keys(struct recovery_handle *handle);
+struct recovery_encodedreply recovery_ffi_sender_handshake_keys(struct recovery_handle *handle);
 
 // The handshake is confirmed (RFC 9001, 4.1.2): packets of 1-RTT keys are probed for from now on, and a client knows
 // its address validated (RFC 9002, 6.2.1 and 6.2.2.1): `RECOVERY_ANSWER_DONE`.
-struct recovery_reply recovery_ffi_sender_handshake_confirmed(struct recovery_handle *handle);
+struct recovery_encodedreply recovery_ffi_sender_handshake_confirmed(struct recovery_handle *handle);
 
 // The peer delays its ACKs of 1-RTT packets at most so long (RFC 9000, 18.2: max_ack_delay): `RECOVERY_ANSWER_DONE`. There are
 // fewer than 10^9 nanoseconds.
-struct recovery_reply recovery_ffi_sender_peer_delay(struct recovery_handle *handle, uint64_t secs, uint32_t nanos);
+struct recovery_encodedreply recovery_ffi_sender_peer_delay(struct recovery_handle *handle, uint64_t secs, uint32_t nanos);
 
 // A PATH_CHALLENGE frame with this content is open on the path in use, where `is_open`, and one is to be sent, where
 // `pending` (RFC 9000, 8.2.1): `RECOVERY_ANSWER_DONE`. While one is open the window does not grow: what is acknowledged may
 // have gone by the path before it (RFC 9000, 9.4).
-struct recovery_reply recovery_ffi_sender_challenge(struct recovery_handle *handle, uint64_t content, bool is_open, bool pending);
+struct recovery_encodedreply recovery_ffi_sender_challenge(struct recovery_handle *handle, uint64_t content, bool is_open, bool pending);
 
 // How many probe timeouts expired in a row, by which the next one is doubled (RFC 9002, 6.2.1); 0 where there is no
 // sender.
@@ -802,7 +804,7 @@ uint32_t recovery_ffi_pto_count(struct recovery_handle *handle);
 
 // What was told last: by an ACK frame that was not refused, by a timeout that looked for losses, or by an abandoned
 // space. Nothing before it, and where there is no sender.
-struct recovery_toldview recovery_ffi_last_outcome(struct recovery_handle *handle);
+struct recovery_outcomeview recovery_ffi_last_outcome(struct recovery_handle *handle);
 
 // How many numbers were newly acknowledged as something was told last, or, with `lost`, how many were found lost,
 // without that of the MTU's probe; they are written, rising, where there is room for all.
@@ -818,16 +820,16 @@ size_t recovery_ffi_told_packets(struct recovery_handle *handle, uint64_t *out, 
 struct recovery_settings recovery_ffi_default_settings(void);
 
 // A timer is set to a moment in nanoseconds: the event `SetTimer`.
-struct recovery_reply recovery_ffi_set_timer(struct recovery_handle *handle, uint8_t timer, uint64_t time);
+struct recovery_encodedreply recovery_ffi_set_timer(struct recovery_handle *handle, uint8_t timer, uint64_t time);
 
 // A timer is stopped: the event `StopTimer`.
-struct recovery_reply recovery_ffi_stop_timer(struct recovery_handle *handle, uint8_t timer);
+struct recovery_encodedreply recovery_ffi_stop_timer(struct recovery_handle *handle, uint8_t timer);
 
 // When does the next timer expire? The event `NextTimeout`.
-struct recovery_reply recovery_ffi_next_timeout(struct recovery_handle *handle);
+struct recovery_encodedreply recovery_ffi_next_timeout(struct recovery_handle *handle);
 
 // Does nothing; a library of another layout does not have it, and a program with this header does not link with that one.
-void recovery_ffi_layout(void) __asm__("recovery_ffi_layout_0c4c2537");
+void recovery_ffi_layout(void) __asm__("recovery_ffi_layout_d4f2288f");
 __attribute__((used)) static void (*const recovery_ffi_has_this_layout)(void) = recovery_ffi_layout;
 
 #ifdef __cplusplus

@@ -57,7 +57,7 @@ module _ {F K Q S M P T A : Type 0} (built : F → ℕ → ℕ → K) (words : C
       let rest = goes_over todo (done ++ event ∷ []) (replies ++ reply ∷ []) between new is.2
       (throughout_more (StepGuarantees by) event reply done replies _ keeps refl on.keeps)
       (after_push (StepGuarantees by) event reply (λ past. ReachedBy by past (recovery_of between)) done replies _
-          keeps refl
+      keeps refl
       on.came)
       (takes_push takes first replies (sink_of old) reply (sink_of between) given one.3)
       (let Fresh : PerPath PathMarks → Type 0 = AreMarksFresh in subst Fresh (sym one.1.marks)

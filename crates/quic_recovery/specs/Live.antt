@@ -19,7 +19,7 @@ module _ {F Q R C K S M P : Type 0} {f : _} {c : _} {q : _} {m : _} {r : _} wher
       → Recovery F Q R C K S M P f c q m r → Type 0
   LiveStepFromSome old event reply new =
       StepFromSomePast f.built c.words (queue_model q.contents q.words q.blank) (state_of old) event reply
-          (state_of new)
+      (state_of new)
 
   abbrev pub PreservesPasts : Recovery F Q R C K S M P f c q m r → Recovery F Q R C K S M P f c q m r → Type 0
   PreservesPasts old new =

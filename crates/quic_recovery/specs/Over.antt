@@ -23,7 +23,7 @@ pub record StepIntoSink {F Q R C K S M P T : Type 0} {f : _} {c : _} {q : _} {m 
 -- each, and the recovery came here by them
 pub record RunOverSource {F K Q S M P : Type 0} (beginning : Beginning F K Q S M P)
     (AreGiven : List (Event Q S M P) → Type 0) (AreTaken : List (Reply Q) → Type 0)
-        (recovery : RecoveryState K P M) : Type 0
+    (recovery : RecoveryState K P M) : Type 0
   where
     pub events : List (Event Q S M P)
     pub replies : List (Reply Q)

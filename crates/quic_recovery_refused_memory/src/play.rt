@@ -10,8 +10,8 @@ use quic_recovery::config::TransportConfig;
 use quic_recovery::time::Instant;
 use quic_recovery::{Recovery, RecoveryConfig};
 use quic_recovery_rows::config::{settings_with, words};
-use recovery_parts_tests::halving::HalvingConfig;
 use recovery_packet_numbers::Skips;
+use recovery_parts_tests::halving::HalvingConfig;
 use std::alloc::Global;
 use thiserror::Error;
 

@@ -109,7 +109,7 @@ module _ (Q S M P : Type 0) (queue : Q) (frames : M) where
   -- what comes once the packet was acknowledged is not dropped by it
   none_but_three : (n : ℕ) → 3 < n
       → ¬ InsertNumber 3 (λ k. WasReceived Handshake k (sent_and_acked []) × ¬ WasDropped Handshake k
-          (sent_and_acked [])) n
+      (sent_and_acked [])) n
   none_but_three n above (inl is) = omega (arith, above, is)
   none_but_three n above (inr there) = there.0
 

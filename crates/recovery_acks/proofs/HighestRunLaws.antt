@@ -117,14 +117,14 @@ module _ {old mid : Ranges} {number : ℕ} {is_new : Bool} (inserted : InsertsOn
   pub inserted_cut : length old ≤ 64 → 64 < length mid → (popped : Option (Range ℕ)) (new : Ranges)
       → mid ≡ option_to_list popped ++ new → IfNone popped (mid ≡ [])
       → ((n : ℕ) → InRanges new n ↔ IsInHighest 64 (InsertNumber number (InRanges old)) n) × (length new ≤ 64)
-          × AreApart 0 new
+      × AreApart 0 new
   inserted_cut few many None new is none = absurd (let h : length mid ≡ 0 = ap length none in omega arith)
   inserted_cut few many (Some range) new is none =
       let apart : AreApart 0 (range ∷ new) = rw is at inserted.apart in
       let size : length mid ≡ suc (length new) = ap length is in
       let sixty_four : length new ≡ 64 = omega (arith, inserted.count) in
       let numbers : (n : ℕ) → InRanges (range ∷ new) n ↔ InsertNumber number
-          (InRanges old) n = rw is at inserted.numbers in (
+      (InRanges old) n = rw is at inserted.numbers in (
         λ n. iff_trans (highest_rest range new apart sixty_four n) (highest_alike numbers 64 n),
         omega arith,
         apart_rest 0 range new apart,

@@ -96,7 +96,7 @@ module _ (made : NewReno) where
 
       go : (test : Bool) → nat_le sent old.recovery_start_time ≡ test
           → (if test then old else reno_recovering now persistent old).window < old.window
-              → RenoReducedBefore made sent calls
+          → RenoReducedBefore made sent calls
       go true is lowers = absurd (omega (arith, lowers))
       go false is lowers =
           let behind : old.recovery_start_time + 1 ≤ sent = grind (arith, nat_tests) in

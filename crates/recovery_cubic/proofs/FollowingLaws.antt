@@ -339,7 +339,7 @@ module _ (window now mtu : ℕ) where
 
   module _ (until : List ControllerCall) (reduction : ControllerCall) (earlier : List ControllerCall) (k : ℕ)
       (b : BeginsEpoch window now mtu reduction earlier k) (gone : ContinuesEpochThrough window now mtu until
-          (reduction ∷ earlier))
+      (reduction ∷ earlier))
       (past : k ≤ time_by window now mtu (until ++ reduction ∷ earlier) / 1000) where
     back_by : (later : List ControllerCall) → ContinuesEpochThrough window now mtu later (until ++ reduction ∷ earlier)
         → Back (curve_of window now mtu reduction earlier k)
@@ -371,7 +371,7 @@ module _ (window now mtu : ℕ) where
 
   pub reached_at_k : (later until : List ControllerCall) (reduction : ControllerCall) (earlier : List ControllerCall)
       (k : ℕ) → BeginsEpoch window now mtu reduction earlier k → ContinuesEpochThrough window now mtu until
-          (reduction ∷ earlier)
+      (reduction ∷ earlier)
       → ContinuesEpochThrough window now mtu later (until ++ reduction ∷ earlier)
       → IsReachedAtK window now mtu later until reduction earlier k
   unfolding old

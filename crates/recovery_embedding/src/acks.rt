@@ -23,7 +23,12 @@ pub enum Heard {
 
 impl Connection {
     /// An ack-eliciting packet comes in, before its frames are looked at.
-    pub fn hear(&mut self, space: SpaceId, now: Instant, number: u64) -> Result<Heard, SenderError> {
+    pub fn hear(
+        &mut self,
+        space: SpaceId,
+        now: Instant,
+        number: u64,
+    ) -> Result<Heard, SenderError> {
         let packet = Event::Received {
             space,
             now,

@@ -26,7 +26,10 @@ impl Connection {
 
     /// The timer for losses expired: the space in which probes are to go out, and how many. If none, packets were
     /// found lost, and wait to be sent again.
-    pub fn loss_timer_expired(&mut self, now: Instant) -> Result<Option<(SpaceId, u8)>, SenderError> {
+    pub fn loss_timer_expired(
+        &mut self,
+        now: Instant,
+    ) -> Result<Option<(SpaceId, u8)>, SenderError> {
         match self.sender.on_timeout(now, false, (), ()) {
             Ok(Timeout::Probe { space, count }) => Ok(Some((space, count))),
             Ok(_) => Ok(None),

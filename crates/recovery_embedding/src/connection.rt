@@ -8,9 +8,9 @@ use quic_recovery::config::TransportConfig;
 use quic_recovery::congestion::NewRenoConfig;
 use quic_recovery::{Event, Recovery, RecoveryConfig};
 use rand_pcg::Pcg32;
-use recovery_queue::items::ItemQueue;
-use recovery_sender::{SenderError, Sender};
 use recovery_packet_numbers::Skips;
+use recovery_queue::items::ItemQueue;
+use recovery_sender::{Sender, SenderError};
 use std::net::SocketAddr;
 
 /// What the recovery starts with: the defaults, with NewReno, but for packet numbers that are skipped here and there

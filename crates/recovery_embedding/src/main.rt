@@ -22,7 +22,7 @@ use quic_recovery::below::NoMemory;
 use quic_recovery::time::{Duration, Instant};
 use rand_core::SeedableRng;
 use rand_pcg::Pcg32;
-use recovery_sender::{SenderError, Sender, Side};
+use recovery_sender::{Sender, SenderError, Side};
 use report::Report;
 use std::alloc::Global;
 use std::net::{IpAddr, Ipv4Addr, SocketAddr};

@@ -7,7 +7,11 @@ use recovery_sender::SenderError;
 
 impl Connection {
     /// The peer's transport parameters come in: max_udp_payload_size and max_ack_delay (RFC 9000, 18.2).
-    pub fn peer_parameters(&mut self, size: u16, max_ack_delay: Duration) -> Result<(), SenderError> {
+    pub fn peer_parameters(
+        &mut self,
+        size: u16,
+        max_ack_delay: Duration,
+    ) -> Result<(), SenderError> {
         self.sender.set_peer_max_ack_delay(max_ack_delay);
         self.tell(Event::PeerLimit { size })
     }

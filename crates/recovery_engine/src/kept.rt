@@ -10,7 +10,7 @@ ghost use Rattle.recovery_engine.specs.Sending.{told_view, UnlessNoSender};
 ghost use Rattle.recovery_engine.specs.Replies.{IsWritten};
 
 use crate::controllers::ChosenConfig;
-use crate::sending::{AckRange, Call, Sending, OutcomeView, no_outcome};
+use crate::sending::{AckRange, Call, OutcomeView, Sending, no_outcome};
 use crate::spelling::{EncodedReply, copy_numbers};
 use quic_recovery::below::NoMemory;
 use quic_recovery::event::PathName;
@@ -19,7 +19,7 @@ use quic_recovery::{Answer, Event, LiveRecovery, Recovery, RecoveryConfig, Refus
 use rand_pcg::Pcg32;
 use recovery_base::time::Instant;
 use recovery_queue::items::ItemQueue;
-use recovery_sender::{SenderError, Sender, Side, passes};
+use recovery_sender::{Sender, SenderError, Side, passes};
 use std::alloc::Global;
 
 /// A recovery over a chosen controller, whose packets carry numbered items and whose skips are drawn by PCG32.

@@ -13,7 +13,7 @@ use crate::numbers::{
     ANSWER_NOTHING, ANSWER_PROBES, ANSWER_REFUSED, ANSWER_TRANSMITTED, ECN_FAILED, ECN_MARKED,
     ECN_QUIET, REFUSAL_UNSENT,
 };
-use crate::spelling::{EncodedReply, space_number, encode_number, encode_refusal};
+use crate::spelling::{EncodedReply, encode_number, encode_refusal, space_number};
 use quic_recovery::time::{Duration, Instant};
 use recovery_base::below::SpaceId;
 use recovery_sender::{Ack, Acknowledged, EcnOutcome, Losses, SenderError, Timeout, Transmission};
@@ -357,7 +357,13 @@ impl Sending {
         }
     }
 
-    fn transmit(&mut self, now: Instant, bytes: u16, space: SpaceId, in_flight: bool) -> EncodedReply
+    fn transmit(
+        &mut self,
+        now: Instant,
+        bytes: u16,
+        space: SpaceId,
+        in_flight: bool,
+    ) -> EncodedReply
         ensures { TransmitReply now bytes space in_flight self.old result self.new }
     {
         match self.sender.transmit(now, bytes, space, in_flight) {

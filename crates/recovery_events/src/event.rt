@@ -7,9 +7,9 @@ use recovery_base::below::{
 };
 use recovery_base::time::{Duration, Instant};
 use recovery_base::timer::Timer;
-use recovery_spaces::spaces::SendableFrames;
 pub use recovery_paths::path_pair::PathName;
 use recovery_queue::queue::RetransmitQueue;
+use recovery_spaces::spaces::SendableFrames;
 use std::net::SocketAddr;
 use std::ops::Range;
 use thiserror::Error;

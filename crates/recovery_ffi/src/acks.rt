@@ -30,7 +30,11 @@ pub extern "C" fn recovery_ffi_ack_frequency(
 
 /// An ACK frame was sent (RFC 9000, 13.2.1): the event `AcksSent`.
 #[unsafe(no_mangle)]
-pub extern "C" fn recovery_ffi_acks_sent(alloc: Global, handle: &mut Handle, space: u8) -> EncodedReply
+pub extern "C" fn recovery_ffi_acks_sent(
+    alloc: Global,
+    handle: &mut Handle,
+    space: u8,
+) -> EncodedReply
     ensures { HandleAppliesTo (space_coded space)
         (λ space. AcksSent space)
         handle.old.slot.held result handle.new.slot.held }

@@ -10,7 +10,11 @@ use std::alloc::Global;
 
 /// Is a probe of the MTU due (RFC 9000, 14.3)? The event `PollMtu`.
 #[unsafe(no_mangle)]
-pub extern "C" fn recovery_ffi_poll_mtu(alloc: Global, handle: &mut Handle, now: u64) -> EncodedReply
+pub extern "C" fn recovery_ffi_poll_mtu(
+    alloc: Global,
+    handle: &mut Handle,
+    now: u64,
+) -> EncodedReply
     ensures { HandleApplies handle.old.slot.held (PollMtu now) result handle.new.slot.held }
 {
     handle.apply(
@@ -23,7 +27,11 @@ pub extern "C" fn recovery_ffi_poll_mtu(alloc: Global, handle: &mut Handle, now:
 
 /// The peer takes datagrams of at most so many bytes (RFC 9000, 18.2): the event `PeerLimit`.
 #[unsafe(no_mangle)]
-pub extern "C" fn recovery_ffi_peer_limit(alloc: Global, handle: &mut Handle, size: u16) -> EncodedReply
+pub extern "C" fn recovery_ffi_peer_limit(
+    alloc: Global,
+    handle: &mut Handle,
+    size: u16,
+) -> EncodedReply
     ensures { HandleApplies handle.old.slot.held (PeerLimit size) result handle.new.slot.held }
 {
     handle.apply(alloc, Event::PeerLimit { size })
@@ -31,7 +39,11 @@ pub extern "C" fn recovery_ffi_peer_limit(alloc: Global, handle: &mut Handle, si
 
 /// All packets that were found lost together were told: the event `LossesDone`.
 #[unsafe(no_mangle)]
-pub extern "C" fn recovery_ffi_losses_done(alloc: Global, handle: &mut Handle, now: u64) -> EncodedReply
+pub extern "C" fn recovery_ffi_losses_done(
+    alloc: Global,
+    handle: &mut Handle,
+    now: u64,
+) -> EncodedReply
     ensures { HandleApplies handle.old.slot.held (LossesDone now) result handle.new.slot.held }
 {
     handle.apply(

@@ -51,7 +51,11 @@ pub extern "C" fn recovery_ffi_next_id(alloc: Global, handle: &mut Handle) -> En
 
 /// The server chose another id (RFC 9000, 7.2): the event `InitialId`; an id has at most 20 bytes.
 #[unsafe(no_mangle)]
-pub extern "C" fn recovery_ffi_initial_id(alloc: Global, handle: &mut Handle, id: &[u8]) -> EncodedReply
+pub extern "C" fn recovery_ffi_initial_id(
+    alloc: Global,
+    handle: &mut Handle,
+    id: &[u8],
+) -> EncodedReply
     ensures { HandleAppliesTo (cid id.now)
         (λ id. InitialId id) handle.old.slot.held result handle.new.slot.held }
 {

@@ -67,7 +67,11 @@ pub extern "C" fn recovery_ffi_mtu_poll(
 /// The peer takes datagrams of at most so many bytes. Refused where they are none, and while a search runs: the limit
 /// is told before the first poll.
 #[unsafe(no_mangle)]
-pub extern "C" fn recovery_ffi_mtu_limit(alloc: Global, mtu: &mut MtuHandle, size: u16) -> EncodedReply
+pub extern "C" fn recovery_ffi_mtu_limit(
+    alloc: Global,
+    mtu: &mut MtuHandle,
+    size: u16,
+) -> EncodedReply
     ensures { DiscoveryAnswers mtu.old.slot.held (Limit size) result mtu.new.slot.held }
 {
     mtu.call(alloc, Call::Limit { size })

@@ -125,7 +125,11 @@ pub extern "C" fn recovery_ffi_lost(
 
 /// The keys of a space are dropped (RFC 9002, 6.4): the event `DiscardSpace`.
 #[unsafe(no_mangle)]
-pub extern "C" fn recovery_ffi_discard(alloc: Global, handle: &mut Handle, space: u8) -> EncodedReply
+pub extern "C" fn recovery_ffi_discard(
+    alloc: Global,
+    handle: &mut Handle,
+    space: u8,
+) -> EncodedReply
     ensures { HandleAppliesTo (space_coded space)
         (λ space. DiscardSpace space)
         handle.old.slot.held result handle.new.slot.held }
@@ -139,7 +143,11 @@ pub extern "C" fn recovery_ffi_discard(alloc: Global, handle: &mut Handle, space
 /// How many items the queue that was taken last has; they are written where there is room for all. None, before one was
 /// taken.
 #[unsafe(no_mangle)]
-pub extern "C" fn recovery_ffi_last_items(alloc: Global, handle: &mut Handle, out: &mut [u64]) -> usize
+pub extern "C" fn recovery_ffi_last_items(
+    alloc: Global,
+    handle: &mut Handle,
+    out: &mut [u64],
+) -> usize
     ensures { ReadsHandle handle.old.slot.held handle.new.slot.held
         (λ stack. IsWritten stack.taken out.old result out.new)
         ((result ≡ 0) × (out.new ≡ out.old)) }

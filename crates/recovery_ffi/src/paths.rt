@@ -115,8 +115,7 @@ pub extern "C" fn recovery_ffi_pacer_check(
     now: u64,
     bytes: u64,
 ) -> EncodedReply
-    ensures { HandleApplies handle.old.slot.held (PacerCheck now bytes) result handle.new.slot.held
-        }
+    ensures { HandleApplies handle.old.slot.held (PacerCheck now bytes) result handle.new.slot.held }
 {
     handle.apply(
         alloc,
@@ -197,7 +196,11 @@ pub extern "C" fn recovery_ffi_new_path(
 
 /// The current path begins anew (RFC 9000, 9.4): the event `ResetPath`.
 #[unsafe(no_mangle)]
-pub extern "C" fn recovery_ffi_reset_path(alloc: Global, handle: &mut Handle, now: u64) -> EncodedReply
+pub extern "C" fn recovery_ffi_reset_path(
+    alloc: Global,
+    handle: &mut Handle,
+    now: u64,
+) -> EncodedReply
     ensures { HandleApplies handle.old.slot.held (ResetPath now) result handle.new.slot.held }
 {
     handle.apply(

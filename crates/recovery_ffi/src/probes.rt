@@ -85,7 +85,11 @@ pub extern "C" fn recovery_ffi_queue_probe(
 
 /// What waits to be sent again is handed out, to be read by `recovery_ffi_last_items`: the event `TakePending`.
 #[unsafe(no_mangle)]
-pub extern "C" fn recovery_ffi_take_pending(alloc: Global, handle: &mut Handle, space: u8) -> EncodedReply
+pub extern "C" fn recovery_ffi_take_pending(
+    alloc: Global,
+    handle: &mut Handle,
+    space: u8,
+) -> EncodedReply
     ensures { HandleAppliesTo (space_coded space)
         (λ space. TakePending space)
         handle.old.slot.held result handle.new.slot.held }

@@ -10,7 +10,7 @@ ghost use Rattle.recovery_stack.specs.Views.{path_view, no_path, moment_shown, m
 
 use quic_recovery::time::Instant;
 use recovery_stack::handle::Handle;
-use recovery_stack::views::{IdsView, TimeView, PathView, RangeView, SpaceView};
+use recovery_stack::views::{IdsView, PathView, RangeView, SpaceView, TimeView};
 use std::alloc::Global;
 
 /// What is kept for a path.

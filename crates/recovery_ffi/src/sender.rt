@@ -176,7 +176,10 @@ pub extern "C" fn recovery_ffi_sender_abandon(
 
 /// There are keys of Handshake packets (RFC 9002, A.8): `ANSWER_DONE`.
 #[unsafe(no_mangle)]
-pub extern "C" fn recovery_ffi_sender_handshake_keys(alloc: Global, handle: &mut Handle) -> EncodedReply
+pub extern "C" fn recovery_ffi_sender_handshake_keys(
+    alloc: Global,
+    handle: &mut Handle,
+) -> EncodedReply
     ensures { CallsSender handle.old.slot.held HandshakeKeys result handle.new.slot.held }
 {
     handle.call_sender(alloc, Call::HandshakeKeys)

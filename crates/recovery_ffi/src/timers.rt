@@ -36,7 +36,11 @@ pub extern "C" fn recovery_ffi_set_timer(
 
 /// A timer is stopped: the event `StopTimer`.
 #[unsafe(no_mangle)]
-pub extern "C" fn recovery_ffi_stop_timer(alloc: Global, handle: &mut Handle, timer: u8) -> EncodedReply
+pub extern "C" fn recovery_ffi_stop_timer(
+    alloc: Global,
+    handle: &mut Handle,
+    timer: u8,
+) -> EncodedReply
     ensures { HandleAppliesTo (timer_coded timer)
         (λ timer. StopTimer timer)
         handle.old.slot.held result handle.new.slot.held }

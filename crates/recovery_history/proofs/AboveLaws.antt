@@ -91,6 +91,6 @@ module _ {K Q S M P : Type 0} (q : QueueModel Q S M P) where
   pub loss_times_after : (known : ReplyInputs K P M) (event : Event Q S M P) (reply : Reply Q)
       (old new : RecoveryState K P M)
       → ComponentSteps q.words (entries_of q known event reply) old new → HasNoLossTime old.spaces
-          → HasNoLossTime new.spaces
+      → HasNoLossTime new.spaces
   loss_times_after known event reply old new steps none = λ space.
       loss_time_stays q.words ((entries_of q known event reply).spaces space) _ _ (steps.spaces space) ∙ none space

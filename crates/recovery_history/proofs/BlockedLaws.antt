@@ -28,7 +28,7 @@ module _ {Q : Type 0} (checked forbidden : Bool) (answer : Answer Q)
     (fine : IsTransmitReply false checked forbidden (Ok answer)) (TooLarge : Type 0) where
   decide : (large : Bool) → (TooLarge → large ≡ true) → (large ≡ true → TooLarge) → (reply : Reply Q)
       → RejectsWhen Overflow TooLarge (AlwaysAnswers (EqualsAnswer answer)) reply
-          → IsTransmitReply large checked forbidden reply
+      → IsTransmitReply large checked forbidden reply
   decide large is to (Err Overflow) told = grind (arith, is, to, told)
   decide large is to reply told = grind (arith, is, to, told, fine)
 

@@ -295,7 +295,7 @@ module _ {F K Q S M P : Type 0} (beginning : Beginning F K Q S M P) where
 
     tally : (path : Option (PathReplyInputs K)) (reply : Reply Q)
         → UnlessPathMissing path (λ there. AlwaysAnswers (EqualsAnswer
-            (answers.InFlight (in_flight_on known_then there).bytes
+        (answers.InFlight (in_flight_on known_then there).bytes
         (in_flight_on known_then there).ack_eliciting))) reply
         → IsTally before (option_map (λ p. p.generation) path) reply
     tally None (Err NoSuchPath) told = refl

@@ -99,7 +99,7 @@ module _ {P M A : Type 0} (says : Packet P M → A) where
   module _ {S : Type 0}
       (kept : (contents : P) (packet : Packet P M) → says (with_contents contents packet) ≡ says packet)
       (words : QueueSemantics P S) (by : ℕ → A) (log : List (SpaceEntry P M))
-          (said : IsSaid by (sent_by words log)) where
+      (said : IsSaid by (sent_by words log)) where
     pub said_after : (entry : SpaceEntry P M) → sends_none (space_kind entry) ≡ true
         → IsSaid by (sent_by words (entry ∷ log))
     said_after (acknowledged number) none =

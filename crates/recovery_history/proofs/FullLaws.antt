@@ -47,7 +47,7 @@ module _ {F K Q S M P : Type 0} (beginning : Beginning F K Q S M P) where
   full_told before (NewPath now remote is_fresh) reply told agree =
       let made : paths_made before ≡ (inputs_after beginning before).paths.made = sym (made_told beginning before) in
       counter (paths_made before + 1) _ (ap (λ n. n + 1) made)
-          (AnswersOrNoMemory (IsTrue (not is_fresh)) (EqualsAnswer Done)) reply told
+      (AnswersOrNoMemory (IsTrue (not is_fresh)) (EqualsAnswer Done)) reply told
   full_told before event reply told agree = tt
 
   pub overflows_full : AllAlong beginning OverflowsExactly

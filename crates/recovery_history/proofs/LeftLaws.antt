@@ -80,7 +80,7 @@ module _ {F K Q S M P : Type 0} (beginning : Beginning F K Q S M P) where
   pub changes_by_logs : (history : History Q S M P) (old : RecoveryState K P M) (event : Event Q S M P)
       (reply : Reply Q)
       (new : RecoveryState K P M) → LoggedStateAfter beginning history old
-          → StateTransition beginning.queue old event reply new
+      → StateTransition beginning.queue old event reply new
       → StateTransitionBy beginning.queue (inputs_after beginning history) old event reply new
   changes_by_logs history old event reply new left changes = rw (← known_same beginning history old left) changes
 
@@ -99,7 +99,7 @@ module _ {F K Q S M P : Type 0} (beginning : Beginning F K Q S M P) where
 
   pub left_after : (history : History Q S M P) (event : Event Q S M P) (reply : Reply Q) (old new : RecoveryState K P M)
       → LoggedStateAfter beginning history old → StateTransitionBy beginning.queue
-          (inputs_after beginning history) old event reply new
+      (inputs_after beginning history) old event reply new
       → AreBalanced new.spaces new.paths → LoggedStateAfter beginning ((event, reply) ∷ history) new
   left_after history event reply old new left changes balanced =
       let entries = entries_of beginning.queue (inputs_after beginning history) event reply in

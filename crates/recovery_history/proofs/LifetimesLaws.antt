@@ -63,7 +63,7 @@ AreLeft p ids = (ids.unretired ≡ filter p (range_with_len 0 ids.issued))
 abbrev pub AreMarked : LocalIds → Type 0
 AreMarked ids =
     (ids.retired_below ≤ ids.retire_prior_to) × AreIncreasingWithin ids.retire_prior_to ids.issued
-        (numbers_of ids.deadlines)
+    (numbers_of ids.deadlines)
 
 -- by the numbers that the peer retired, and the one below which it was asked to: all below the first mark are retired,
 -- and so are those from there up to the second
@@ -74,7 +74,7 @@ pub record AreAsked (p : ℕ → Bool) (asked : ℕ) (ids : LocalIds) : Type 0 w
 
 mark_rises : (mark count : ℕ) (deadlines : List CidTimestamp) → AreIncreasingWithin mark count (numbers_of deadlines)
     → (mark ≤ next_mark mark deadlines) × AreIncreasingWithin (next_mark mark deadlines) count
-        (numbers_of (drop 1 deadlines))
+    (numbers_of (drop 1 deadlines))
     × AreIncreasingWithin mark count (numbers_of (drop 1 deadlines))
 mark_rises mark count [] rise = (omega arith, rise, rise)
 mark_rises mark count (oldest ∷ later) rise = grind (

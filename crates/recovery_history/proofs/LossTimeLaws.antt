@@ -46,8 +46,10 @@ left_with_loss_time words start log time there left = record {
 module _ {F K Q S M P : Type 0} (beginning : Beginning F K Q S M P) (past : History Q S M P) where
   pub reached_with_loss_time : (set : SpaceId) (time : Option ℕ) (there : Space P M) (recovery : RecoveryState K P M)
       → there ≡ space_of set recovery.spaces → ReachedBy beginning past recovery
-      → ReachedBy beginning past (record recovery { spaces = with_space recovery.spaces set
-          (with_loss_time time there) })
+      → ReachedBy beginning past (record recovery {
+        spaces = with_space recovery.spaces set
+            (with_loss_time time there);
+      })
   reached_with_loss_time set time there recovery is came =
       let left = came.state_after in rw is (record {
         replies = came.replies;

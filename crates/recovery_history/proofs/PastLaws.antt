@@ -104,7 +104,7 @@ module _ {F K Q S M P : Type 0} (beginning : Beginning F K Q S M P) where
   pub extends : (past : History Q S M P) (old : RecoveryState K P M) (event : Event Q S M P) (reply : Reply Q)
       (new : RecoveryState K P M)
       → ReachedBy beginning past old → StateTransition beginning.queue old event reply new
-          → AreBalanced new.spaces new.paths
+      → AreBalanced new.spaces new.paths
       → StepFromPast beginning past event reply new
   extends past old event reply new came changes balanced =
       let by = changes_by_logs beginning past old event reply new came.state_after changes in

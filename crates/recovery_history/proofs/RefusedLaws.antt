@@ -112,7 +112,7 @@ module _ {F K Q S M P : Type 0} (beginning : Beginning F K Q S M P) where
     on_path : (name : PathName) (Replies : PathReplyInputs K → Reply Q → Type 0)
         → ((path : PathReplyInputs K) → Names None (Replies path))
         → Names (unless (is_some (generation_by name history)) NoSuchPath)
-            (UnlessPathMissing (path_of name known.paths) Replies)
+        (UnlessPathMissing (path_of name known.paths) Replies)
     on_path name Replies names reply told =
         path_names (path_of name known.paths) Replies names reply told
         ∙ ap (λ (b : Bool). unless b NoSuchPath) (mapped (path_of name known.paths)

@@ -110,7 +110,7 @@ module _ {P M : Type 0} where
       let longer : List (SpaceEntry P M) = heard_again number ∷ log in
       either (grind arith)
       (is_out_of_order (ReceivedNumbers longer) (came_greatest longer)
-          (has_come longer) counts.thresholds.1 counts.acknowledged
+      (has_come longer) counts.thresholds.1 counts.acknowledged
       (unwrap_or counts.greatest 0) (max (unwrap_or counts.greatest 0) number) number)
 
   -- an ACK is required at once, or not

@@ -76,7 +76,7 @@ module _ {F K Q S M P : Type 0} (beginning : Beginning F K Q S M P) (Kept : Hist
   pub throughout_kept : ((before : History Q S M P) (event : Event Q S M P) (reply : Reply Q)
       → RepliesAfter beginning before event reply → Kept before → Kept ((event, reply) ∷ before))
       → ((before : History Q S M P) (event : Event Q S M P) (reply : Reply Q)
-          → RepliesAfter beginning before event reply
+      → RepliesAfter beginning before event reply
       → Kept before → Holds before event reply)
       → Kept [] → AllAlong beginning Holds
   throughout_kept keeps holds first = at_each (RepliesAfter beginning) Kept keeps first Holds

@@ -119,7 +119,7 @@ module _ {F K Q S M P : Type 0} (beginning : Beginning F K Q S M P) where
           (unsearched past.kept.discovery (searched.0.settings_are ∙ is) now past.searched) told.1.1
       go (Some settings) is =
           probe_out beginning.queue (inputs_after beginning before) settings now _
-              (entries_on past) _ number size told.1.1
+          (entries_on past) _ number size told.1.1
           (probes_in_search past.kept.discovery settings searched.0.untold (searched.0.settings_are ∙ is)
           (polls now (inputs_after beginning before).next_number ∷ past.searched))
   probes_one before event reply told searched = tt

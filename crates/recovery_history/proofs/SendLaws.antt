@@ -94,7 +94,7 @@ module _ {K Q S M P : Type 0} (q : QueueModel Q S M P) (old : RecoveryState K P 
       → paths ≡ paths_telling (packet_at_generation generation) here_then
       (after_telling old.settings.words (sends_bytes now size number)) old.paths
       → StateTransition q old (Send space now size ack_eliciting largest_acked queue frames)
-          (Ok (Sent number forgotten))
+      (Ok (Sent number forgotten))
       (record old { spaces = with_space old.spaces space there; skipping = skipping; paths = paths })
   send_changes generation number there skipping paths forgotten own is left fits gone step draws told =
       let packet = packet_at_generation (generation_of old.paths.current.ledger) in
@@ -105,8 +105,7 @@ module _ {K Q S M P : Type 0} (q : QueueModel Q S M P) (old : RecoveryState K P 
       let fitting = subst Fits balanced.current fits in
       record {
         told = grind (arith, live, small, left, fitting, is_known, is_forgotten);
-        steps = space_changes q.words old space (sends (number_in (inputs_of old) space) packet) there skipping _ paths
-            (
+        steps = space_changes q.words old space (sends (number_in (inputs_of old) space) packet) there skipping _ paths (
           omega (arith, above, is, is_known),
           (rw own at step) ∙ ap (λ (n : ℕ). space_sends n packet here_then) is_known,
         )

@@ -301,7 +301,7 @@ module _ {F K Q S M P : Type 0} (beginning : Beginning F K Q S M P) where
 
     checks : (space : SpaceId) (low high : ℕ) (reply : Reply Q)
         → RepliesAfter beginning before (CheckAck space low high) reply → RejectsSkippedAcks before
-            (CheckAck space low high) reply
+        (CheckAck space low high) reply
     checks space low high (Ok given) told =
         let behind = told.1.1 in
         let last = behind.1 in (

@@ -157,7 +157,7 @@ module _ {Q S M P : Type 0} (q : QueueModel Q S M P) where
   module _ {K : Type 0} (words : ControllerSemantics K) (heard : SpaceId → AckState) (known : ReplyInputs K P M) where
     on_path : (path : PathName) (Replies : PathReplyInputs K → Reply Q → Type 0)
         → ((there : PathReplyInputs K) → Decides (Replies there)) → Decides
-            (UnlessPathMissing (path_of path known.paths) Replies)
+        (UnlessPathMissing (path_of path known.paths) Replies)
     on_path path Replies decides = go (path_of path known.paths)
       where
         go : (found : Option (PathReplyInputs K)) → Decides (UnlessPathMissing found Replies)

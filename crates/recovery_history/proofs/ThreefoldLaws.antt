@@ -28,7 +28,7 @@ pub sends_threefold : {F K Q S M P : Type 0} (beginning : Beginning F K Q S M P)
     → AllAlong beginning (LimitsAmplification beginning.config.validated)
 sends_threefold beginning =
     throughout_kept beginning (FlowsAgree beginning) (LimitsAmplification beginning.config.validated)
-        (flows_after beginning)
+    (flows_after beginning)
     (λ before event reply told same. on_each beginning.config.validated ((event, reply) ∷ before)
     (each_path flow_of (pasts_of beginning ((event, reply) ∷ before)))
     (flows_after beginning before event reply told same)) (flows_at_first beginning)

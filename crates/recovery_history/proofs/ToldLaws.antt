@@ -66,9 +66,9 @@ module _ {here there : AckState} (alike : HeardAlike here there) where
 
     probe_told : (reply : Reply Q)
         → UnlessSpaceDiscarded known (AnswersOrNoMemory (IsSome found.moved)
-            (IsQueueProbeAnswer q known streams here immediate found)) reply
+        (IsQueueProbeAnswer q known streams here immediate found)) reply
         → UnlessSpaceDiscarded known (AnswersOrNoMemory (IsSome found.moved)
-            (IsQueueProbeAnswer q known streams there immediate found)) reply
+        (IsQueueProbeAnswer q known streams there immediate found)) reply
     probe_told = refuses_alike SpaceDiscarded _ _ _ _ (λ h. h, λ h. h)
         (answers_alike _ (IsSome found.moved) _ _ (λ h. h) probe_answer_told)
 

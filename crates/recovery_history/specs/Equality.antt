@@ -89,7 +89,7 @@ module _ {F K Q S M P : Type 0} (built : F → ℕ → ℕ → K) (words : Contr
       (event : Event Q S M P) (one other : Reply Q) →
       let beginning = begins built words queue config start random in
       RepliesAfter beginning history event one → RepliesAfter beginning history event other → one ≢ Err NoMemory
-          → other ≢ Err NoMemory
+      → other ≢ Err NoMemory
       → SameReply queue.contents one other
 
   -- two states that one history may leave look alike

@@ -35,7 +35,7 @@ module _ {Q : Type 0} where
   abbrev pub ReceivedAnswer : AckState → AckCounts → ℕ → Bool → Answer Q → Type 0
   ReceivedAnswer heard counts number eliciting (answer.New arm) =
       IsNewNumber heard.came number × (IsTrue arm ↔ ArmsAckTimer heard.came heard.required heard.started counts number
-          eliciting)
+      eliciting)
   ReceivedAnswer heard counts number eliciting answer.Duplicate = ¬ IsNewNumber heard.came number
   ReceivedAnswer heard counts number eliciting other = ⊥
 
@@ -64,7 +64,7 @@ module _ {Q P M : Type 0} (here : SpaceReplyInputs P M) where
   abbrev pub RemovalReply : Type 0 → ℕ → Answer Q → Reply Q → Type 0
   RemovalReply Grows number given = UnlessSpaceDiscarded
       (RejectsWhen refusal.NotTracked (packet_at here.sent.tracked number ≡ None)
-          (AnswersOrNoMemory Grows (EqualsAnswer given)))
+      (AnswersOrNoMemory Grows (EqualsAnswer given)))
 
   -- counts of ECN are refused where they cannot be right, in the words of the first fault, and else tell whether more
   -- packets were marked (RFC 9000, 13.4.2.1)

@@ -127,7 +127,7 @@ module _ {K Q S M P : Type 0} (q : QueueModel Q S M P) (words : ControllerSemant
       (AlwaysAnswers (EqualsAnswer (transmit_answer words now bytes checked path)))
   ReplyTable (PacerCheck now bytes) =
       AlwaysAnswers (EqualsAnswer (delayed_or words answers.Ready
-          (path_delay words now bytes known.paths.current.state)))
+      (path_delay words now bytes known.paths.current.state)))
   ReplyTable (Congestion now sent persistent bytes) = AnswersDone
   ReplyTable (EndAcks now app_limited largest) = AnswersDone
   ReplyTable (PollMtu now) = UnlessSpaceDiscarded (known.spaces Data)
@@ -145,11 +145,11 @@ module _ {K Q S M P : Type 0} (q : QueueModel Q S M P) (words : ControllerSemant
       (RejectsWhen refusals.NumberTooLarge (2 ^ 62 ≤ high)
       (RejectsWhen refusals.BadRange (high < low)
       (RejectsWhen refusals.SkippedAcked (IsSomeAnd (skipped_in known space) (λ s. (low ≤ s) × (s ≤ high)))
-          AnswersDone)))
+      AnswersDone)))
   ReplyTable (QueueProbe space immediate streams) =
       let here = known.spaces space in let found = found_in known q.words streams space in
       UnlessSpaceDiscarded here (AnswersOrNoMemory (IsSome found.moved)
-          (IsQueueProbeAnswer q here streams (heard space) immediate found))
+      (IsQueueProbeAnswer q here streams (heard space) immediate found))
   ReplyTable (TakePending space) = UnlessSpaceDiscarded (known.spaces space)
       (AlwaysAnswers (IsPendingQueue q (known.spaces space)))
   -- a path that goes on from the current one needs a second controller

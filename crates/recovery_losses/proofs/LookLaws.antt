@@ -247,7 +247,7 @@ module _ {P M : Type 0} (look : LossPass) (old : Packets P M) where
 
           one : ForSome (earlier_of tally.loss_time (Some due)) (λ least. (number : ℕ) × (packet : Packet P M)
               × IsBelow look old number packet × (number < next.number + 1) ×
-                  (IsDeclaredLost numbers tally.probe number → ⊥)
+              (IsDeclaredLost numbers tally.probe number → ⊥)
               × IsDueAt look number packet.time_sent least)
           one least told = elim (earlier_from tally.loss_time due least told) [
             | inl now_due ↦ (next.number, is.packet, here, omega arith, untold_next, rw now_due due_here)
@@ -284,23 +284,23 @@ module _ {P M : Type 0} (look : LossPass) (old : Packets P M) where
       module _ (IsToldNow : ℕ → Type 0) (told_here : IsToldNow next.number)
           (told_still : (number : ℕ) → IsDeclaredLost numbers tally.probe number → IsToldNow number)
           (told_before : (number : ℕ) → number < from → IsToldNow number → IsDeclaredLost numbers tally.probe number)
-              where
-        earliest_still : IsEarliest look old (next.number + 1) IsToldNow tally.loss_time
-        earliest_still = record {
-          one = λ least told. (let was = looked.earliest.one least told in (
-            was.0,
-            was.1,
-            was.2,
-            omega (arith, was.3, is.from_on),
-            (λ now. was.4 (told_before was.0 was.3 now)),
-            was.5,
-          ));
-          least = λ number packet due below small untold is_due. elim (or_next number packet below small) [
-            | inl under ↦ looked.earliest.least number packet due below under (λ told. untold (told_still number told))
-                is_due
-            | inr same ↦ absurd (untold (rw same told_here))
-          ];
-        }
+        where
+          earliest_still : IsEarliest look old (next.number + 1) IsToldNow tally.loss_time
+          earliest_still = record {
+            one = λ least told. (let was = looked.earliest.one least told in (
+              was.0,
+              was.1,
+              was.2,
+              omega (arith, was.3, is.from_on),
+              (λ now. was.4 (told_before was.0 was.3 now)),
+              was.5,
+            ));
+            least = λ number packet due below small untold is_due. elim (or_next number packet below small) [
+              | inl under ↦ looked.earliest.least number packet due below under (λ told. untold (told_still number told))
+                  is_due
+              | inr same ↦ absurd (untold (rw same told_here))
+            ];
+          }
 
       -- it is the probe of the MTU
       pub looked_probe : IsLost look next.number next.time_sent → look.probe ≡ Some next.number

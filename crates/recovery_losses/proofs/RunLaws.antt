@@ -13,7 +13,7 @@ persists_like : (IsLostNow LostThen : ℕ → Type 0) (IsEnd EndThen : ℕ → �
     → (there : IsPersistentCongestion IsLostNow IsEnd period)
     → EndThen there.first there.first_sent → EndThen there.last there.last_sent
     → ((number : ℕ) → number ≤ there.last → IsLostNow number → LostThen number)
-        → IsPersistentCongestion LostThen EndThen period
+    → IsPersistentCongestion LostThen EndThen period
 persists_like IsLostNow LostThen IsEnd EndThen period there begins ends lost = record {
   first = there.first;
   last = there.last;

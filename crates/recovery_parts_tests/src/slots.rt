@@ -3,10 +3,10 @@
 use crate::rows::holds;
 use recovery_base::below::NoMemory;
 use recovery_base::time::Instant;
-use recovery_spaces::sent_packets::SentPackets;
-use recovery_spaces::spaces::{PacketSpace, SentPacket};
 use recovery_queue::items::ItemQueue;
 use recovery_queue::queue::RetransmitQueue;
+use recovery_spaces::sent_packets::SentPackets;
+use recovery_spaces::spaces::{PacketSpace, SentPacket};
 use std::alloc::Global;
 use std::process::Abort;
 

@@ -323,7 +323,7 @@ module _ {T : Type 0} where
 
   pub rises_pushed : (slots : Slots T) (first number : ℕ) (item : Option T) → first ≤ number
       → AreSlotsIncreasing first slots number → AreSlotsIncreasing first (slots ++ slot_of number item ∷ [])
-          (number + 1)
+      (number + 1)
   rises_pushed [] first number item low rising = (low, omega arith, tt)
   rises_pushed (slot ∷ slots) first number item low rising =
       grind (arith, rises_pushed slots (slot.number + 1) number item)

@@ -47,10 +47,10 @@ ConsumesPrefix taken events false script = (rest : List ℕ) → ParsesScript (t
 abbrev pub ConsumesBytes : Script → List ℕ → List ItemEvent → Bool → Script → Type 0
 ConsumesBytes old bytes events good new =
     (taken : List ℕ) (given : List ItemEvent) → ParsedSoFar taken given old → ConsumesPrefix (taken ++ bytes)
-        (given ++ events) good new
+    (given ++ events) good new
 
 -- the input is over: its last line gave these events, and it ends so
 abbrev pub ParsesEndOfInput : Script → List ItemEvent → Ending → Type 0
 ParsesEndOfInput script events ending =
     (taken : List ℕ) (given : List ItemEvent) → ParsedSoFar taken given script → ParsesScript taken
-        (given ++ events) ending
+    (given ++ events) ending

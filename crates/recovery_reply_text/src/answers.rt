@@ -13,8 +13,8 @@ use itoa::Buffer;
 use recovery_base::below::ResetToken;
 use recovery_base::time::Instant;
 use recovery_events::event::{Answer, Refusal};
-use recovery_spaces::spaces::SendableFrames;
 use recovery_queue::items::ItemQueue;
+use recovery_spaces::spaces::SendableFrames;
 use std::alloc::AllocError;
 use std::ops::Range;
 

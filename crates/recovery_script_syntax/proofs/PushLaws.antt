@@ -62,7 +62,7 @@ module _ (line : List ℕ) (words rest : List (List ℕ)) (name : List ℕ) (is 
 pub send_read : {S E : Type 0} (takes : S → ItemEvent → S → Type 0) (words : List (List ℕ)) (line : Option Line)
     (left : List (List ℕ)) (before : S) (result : Result (Option Bool) E)
     (after : S) → ParsesTo (λ x. x) line left (reading send words) → PushesToSink takes
-        (all_of line left) before result after
+    (all_of line left) before result after
     → PutsRead takes (reading send words) before result after
 send_read takes words line left before (Ok more) after reads put = rw (whole_read line left _ reads) put
 send_read takes words (Some line) [] before (Err refused) after reads put = absurd (send_says words line reads put.0)

@@ -107,7 +107,7 @@ module _ {F Q R C K S M P : Type 0} {f : _} {c : _} {q : _} {m : _} {r : _} (spa
         pub taken : packets_in (state_in new) space ≡ without (packets_in (state_in now) space) number
         taken = let leads = goes.leads in
             subst (λ (parts : RecoveryState K P M). packets_in parts space ≡ without
-                (packets_in (state_in now) space) number)
+            (packets_in (state_in now) space) number)
             (sym leads.4) (packets_lost f.built c.words (queue_model q.contents q.words q.blank) space number leads.0
             (state_in now) leads.1 leads.2 is.tracked)
 

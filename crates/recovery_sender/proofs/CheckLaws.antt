@@ -24,7 +24,7 @@ module _ {F Q R C K S M P : Type 0} {f : _} {c : _} {q : _} {m : _} {r : _} (spa
 
   pub allowed_on : (at : ℕ) (answer : Answer Q) → ((i : ℕ) → i < at → IsAllowed i)
       → (let range = get_or ranges at (0, 0) in ReadOnlyTransition (CheckAck space range.0 range.1) recovery
-          (Ok answer))
+      (Ok answer))
       → (i : ℕ) → i < at + 1 → IsAllowed i
   allowed_on at answer before here i below = elim (leb_tells at i) [
     | inl same ↦ subst IsAllowed (omega (arith, same.1, below)) (allowed _ _ answer here)

@@ -65,17 +65,17 @@ module _ {F Q R C K S M P : Type 0} {f : _} {c : _} {q : _} {m : _} {r : _} (loo
       → StepsLeadTo f.built c.words (queue_model q.contents q.words q.blank) steps (state_in old) (state_in between)
       → StepsLeadTo f.built c.words (queue_model q.contents q.words q.blank) more (state_in between) (state_in new)
       → StepsLeadTo f.built c.words (queue_model q.contents q.words q.blank) (steps ++ more) (state_in old)
-          (state_in new)
+      (state_in new)
   on steps more old between new = leads_on f.built c.words (queue_model q.contents q.words q.blank) steps more
       (state_in old) (state_in between) (state_in new)
 
   pub goes_all : TakesSteps (losing look.space numbers) start found → TakesSteps
       (ended look.at reported numbers) found told
       → TakesSteps (congested look.at persistent bytes sent) told shown → TakesSteps
-          (losing look.space (one_of probe)) shown probed
+      (losing look.space (one_of probe)) shown probed
       → state_in new ≡ with_loss_time_at look.space time (state_in probed) → new.variables ≡ probed.variables
       → TakesSteps (losing look.space numbers ++ (ended look.at reported numbers ++
-          (congested look.at persistent bytes sent
+      (congested look.at persistent bytes sent
       ++ (losing look.space (one_of probe) ++ loss_time look.space time ∷ [])))) start new
   goes_all finds ends congests probes times same = record {
     leads = on (losing look.space numbers) _ start found new finds.leads

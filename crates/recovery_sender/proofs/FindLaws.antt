@@ -27,7 +27,7 @@ module _ {F Q R C K S M P : Type 0} {f : _} {c : _} {q : _} {m : _} {r : _} (loo
 
   pub finds_on : (new : Sender F Q R C K S M P f c q m r) (behind : List ℕ) (after : Tally)
       → ClassifiesPacket look next now numbers tally new behind after → HasScanned look start
-          (next.number + 1) behind after new
+      (next.number + 1) behind after new
   finds_on new behind after (inl waits) = rw (waits.numbers, waits.tally) (record {
     looked = subst (λ recovery. PassSoFar look (tracked (state_in start)) (next.number + 1) numbers
         (waiting waits.due tally) (tracked recovery)) (sym waits.goes.leads)

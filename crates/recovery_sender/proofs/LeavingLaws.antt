@@ -191,7 +191,7 @@ module _ {K P M : Type 0} (variables : Variables) (old new : RecoveryState K P M
 module _ {K Q S M P : Type 0} (queue : QueueModel Q S M P) (variables : Variables) (old new : RecoveryState K P M) where
   quietly : (space : SpaceId) (entry : SpaceEntry P M) → IsQuiet entry → ((there : SpaceId)
       → OptionalStep (SpaceStep queue.words) (here space there entry) (space_of there old.spaces)
-          (space_of there new.spaces))
+      (space_of there new.spaces))
       → (there : SpaceId) → read_of (space_of there new.spaces) ≡ read_of (space_of there old.spaces)
   quietly space entry quiet steps there = quiet_where queue.words (space_of there old.spaces)
       (space_of there new.spaces) entry quiet (same_space space there) (steps there)

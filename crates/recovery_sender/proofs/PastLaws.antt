@@ -74,7 +74,7 @@ module _ {F Q R C K S M P : Type 0} {f : _} {c : _} {q : _} {m : _} {r : _} (sen
       ↔ (is_tracked space n past ≡ true)
   tracked_by n = some_iff (packet_at (packets_in (state_in sender) space) n) (is_tracked space n past) (rw packets_by
       (tracked_found beginning past (kept_after (RepliesAfter beginning) (AllTracked beginning)
-          (keeps_tracked beginning)
+      (keeps_tracked beginning)
       (none_tracked beginning) past came.replies) space n))
 
   pub sent_by_past : (n : ℕ) (packet : Packet P M) → packet_at (packets_in (state_in sender) space) n ≡ Some packet

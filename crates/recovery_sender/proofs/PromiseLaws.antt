@@ -122,7 +122,7 @@ module _ {F Q R C K S M P : Type 0} {f : _} {c : _} {q : _} {m : _} {r : _} (spa
   pub loses_all : (numbers : List ℕ)
       → ((number : ℕ) → IsOneOf number numbers → packet_at (packets_in (state_in sender) space) number ≢ None)
       → without_all (packets_in (state_in sender) space) numbers ≡ [] → ForEveryPast sender
-          (LosesWholeSpace space numbers)
+      (LosesWholeSpace space numbers)
   loses_all numbers each none config start random past came number =
       let tracked = tracked_by sender config start random past came space kept number in (
         (λ there. tracked.0 (each number there)),

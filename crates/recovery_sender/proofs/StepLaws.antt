@@ -39,7 +39,7 @@ module _ {F Q R C K S M P : Type 0} {f : _} {c : _} {q : _} {m : _} {r : _} wher
 
   pub does_behind : (steps : List (SenderStep Q S M P)) (old between new : Sender F Q R C K S M P f c q m r)
       → TakesSteps steps old between → CompletesCall [] between.variables between new
-          → CompletesCall steps old.variables old new
+      → CompletesCall steps old.variables old new
   does_behind = does_behind_with (λ kept. kept)
 
   -- the same from another that has the same recovery, with variables that are the same
@@ -47,7 +47,7 @@ module _ {F Q R C K S M P : Type 0} {f : _} {c : _} {q : _} {m : _} {r : _} wher
       → state_in old ≡ state_in from → kept ≡ wanted → CompletesCall [] kept from new → CompletesCall [] wanted old new
   does_as kept wanted old from new same is does =
       let does : CompletesCall [] wanted from new = subst (λ (kept : Variables). CompletesCall [] kept from new) is
-          does in
+      does in
       record {
         between = does.between;
         leads = does.leads ∙ sym same;

@@ -103,10 +103,10 @@ module _ {K Q S M P : Type 0} (queue : QueueModel Q S M P) (old new : RecoverySt
       → seen_in new ≡ seen_in old
   seen_by_timer None answer changes =
       seen_stays changes.steps.spaces (ap (λ (plain : UnloggedState). plain.discarded) changes.plain.1)
-          changes.steps.paths
+      changes.steps.paths
   seen_by_timer (Some due) answer changes =
       seen_stays changes.steps.spaces (ap (λ (plain : UnloggedState). plain.discarded) changes.plain.1)
-          changes.steps.paths
+      changes.steps.paths
 
   set_by_timer : (due : Option (ℕ × Due)) (answer : Answer Q) → StateTransition queue old (timer_event due)
       (Ok answer) new
@@ -126,7 +126,7 @@ module _ {F K Q S M P : Type 0} (built : F → ℕ → ℕ → K) (words : Contr
       → StepFromAnyPast built words queue old (timer_event (due_of old variables)) (Ok answer) new
       → (StateTransition queue old (timer_event (due_of new variables)) (Ok Done) new
       × StepFromAnyPast built words queue old (timer_event (due_of new variables)) (Ok Done) new)
-          × TimerIsSet new variables
+      × TimerIsSet new variables
   set_now changes extends =
       let due = due_of old variables in
       let same : due_of new variables ≡ due =

@@ -91,4 +91,4 @@ AckChecked space ranges recovery (Err (refused.Event refusal)) =
     ⊎ ((is_discarded space (state_of recovery).discarded ≡ false) × (are_ranges ranges ≡ false) × (refusal ≡ BadRange)
     ⊎ IsAckWellFormed space ranges recovery × WereSent space ranges recovery × (at : ℕ) × (at < length ranges)
     × (let range = get_or ranges at (0, 0) in ReadOnlyTransition (CheckAck space range.0 range.1) recovery
-        (Err refusal)))
+    (Err refusal)))

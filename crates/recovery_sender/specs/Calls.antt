@@ -180,7 +180,7 @@ module _ {F Q R C K S M P : Type 0} {f : _} {c : _} {q : _} {m : _} {r : _} (spa
   abbrev pub ProbesOnce : ℕ → Result ℕ SenderError → Type 0
   ProbesOnce now (Ok count) = (count ≡ 1) × (answer : Answer Q)
       × CompletesCall (told (events.QueueProbe space immediate first) (Ok answer) ∷ [])
-          (timed_out now old.variables) old new
+      (timed_out now old.variables) old new
   ProbesOnce now (Err refusal) = QueuesProbe (Err refusal)
 
   -- it asks for two

@@ -51,7 +51,7 @@ module _ {F K Q S M P : Type 0} (built : F → ℕ → ℕ → K) (words : Contr
       × StepFromAnyPast built words queue old event reply between × StepsLeadTo steps between new
   StepsLeadTo (occurs event ∷ steps) old new = (answer : Answer Q) × (between : RecoveryState K P M)
       × StateTransition queue old event (Ok answer) between × StepFromAnyPast built words queue old event
-          (Ok answer) between
+      (Ok answer) between
       × StepsLeadTo steps between new
   StepsLeadTo (loss_time space time ∷ steps) old new = StepsLeadTo steps (with_loss_time_at space time old) new
   StepsLeadTo (marked marks ∷ steps) old new = StepsLeadTo steps (with_marks_at Current marks old) new

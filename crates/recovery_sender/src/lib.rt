@@ -7,5 +7,6 @@ pub mod sender;
 
 pub use recovery_losses::{Ack, Due, Side, Variables};
 pub use sender::{
-    Acknowledged, EcnOutcome, Losses, NewlyAcked, Refused, Sender, Timeout, Transmission, passes,
+    Acknowledged, EcnOutcome, Losses, NewlyAcked, Sender, SenderError, Timeout, Transmission,
+    passes,
 };

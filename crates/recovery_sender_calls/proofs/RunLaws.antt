@@ -26,7 +26,7 @@ module _ {F Q R C K S M P : Type 0} {f : _} {c : _} {q : _} {m : _} {r : _} wher
     pub runs_from : (AreGiven : List (Call Q S M P) → Type 0) (calls : List (Call Q S M P)) (old new : A)
         → AreGiven calls → TakesAll took old calls new
         → CallsOverSource (sender_of old) AreGiven (λ all. TakesAll takes (sink_of old) all (sink_of new))
-            (sender_of new)
+        (sender_of new)
     runs_from AreGiven calls old new given is =
         let over = runs_over calls old new is in
         record { calls = calls; said = over.0; given = given; taken = over.2; runs = over.1 }

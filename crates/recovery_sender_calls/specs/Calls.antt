@@ -63,7 +63,7 @@ module _ {F Q R C K S M P : Type 0} {f : _} {c : _} {q : _} {m : _} {r : _} (old
 -- a call is replied so
 abbrev pub CallReply : {F Q R C K S M P : Type 0} {f : _} {c : _} {q : _} {m : _} {r : _} → Call Q S M P
     → Sender F Q R C K S M P f c q m r → Sender F Q R C K S M P f c q m r → Result (CallReplyValue Q) SenderError
-        → Type 0
+    → Type 0
 CallReply (calls.Transmit datagram) old new (Ok (replies.Transmission sent)) = TransmitCall old new datagram (Ok sent)
 CallReply (calls.Transmit datagram) old new (Err refusal) = TransmitCall old new datagram (Err refusal)
 CallReply (calls.Ack frame) old new (Ok (replies.Acknowledged acked)) =

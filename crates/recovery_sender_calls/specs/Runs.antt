@@ -32,7 +32,7 @@ module _ {F Q R C K S M P : Type 0} {f : _} {c : _} {q : _} {m : _} {r : _} wher
   RunsCalls [] [] old new = new ≡ old
   RunsCalls (call ∷ calls) (said ∷ more) old new =
       (between : Sender F Q R C K S M P f c q m r) × CallOutcome old call said between
-          × RunsCalls calls more between new
+      × RunsCalls calls more between new
   RunsCalls calls said old new = ⊥
 
   -- these calls were given, and this was said and taken

@@ -2,14 +2,14 @@
 ghost use Rattle.std.specs.Prelude.{◌≡◌};
 ghost use Rattle.recovery_sender_calls.specs.Calls.{is_done, CallReply};
 
-use crate::calls::{Call, Datagram, Expiry, Frame, CallReplyValue};
+use crate::calls::{Call, CallReplyValue, Datagram, Expiry, Frame};
 use quic_recovery::Event;
 use quic_recovery::below::SpaceId;
 use quic_recovery::congestion::ControllerFactory;
 use quic_recovery::queue::RetransmitQueue;
 use quic_recovery::time::{Duration, Instant};
 use rand_core::Rng;
-use recovery_sender::{SenderError, Sender, passes};
+use recovery_sender::{Sender, SenderError, passes};
 
 /// A sender that takes calls as values.
 #[derive(Drop)]
@@ -137,7 +137,11 @@ where
         done(self.sender.discard(space, now))
     }
 
-    fn retransmit_all(&mut self, space: SpaceId, now: Instant) -> Result<CallReplyValue<Q>, SenderError>
+    fn retransmit_all(
+        &mut self,
+        space: SpaceId,
+        now: Instant,
+    ) -> Result<CallReplyValue<Q>, SenderError>
         ensures { CallReply (Call.Abandon space now) self.old.sender self.new.sender result }
     {
         match self.sender.retransmit_all(space, now) {

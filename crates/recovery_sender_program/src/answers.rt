@@ -3,10 +3,10 @@ use itoa::Buffer;
 use quic_recovery::below::SpaceId;
 use quic_recovery::time::Instant;
 use quic_recovery::{Answer, Refusal};
-use recovery_reply_text::answers::write_reply;
-use recovery_sender_calls::{CallReplyValue, CallRecord};
 use recovery_queue::items::ItemQueue;
+use recovery_reply_text::answers::write_reply;
 use recovery_sender::{Acknowledged, EcnOutcome, Losses, SenderError, Timeout, Transmission};
+use recovery_sender_calls::{CallRecord, CallReplyValue};
 use std::alloc::{AllocError, Global};
 
 fn push_number(text: &mut String, before: &str, number: u64) -> Result<(), AllocError> {
@@ -130,7 +130,11 @@ fn push_timer(text: &mut String, timer: Option<Instant>) -> Result<(), AllocErro
     }
 }
 
-fn push_reply(alloc: Global, text: &mut String, reply: CallReplyValue<ItemQueue>) -> Result<(), AllocError> {
+fn push_reply(
+    alloc: Global,
+    text: &mut String,
+    reply: CallReplyValue<ItemQueue>,
+) -> Result<(), AllocError> {
     match reply {
         CallReplyValue::Transmission(transmission) => push_transmission(text, transmission),
         CallReplyValue::Acknowledged(acknowledged) => push_acknowledged(text, &acknowledged),

@@ -1,6 +1,6 @@
 //! What the arguments choose.
-use recovery_script_syntax::number_in;
 use recovery_replay::fixed_window::FixedWindowConfig;
+use recovery_script_syntax::number_in;
 use recovery_sender::Side;
 
 /// Which congestion window each controller has.

@@ -10,15 +10,15 @@ use quic_recovery::congestion::{ControllerFactory, NewRenoConfig};
 use quic_recovery::time::Instant;
 use rand_core::SeedableRng;
 use rand_pcg::Pcg32;
-use recovery_sender_calls::{Call, CallRecord, run_over};
 use recovery_cubic::CubicConfig;
 use recovery_events::feeding::{Sink, Source};
-use recovery_script_syntax::lines::peer_at;
 use recovery_queue::items::ItemQueue;
 use recovery_replay::reading::{Next, next_line};
 use recovery_replay::replay::{FIRST_PORT, config, skips};
 use recovery_replay::writing::deliver;
+use recovery_script_syntax::lines::peer_at;
 use recovery_sender::Sender;
+use recovery_sender_calls::{Call, CallRecord, run_over};
 use std::alloc::Global;
 use std::io::{ErrorKind, Read, Write};
 

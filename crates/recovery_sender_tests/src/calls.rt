@@ -7,7 +7,7 @@ use rand_pcg::Pcg32;
 use recovery_base::below::SpaceId;
 use recovery_base::time::Duration;
 use recovery_sender::{
-    Ack, Acknowledged, Losses, SenderError, Sender, Side, Timeout, Transmission, passes,
+    Ack, Acknowledged, Losses, Sender, SenderError, Side, Timeout, Transmission, passes,
 };
 use std::alloc::Global;
 use std::process::Abort;
@@ -223,7 +223,11 @@ fn a_server(rt: HostRuntime) {
         (Call::Transmit(0, 1, initial, true), Said::Blocked, None),
         (Call::Datagram(1), Said::Done, Some(999_000_000)),
         (Call::Discard(0, initial), Said::Done, None),
-        (Call::Transmit(0, 1, initial, true), Said::SenderError(5), None),
+        (
+            Call::Transmit(0, 1, initial, true),
+            Said::SenderError(5),
+            None,
+        ),
         (Call::Validated, Said::Done, None),
         (Call::Confirmed, Said::Done, None),
         (Call::Transmit(0, 12_001, data, true), Said::Full, None),

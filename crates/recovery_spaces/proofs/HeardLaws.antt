@@ -35,13 +35,13 @@ module _ (Here There : ℕ → Type 0) (greatest : HasGreatest There) (alike : (
     (number : ℕ) where
   pub asks_alike : (counts : AckCounts)
       → RequiresImmediateAck (InsertNumber number Here) counts number ↔ RequiresImmediateAck
-          (InsertNumber number There) counts number
+      (InsertNumber number There) counts number
   asks_alike counts = or_alike (out_of_order_alike (missing_with There Here greatest alike number) _ _ _ _ _)
 
   pub arms_alike : {Required Requires : Type 0} {Started Starts : ℕ → Type 0} → Required ↔ Requires
       → ((m : ℕ) → Started m ↔ Starts m) → (counts : AckCounts) (ack_eliciting : Bool)
       → ArmsAckTimer Here Required Started counts number ack_eliciting ↔ ArmsAckTimer There Requires Starts counts
-          number ack_eliciting
+      number ack_eliciting
   arms_alike same since counts ack_eliciting =
       armed_alike (λ s. (s.0, (since s.0).0 s.1), λ s. (s.0, (since s.0).1 s.1)) same (asks_alike counts)
 

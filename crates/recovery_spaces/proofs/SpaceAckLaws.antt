@@ -36,7 +36,7 @@ armed_by arms unset only can required = grind (arith, arms, unset, only, can, re
 
 module _ (Old New : ℕ → Type 0) (number : ℕ) (greatest : HasGreatest Old)
     (numbers : (n : ℕ) → New n ↔ RecentNumbers (InsertNumber number Old) n) (old added new : Acks) (now : ℕ)
-        (arm : Bool)
+    (arm : Bool)
     (adds : AddsPending old number now added) where
   abbrev Armed : Bool → Type 0
   Armed = ArmsBy (heard_with Old old) old.counts number
@@ -88,8 +88,13 @@ still_reached Old New number greatest after numbers earlier (Some n) same within
 pub heard_greatest : {P M : Type 0} → (old new : Space P M) (now number : ℕ) (ack_eliciting : Bool)
     → HasGreatestCome old → ReceivesNew old now number ack_eliciting new → HasGreatestCome new
 heard_greatest old new now number ack_eliciting come step n is exceeds =
-    grind (arith, step.hears.counts, is, here (greatest_with (HasReceived old.dedup) number (has_greatest old.dedup)),
-        below)
+    grind (
+      arith,
+      step.hears.counts,
+      is,
+      here (greatest_with (HasReceived old.dedup) number (has_greatest old.dedup)),
+      below,
+    )
   where
     below : (k : ℕ) → (acks_of old).counts.greatest ≡ Some k → k ≡ n → ⊥
     below k was same = stays_reached (HasReceived old.dedup) (HasReceived new.dedup) number

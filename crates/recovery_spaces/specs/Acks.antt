@@ -40,7 +40,7 @@ module _ {P M : Type 0} where
   IsRequired [] = ⊥
   IsRequired (heard now number eliciting ∷ earlier) =
       IsRequired earlier ⊎ (IsTrue eliciting × RequiresImmediateAck (InsertNumber number (ReceivedNumbers earlier))
-          (counts_by earlier) number)
+      (counts_by earlier) number)
   IsRequired (ack_goes ∷ earlier) = ⊥
   IsRequired (ack_is_late ∷ earlier) = 0 < (counts_by earlier).eliciting
   IsRequired (entry ∷ earlier) = IsRequired earlier
@@ -50,7 +50,7 @@ module _ {P M : Type 0} where
 abbrev pub ArmsAckTimer : (ℕ → Type 0) → Type 0 → (ℕ → Type 0) → AckCounts → ℕ → Bool → Type 0
 ArmsAckTimer Came Required Started counts number eliciting =
     IsTrue eliciting × (¬ ((m : ℕ) × Started m)) × ¬ (Required ⊎ RequiresImmediateAck
-        (InsertNumber number Came) counts number)
+    (InsertNumber number Came) counts number)
 
 -- the moment when the timer for a late ACK was started since the last ACK
 abbrev pub StartedAt : {P M : Type 0} → List (SpaceEntry P M) → ℕ → Type 0
@@ -58,7 +58,7 @@ StartedAt [] moment = ⊥
 StartedAt (heard now number eliciting ∷ earlier) moment =
     StartedAt earlier moment ⊎ ((moment ≡ now)
     × ArmsAckTimer (ReceivedNumbers earlier) (IsRequired earlier) (StartedAt earlier)
-        (counts_by earlier) number eliciting)
+    (counts_by earlier) number eliciting)
 StartedAt (ack_goes ∷ earlier) moment = ⊥
 StartedAt (entry ∷ earlier) moment = StartedAt earlier moment
 
@@ -74,5 +74,10 @@ pub record AckState : Type 1 where
 
 abbrev pub acks_by : {P M S : Type 0} → QueueSemantics P S → List (SpaceEntry P M) → AckState
 acks_by words log =
-    record { came = ReceivedNumbers log; required = IsRequired log; pending = ToAcknowledge words log; started =
-        StartedAt log }
+    record {
+      came = ReceivedNumbers log;
+      required = IsRequired log;
+      pending = ToAcknowledge words log;
+      started =
+          StartedAt log;
+    }

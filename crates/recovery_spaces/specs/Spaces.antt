@@ -170,7 +170,7 @@ pub record AddsReceivedNumber (Numbers : ℕ → Type 0) (old : Acks) (now numbe
   pub pending : (n : ℕ) → IsPending new n ↔ IsInHighest most_ranges (InsertNumber number (IsPending old)) n
   pub required : IsTrue new.required
       ↔ (IsTrue old.required ⊎ (IsTrue eliciting × RequiresImmediateAck
-          (InsertNumber number Numbers) old.counts number))
+      (InsertNumber number Numbers) old.counts number))
   pub started : (m : ℕ) → (new.base ≡ Some m)
       ↔ ((old.base ≡ Some m) ⊎ ((m ≡ now) × ArmsBy (heard_with Numbers old) old.counts number eliciting))
   pub counts : new.counts ≡ counts_received eliciting number (counts_inserted now number old.counts)

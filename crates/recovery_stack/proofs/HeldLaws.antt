@@ -38,7 +38,7 @@ marks_held {name} {marks} {is_set} {given} {old} {new} was is gives held holds c
 
 pub frame_taken : {named : Option (SpaceId × Ack)} {space : SpaceId} {ack : Ack} {moment now : ℕ}
     (given : List AckRange) (old : Option Stack) (spelling : EncodedReply) (new : Option Stack) → Some (space, ack)
-        ≡ named
+    ≡ named
     → moment ≡ now → AsksWith old (TakeAck space moment ack) given spelling new
     → AsksAck named now given old spelling new
 frame_taken {named} {space} {ack} {moment} {now} given old spelling new is at asks =

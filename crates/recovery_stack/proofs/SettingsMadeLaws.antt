@@ -17,9 +17,9 @@ pub made_or : (side : Option Side) (made : Bool) (settings : Settings) (given : 
     (stack : Stack) (held : Option Stack) (remote : SocketAddr) (config : RecoveryConfig ChosenConfig) (moment : ℕ)
     (words : Stream)
     → IsSocketAddress given remote → config ≡ config_of settings cid remote → moment ≡ now → words
-        ≡ words_of settings.seed
+    ≡ words_of settings.seed
     → IsNewHandle side config moment words stack → HoldsIf made stack held
-        → MadeOrNoMemory side made settings given cid now held
+    → MadeOrNoMemory side made settings given cid now held
 made_or side false settings given cid now stack held remote config moment words there e f g fresh holds = holds
 made_or side true settings given cid now stack held remote config moment words there e f g fresh holds = record {
   stack = stack;

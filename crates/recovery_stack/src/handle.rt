@@ -83,7 +83,12 @@ impl Handle {
     }
 
     /// One call of a sender, with the ranges of an ACK frame; refused where no stack is held.
-    pub fn call_sender_with(&mut self, alloc: Global, call: Call, ranges: &[AckRange]) -> EncodedReply
+    pub fn call_sender_with(
+        &mut self,
+        alloc: Global,
+        call: Call,
+        ranges: &[AckRange],
+    ) -> EncodedReply
         ensures { AsksWith self.old.slot.held call ranges.now result self.new.slot.held }
     {
         let Some(mut stack) = self.take(alloc) else {

@@ -11,7 +11,7 @@ ghost use Rattle.recovery_stack.specs.Views.{path_view, no_path, moment_shown, m
 
 use crate::codes::copy_items;
 use crate::handle::Handle;
-use crate::views::{IdsView, TimeView, PathView, RangeView, SpaceView};
+use crate::views::{IdsView, PathView, RangeView, SpaceView, TimeView};
 use quic_recovery::time::Instant;
 use std::alloc::Global;
 

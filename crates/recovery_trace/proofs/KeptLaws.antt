@@ -31,7 +31,7 @@ kept_named line kept number TooLong text k long tells =
 kept_named line kept number TooShort text k begins tells =
     let short : length kept ≤ 4096 = omega (arith, begins.2.short, length-append kept begins.0) in
     subst (λ l. NamesWordOf l TooShort × TellsFault l number TooShort [] text) (same_line line kept k short)
-        (begins, tells)
+    (begins, tells)
 kept_named line kept number (Word word start end) text k named tells =
     subst (λ l. NamesWordOf l (Word word start end) × TellsFault l number (Word word start end) [] text)
     (same_line line kept k named.short) (named, tells)

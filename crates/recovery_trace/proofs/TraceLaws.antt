@@ -274,7 +274,7 @@ module _ {F R C K : Type 0} {f : _} {c : _} {q : _} {m : _} {r : _} (config : Re
         (state_of new) earlier later lines line made
         turn.4.0 (bad_line turn) turn.1 turn.2 turn.3
         (subst (λ n. ReportsFault line n turn.4.0) is_number (kept_tells line kept number turn.4.0 is_kept turn.4.1))
-            turn.4.2
+        turn.4.2
 
     module _ (unread left : Option (List ℕ)) (so_far : Outcome)
         (is_so_far : SoFar (origin old config start random) choice so_far lines) where
@@ -302,7 +302,7 @@ module _ {F R C K : Type 0} {f : _} {c : _} {q : _} {m : _} {r : _} (config : Re
           → ((more : List ℕ) × (length (lines_of more) ≤ 1)
           × TakesAlso (streams_of unread left before after unsaid said) lines more)
           → TracesInput (origin old config start random) choice
-              (streams_of unread left before after unsaid said) outcome
+          (streams_of unread left before after unsaid said) outcome
       turn_over WriteFailed turn takes also =
           let over = broken turn in (line ∷ lines, takes, over.0, over.1)
       turn_over Closed turn takes also =

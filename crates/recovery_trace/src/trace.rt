@@ -11,10 +11,10 @@ use quic_recovery::time::Instant;
 use rand_core::SeedableRng;
 use rand_pcg::Pcg32;
 use recovery_cubic::CubicConfig;
-use recovery_script_syntax::lines::peer_at;
 use recovery_queue::items::ItemQueue;
 use recovery_replay::reading::{Next, next_line};
 use recovery_replay::replay::{FIRST_PORT, config, skips};
+use recovery_script_syntax::lines::peer_at;
 use std::alloc::Global;
 use std::io::{Read, Write};
 

@@ -16,10 +16,10 @@ use quic_recovery::below::NoMemory;
 use quic_recovery::congestion::ControllerFactory;
 use quic_recovery::{Answer, LiveRecovery, Recovery, Refusal};
 use rand_pcg::Pcg32;
-use recovery_reply_text::answers::write_reply;
-use recovery_script_syntax::lines::push_event;
 use recovery_queue::items::ItemQueue;
 use recovery_replay::writing::deliver;
+use recovery_reply_text::answers::write_reply;
+use recovery_script_syntax::lines::push_event;
 use std::alloc::{AllocError, Global};
 use std::io::{ErrorKind, Write};
 

@@ -255,7 +255,7 @@ pub enum Event<'a> {
     /// What waits to be sent again is handed out (RFC 9000, 13.3). Refused by `SpaceDiscarded`.
     ///
     /// Refused by `NoMemory` too, where this crate finds none for the answer: the items can then still be read by
-    /// [`Recovery::taken`](crate::Recovery::taken).
+    /// [`Recovery::last_items`](crate::Recovery::last_items).
     TakePending {
         /// The packet number space.
         space: SpaceId,

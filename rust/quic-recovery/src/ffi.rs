@@ -538,7 +538,7 @@ pub struct IdsView {
 
 unsafe extern "C" {
     /// Does nothing; a library of another layout does not have it.
-    #[link_name = "recovery_ffi_layout_0c4c2537"]
+    #[link_name = "recovery_ffi_layout_d4f2288f"]
     pub fn recovery_ffi_layout();
 
     /// Makes a recovery, whose peer is at this address and has this id of at most 20 bytes. The answer is `NEW_MADE`, or
@@ -605,7 +605,11 @@ unsafe extern "C" {
     pub fn recovery_ffi_next_id(handle: *mut Handle) -> EncodedReply;
 
     /// The server chose another id (RFC 9000, 7.2): the event `InitialId`; an id has at most 20 bytes.
-    pub fn recovery_ffi_initial_id(handle: *mut Handle, id: *const u8, id_len: usize) -> EncodedReply;
+    pub fn recovery_ffi_initial_id(
+        handle: *mut Handle,
+        id: *const u8,
+        id_len: usize,
+    ) -> EncodedReply;
 
     /// This end issues these ids (RFC 9000, 5.1.1): the event `IssueIds`; an id has at most 20 bytes.
     pub fn recovery_ffi_issue_ids(
@@ -619,7 +623,11 @@ unsafe extern "C" {
     pub fn recovery_ffi_id_timeout(handle: *mut Handle) -> EncodedReply;
 
     /// A RETIRE_CONNECTION_ID frame came in (RFC 9000, 19.16): the event `PeerRetired`.
-    pub fn recovery_ffi_peer_retired(handle: *mut Handle, sequence: u64, limit: u64) -> EncodedReply;
+    pub fn recovery_ffi_peer_retired(
+        handle: *mut Handle,
+        sequence: u64,
+        limit: u64,
+    ) -> EncodedReply;
 
     /// Writes the bytes of the token that was answered last; all zeros before there was one, and where no recovery is held.
     pub fn recovery_ffi_token(handle: *mut Handle, out: *mut [u8; 16]);
@@ -745,14 +753,22 @@ unsafe extern "C" {
     ) -> EncodedReply;
 
     /// A datagram came in on a path (RFC 9000, 8.1): the event `DatagramIn`.
-    pub fn recovery_ffi_datagram_in(handle: *mut Handle, previous: bool, bytes: u64) -> EncodedReply;
+    pub fn recovery_ffi_datagram_in(
+        handle: *mut Handle,
+        previous: bool,
+        bytes: u64,
+    ) -> EncodedReply;
 
     /// The peer was seen to receive at the address of a path (RFC 9000, 8): the event `Validated`.
     pub fn recovery_ffi_validated(handle: *mut Handle, previous: bool) -> EncodedReply;
 
     /// A datagram is to be transmitted on the current path: the event `Transmit`.
-    pub fn recovery_ffi_transmit(handle: *mut Handle, now: u64, bytes: u16, checked: bool)
-        -> EncodedReply;
+    pub fn recovery_ffi_transmit(
+        handle: *mut Handle,
+        now: u64,
+        bytes: u16,
+        checked: bool,
+    ) -> EncodedReply;
 
     /// May so many bytes be transmitted (RFC 9002, 7.7)? The event `PacerCheck`.
     pub fn recovery_ffi_pacer_check(handle: *mut Handle, now: u64, bytes: u64) -> EncodedReply;
@@ -803,10 +819,19 @@ unsafe extern "C" {
     ) -> EncodedReply;
 
     /// An ACK frame acknowledges a range of numbers (RFC 9000, 13.1): the event `CheckAck`.
-    pub fn recovery_ffi_check_ack(handle: *mut Handle, space: u8, low: u64, high: u64) -> EncodedReply;
+    pub fn recovery_ffi_check_ack(
+        handle: *mut Handle,
+        space: u8,
+        low: u64,
+        high: u64,
+    ) -> EncodedReply;
 
     /// A probe packet is to be sent (RFC 9002, 6.2.4): the event `QueueProbe`.
-    pub fn recovery_ffi_queue_probe(handle: *mut Handle, space: u8, immediate_ack: bool) -> EncodedReply;
+    pub fn recovery_ffi_queue_probe(
+        handle: *mut Handle,
+        space: u8,
+        immediate_ack: bool,
+    ) -> EncodedReply;
 
     /// What waits to be sent again is handed out, to be read by `recovery_ffi_last_items`: the event `TakePending`.
     pub fn recovery_ffi_take_pending(handle: *mut Handle, space: u8) -> EncodedReply;
@@ -862,7 +887,8 @@ unsafe extern "C" {
 
     /// An ACK frame came in (RFC 9002, A.7), with its ranges, the highest first, as on the wire: `ANSWER_ACKNOWLEDGED`,
     /// with how many numbers it newly acknowledges in `first`, how many are found lost in `second`, and in `flag` whether
-    /// `recovery_ffi_last_outcome` says more than that; `recovery_ffi_told_numbers` says which they are. Refused, and nothing
+    /// `recovery_ffi_last_outcome` says more than that; `recovery_ffi_told_numbers` says which they are. Refused, and
+    /// nothing
     /// changes, by `REFUSAL_SPACE_DISCARDED`, by `REFUSAL_BAD_RANGE` where there is no range, one ends before it begins, or
     /// two have no number between them (RFC 9000, 19.3.1), by `REFUSAL_UNSENT`, by `REFUSAL_SKIPPED_ACKED` (RFC 9000,
     /// 21.4), or by `REFUSAL_NO_MEMORY`.
@@ -876,11 +902,15 @@ unsafe extern "C" {
     ) -> EncodedReply;
 
     /// The timer for losses may be due (RFC 9002, A.9): `ANSWER_NOTHING` where it is not; `ANSWER_LOSSES` where packets
-    /// were looked for that are lost, which `recovery_ffi_last_outcome` and `recovery_ffi_told_numbers` say; or `ANSWER_PROBES`,
+    /// were looked for that are lost, which `recovery_ffi_last_outcome` and `recovery_ffi_told_numbers` say; or
+    /// `ANSWER_PROBES`,
     /// with the space in `first` and in `second` how many are to be sent, 1 or 2. `immediate_ack` asks for an IMMEDIATE_ACK
     /// frame in a probe. Refused by `REFUSAL_NO_MEMORY` where the first probe finds none; then nothing changed.
-    pub fn recovery_ffi_sender_timeout(handle: *mut Handle, now: u64, immediate_ack: bool)
-        -> EncodedReply;
+    pub fn recovery_ffi_sender_timeout(
+        handle: *mut Handle,
+        now: u64,
+        immediate_ack: bool,
+    ) -> EncodedReply;
 
     /// The keys of a space are dropped, and with them all that it tracks; probe timeouts are counted anew (RFC 9002, 6.2.2,
     /// 6.4 and A.11): `ANSWER_DONE`. Refused by `REFUSAL_SPACE_DISCARDED`.
@@ -901,7 +931,11 @@ unsafe extern "C" {
 
     /// The peer delays its ACKs of 1-RTT packets at most so long (RFC 9000, 18.2: max_ack_delay): `ANSWER_DONE`. There are
     /// fewer than 10^9 nanoseconds.
-    pub fn recovery_ffi_sender_peer_delay(handle: *mut Handle, secs: u64, nanos: u32) -> EncodedReply;
+    pub fn recovery_ffi_sender_peer_delay(
+        handle: *mut Handle,
+        secs: u64,
+        nanos: u32,
+    ) -> EncodedReply;
 
     /// A PATH_CHALLENGE frame with this content is open on the path in use, where `is_open`, and one is to be sent, where
     /// `pending` (RFC 9000, 8.2.1): `ANSWER_DONE`. While one is open the window does not grow: what is acknowledged may

@@ -66,12 +66,12 @@ pub use config::{
     TransportConfig,
 };
 pub use event::{Answer, EcnFault, Event, Refusal};
-pub use mtud::{MtuDiscovery, InvalidArgument};
+pub use mtud::{InvalidArgument, MtuDiscovery};
 pub use pacing::Pacer;
 pub use recovery::{IdStats, PacerStats, PathStats, Recovery, RttEstimate, SpaceStats};
 pub use sender::{
-    Ack, Acknowledged, EcnOutcome, Losses, MtuProbe, Packets, SenderError, Sender, Sent, Side, Timeout,
-    Transmission,
+    Ack, Acknowledged, EcnOutcome, Losses, MtuProbe, Packets, Sender, SenderError, Sent, Side,
+    Timeout, Transmission,
 };
 pub use timer::Timer;
 pub use types::{

@@ -131,7 +131,10 @@ impl MtuDiscovery {
 
     /// The peer takes no packets larger than this. Not taken where it is 0, and while a search runs: the limit is told before the
     /// first poll.
-    pub fn on_peer_max_udp_payload_size_received(&mut self, size: u16) -> Result<(), InvalidArgument> {
+    pub fn on_peer_max_udp_payload_size_received(
+        &mut self,
+        size: u16,
+    ) -> Result<(), InvalidArgument> {
         // SAFETY: the handle holds a discovery.
         taken(unsafe { ffi::recovery_ffi_mtu_limit(self.handle.get_mut(), size) })
     }

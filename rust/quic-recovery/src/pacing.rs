@@ -32,7 +32,12 @@ pub struct Pacer {
 
 impl Pacer {
     /// A full bucket at the moment `now`. Not taken where the window or the MTU is 0.
-    pub fn new(rtt: Duration, window: u64, mtu: u16, now: Instant) -> Result<Self, InvalidArgument> {
+    pub fn new(
+        rtt: Duration,
+        window: u64,
+        mtu: u16,
+        now: Instant,
+    ) -> Result<Self, InvalidArgument> {
         // SAFETY: it requires nothing.
         let bucket = unsafe { ffi::recovery_ffi_pacer(nanos(rtt), window, mtu, now.as_nanos()) };
         if bucket.mtu == 0 {

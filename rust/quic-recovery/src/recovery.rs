@@ -388,7 +388,8 @@ impl Recovery {
     pub fn last_items(&self) -> Result<Vec<u64>, Refusal> {
         let mut items: Vec<u64> = Vec::new();
         // SAFETY: the handle holds a recovery, and a slice of no items is written to nowhere.
-        let count = unsafe { ffi::recovery_ffi_last_items(self.handle.get(), items.as_mut_ptr(), 0) };
+        let count =
+            unsafe { ffi::recovery_ffi_last_items(self.handle.get(), items.as_mut_ptr(), 0) };
         if count > 0 {
             items
                 .try_reserve_exact(count)

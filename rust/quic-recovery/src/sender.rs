@@ -215,9 +215,10 @@ fn taken(reply: ffi::EncodedReply) -> Result<ffi::EncodedReply, SenderError> {
     match (reply.kind, reply.refusal) {
         (ffi::ANSWER_REFUSED, ffi::REFUSAL_UNSENT) => Err(SenderError::Unsent),
         (ffi::ANSWER_REFUSED, ffi::REFUSAL_DECIDED) => Err(SenderError::Decided),
-        (ffi::ANSWER_REFUSED, number) => {
-            Err(SenderError::Event(Refusal::from_number(number, reply.first)))
-        }
+        (ffi::ANSWER_REFUSED, number) => Err(SenderError::Event(Refusal::from_number(
+            number,
+            reply.first,
+        ))),
         _ => Ok(reply),
     }
 }
@@ -382,7 +383,11 @@ impl Sender {
     /// The timer for losses may be due (RFC 9002, A.9): losses are looked for, or probes are to be sent, with an
     /// IMMEDIATE_ACK frame where `immediate_ack` asks for one. Nothing, where it is not due. Refused by `NoMemory` where
     /// the first probe finds none. Where memory is missing for the answer alone, [`Sender::last_outcome`] says what was lost.
-    pub fn on_timeout(&mut self, now: Instant, immediate_ack: bool) -> Result<Timeout, SenderError> {
+    pub fn on_timeout(
+        &mut self,
+        now: Instant,
+        immediate_ack: bool,
+    ) -> Result<Timeout, SenderError> {
         let (handle, now) = (self.recovery.handle(), now.as_nanos());
         // SAFETY: the handle holds a recovery, and `self` is borrowed alone.
         let reply = unsafe { ffi::recovery_ffi_sender_timeout(handle, now, immediate_ack) };
@@ -463,7 +468,11 @@ impl Sender {
     /// is lost, which is no congestion, what it carried waits to be sent again, and probe timeouts are counted anew. The
     /// numbers, rising. Refused by `SpaceDiscarded`; by `NoMemory`, where the same call goes on with what is tracked still.
     /// Where memory is missing for the answer alone, [`Sender::last_outcome`] says what was lost.
-    pub fn retransmit_all(&mut self, space: SpaceId, now: Instant) -> Result<Vec<u64>, SenderError> {
+    pub fn retransmit_all(
+        &mut self,
+        space: SpaceId,
+        now: Instant,
+    ) -> Result<Vec<u64>, SenderError> {
         let (handle, now) = (self.recovery.handle(), now.as_nanos());
         // SAFETY: the handle holds a recovery, and `self` is borrowed alone.
         let reply = unsafe { ffi::recovery_ffi_sender_abandon(handle, space as u8, now) };

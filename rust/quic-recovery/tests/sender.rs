@@ -147,7 +147,9 @@ fn called(sender: &mut Sender, line: &Line) -> Result<String, SenderError> {
         "timeout" => sender.on_timeout(line.moment(1), false).map(timed_out),
         "datagram" => sender.on_datagram(line.number(1)).map(done),
         "discard" => sender.discard(line.space(1), line.moment(2)).map(done),
-        "abandon" => sender.retransmit_all(line.space(1), line.moment(2)).map(abandoned),
+        "abandon" => sender
+            .retransmit_all(line.space(1), line.moment(2))
+            .map(abandoned),
         _ => sender.on_event(line.event()).map(|it| written(&Ok(it))),
     }
 }
@@ -377,7 +379,11 @@ fn refusals() {
     let mut sender = with_packets(4);
     let before = seen(&sender);
     for event in decided() {
-        assert_eq!(sender.on_event(event), Err(SenderError::Decided), "{event:?}");
+        assert_eq!(
+            sender.on_event(event),
+            Err(SenderError::Decided),
+            "{event:?}"
+        );
     }
     let rows: [(&[(u64, u64)], SenderError); 4] = [
         (&[], Refusal::BadRange.into()),

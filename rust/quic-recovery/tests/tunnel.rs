@@ -62,7 +62,10 @@ fn four_bursts_are_a_black_hole() {
 #[test]
 fn limits_and_resets() {
     let mut mtu = MtuDiscovery::new(&TransportConfig::default(), Some(1300)).unwrap();
-    assert_eq!(mtu.on_peer_max_udp_payload_size_received(0), Err(InvalidArgument));
+    assert_eq!(
+        mtu.on_peer_max_udp_payload_size_received(0),
+        Err(InvalidArgument)
+    );
     assert_eq!(mtu.on_peer_max_udp_payload_size_received(1100), Ok(()));
     assert_eq!(mtu.current_mtu(), 1100);
     assert_eq!(mtu.reset(0, 1200), Err(InvalidArgument));
@@ -113,7 +116,10 @@ fn no_pacer_of_nothing() {
     assert_eq!(Pacer::new(rtt, 12_000, 0, START), Err(InvalidArgument));
     let mut pacer = Pacer::new(rtt, 12_000, 1200, START).unwrap();
     let before = pacer;
-    assert_eq!(pacer.delay(rtt, 1200, 0, 12_000, START), Err(InvalidArgument));
+    assert_eq!(
+        pacer.delay(rtt, 1200, 0, 12_000, START),
+        Err(InvalidArgument)
+    );
     assert_eq!(pacer.delay(rtt, 1200, 1200, 0, START), Err(InvalidArgument));
     assert_eq!(pacer, before);
     assert_eq!(InvalidArgument.to_string().split(',').count(), 2);

@@ -6,8 +6,8 @@ use recovery_base::below::SpaceId;
 use recovery_base::time::Instant;
 use recovery_congestion::congestion::ControllerFactory;
 use recovery_events::event::{Answer, Refusal};
-use recovery_spaces::spaces::NUMBER_LIMIT;
 use recovery_queue::queue::RetransmitQueue;
+use recovery_spaces::spaces::NUMBER_LIMIT;
 
 impl<F, Q, R> Recovery<F, Q, R>
 where

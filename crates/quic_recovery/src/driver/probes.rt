@@ -5,8 +5,8 @@ use rand_core::Rng;
 use recovery_base::below::{EcnCounts, NoMemory, SpaceId};
 use recovery_congestion::congestion::ControllerFactory;
 use recovery_events::event::{Answer, Refusal};
-use recovery_spaces::spaces::NUMBER_LIMIT;
 use recovery_queue::queue::RetransmitQueue;
+use recovery_spaces::spaces::NUMBER_LIMIT;
 
 impl<F, Q, R> Recovery<F, Q, R>
 where

@@ -16,7 +16,7 @@ ghost use Rattle.recovery_sender.specs.Steps.{marked, occurs, CompletesCall, Tak
 ghost use Rattle.recovery_spaces.specs.Discarded.{is_discarded};
 ghost use Rattle.recovery_spaces.specs.Packets.{packet_at};
 
-use super::{Losses, SenderError, Sender};
+use super::{Losses, Sender, SenderError};
 use quic_recovery::below::{EcnCounts, SpaceId};
 use quic_recovery::congestion::ControllerFactory;
 use quic_recovery::event::PathName;
@@ -200,7 +200,7 @@ where
         ensures refused { IfErr result (λ refusal. (at : ℕ) × (at < length ranges.now)
             × (let range = get_or ranges.now at (0, 0) in
             ReadOnlyTransition (CheckAck space range.0 range.1) self.now.recovery.recovery
-                (Err refusal))) }
+            (Err refusal))) }
     {
         for (low, high) in ranges {
             if let Err(refusal) = self.recovery.recovery().check_ack(space, *low, *high) {

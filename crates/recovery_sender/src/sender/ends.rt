@@ -8,7 +8,7 @@ ghost use Rattle.recovery_sender.specs.Senders.{state_in};
 ghost use Rattle.recovery_sender.specs.Spaces.{packets_in};
 ghost use Rattle.recovery_sender.specs.Steps.{told, TakesSteps, CompletesCall};
 
-use super::{SenderError, Sender};
+use super::{Sender, SenderError};
 use quic_recovery::below::SpaceId;
 use quic_recovery::congestion::ControllerFactory;
 use quic_recovery::queue::RetransmitQueue;

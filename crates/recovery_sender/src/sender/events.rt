@@ -8,7 +8,7 @@ ghost use Rattle.recovery_sender.specs.Steps.{marked, told, TakesSteps, Complete
 ghost use Rattle.recovery_sender.specs.Timer.{TimerIsSet};
 
 use super::packets::counted_at;
-use super::{SenderError, Sender};
+use super::{Sender, SenderError};
 use quic_recovery::below::NoMemory;
 use quic_recovery::congestion::ControllerFactory;
 use quic_recovery::event::PathName;

@@ -107,7 +107,7 @@ where
         ensures next { MatchOption result
             (NoneFrom look.now (packets_in (state_in self.now) look.now.space) from)
             (λ found. IsNextLossCandidate look.now (packets_in (state_in self.now) look.now.space)
-                from found) }
+            from found) }
     {
         let here = self.space(look.space)?;
         let (number, packet) = here.sent_packets.tracked_from(from)?;
@@ -154,7 +154,13 @@ where
     }
 
     /// What becomes of a packet below the largest acknowledged.
-    fn judge(&mut self, look: &LossPass, packet: &Candidate, tally: &mut Tally, numbers: &mut Vec<u64>)
+    fn judge(
+        &mut self,
+        look: &LossPass,
+        packet: &Candidate,
+        tally: &mut Tally,
+        numbers: &mut Vec<u64>,
+    )
         requires below { packet.now.number < look.now.largest }
         requires tracked { packet_at (packets_in (state_in self.old) look.now.space)
             packet.now.number ≢ None }

@@ -9,7 +9,7 @@ ghost use Rattle.recovery_sender.specs.Calls.{bytes_in_flight, is_checked, is_fu
 ghost use Rattle.recovery_sender.specs.Steps.{told, TakesSteps, CompletesCall};
 ghost use Rattle.recovery_sender.specs.Timer.{TimerIsSet};
 
-use super::{SenderError, Sender};
+use super::{Sender, SenderError};
 use quic_recovery::below::SpaceId;
 use quic_recovery::congestion::{Controller, ControllerFactory};
 use quic_recovery::queue::RetransmitQueue;

@@ -8,7 +8,7 @@ ghost use Rattle.recovery_sender.specs.Senders.{state_in};
 ghost use Rattle.recovery_sender.specs.Steps.{told, TakesSteps, CompletesCall};
 ghost use Rattle.recovery_sender.specs.Timeouts.{DetectsByTime, TimeoutResult};
 
-use super::{Losses, SenderError, Sender};
+use super::{Losses, Sender, SenderError};
 use quic_recovery::below::SpaceId;
 use quic_recovery::congestion::ControllerFactory;
 use quic_recovery::queue::RetransmitQueue;

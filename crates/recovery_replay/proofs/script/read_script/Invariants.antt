@@ -5,5 +5,5 @@ use Rattle.recovery_replay.proofs.script.read_script.Given as goal
 abbrev pub invariant-loop : goal.invariant-loop
 invariant-loop g l =
     YieldsParsed g.S.Sink.takes (Extends (g.R.Read.remaining l.fn.input) (g.R.Read.remaining l.input) l.script)
-        l.fn.sink
+    l.fn.sink
     l.sink

@@ -6,7 +6,7 @@ use Rattle.recovery_acks.proofs.pending.PendingAcks.packet_received.Goals as goa
 pub is_out_of_order-out_of_order-requires-clause-reached : goal.is_out_of_order-out_of_order-requires-clause-reached
 is_out_of_order-out_of_order-requires-clause-reached c = rw (c.max-greatest.ensures, c.unwrap_or-before.ensures)
     (reaches (HasReceived c.args.dedup.now) c.self.inside.largest_ack_eliciting_packet c.args.packet_number
-        c.requires.number
+    c.requires.number
     (rw (← c.self.view_is) at c.requires.earlier))
 
 pub returns-then-is_noticed-clause-receives : goal.returns-then-is_noticed-clause-receives
