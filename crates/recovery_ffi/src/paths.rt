@@ -115,7 +115,8 @@ pub extern "C" fn recovery_ffi_pacer_check(
     now: u64,
     bytes: u64,
 ) -> EncodedReply
-    ensures { HandleApplies handle.old.slot.held (PacerCheck now bytes) result handle.new.slot.held }
+    ensures { HandleApplies handle.old.slot.held (PacerCheck now bytes) result
+        handle.new.slot.held }
 {
     handle.apply(
         alloc,

@@ -101,7 +101,8 @@ module _ {K Q S M P : Type 0} (q : QueueModel Q S M P) (old : RecoveryState K P 
       let Fits : InFlight → Type 0 = λ f. ¬ Overflows f packet in
       let is_known = is ∙ number_known old space in
       let above = number_above old.skipping.filter space (next_number_of here_then) in
-      let is_forgotten = gone ∙ entry_number_of (tracking_of here_then).last_eliciting packet (packets_of here_then) in
+      let last = (tracking_of here_then).last_eliciting in
+      let is_forgotten = gone ∙ entry_number_of last packet (packets_of here_then) in
       let fitting = subst Fits balanced.current fits in
       record {
         told = grind (arith, live, small, left, fitting, is_known, is_forgotten);

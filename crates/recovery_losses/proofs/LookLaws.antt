@@ -295,11 +295,12 @@ module _ {P M : Type 0} (look : LossPass) (old : Packets P M) where
               (λ now. was.4 (told_before was.0 was.3 now)),
               was.5,
             ));
-            least = λ number packet due below small untold is_due. elim (or_next number packet below small) [
-              | inl under ↦ looked.earliest.least number packet due below under (λ told. untold (told_still number told))
-                  is_due
-              | inr same ↦ absurd (untold (rw same told_here))
-            ];
+            least = λ number packet due below small untold is_due.
+                elim (or_next number packet below small) [
+                  | inl under ↦ looked.earliest.least number packet due below under (λ told. untold (told_still number told))
+                      is_due
+                  | inr same ↦ absurd (untold (rw same told_here))
+                ];
           }
 
       -- it is the probe of the MTU
