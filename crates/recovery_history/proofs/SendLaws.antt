@@ -101,16 +101,17 @@ module _ {K Q S M P : Type 0} (q : QueueModel Q S M P) (old : RecoveryState K P 
       let Fits : InFlight → Type 0 = λ f. ¬ Overflows f packet in
       let is_known = is ∙ number_known old space in
       let above = number_above old.skipping.filter space (next_number_of here_then) in
+      let now_known = number_in (inputs_of old) space in
       let last = (tracking_of here_then).last_eliciting in
       let is_forgotten = gone ∙ entry_number_of last packet (packets_of here_then) in
       let fitting = subst Fits balanced.current fits in
       record {
         told = grind (arith, live, small, left, fitting, is_known, is_forgotten);
-        steps = space_changes q.words old space (sends (number_in (inputs_of old) space) packet) there skipping _ paths (
+        steps = space_changes q.words old space (sends now_known packet) there skipping _ paths (
           omega (arith, above, is, is_known),
           (rw own at step) ∙ ap (λ (n : ℕ). space_sends n packet here_then) is_known,
         )
-            (number_skips old.spaces space (number_in (inputs_of old) space) packet old.skipping skipping
+            (number_skips old.spaces space now_known packet old.skipping skipping
             (sym (number_known old space)) draws)
             (rw (told, is_known) (telling_known (packet_at_generation generation) here_then
             (after_telling old.settings.words (sends_bytes now size (number_in (inputs_of old) space))) old.paths));

@@ -297,8 +297,8 @@ module _ {P M : Type 0} (look : LossPass) (old : Packets P M) where
             ));
             least = λ number packet due below small untold is_due.
                 elim (or_next number packet below small) [
-                  | inl under ↦ looked.earliest.least number packet due below under (λ told. untold (told_still number told))
-                      is_due
+                  | inl under ↦ looked.earliest.least number packet due below under
+                      (λ told. untold (told_still number told)) is_due
                   | inr same ↦ absurd (untold (rw same told_here))
                 ];
           }
