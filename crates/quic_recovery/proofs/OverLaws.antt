@@ -16,7 +16,7 @@ use Rattle.recovery_history.specs.RecoveryState.{RecoveryState}
 use Rattle.recovery_history.specs.Reachability.{ReachedBy, StepFromAnyPast, StepFromPast, StepGuarantees}
 use Rattle.recovery_history.specs.Transitions.{StateTransition, inputs_of}
 use Rattle.recovery_history.specs.StateAfter.{StateAfter}
-use Rattle.recovery_history.proofs.AboveLaws.{fresh_after, loss_times_after}
+use Rattle.recovery_history.proofs.CallerStateLaws.{fresh_after, loss_times_after}
 use Rattle.recovery_events.proofs.FeedingLaws.{fills, takes_push}
 use Rattle.recovery_history.proofs.Runs.{after_push, throughout_more}
 

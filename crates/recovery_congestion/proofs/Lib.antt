@@ -1,6 +1,6 @@
 mod PacerBalanceLaws
-pub mod NamedMomentLaws
-mod NamedMomentRows
+pub mod ReportedTimeLaws
+mod ReportedTimeRows
 pub mod PacerLogLaws
 mod PacerLogRows
 mod PacingRows

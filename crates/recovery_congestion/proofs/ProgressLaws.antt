@@ -1,5 +1,5 @@
 -- What was delayed passes in time, and a bucket that is only asked fills up as it was said. The clause `soon` of `run`
--- and `NamedMomentLaws` rest on it.
+-- and `ReportedTimeLaws` rest on it.
 use Rattle.std.proofs.lemmas.Bool.Decides.{nat_tests}
 use Rattle.std.proofs.Common.{◌≡◌, ℕ, suc, ◌+◌, ◌-◌, ◌*◌, ◌/◌, ◌^◌, ◌<◌, ◌≤◌, min, max, List, ◌∷◌, None, Some, ap, refl, arith, inl, inr}
 use Rattle.std.proofs.Math.Nat.{mul-le-mul_left, mul-le-mul_right}

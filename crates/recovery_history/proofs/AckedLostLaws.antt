@@ -22,7 +22,7 @@ use Rattle.recovery_history.specs.Entries.{acked_entry, acked_search}
 use Rattle.recovery_history.specs.History.{QueueModel}
 use Rattle.recovery_history.specs.RecoveryState.{RecoveryState}
 use Rattle.recovery_history.specs.Transitions.{StateTransition, inputs_of}
-use Rattle.recovery_history.proofs.AboveLaws.{previous_same, both_marks}
+use Rattle.recovery_history.proofs.CallerStateLaws.{previous_same, both_marks}
 use Rattle.recovery_history.proofs.DriverLaws.{space_changes, skips_nothing}
 
 module _ {K P M : Type 0} (old : RecoveryState K P M) (space : SpaceId) (number : ℕ) (packet : Packet P M) where

@@ -1,68 +1,34 @@
--- What each event may be to the paths. `DatagramLaws`, `PacingLaws` and `SearchLaws` rest on it.
-use Rattle.std.proofs.Common.{arith, ℕ, ◌≡◌, Bool, true, false, cond, Option, None, Ok, Err, refl}
-use Rattle.std.proofs.lemmas.Bool.{false_from_ne_true}
-use Rattle.recovery_base.specs.declared.below.SpaceId.{SpaceId}
-use Rattle.recovery_congestion.specs.Controllers.{ControllerSemantics}
-use Rattle.recovery_spaces.specs.Acks.{AckState}
-use Rattle.recovery_mtud.specs.Discovery.{is_searching_of}
-use Rattle.recovery_mtud.specs.DiscoveryLog.{is_limited}
+-- The bound on what goes to an address that is not validated, by events and answers: the clause `amplification_limit`
+-- of `run`.
+use Rattle.std.proofs.Common.{Bool, ◌∷◌, Option, None, Some, arith}
 use Rattle.recovery_paths.specs.declared.path_pair.PathName.TheVariants.{Current, Previous}
-use Rattle.recovery_paths.specs.PathLog.{PerPath, PathReplyInputs, PathsEntry, paths_after, path_known_with, known_following, on, receives, searches}
-use Rattle.recovery_paths.specs.PathMaking.{PathSettings}
-use Rattle.recovery_paths.proofs.AllowedLaws.{AreAllowed, IsAllowedOn}
-use Rattle.recovery_events.specs.declared.event.Event.{Event}
-use Rattle.recovery_events.specs.declared.event.Event.TheVariants.{PeerLimit, Transmit}
-use Rattle.recovery_events.specs.declared.event.Answer.{Answer}
-use Rattle.recovery_events.specs.declared.event.Answer.TheVariants.{Transmitted, Delayed, Blocked}
-use Rattle.recovery_history.specs.Table.{answered, entries_of, ReplyTable}
-use Rattle.recovery_history.specs.History.{QueueModel, Reply}
-use Rattle.recovery_history.specs.ReplyInputs.{ReplyInputs}
-use Rattle.recovery_history.specs.PartReplies.{delayed_or}
-use Rattle.recovery_history.proofs.EntryKinds.{PathKind, passing, limiting, elsewhere, path_kind, paths_kept}
+use Rattle.recovery_paths.specs.PathLog.{PerPath, each_path}
+use Rattle.recovery_history.specs.History.{Beginning, History}
+use Rattle.recovery_history.specs.RepliesAfter.{pasts_of}
+use Rattle.recovery_history.specs.Promises.Datagrams.{datagrams_on, is_validated}
+use Rattle.recovery_history.specs.Promises.Amplification.{LimitsAmplification, IsWithinAmplificationLimit}
+use Rattle.recovery_history.proofs.Runs.{AllAlong, throughout_kept}
+use Rattle.recovery_history.proofs.DatagramLaws.{Flow, AreFlows, FlowsAgree, IsBounded, IsFlowWhereLives, flow_of, flows_at_first, flows_after}
 
--- what was transmitted was neither blocked nor delayed
-pub sent_freely : {K Q : Type 0} (words : ControllerSemantics K) (blocked : Bool) (delay : Option ℕ)
-    → (let t : Answer Q = Transmitted in t ≡ cond blocked Blocked (delayed_or words t delay)) → (blocked ≡ false)
-    × (delay ≡ None)
-sent_freely words blocked delay is = grind (arith, is)
+module _ {Q S M P : Type 0} where
+  -- a path that does not live has no datagrams
+  where_lives : (validated : Bool) (here : History Q S M P) (found : Option Flow)
+      → IsFlowWhereLives validated here found → IsBounded validated here
+  where_lives validated here None is = rw is (λ unproved checked. omega arith)
+  where_lives validated here (Some found) is = is.1
 
--- nothing passes, and no limit is told to a search
-abbrev is_free : PathKind → Bool
-is_free passing = false
-is_free limiting = false
-is_free elsewhere = false
-is_free kind = true
+  on_each : (first : Bool) (history : History Q S M P) (flows : PerPath Flow) → AreFlows first history flows
+      → IsWithinAmplificationLimit first history
+  on_each first history flows are Current = are.0.1
+  on_each first history flows are Previous =
+      where_lives (is_validated first Previous history) (datagrams_on Previous history) flows.previous are.1
 
-module _ {K : Type 0} (settings : PathSettings K) where
-  free_on : (entry : PathsEntry) → is_free (path_kind entry) ≡ true → (now : PerPath (PathReplyInputs K))
-      → IsAllowedOn settings now entry
-  free_on (on Current (searches (is_limited limit))) free now = absurd cc
-  free_on (on Previous (receives bytes)) free now = tt
-  free_on entry free now = grind (arith, free)
-
-module _ {K Q S M P : Type 0} (q : QueueModel Q S M P) (settings : PathSettings K) (heard : SpaceId
-    → AckState) (known : ReplyInputs K P M) where
-  answer_allowed : (event : Event Q S M P) (answer : Answer Q) → ReplyTable q settings.words heard known event
-      (Ok answer)
-      → AreAllowed settings known.paths (answered q known event answer).paths
-  answer_allowed (Transmit now bytes true) Transmitted told =
-      ((sent_freely settings.words _ _ told.1).1, tt)
-  answer_allowed (Transmit now bytes true) (Delayed until) told = (tt, tt)
-  answer_allowed (Transmit now bytes true) answer told = tt
-  answer_allowed (Transmit now bytes false) answer told = (tt, tt)
-  answer_allowed (PeerLimit size) answer told =
-      (false_from_ne_true (is_searching_of known.paths.current.state.discovery) told.1.0, tt)
-  answer_allowed event answer told =
-      paths_kept q known (AreAllowed settings known.paths) is_free tt
-      (λ entry earlier free allowed. (
-        free_on settings entry free
-            (paths_after (path_known_with settings) (known_following settings) earlier known.paths),
-        allowed,
-      ))
-      event (Ok answer) refl
-
-  -- what an event is to the paths, where it was told so
-  pub is_allowed : (event : Event Q S M P) (reply : Reply Q) → ReplyTable q settings.words heard known event reply
-      → AreAllowed settings known.paths (entries_of q known event reply).paths
-  is_allowed event (Ok answer) told = answer_allowed event answer told
-  is_allowed event (Err refusal) told = tt
+-- throughout a run
+pub sends_threefold : {F K Q S M P : Type 0} (beginning : Beginning F K Q S M P)
+    → AllAlong beginning (LimitsAmplification beginning.config.validated)
+sends_threefold beginning =
+    throughout_kept beginning (FlowsAgree beginning) (LimitsAmplification beginning.config.validated)
+    (flows_after beginning)
+    (λ before event reply told same. on_each beginning.config.validated ((event, reply) ∷ before)
+    (each_path flow_of (pasts_of beginning ((event, reply) ∷ before)))
+    (flows_after beginning before event reply told same)) (flows_at_first beginning)

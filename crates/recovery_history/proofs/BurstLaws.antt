@@ -1,4 +1,5 @@
--- A report of a black hole needs four bursts, and comes at four, throughout a run. `HolesLaws` say it of events alone.
+-- A report of a black hole needs four bursts, and comes at four, throughout a run. `BlackHolesLaws` say it of events
+-- alone.
 use Rattle.std.proofs.Common.{◌≡◌, ◌≤◌, ℕ, Bool, true, false, Option, None, Ok, Err, refl, arith}
 use Rattle.recovery_base.specs.declared.below.SpaceId.TheVariants.{Data}
 use Rattle.recovery_mtud.specs.Discovery.{reports}
@@ -16,8 +17,8 @@ use Rattle.recovery_history.specs.RepliesAfter.{logs_of, pasts_of, first_path, s
 use Rattle.recovery_history.specs.History.{Beginning, History, Reply}
 use Rattle.recovery_history.specs.Promises.ResolvedOnce.{departures_of}
 use Rattle.recovery_history.proofs.SearchSaid.{ComesAtFourBursts, NeedsFourBursts, Follows}
-use Rattle.recovery_history.proofs.FateLaws.{fates_depart}
-use Rattle.recovery_history.proofs.OneFateLaws.{leave_once, one_fate}
+use Rattle.recovery_history.proofs.SearchOutcomeLaws.{fates_depart}
+use Rattle.recovery_history.proofs.OneOutcomeLaws.{leave_once, one_fate}
 use Rattle.recovery_history.proofs.TrackedLaws.{AllTracked}
 
 -- ---- the search of the path in use was told nothing as it was made

@@ -1,5 +1,5 @@
 -- Contents are neither lost nor doubled: what was sent is what is tracked and waits, and what is gone. The clause
--- `contents` of `run` rests on it.
+-- `conserved_data` of `run` rests on it.
 use Rattle.std.proofs.Common.{◌≡◌, ℕ, Bool, true, false, cond, List, [], ◌∷◌, ◌++◌, Option, None, Some, Ok, Err, refl, sym, ap, subst, ◌∙◌, option_map, arith}
 use Rattle.recovery_base.specs.declared.below.SpaceId.{SpaceId}
 use Rattle.recovery_base.specs.declared.below.SpaceId.TheVariants.{Data}

@@ -1,5 +1,5 @@
 -- The datagrams of each path by the history itself are those that its past in the logs has, and keep the bound on what
--- goes to an address that is not validated. `ThreefoldLaws` and `BlockedLaws` rest on it.
+-- goes to an address that is not validated. `AmplificationLaws` and `BlockedLaws` rest on it.
 use Rattle.std.proofs.Common.{ℕ, ◌≡◌, ◌≤◌, ◌*◌, ◌+◌, Bool, true, false, List, [], ◌∷◌, ◌++◌, Option, None, Some, Ok, Err, refl, ap, arith}
 use Rattle.std.proofs.lemmas.Bool.{false≢true}
 use Rattle.std.specs.Prelude.{option_map, sum_by}
@@ -19,7 +19,7 @@ use Rattle.recovery_history.specs.PartReplies.{AnswersDone, UnlessPathMissing}
 use Rattle.recovery_history.specs.Table.{limit}
 use Rattle.recovery_history.specs.Promises.Datagrams.{datagrams_on, bytes_in, bytes_out, is_validated}
 use Rattle.recovery_history.specs.Promises.Amplification.{is_checked}
-use Rattle.recovery_history.proofs.AmplificationLaws.{sent_freely}
+use Rattle.recovery_history.proofs.AllowedEntryLaws.{sent_freely}
 use Rattle.recovery_history.proofs.EntryKinds.{PathKind, receiving, validating, transmitting, passing, moving, dropping, returning, elsewhere, path_kind, paths_kept}
 use Rattle.recovery_history.proofs.SearchSaid.{Keeps}
 

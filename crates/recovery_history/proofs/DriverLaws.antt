@@ -5,7 +5,7 @@ use Rattle.recovery_events.specs.declared.event.Event.{Event}
 use Rattle.recovery_events.specs.declared.event.Refusal.{Refusal}
 use Rattle.recovery_history.specs.Table.{UnloggedStep, ReplyTable}
 use Rattle.recovery_history.specs.Unlogged.{plain_of}
-use Rattle.recovery_history.proofs.AboveLaws.{marks_refused}
+use Rattle.recovery_history.proofs.CallerStateLaws.{marks_refused}
 use Rattle.std.proofs.Common.{◌≡◌, ℕ, arith, Bool, false, List, Some, Result, IfOk, OnErr, Ok, Err, refl, ap, sym}
 use Rattle.recovery_base.specs.declared.below.SpaceId.{SpaceId}
 use Rattle.recovery_base.specs.declared.below.SpaceId.TheVariants.{Initial, Handshake, Data}

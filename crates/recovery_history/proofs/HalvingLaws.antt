@@ -1,5 +1,5 @@
 -- The size of each probe of a search is the one that the history says, as its entries and what a discovery holds say:
--- the clause `halving` of `run`.
+-- the clause `bisection` of `run`.
 use Rattle.std.proofs.lemmas.Bool.Decides.{nat_tests}
 use Rattle.std.proofs.lemmas.Option.{none-some, same_Some}
 use Rattle.std.proofs.Common.{◌≡◌, ℕ, ◌+◌, ◌≤◌, ◌||◌, nat_le, min, Option, Some, None, Bool, true, false, List, [], ◌∷◌, arith, refl, sym, ap, ap₂, subst, ◌∙◌, Ok}
@@ -30,13 +30,13 @@ use Rattle.recovery_history.specs.Promises.Probes.{last_probe, runs}
 use Rattle.recovery_history.specs.Promises.ProbesPerSize.{tries}
 use Rattle.recovery_history.specs.Table.{limit}
 use Rattle.recovery_history.proofs.MadeLaws.{made_in}
-use Rattle.recovery_history.proofs.NearLaws.{Kept, kept_by, kept_first, runs_same, upper_is}
+use Rattle.recovery_history.proofs.ConvergenceLaws.{Kept, kept_by, kept_first, runs_same, upper_is}
 use Rattle.recovery_history.proofs.Runs.{AllAlong}
 use Rattle.recovery_history.proofs.SearchLaws.{AreSearched}
 use Rattle.recovery_history.proofs.SearchSaid.{entered_so_far, Follows}
 use Rattle.recovery_history.proofs.SearchSteps.{Facts, throughout_facts}
-use Rattle.recovery_history.proofs.TriesLaws as few
-use Rattle.recovery_history.proofs.TriesLaws.{Tries, flying, tried, other_is_new, other_within}
+use Rattle.recovery_history.proofs.ProbesPerSizeLaws as few
+use Rattle.recovery_history.proofs.ProbesPerSizeLaws.{Tries, flying, tried, other_is_new, other_within}
 
 -- ---- what a search that runs holds: its bounds are what gets through, and what may
 

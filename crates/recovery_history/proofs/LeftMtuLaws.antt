@@ -1,5 +1,5 @@
 -- The MTU of the path before the one in use is that of when it was left, by the history alone: it is the one that a
--- path has which is used again. `NearLaws` and `MtuLaws` rest on it.
+-- path has which is used again. `ConvergenceLaws` and `MtuLaws` rest on it.
 use Rattle.std.proofs.Common.{◌≡◌, ℕ, Bool, true, false, [], ◌∷◌, Option, None, Some, Ok, refl, sym, ap, subst, ◌∙◌}
 use Rattle.std.proofs.lemmas.Option.{none-some}
 use Rattle.std.specs.Option.{ForSome}

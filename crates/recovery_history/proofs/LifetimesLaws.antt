@@ -1,5 +1,5 @@
 -- When the peer is asked to retire ids, by the lifetimes that run and the numbers that it retired. `OwnIdsLaws` rest on
--- it for the clause `lifetimes` of `run`.
+-- it for the clause `retirement_requests` of `run`.
 use Rattle.std.proofs.lemmas.Bool.Decides.{nat_tests}
 use Rattle.std.proofs.Common.{arith, ◌≡◌, ◌≤◌, ◌<◌, ◌+◌, ℕ, zero, suc, true, false, ◌==◌, ◌&&◌, nat_lt, nat_le, not, Bool, List, [], ◌∷◌, map, filter, refl, ap, sym, ◌∙◌}
 use Rattle.std.specs.Prelude.{drop, if◌then◌else◌}

@@ -1,4 +1,4 @@
--- The law of one entry gives the law of one event, whatever the events are. `LeftLaws` apply it to each part.
+-- The law of one entry gives the law of one event, whatever the events are. `StateAfterLaws` apply it to each part.
 use Rattle.std.proofs.Common.{List, ◌∷◌, Option, None, Some, sym, subst}
 use Rattle.recovery_history.specs.Logs.{onto, OptionalStep}
 

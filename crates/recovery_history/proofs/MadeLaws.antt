@@ -1,5 +1,5 @@
 -- The discovery that the path in use was made with stays until a fresh path, or until one is used again. The laws of
--- searches by events alone (`NearLaws`, `HolesLaws`, `MtuLaws`) rest on it.
+-- searches by events alone (`ConvergenceLaws`, `BlackHolesLaws`, `MtuLaws`) rest on it.
 use Rattle.std.proofs.Common.{◌≡◌, ℕ, true, false, ◌∷◌, Option, None, Some, Ok, refl, ap}
 use Rattle.std.specs.Prelude.{option_map, unwrap_or}
 use Rattle.recovery_mtud.specs.Discovery.{Discovery, within}

@@ -17,10 +17,10 @@ use Rattle.recovery_history.specs.Table.{limit}
 use Rattle.recovery_history.specs.History.{Beginning, History, Reply}
 use Rattle.recovery_history.specs.Promises.Mtu.{UsesAckedMtu, mtu, mtu_in_use, mtu_on}
 use Rattle.recovery_history.specs.Search.{discovery_settings}
-use Rattle.recovery_history.proofs.HolesLaws as holes
+use Rattle.recovery_history.proofs.BlackHolesLaws as holes
 use Rattle.recovery_history.proofs.MadeLaws.{in_state, is_made, made_in, resumed}
 use Rattle.recovery_history.proofs.LeftMtuLaws.{IsLeft, IsNow, before_same, left_after, left_at_first, left_is}
-use Rattle.recovery_history.proofs.NearLaws as near
+use Rattle.recovery_history.proofs.ConvergenceLaws as near
 use Rattle.recovery_history.proofs.SearchLaws.{mtu_one}
 use Rattle.recovery_history.proofs.SearchSaid.{ProbesInTurn, entered_so_far, Keeps, IsSmall}
 use Rattle.recovery_history.proofs.SearchSteps.{Facts, Step, stepped, throughout_facts}

@@ -1,5 +1,5 @@
--- Ids of this end are issued, retired and asked back as the history itself says: the clauses `own_ids` and `lifetimes`
--- of `run`.
+-- Ids of this end are issued, retired and asked back as the history itself says: the clauses `own_ids` and
+-- `retirement_requests` of `run`.
 use Rattle.std.proofs.lemmas.Bool.Decides.{nat_tests}
 use Rattle.std.proofs.Common.{arith, ◌≡◌, ◌≤◌, ◌<◌, ◌+◌, ℕ, zero, suc, true, false, ◌++◌, ◌==◌, ◌||◌, nat_lt, nat_le, not, Bool, List, [], ◌∷◌, length, map, filter, Ok, Err, refl, ap, subst, sym, ◌∙◌}
 use Rattle.std.specs.Prelude.{◌&&◌, drop, if◌then◌else◌}

@@ -1,5 +1,5 @@
--- Each pacer delays by its balance and keeps its rate, throughout a run: the clauses `delayed`, `rate`, `soon`,
--- `named`, `covered` and `paid` of `run`.
+-- Each pacer delays by its balance and keeps its rate, throughout a run: the clauses `delayed`, `rate`,
+-- `passes_after_delay`, `passes_at_reported_time`, `delayed_when_uncovered` and `paid_rate` of `run`.
 use Rattle.std.proofs.Common.{arith, ℕ, true, ◌∷◌, Option, Ok, refl}
 use Rattle.recovery_congestion.specs.PacerLog.{AreChecked, KeepsRate}
 use Rattle.recovery_congestion.specs.Pacing.{PacerCall}
@@ -7,7 +7,7 @@ use Rattle.recovery_congestion.specs.ReportedTime.{PassesAtMoment}
 use Rattle.recovery_congestion.specs.PaidLog.{DelaysUncovered, PaysInFull}
 use Rattle.recovery_congestion.specs.Progress.{PassesBehind}
 use Rattle.recovery_congestion.proofs.PacerLogLaws.{delays_by, keeps_rate}
-use Rattle.recovery_congestion.proofs.NamedMomentLaws.{passes_at_moment}
+use Rattle.recovery_congestion.proofs.ReportedTimeLaws.{passes_at_moment}
 use Rattle.recovery_congestion.proofs.PaidLogLaws.{delays_uncovered, pays_in_full, pays_rate}
 use Rattle.recovery_congestion.proofs.ProgressLaws.{passes_behind}
 use Rattle.recovery_paths.specs.PathLog.{OnEachPath, PathHistory, path_state_of}
@@ -19,7 +19,7 @@ use Rattle.recovery_history.specs.RepliesAfter.{logs_of, pasts_of, inputs_after,
 use Rattle.recovery_history.specs.History.{Beginning, History, Reply}
 use Rattle.recovery_history.specs.Pacing.{IsByBalance, AtPacerCall, AtPacerCalls, DelaysByBalance, DelaysExactly, PassesAfterDelay, PassesAtReportedTime, BoundsPacingRate, BoundsPaidRate}
 use Rattle.recovery_history.proofs.Runs.{AllAlong, throughout_kept}
-use Rattle.recovery_history.proofs.AmplificationLaws.{is_allowed}
+use Rattle.recovery_history.proofs.AllowedEntryLaws.{is_allowed}
 use Rattle.recovery_history.proofs.SearchSaid.{Follows, Keeps}
 
 -- a pacer whose checked transmissions had passed keeps its rate

@@ -1,5 +1,5 @@
 -- The paths that live, and the generation of each, are those that the history says, and so is how many were made.
--- `RefusedLaws`, `CountedLaws` and `FullLaws` rest on it.
+-- `RejectionsLaws`, `CountedLaws` and `OverflowLaws` rest on it.
 use Rattle.std.proofs.Common.{◌≡◌, ◌+◌, ℕ, true, false, [], ◌∷◌, Option, None, Some, Ok, refl, ap, ◌∙◌}
 use Rattle.std.specs.Prelude.{option_map}
 use Rattle.recovery_paths.specs.declared.path_pair.PathName.{PathName}

@@ -29,7 +29,7 @@ use Rattle.recovery_history.specs.ReplyInputs.{ReplyInputs, current_in_flight, n
 use Rattle.recovery_history.specs.RecoveryState.{RecoveryState}
 use Rattle.recovery_history.specs.Replies.{AnswersOrNoMemory, same_refusal}
 use Rattle.recovery_history.specs.Transitions.{StateTransition, inputs_of}
-use Rattle.recovery_history.proofs.AboveLaws.{previous_same, both_marks}
+use Rattle.recovery_history.proofs.CallerStateLaws.{previous_same, both_marks}
 use Rattle.recovery_history.proofs.DriverLaws.{spaces_step, skips_nothing}
 
 -- ---- packets leave the paths: what is known of a path holds no counters

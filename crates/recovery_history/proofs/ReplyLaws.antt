@@ -1,5 +1,5 @@
--- One reply, by two tellings of the same causes and answers. `TableLaws`, `PeerIdsLaws`, `RefusedLaws` and `ToldLaws`
--- rest on it.
+-- One reply, by two tellings of the same causes and answers. `TableLaws`, `PeerIdsLaws`, `RejectionsLaws` and
+-- `RepliesAfterLaws` rest on it.
 use Rattle.std.proofs.Common.{◌≡◌, ◌==◌, ◌↔◌, Bool, true, false, Ok, Err, arith, if◌then◌else◌}
 use Rattle.std.proofs.lemmas.Bool.Decides.{nat_tests}
 use Rattle.std.specs.Bool.{Decides}

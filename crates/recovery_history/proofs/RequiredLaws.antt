@@ -1,5 +1,5 @@
 -- Whether an ACK is required at once can be decided from the log of its space: a gap is sought between two numbers.
--- `DutyLaws` rest on it.
+-- `AckDutyLaws` rest on it.
 use Rattle.std.proofs.Common.{◌≤◌, ◌<◌, ◌+◌, ◌-◌, ℕ, zero, suc, List, [], ◌∷◌, Option, None, Some, ◌⊎◌, inl, inr, max, arith}
 use Rattle.std.proofs.lemmas.Bool.{cases_eq, cases_lt}
 use Rattle.recovery_acks.specs.Acks.{AckCounts, RequiresImmediateAck, IsOutOfOrder, IsReported}

@@ -1,5 +1,5 @@
 -- Searches for the MTU take few probes and end near the best size, throughout a run. The promises on searches by events
--- alone (`FewLaws`, `NearLaws`, `MtuLaws`, `SizesLaws`, by `SearchSteps` the others) rest on it.
+-- alone (`ProbeCountLaws`, `ConvergenceLaws`, `MtuLaws`, `ProbeSizesLaws`, by `SearchSteps` the others) rest on it.
 use Rattle.std.proofs.Common.{arith, ℕ, ◌≡◌, Bool, true, false, ◌&&◌, if◌then◌else◌, List, [], ◌∷◌, Option, None, Some, Ok, Err, refl, sym, ap, ◌∙◌}
 use Rattle.std.specs.Prelude.{IsSomeAnd}
 use Rattle.std.specs.Option.{ForSome}
@@ -26,7 +26,7 @@ use Rattle.recovery_history.specs.ReplyInputs.{ReplyInputs}
 use Rattle.recovery_history.specs.Search.{WhereSearched, discovery_settings}
 use Rattle.recovery_history.specs.PartReplies.{MtuProbeReply}
 use Rattle.recovery_history.proofs.SearchSaid.{EndsNear, LimitsOutside, ProbesInTurn, TellsProbes, entered_so_far, entries_on, is_in_flight, Follows, Keeps, IsSmall}
-use Rattle.recovery_history.proofs.AmplificationLaws.{is_allowed}
+use Rattle.recovery_history.proofs.AllowedEntryLaws.{is_allowed}
 
 -- what holds of the settings holds where they are used
 pub where_allowed : {A : Type 0} (P : A → Type 0) (allowed : Bool) (o : Option A) → ForSome o P

@@ -27,7 +27,7 @@ use Rattle.recovery_history.specs.ReplyInputs.{number_in}
 use Rattle.recovery_history.specs.Numbers.{number_behind, skipping_behind}
 use Rattle.recovery_history.specs.RecoveryState.{RecoveryState}
 use Rattle.recovery_history.specs.Transitions.{StateTransition, inputs_of}
-use Rattle.recovery_history.proofs.AboveLaws.{previous_same, both_marks}
+use Rattle.recovery_history.proofs.CallerStateLaws.{previous_same, both_marks}
 use Rattle.recovery_history.proofs.DriverLaws.{space_changes}
 use Rattle.recovery_history.proofs.NumberLaws.{number_above, number_known, number_skips}
 

@@ -1,5 +1,5 @@
 -- Which number a packet goes out under, which numbers were skipped, and which packets are refused, by the history: the
--- clauses `next`, `no_skips`, `skipped` and `sends` of `run`.
+-- clauses `next_number`, `no_skips`, `skipped_acks` and `send_result` of `run`.
 use Rattle.std.proofs.lemmas.Bool.Decides.{nat_tests}
 use Rattle.std.proofs.lemmas.Bool.{cases_lt, false≢true}
 use Rattle.std.proofs.Common.{◌≡◌, ◌<◌, ◌≤◌, ◌+◌, ◌-◌, ◌^◌, ℕ, zero, suc, ◌==◌, ◌&&◌, nat_lt, Bool, true, false, cond, List, [], ◌∷◌, Option, None, Some, Ok, Err, ◌⊎◌, inl, inr, ◌↔◌, if◌then◌else◌, refl, sym, ap, ◌∙◌, arith}

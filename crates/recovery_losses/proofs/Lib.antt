@@ -1,5 +1,5 @@
 pub mod FrameLaws
-pub mod LookLaws
+pub mod DetectionPassLaws
 pub mod LossLaws
-pub mod RunLaws
+pub mod PersistentCongestionLaws
 mod TimeoutRows

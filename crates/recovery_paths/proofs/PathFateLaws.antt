@@ -1,5 +1,5 @@
 -- How often the search of the path in use is told that a number was acknowledged or lost: at most as often as that
--- happened. The driver's `FateLaws` rest on it.
+-- happened. The driver's `SearchOutcomeLaws` rest on it.
 use Rattle.std.proofs.Common.{◌≡◌, ℕ, ◌+◌, ◌≤◌, Bool, true, List, [], ◌∷◌, ◌++◌, refl, arith}
 use Rattle.std.specs.Prelude.{nat_eq}
 use Rattle.std.specs.Set.{is_member}

@@ -1,5 +1,5 @@
 -- What is known of the paths, one entry at a time, and what holds of a path that changed. `AllowedLaws`, `BalanceLaws`
--- and the driver's `LeftLaws` rest on it.
+-- and the driver's `StateAfterLaws` rest on it.
 use Rattle.std.proofs.Common.{◌≡◌, List, [], ◌∷◌, ◌++◌, Option, None, Some, option_map, refl, ap, ◌∙◌}
 use Rattle.std.specs.Option.{ForSome}
 use Rattle.recovery_paths.specs.declared.path_pair.PathName.TheVariants.{Current, Previous}

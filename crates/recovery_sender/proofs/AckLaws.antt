@@ -7,7 +7,7 @@ use Rattle.recovery_spaces.specs.Packets.{Packet, Packets, packet_at, first_from
 use Rattle.recovery_spaces.proofs.PacketLaws.{some_of}
 use Rattle.recovery_queue.specs.Slots.{is_from, AreFrom}
 use Rattle.recovery_losses.specs.Losses.{AreIncreasing, IsOneOf}
-use Rattle.recovery_losses.proofs.LookLaws.{among_more, last_among, one_more, rising_more, rising_wider}
+use Rattle.recovery_losses.proofs.DetectionPassLaws.{among_more, last_among, one_more, rising_more, rising_wider}
 use Rattle.recovery_losses.proofs.LossLaws.{found_from, lowest_from, none_from}
 use Rattle.recovery_sender.specs.Acks.{AreNewlyAcked, IsFirstIn, HasNoneTracked, HasAckEliciting, TrackedInRange}
 use Rattle.recovery_losses.proofs.FrameLaws.{AreFine}

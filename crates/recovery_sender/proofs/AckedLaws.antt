@@ -13,7 +13,7 @@ use Rattle.recovery_spaces.specs.Packets.{Packet, Packets, packet_at, without, f
 use Rattle.recovery_spaces.specs.Spaces.{space_of, packets_of}
 use Rattle.recovery_queue.specs.Slots.{is_from, AreFrom}
 use Rattle.recovery_losses.specs.Losses.{AreIncreasing, IsOneOf, without_all}
-use Rattle.recovery_losses.proofs.LookLaws.{all_other, without_more}
+use Rattle.recovery_losses.proofs.DetectionPassLaws.{all_other, without_more}
 use Rattle.recovery_losses.proofs.LossLaws.{lowest_from, none_from}
 use Rattle.quic_recovery.specs.declared.driver.Recovery.{Recovery}
 use Rattle.recovery_history.specs.History.{QueueModel, queue_model}

@@ -10,7 +10,7 @@ use Rattle.recovery_losses.specs.declared.tally.Tally.{Tally}
 use Rattle.recovery_losses.specs.Losses.{IsEarliest, IsLostBelow, IsDeclaredLost, bytes_counted, last_counted, waiting}
 use Rattle.recovery_losses.specs.DetectionPass.{PassSoFar}
 use Rattle.recovery_losses.specs.PersistentCongestion.{IsEndAt, IsPersistentCongestion}
-use Rattle.recovery_losses.proofs.LookLaws.{probe_waits}
+use Rattle.recovery_losses.proofs.DetectionPassLaws.{probe_waits}
 use Rattle.recovery_history.specs.CallerState.{with_loss_time_at}
 use Rattle.recovery_history.specs.History.{queue_model}
 use Rattle.recovery_history.specs.RecoveryState.{RecoveryState}

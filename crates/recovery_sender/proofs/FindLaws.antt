@@ -8,7 +8,7 @@ use Rattle.recovery_losses.specs.declared.looks.LossPass.{LossPass}
 use Rattle.recovery_losses.specs.declared.tally.Tally.{Tally}
 use Rattle.recovery_losses.specs.Losses.{IsNextLossCandidate, counting, finding_probe, waiting}
 use Rattle.recovery_losses.specs.DetectionPass.{PassSoFar}
-use Rattle.recovery_losses.proofs.LookLaws.{looked_waiting, looked_probe, looked_lost}
+use Rattle.recovery_losses.proofs.DetectionPassLaws.{looked_waiting, looked_probe, looked_lost}
 use Rattle.recovery_history.specs.History.{queue_model}
 use Rattle.recovery_history.specs.RecoveryState.{RecoveryState}
 use Rattle.recovery_sender.specs.declared.sender.Sender.{Sender}

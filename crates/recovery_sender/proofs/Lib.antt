@@ -1,7 +1,7 @@
-pub mod AbandonLaws
+pub mod RetransmitAllLaws
 pub mod AckLaws
 pub mod AckedLaws
-pub mod AliveLaws
+pub mod LivenessLaws
 pub mod CallLaws
 pub mod CheckLaws
 pub mod DetectLaws
@@ -9,8 +9,8 @@ pub mod DueLaws
 pub mod FindLaws
 pub mod KeptLaws
 pub mod LeadLaws
-pub mod LeavingLaws
-pub mod LeftLaws
+pub mod TimerUnchangedLaws
+pub mod TimerKeptLaws
 pub mod PastLaws
 pub mod PromiseLaws
 pub mod StepLaws

@@ -8,7 +8,7 @@ use Rattle.recovery_spaces.specs.Discarded.{is_discarded}
 use Rattle.recovery_spaces.specs.Packets.{Packet, Packets, packet_at}
 use Rattle.recovery_losses.specs.declared.looks.LossPass.{LossPass}
 use Rattle.recovery_losses.specs.Losses.{IsLost, IsLostBelow, IsOneOf, IsDeclaredLost, without_all}
-use Rattle.recovery_losses.proofs.LookLaws.{all_other}
+use Rattle.recovery_losses.proofs.DetectionPassLaws.{all_other}
 use Rattle.recovery_losses.specs.declared.frames.Ack.{Ack}
 use Rattle.recovery_sender.specs.declared.sender.acks.Acknowledged.{Acknowledged}
 use Rattle.recovery_sender.specs.declared.sender.acks.NewlyAcked.{NewlyAcked}

@@ -1,4 +1,4 @@
--- What one entry more says of the ACKs of a space. `SpaceLaws` and the driver's `ToldLaws` rest on it.
+-- What one entry more says of the ACKs of a space. `SpaceLaws` and the driver's `RepliesAfterLaws` rest on it.
 use Rattle.std.proofs.Common.{◌≡◌, ℕ, ◌⊎◌, ◌↔◌, Bool, nat_lt, IsTrue, Option, None, Some, List, ◌∷◌, arith}
 use Rattle.std.proofs.lemmas.Bool.Decides.{nat_tests}
 use Rattle.recovery_base.specs.declared.below.frames.AckFrequency.{AckFrequency}

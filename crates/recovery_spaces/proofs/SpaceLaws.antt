@@ -1,4 +1,4 @@
--- Packet spaces, one entry at a time. The driver's `LeftLaws` rest on it.
+-- Packet spaces, one entry at a time. The driver's `StateAfterLaws` rest on it.
 use Rattle.std.proofs.Common.{ℕ, ◌↔◌, false, List, [], ◌∷◌, refl, sym, ap, ◌∙◌, arith}
 use Rattle.std.proofs.lemmas.Bool.Decides.{nat_tests}
 use Rattle.std.proofs.lemmas.Option.{none-some}

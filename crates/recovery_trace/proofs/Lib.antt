@@ -2,6 +2,6 @@ pub mod FaultLaws
 pub mod GoingLaws
 pub mod KeptLaws
 pub mod StateTextLaws
-pub mod TellingLaws
+pub mod FaultReportLaws
 pub mod TraceLaws
 pub mod TurnLaws

@@ -1,5 +1,5 @@
 use Rattle.std.proofs.Common.{string_bytes}
-use Rattle.recovery_trace.proofs.TellingLaws.{never, shown_plain}
+use Rattle.recovery_trace.proofs.FaultReportLaws.{never, shown_plain}
 use Rattle.recovery_trace.proofs.telling.write_word.Goals as goal
 
 pub returns-in-Ok : goal.returns-in-Ok

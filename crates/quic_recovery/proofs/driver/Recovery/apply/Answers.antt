@@ -1,4 +1,4 @@
-use Rattle.recovery_history.proofs.PastLaws.{extends}
+use Rattle.recovery_history.proofs.ReachabilityLaws.{extends}
 use Rattle.quic_recovery.proofs.driver.Recovery.apply.Goals as goal
 
 pub returns-clause-extends : goal.returns-clause-extends

@@ -4,8 +4,8 @@ use Rattle.recovery_base.specs.declared.below.SpaceId.{SpaceId}
 use Rattle.recovery_spaces.specs.Spaces.{space_of, SpaceAfter}
 use Rattle.recovery_spaces.proofs.SpaceLaws.{fresh_space}
 use Rattle.recovery_history.specs.History.{begins, queue_model}
-use Rattle.recovery_history.proofs.AboveLaws.{untouched_made}
-use Rattle.recovery_history.proofs.LeftLaws.{balanced_first, in_flight_law, paths_first}
+use Rattle.recovery_history.proofs.CallerStateLaws.{untouched_made}
+use Rattle.recovery_history.proofs.StateAfterLaws.{balanced_first, in_flight_law, paths_first}
 use Rattle.recovery_history.proofs.SearchLaws.{where_allowed}
 use Rattle.quic_recovery.proofs.driver.Recovery.new.Goals as goal
 

@@ -7,7 +7,7 @@ use Rattle.recovery_events.specs.declared.event.Event.{Event}
 use Rattle.recovery_events.specs.declared.event.Event.TheVariants.{NewPath}
 use Rattle.recovery_events.specs.declared.event.Refusal.TheVariants.{NoMemory}
 use Rattle.quic_recovery.specs.State.{state_of}
-use Rattle.recovery_history.proofs.AboveLaws.{marks_refused}
+use Rattle.recovery_history.proofs.CallerStateLaws.{marks_refused}
 use Rattle.recovery_history.proofs.DriverLaws.{nothing_changes}
 use Rattle.quic_recovery.proofs.driver.Recovery.new_path.Goals.{then-fresh, else-fresh+in-Ok}
 use Rattle.quic_recovery.proofs.driver.Recovery.new_path.Goals as goal

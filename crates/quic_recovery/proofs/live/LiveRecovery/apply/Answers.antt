@@ -1,4 +1,4 @@
-use Rattle.recovery_history.proofs.PastLaws.{still_came, extended}
+use Rattle.recovery_history.proofs.ReachabilityLaws.{still_came, extended}
 use Rattle.quic_recovery.proofs.live.LiveRecovery.apply.Goals as goal
 
 pub invariant_of-self : goal.invariant_of-self

@@ -1,4 +1,4 @@
-use Rattle.recovery_history.proofs.PastLaws.{stays_come}
+use Rattle.recovery_history.proofs.ReachabilityLaws.{stays_come}
 use Rattle.quic_recovery.proofs.live.LiveRecovery.set_loss_time.Goals as goal
 
 pub invariant_of-self : goal.invariant_of-self

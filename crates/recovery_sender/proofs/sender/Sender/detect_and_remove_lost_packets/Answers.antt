@@ -1,6 +1,6 @@
 use Rattle.std.proofs.Common.{refl, ap, sym, ◌∙◌}
 use Rattle.recovery_spaces.specs.Packets.{packet_at}
-use Rattle.recovery_losses.proofs.LookLaws.{probe_tracked}
+use Rattle.recovery_losses.proofs.DetectionPassLaws.{probe_tracked}
 use Rattle.recovery_sender.proofs.LeadLaws.{packets_ended, packets_congested}
 use Rattle.recovery_sender.proofs.DetectLaws.{detects_all, detects_none, found_all}
 use Rattle.recovery_sender.proofs.sender.Sender.detect_and_remove_lost_packets.Goals as goal

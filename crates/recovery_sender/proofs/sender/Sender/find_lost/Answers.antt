@@ -1,5 +1,5 @@
 use Rattle.std.proofs.Common.{refl, arith}
-use Rattle.recovery_losses.proofs.LookLaws.{looked_first, looked_end}
+use Rattle.recovery_losses.proofs.DetectionPassLaws.{looked_first, looked_end}
 use Rattle.recovery_sender.specs.Senders.{state_in}
 use Rattle.recovery_sender.specs.Spaces.{packets_in}
 use Rattle.recovery_sender.proofs.FindLaws.{finds_on}

@@ -1,7 +1,7 @@
 use Rattle.std.proofs.Common.{[], ap, ◌∙◌}
 use Rattle.std.specs.Option.{option_map_or}
 use Rattle.recovery_spaces.specs.Spaces.{packets_of}
-use Rattle.recovery_sender.proofs.AbandonLaws.{least_tracked, none_tracked}
+use Rattle.recovery_sender.proofs.RetransmitAllLaws.{least_tracked, none_tracked}
 use Rattle.recovery_sender.proofs.sender.Sender.first_tracked.Goals as goal
 
 pub returns-in_err-number-clause-none : goal.returns-in_err-number-clause-none

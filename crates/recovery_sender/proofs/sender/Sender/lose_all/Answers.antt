@@ -1,4 +1,4 @@
-use Rattle.recovery_sender.proofs.AbandonLaws.{forsakes_as, forsakes_none, forsakes_on, fewer}
+use Rattle.recovery_sender.proofs.RetransmitAllLaws.{forsakes_as, forsakes_none, forsakes_on, fewer}
 use Rattle.recovery_sender.proofs.sender.Sender.lose_all.Goals as goal
 
 pub loop-number-init : goal.loop-number-init

@@ -1,4 +1,4 @@
-use Rattle.recovery_sender.proofs.LeftLaws.{receives_left}
+use Rattle.recovery_sender.proofs.TimerKeptLaws.{receives_left}
 use Rattle.recovery_sender.proofs.StepLaws.{does_behind}
 use Rattle.recovery_sender.proofs.sender.Sender.on_datagram.Goals as goal
 

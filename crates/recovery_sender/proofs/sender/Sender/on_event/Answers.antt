@@ -1,6 +1,6 @@
 use Rattle.recovery_history.specs.History.{queue_model}
 use Rattle.recovery_sender.specs.Senders.{state_in}
-use Rattle.recovery_sender.proofs.LeftLaws.{event_left}
+use Rattle.recovery_sender.proofs.TimerKeptLaws.{event_left}
 use Rattle.recovery_sender.proofs.StepLaws.{does_event}
 use Rattle.recovery_sender.proofs.sender.Sender.on_event.Goals as goal
 

@@ -2,7 +2,7 @@ use Rattle.std.proofs.Common.{inl, inr, refl, sym, true≢false, ◌∙◌}
 use Rattle.recovery_history.specs.History.{queue_model}
 use Rattle.recovery_sender.specs.Senders.{state_in}
 use Rattle.recovery_sender.specs.Timer.{TimerIsSet}
-use Rattle.recovery_sender.proofs.AliveLaws.{never_stalls}
+use Rattle.recovery_sender.proofs.LivenessLaws.{never_stalls}
 use Rattle.recovery_sender.proofs.TimerLaws.{timer_sets}
 use Rattle.recovery_sender.proofs.sender.Sender.set_loss_detection_timer.Goals as goal
 

@@ -1,6 +1,6 @@
 use Rattle.std.proofs.Common.{inl, refl}
 use Rattle.recovery_sender.specs.Senders.{state_in}
-use Rattle.recovery_sender.proofs.AliveLaws.{never_stalls}
+use Rattle.recovery_sender.proofs.LivenessLaws.{never_stalls}
 use Rattle.recovery_sender.proofs.sender.Sender.time_on.Goals as goal
 
 pub returns-then-was_timed : goal.returns-then-was_timed

@@ -1,7 +1,7 @@
 use Rattle.std.proofs.Common.{sym, ◌∙◌}
 use Rattle.recovery_sender.specs.Senders.{state_in}
 use Rattle.recovery_sender.proofs.CallLaws.{known_from, transmit_answered, window_kept}
-use Rattle.recovery_sender.proofs.LeftLaws.{transmits_left}
+use Rattle.recovery_sender.proofs.TimerKeptLaws.{transmits_left}
 use Rattle.recovery_sender.proofs.StepLaws.{does_behind}
 use Rattle.recovery_sender.proofs.sender.Sender.transmit.Goals as goal
 

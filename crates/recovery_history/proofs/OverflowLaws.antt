@@ -1,4 +1,4 @@
--- Counters overflow exactly where the history says so: the clause `full` of `run`.
+-- Counters overflow exactly where the history says so: the clause `overflow` of `run`.
 use Rattle.std.proofs.Common.{◌≡◌, ◌≤◌, ◌+◌, ◌^◌, ℕ, Bool, not, IsTrue, Option, None, Some, Ok, Err, ap, arith, sym}
 use Rattle.std.specs.Prelude.{sum_by, option_map}
 use Rattle.recovery_paths.specs.declared.path_pair.PathName.TheVariants.{Current, Previous}

@@ -14,34 +14,34 @@ use Rattle.recovery_history.proofs.AcknowledgedLaws.{keeps_to_acknowledge}
 use Rattle.recovery_history.proofs.BlockedLaws.{blocks_exactly}
 use Rattle.recovery_history.proofs.CountedLaws.{counts_in_flight}
 use Rattle.recovery_history.proofs.ContentsLaws.{loses_nothing}
-use Rattle.recovery_history.proofs.DutyLaws.{keeps_duty}
+use Rattle.recovery_history.proofs.AckDutyLaws.{keeps_duty}
 use Rattle.recovery_history.proofs.EcnLaws.{checks_ecn}
-use Rattle.recovery_history.proofs.FewLaws.{few_told}
+use Rattle.recovery_history.proofs.ProbeCountLaws.{few_told}
 use Rattle.recovery_history.proofs.ForgottenLaws.{forgets_oldest}
 use Rattle.recovery_history.proofs.FrequencyLaws.{takes_newest}
-use Rattle.recovery_history.proofs.FullLaws.{overflows_full}
+use Rattle.recovery_history.proofs.OverflowLaws.{overflows_full}
 use Rattle.recovery_history.proofs.HalvingLaws.{halves_told}
-use Rattle.recovery_history.proofs.HolesLaws.{holes_told}
-use Rattle.recovery_history.proofs.LeftLaws.{changes_by_logs, left_after}
+use Rattle.recovery_history.proofs.BlackHolesLaws.{holes_told}
+use Rattle.recovery_history.proofs.StateAfterLaws.{changes_by_logs, left_after}
 use Rattle.recovery_history.proofs.MtuLaws.{mtu_told}
-use Rattle.recovery_history.proofs.NearLaws.{near_told}
+use Rattle.recovery_history.proofs.ConvergenceLaws.{near_told}
 use Rattle.recovery_history.proofs.NewNumbersLaws.{numbers_told}
-use Rattle.recovery_history.proofs.OneFateLaws.{have_one_fate, leave_once}
+use Rattle.recovery_history.proofs.OneOutcomeLaws.{have_one_fate, leave_once}
 use Rattle.recovery_history.proofs.OwnIdsLaws.{asks_to_retire, issues_ids}
 use Rattle.recovery_history.proofs.PacingLaws.{delayed, rate, soon, named, covered, paid}
 use Rattle.recovery_history.proofs.PeerIdsLaws.{accepts_ids}
 use Rattle.recovery_history.proofs.PendingLaws.{hands_out}
-use Rattle.recovery_history.proofs.RefusedLaws.{refuses_rightly, spares_memory}
+use Rattle.recovery_history.proofs.RejectionsLaws.{refuses_rightly, spares_memory}
 use Rattle.recovery_history.proofs.SendableLaws.{finds_to_send}
-use Rattle.recovery_history.proofs.SizesLaws.{sizes_told}
+use Rattle.recovery_history.proofs.ProbeSizesLaws.{sizes_told}
 use Rattle.recovery_history.proofs.SkippedLaws.{keeps_next, keeps_skipped, sends_unless, skips_none}
-use Rattle.recovery_history.proofs.StartsLaws.{starts_timer}
-use Rattle.recovery_history.proofs.ThreefoldLaws.{sends_threefold}
-use Rattle.recovery_history.proofs.PlainLaws.{timers_told}
-use Rattle.recovery_history.proofs.ToldLaws.{told_by_logs}
+use Rattle.recovery_history.proofs.AckTimerLaws.{starts_timer}
+use Rattle.recovery_history.proofs.AmplificationLaws.{sends_threefold}
+use Rattle.recovery_history.proofs.UnloggedLaws.{timers_told}
+use Rattle.recovery_history.proofs.RepliesAfterLaws.{told_by_logs}
 use Rattle.recovery_history.proofs.TrackedLaws.{keeps_rising}
-use Rattle.recovery_history.proofs.TriesLaws.{tries_told}
-use Rattle.recovery_history.proofs.TurnsLaws.{turns_told}
+use Rattle.recovery_history.proofs.ProbesPerSizeLaws.{tries_told}
+use Rattle.recovery_history.proofs.OneProbeLaws.{turns_told}
 
 module _ {F K Q S M P : Type 0} (beginning : Beginning F K Q S M P) where
   -- the upper bound of a search, where paths are searched

@@ -26,7 +26,7 @@ use Rattle.recovery_mtud.proofs.SearchRunLaws.{flight_within}
 use Rattle.recovery_mtud.proofs.UnsearchedLaws.{unsearched}
 use Rattle.recovery_history.proofs.CountedLaws as counted
 use Rattle.recovery_history.proofs.MadeLaws.{is_made, made_in}
-use Rattle.recovery_history.proofs.NearLaws.{Kept, kept_by, kept_first, upper_is}
+use Rattle.recovery_history.proofs.ConvergenceLaws.{Kept, kept_by, kept_first, upper_is}
 use Rattle.recovery_history.proofs.SearchLaws.{AreSearched, searched_one}
 use Rattle.recovery_history.proofs.SearchSaid.{entered_so_far, entries_on, Follows, IsSmall}
 use Rattle.recovery_history.proofs.SkippedLaws.{same_cause}

@@ -1,4 +1,4 @@
--- The timer for a late ACK starts exactly where the history says so: the clause `starts` of `run`.
+-- The timer for a late ACK starts exactly where the history says so: the clause `ack_timer` of `run`.
 use Rattle.std.proofs.lemmas.Bool.Decides.{nat_tests}
 use Rattle.std.proofs.Common.{◌≡◌, ℕ, ◌||◌, ◌↔◌, Bool, true, false, cond, List, ◌∷◌, Option, None, Some, Ok, Err, inr, refl, arith}
 use Rattle.recovery_base.specs.declared.below.SpaceId.{SpaceId}
@@ -16,7 +16,7 @@ use Rattle.recovery_history.specs.ReplyInputs.{ReplyInputs}
 use Rattle.recovery_history.specs.Logs.{onto}
 use Rattle.recovery_history.specs.Promises.AckDuty.{timer_runs}
 use Rattle.recovery_history.specs.Promises.AckTimer.{StartsAckDelayTimer}
-use Rattle.recovery_history.proofs.DutyLaws.{AllAttended, after_one, none_attended, is_silent}
+use Rattle.recovery_history.proofs.AckDutyLaws.{AllAttended, after_one, none_attended, is_silent}
 use Rattle.recovery_history.proofs.EntryKinds.{space_kept}
 use Rattle.recovery_history.proofs.Runs.{AllAlong, throughout_kept}
 use Rattle.recovery_history.proofs.TrackedLaws.{one_space}

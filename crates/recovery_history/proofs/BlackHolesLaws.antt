@@ -1,5 +1,5 @@
 -- By the history alone reports of black holes need four bursts and come at four, as the entries of the search say: the
--- clause `holes` of `run`.
+-- clause `black_holes` of `run`.
 use Rattle.std.proofs.Common.{ℕ, ◌≡◌, true, List, [], ◌∷◌, Ok, Err, refl, ap, subst, ◌∙◌, arith}
 use Rattle.recovery_base.specs.declared.below.SpaceId.TheVariants as space
 use Rattle.recovery_mtud.specs.BurstRuns as entries_

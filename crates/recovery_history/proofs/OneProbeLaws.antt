@@ -1,4 +1,4 @@
--- By the history alone the search for the MTU goes on in turn, as its entries say: the clause `turns` of `run`.
+-- By the history alone the search for the MTU goes on in turn, as its entries say: the clause `one_probe` of `run`.
 use Rattle.std.proofs.Common.{ℕ, ◌≡◌, ◌||◌, true, false, List, ◌∷◌, Option, None, Some, Ok, Err, refl, ap, ◌∙◌, is_some, arith}
 use Rattle.std.specs.Prelude.{nat_le, IsSomeAnd}
 use Rattle.std.proofs.lemmas.Bool.Decides.{nat_tests}
@@ -18,7 +18,7 @@ use Rattle.recovery_history.specs.Promises.Convergence.{next}
 use Rattle.recovery_history.specs.Promises.Probes.{runs}
 use Rattle.recovery_history.specs.Promises.OneProbe.{OneProbeAtATime, is_probe_in_flight}
 use Rattle.recovery_history.proofs.SearchSaid.{entered_so_far, is_in_flight, IsSmall}
-use Rattle.recovery_history.proofs.NearLaws.{Kept, kept_by, kept_first, runs_same}
+use Rattle.recovery_history.proofs.ConvergenceLaws.{Kept, kept_by, kept_first, runs_same}
 use Rattle.recovery_history.proofs.SearchSteps.{Facts, throughout_facts}
 use Rattle.recovery_history.proofs.Runs.{AllAlong}
 

@@ -1,5 +1,5 @@
--- By the history alone a search ends near the best size of an honest link, as its entries say: the clause `near` of
--- `run`.
+-- By the history alone a search ends near the best size of an honest link, as its entries say: the clause `convergence`
+-- of `run`.
 use Rattle.std.proofs.Common.{ℕ, ◌≡◌, ◌||◌, min, max, Bool, true, false, if◌then◌else◌, List, [], ◌∷◌, Option, None, Some, Ok, Err, refl, sym, ap, ap₂, subst, ◌∙◌, is_some, arith}
 use Rattle.std.specs.Prelude.{nat_le, nat_lt, length}
 use Rattle.std.proofs.lemmas.Bool.Decides.{nat_tests}
@@ -23,9 +23,9 @@ use Rattle.recovery_history.specs.Promises.Mtu.{mtu, mtu_on}
 use Rattle.recovery_history.specs.Promises.Convergence.{ConvergesNearBest, IsNear, next, start}
 use Rattle.recovery_history.specs.Promises.Probes.{acked_probes, lost_probes, runs}
 use Rattle.recovery_history.proofs.SearchSaid.{entered_so_far, Follows, Keeps, IsSmall}
-use Rattle.recovery_history.proofs.FewLaws as few
+use Rattle.recovery_history.proofs.ProbeCountLaws as few
 use Rattle.recovery_mtud.proofs.SearchRunLaws.{idle_before}
-use Rattle.recovery_history.proofs.HolesLaws as holes
+use Rattle.recovery_history.proofs.BlackHolesLaws as holes
 use Rattle.recovery_history.proofs.MadeLaws.{is_made, made_in, resumed}
 use Rattle.recovery_history.proofs.LeftMtuLaws.{IsLeft, IsNow, left_after, left_at_first, left_is}
 use Rattle.recovery_history.proofs.SearchLaws.{ends_one, mtu_one}

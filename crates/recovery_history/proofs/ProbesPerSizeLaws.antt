@@ -1,5 +1,5 @@
--- A search probes each size three times at most, as its entries and what a discovery holds say: the clause `tries` of
--- `run`.
+-- A search probes each size three times at most, as its entries and what a discovery holds say: the clause
+-- `probes_per_size` of `run`.
 use Rattle.std.proofs.lemmas.Bool.Decides.{nat_tests}
 use Rattle.std.proofs.lemmas.Option.{none-some, same_Some}
 use Rattle.std.proofs.Common.{◌≡◌, ◌⊎◌, ℕ, ◌+◌, ◌<◌, ◌≤◌, Option, Some, None, Bool, true, false, List, [], ◌∷◌, arith, refl, sym, ◌∙◌}
@@ -18,7 +18,7 @@ use Rattle.recovery_mtud.proofs.SearchRunLaws.{idle_search}
 use Rattle.recovery_history.specs.RepliesAfter.{pasts_of}
 use Rattle.recovery_history.specs.History.{Beginning}
 use Rattle.recovery_history.specs.Promises.ProbesPerSize.{tries, ProbesSizeAtMostThrice}
-use Rattle.recovery_history.proofs.FewLaws as few
+use Rattle.recovery_history.proofs.ProbeCountLaws as few
 use Rattle.recovery_history.proofs.Runs.{AllAlong}
 use Rattle.recovery_history.proofs.SearchLaws.{searched_one}
 use Rattle.recovery_history.proofs.SearchSteps.{throughout_facts}

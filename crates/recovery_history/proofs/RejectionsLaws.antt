@@ -1,5 +1,5 @@
 -- Refusals that follow from the history are given exactly where it says so, and memory is refused only where something
--- may grow: the clauses `refused` and `allocates_to_grow` of `run`.
+-- may grow: the clauses `rejections` and `allocates_to_grow` of `run`.
 use Rattle.std.proofs.Common.{◌≡◌, ℕ, ◌==◌, Bool, true, false, Option, None, Some, Ok, Err, refl, sym, ap, ◌∙◌, arith}
 use Rattle.std.specs.Prelude.{IsTrue, is_some, option_map}
 use Rattle.std.proofs.lemmas.Bool.Decides.{nat_tests}

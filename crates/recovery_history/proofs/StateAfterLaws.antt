@@ -1,5 +1,5 @@
 -- What the parts know is what their logs say, and one event more leaves what its entries say. The loop of `run` and
--- `PastLaws` carry it from event to event.
+-- `ReachabilityLaws` carry it from event to event.
 use Rattle.std.proofs.Common.{arith, ◌≡◌, ℕ, List, [], ◌∷◌, Option, None, Some, sym, ap, ◌∙◌}
 use Rattle.std.proofs.Math.Path.{fun_ext}
 use Rattle.recovery_base.specs.declared.below.SpaceId.{SpaceId}
@@ -30,10 +30,10 @@ use Rattle.recovery_history.specs.Logs.{onto}
 use Rattle.recovery_history.specs.RecoveryState.{RecoveryState}
 use Rattle.recovery_history.specs.StateAfter.{InFlightAfter, LoggedStateAfter}
 use Rattle.recovery_history.specs.Transitions.{acks_to, SkippingStep, StateTransitionBy, StateTransition, inputs_of}
-use Rattle.recovery_history.proofs.AboveLaws.{untouched_stays}
+use Rattle.recovery_history.proofs.CallerStateLaws.{untouched_stays}
 use Rattle.recovery_history.proofs.LogLaws.{left_by_entry}
 use Rattle.recovery_history.proofs.PeerIdsLaws.{held_same}
-use Rattle.recovery_history.proofs.PlainLaws.{plain_after}
+use Rattle.recovery_history.proofs.UnloggedLaws.{plain_after}
 
 module _ {F K Q S M P : Type 0} (beginning : Beginning F K Q S M P) where
   -- ---- what is in flight

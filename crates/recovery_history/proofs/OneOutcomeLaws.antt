@@ -1,4 +1,5 @@
--- Each number has one fate throughout a run, and so it leaves once: the clauses `fates` and `once` of `run`.
+-- Each number has one fate throughout a run, and so it leaves once: the clauses `one_outcome` and `resolved_once` of
+-- `run`.
 use Rattle.std.proofs.Common.{arith}
 use Rattle.recovery_history.specs.History.{AtEach, Beginning, History}
 use Rattle.recovery_history.specs.Promises.Fates.{HaveOneOutcome}

@@ -1,4 +1,5 @@
--- What the layer above keeps with paths and spaces stays as events go by. `LeftLaws` and the steps of calls rest on it.
+-- What the layer above keeps with paths and spaces stays as events go by. `StateAfterLaws` and the steps of calls rest
+-- on it.
 use Rattle.std.proofs.Common.{◌≡◌, ℕ, true, false, Option, None, Some, option_map, Ok, Err, refl, ap, ◌∙◌, arith}
 use Rattle.std.proofs.lemmas.Option.{none-some}
 use Rattle.recovery_base.specs.declared.below.frames.EcnCounts.{EcnCounts}

@@ -10,7 +10,7 @@ use Rattle.recovery_losses.specs.declared.looks.Candidate.{Candidate}
 use Rattle.recovery_losses.specs.declared.looks.LossPass.{LossPass}
 use Rattle.recovery_losses.specs.declared.tally.Run.{Run}
 use Rattle.recovery_losses.specs.declared.tally.Tally.{Tally}
-use Rattle.recovery_losses.proofs.RunLaws.{run_end, run_first, run_like, run_on}
+use Rattle.recovery_losses.proofs.PersistentCongestionLaws.{run_end, run_first, run_like, run_on}
 use Rattle.recovery_losses.specs.DetectionPass.{PassSoFar}
 use Rattle.recovery_losses.specs.PersistentCongestion.{IsEndAt, IsLossRun}
 use Rattle.recovery_losses.specs.Losses.{AreLost, AreIncreasing, IsBelow, IsDueAt, IsEarliest, IsLost, IsLostBelow, IsNextLossCandidate, IsOneOf, IsDeclaredLost, NoneFrom, bytes_counted, counting, finding_probe, going_on, is_counted, is_end, last_counted, later_of, nothing_found, sent_counted, size_counted, waiting, without_all}

@@ -1,5 +1,5 @@
--- The parts of which no log is kept, one event at a time: what they hold is what the history says. `LeftLaws` rest on
--- it.
+-- The parts of which no log is kept, one event at a time: what they hold is what the history says. `StateAfterLaws`
+-- rest on it.
 use Rattle.std.proofs.Common.{arith, ◌≡◌, ℕ, true, List, ◌∷◌, Ok, Err, ap}
 use Rattle.recovery_base.specs.declared.below.SpaceId.{SpaceId}
 use Rattle.recovery_base.specs.declared.timer.Timer.{Timer}

@@ -1,5 +1,5 @@
 -- While an ack-eliciting packet waits, an ACK is required at once or the timer was started, by what each event is told:
--- the clause `duty` of `run`.
+-- the clause `ack_scheduled` of `run`.
 use Rattle.std.proofs.lemmas.Bool.Decides.{nat_tests}
 use Rattle.std.proofs.Common.{◌≡◌, ◌<◌, ℕ, Bool, true, false, ◌||◌, cond, List, [], ◌∷◌, Option, None, Some, Ok, Err, ◌⊎◌, refl, arith}
 use Rattle.recovery_base.specs.declared.below.SpaceId.{SpaceId}

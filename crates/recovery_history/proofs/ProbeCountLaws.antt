@@ -1,4 +1,4 @@
--- By the history alone a search takes few probes, as its entries say: the clause `few` of `run`.
+-- By the history alone a search takes few probes, as its entries say: the clause `probe_count` of `run`.
 use Rattle.std.proofs.Common.{ℕ, ◌≡◌, true, List, ◌∷◌, Option, Ok, Err, refl, ap, is_some, arith}
 use Rattle.std.specs.Option.{IfSome}
 use Rattle.recovery_base.specs.declared.below.SpaceId.TheVariants as space

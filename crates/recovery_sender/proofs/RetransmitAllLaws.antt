@@ -9,7 +9,7 @@ use Rattle.recovery_spaces.specs.Packets.{Packet, Packets, packet_at, without, f
 use Rattle.recovery_spaces.proofs.PacketLaws.{number_at}
 use Rattle.recovery_queue.specs.Slots.{is_from, AreFrom}
 use Rattle.recovery_losses.specs.Losses.{IsOneOf, without_all}
-use Rattle.recovery_losses.proofs.LookLaws.{all_other, one_more, without_more}
+use Rattle.recovery_losses.proofs.DetectionPassLaws.{all_other, one_more, without_more}
 use Rattle.recovery_losses.proofs.LossLaws.{found_from, lowest_from}
 use Rattle.recovery_history.specs.History.{queue_model}
 use Rattle.recovery_history.specs.RecoveryState.{RecoveryState}

@@ -1,4 +1,4 @@
--- What the parts of a recovery tell is what the history tells: the clause `told` of `run`, event by event.
+-- What the parts of a recovery tell is what the history tells: the clause `reply` of `run`, event by event.
 use Rattle.std.proofs.Common.{arith, ℕ, ◌↔◌, Bool, IsSome}
 use Rattle.recovery_base.specs.declared.below.SpaceId.{SpaceId}
 use Rattle.recovery_base.specs.Numbers.{RecentNumbers, IsNewNumber}

@@ -18,7 +18,7 @@ use Rattle.recovery_sender.specs.TimerUnchanged.{leaves_timer}
 use Rattle.recovery_sender.specs.Senders.{state_in}
 use Rattle.recovery_sender.specs.Steps.{told, TakesSteps}
 use Rattle.recovery_sender.specs.Timer.{TimerIsSet}
-use Rattle.recovery_sender.proofs.LeavingLaws.{left_by, received_in, transmitted_left}
+use Rattle.recovery_sender.proofs.TimerUnchangedLaws.{left_by, received_in, transmitted_left}
 
 -- ---- an event
 
