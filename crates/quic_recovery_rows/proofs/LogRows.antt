@@ -22,10 +22,10 @@ module _ {F K Q S M P : Type 0} (beginning : Beginning F K Q S M P) (queue : Q) 
       ∷ (Received Data 5 0 true, Ok (answer.New true))
       ∷ []
 
-  idle_is_set : (inputs_after beginning row).moment_of Idle ≡ Some 50
+  idle_is_set : (inputs_after beginning row).timer_value Idle ≡ Some 50
   idle_is_set = refl
 
-  pacing_is_stopped : (inputs_after beginning row).moment_of Pacing ≡ None
+  pacing_is_stopped : (inputs_after beginning row).timer_value Pacing ≡ None
   pacing_is_stopped = refl
 
   one_is_tracked : (sent_by beginning.queue.words ((logs_of beginning row).spaces Initial)).tracked

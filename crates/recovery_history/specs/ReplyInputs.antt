@@ -38,7 +38,7 @@ pub record ReplyInputs (K P M : Type 0) : Type 0 where
   -- the ids that this end issued
   pub local_ids : LocalIds
   -- the moment that a timer is set to
-  pub moment_of : Timer → Option ℕ
+  pub timer_value : Timer → Option ℕ
   -- what is kept for the paths
   pub paths : PerPath (PathReplyInputs K)
   -- the largest size that the peer takes, where it said so

@@ -112,7 +112,7 @@ module _ {K Q S M P : Type 0} (q : QueueModel Q S M P) (words : ControllerSemant
   ReplyTable (AckDelayTimeout space) = UnlessSpaceDiscarded (known.spaces space) AnswersDone
   ReplyTable (SetTimer timer time) = AnswersDone
   ReplyTable (StopTimer timer) = AnswersDone
-  ReplyTable NextTimeout = AlwaysAnswers (EqualsAnswer (answers.Timeout (least (map known.moment_of every_timer))))
+  ReplyTable NextTimeout = AlwaysAnswers (EqualsAnswer (answers.Timeout (least (map known.timer_value every_timer))))
   ReplyTable (DiscardSpace space) = UnlessSpaceDiscarded (known.spaces space) AnswersDone
   ReplyTable (InFlight path) = UnlessPathMissing (path_of path known.paths)
       (λ there. let counters = in_flight_on known there in

@@ -36,7 +36,7 @@ inputs_of recovery = record {
   last_asked = recovery.frequency.last_ack_frequency_frame;
   remote_ids = remote_ids recovery.remote_cids;
   local_ids = recovery.local_ids;
-  moment_of = λ kind. moment kind recovery.timers;
+  timer_value = λ kind. moment kind recovery.timers;
   paths = paths_known recovery.paths;
   peer_limit = recovery.peer_limit;
 }

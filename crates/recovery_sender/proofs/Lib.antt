@@ -15,3 +15,4 @@ pub mod PastLaws
 pub mod PromiseLaws
 pub mod StepLaws
 pub mod TimerLaws
+pub mod RunLaws

@@ -1,13 +1,15 @@
-pub mod RetransmitAll
 pub mod Acking
 pub mod Acks
+pub mod CallReplies
 pub mod Calls
 pub mod Detection
-pub mod TimerUnchanged
 pub mod Losses
 pub mod Promises
+pub mod RetransmitAll
+pub mod Runs
 pub mod Senders
 pub mod Spaces
 pub mod Steps
 pub mod Timeouts
 pub mod Timer
+pub mod TimerUnchanged

@@ -3,9 +3,15 @@
 //! `specs/Timer.antt`.
 #![tactic(auto)]
 
+mod caller;
+mod calls;
+mod runs;
 pub mod sender;
 
+pub use caller::Caller;
+pub use calls::{Call, CallRecord, CallReplyValue, Datagram, Expiry, Frame};
 pub use recovery_losses::{Ack, Due, Side, Variables};
+pub use runs::{run, run_over};
 pub use sender::{
     Acknowledged, EcnOutcome, Losses, NewlyAcked, Sender, SenderError, Timeout, Transmission,
     passes,

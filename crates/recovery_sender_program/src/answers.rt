@@ -5,8 +5,10 @@ use quic_recovery::time::Instant;
 use quic_recovery::{Answer, Refusal};
 use recovery_queue::items::ItemQueue;
 use recovery_reply_text::answers::write_reply;
-use recovery_sender::{Acknowledged, EcnOutcome, Losses, SenderError, Timeout, Transmission};
-use recovery_sender_calls::{CallRecord, CallReplyValue};
+use recovery_sender::{
+    Acknowledged, CallRecord, CallReplyValue, EcnOutcome, Losses, SenderError, Timeout,
+    Transmission,
+};
 use std::alloc::{AllocError, Global};
 
 fn push_number(text: &mut String, before: &str, number: u64) -> Result<(), AllocError> {

@@ -4,8 +4,7 @@ use recovery_queue::items::ItemQueue;
 use recovery_script_syntax::lines::{LINE_LIMIT, push_event};
 use recovery_script_syntax::number_in;
 use recovery_script_syntax::words::{Words, is_name};
-use recovery_sender::{Ack, passes};
-use recovery_sender_calls::{Call, Datagram, Expiry, Frame};
+use recovery_sender::{Ack, Call, Datagram, Expiry, Frame, passes};
 use std::alloc::Global;
 
 /// The call of a line, given without its line feed, if it spells one.

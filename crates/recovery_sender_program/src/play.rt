@@ -17,8 +17,7 @@ use recovery_replay::reading::{Next, next_line};
 use recovery_replay::replay::{FIRST_PORT, config, skips};
 use recovery_replay::writing::deliver;
 use recovery_script_syntax::lines::peer_at;
-use recovery_sender::Sender;
-use recovery_sender_calls::{Call, CallRecord, run_over};
+use recovery_sender::{Call, CallRecord, Sender, run_over};
 use std::alloc::Global;
 use std::io::{ErrorKind, Read, Write};
 

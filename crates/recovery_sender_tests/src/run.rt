@@ -7,8 +7,7 @@ use quic_recovery_rows::tally::Tally;
 use rand_pcg::Pcg32;
 use recovery_base::below::SpaceId;
 use recovery_base::time::Duration;
-use recovery_sender::{Ack, Sender, Side};
-use recovery_sender_calls::{Call, CallRecord, CallReplyValue, Frame, run};
+use recovery_sender::{Ack, Call, CallRecord, CallReplyValue, Frame, Sender, Side, run};
 use std::alloc::Global;
 
 /// A packet of 1-RTT keys goes out.

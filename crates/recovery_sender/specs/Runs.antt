@@ -8,9 +8,9 @@ use Rattle.recovery_sender.specs.Calls.{IsNewSender}
 use Rattle.recovery_sender.specs.Senders.{state_in}
 use Rattle.recovery_sender.specs.declared.sender.Sender.{Sender}
 use Rattle.recovery_losses.specs.declared.variables.Side.{Side}
-use Rattle.recovery_sender_calls.specs.Calls.{CallReply}
-use Rattle.recovery_sender_calls.specs.declared.calls.Call.{Call}
-use Rattle.recovery_sender_calls.specs.declared.calls.CallRecord.{CallRecord}
+use Rattle.recovery_sender.specs.CallReplies.{CallReply}
+use Rattle.recovery_sender.specs.declared.calls.Call.{Call}
+use Rattle.recovery_sender.specs.declared.calls.CallRecord.{CallRecord}
 
 module _ {F Q R C K S M P : Type 0} {f : _} {c : _} {q : _} {m : _} {r : _} where
   -- what is said to a call: its reply, and when the timer for losses is due then

@@ -1,5 +1,5 @@
-use Rattle.recovery_sender_calls.proofs.RunLaws.{runs_from}
-use Rattle.recovery_sender_calls.proofs.runs.run_over.Goals as goal
+use Rattle.recovery_sender.proofs.RunLaws.{runs_from}
+use Rattle.recovery_sender.proofs.runs.run_over.Goals as goal
 
 pub returns : goal.returns
 returns g c = runs_from g.S.Sink.takes _ (λ runner. runner.caller.sender) (λ runner. runner.said)

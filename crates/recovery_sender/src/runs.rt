@@ -3,10 +3,11 @@ ghost use Rattle.std.specs.Prelude.{◌≤◌, ◌<◌, ◌^◌, ◌⊎◌, IfOk
 ghost use Rattle.recovery_base.specs.declared.timer.Timer.TheVariants.{LossDetection};
 ghost use Rattle.recovery_events.specs.Feeding.{TakesAll};
 ghost use Rattle.recovery_packet_numbers.specs.Skips.{IsSkips};
-ghost use Rattle.recovery_sender_calls.specs.Runs.{IsRun, CallIntoSink, CallsOverSource};
+ghost use Rattle.recovery_sender.specs.Runs.{IsRun, CallIntoSink, CallsOverSource};
 
 use crate::caller::Caller;
 use crate::calls::{Call, CallRecord};
+use crate::sender::Sender;
 use quic_recovery::RecoveryConfig;
 use quic_recovery::below::NoMemory;
 use quic_recovery::congestion::ControllerFactory;
@@ -14,7 +15,7 @@ use quic_recovery::queue::RetransmitQueue;
 use quic_recovery::time::Instant;
 use rand_core::Rng;
 use recovery_events::feeding::{Sink, Source};
-use recovery_sender::{Sender, Side};
+use recovery_losses::Side;
 use std::alloc::Global;
 
 /// A sender that takes calls, and the sink of what is said to them.

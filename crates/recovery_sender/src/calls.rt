@@ -1,9 +1,10 @@
 //! Calls, and what they come to.
+use crate::sender::{Acknowledged, SenderError, Timeout, Transmission};
 use quic_recovery::below::SpaceId;
 use quic_recovery::queue::RetransmitQueue;
 use quic_recovery::time::{Duration, Instant};
 use quic_recovery::{Answer, Event};
-use recovery_sender::{Ack, Acknowledged, SenderError, Timeout, Transmission};
+use recovery_losses::Ack;
 
 /// A datagram that is to go out.
 #[derive(Clone, Copy)]

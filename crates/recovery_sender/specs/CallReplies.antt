@@ -20,11 +20,11 @@ use Rattle.recovery_sender.specs.declared.sender.Sender.{Sender}
 use Rattle.recovery_losses.specs.declared.variables.Variables.{Variables}
 use Rattle.recovery_sender.specs.declared.sender.packets.Transmission.{Transmission}
 use Rattle.recovery_sender.specs.declared.sender.packets.Transmission.TheVariants.{Transmitted}
-use Rattle.recovery_sender_calls.specs.declared.calls.Call.{Call}
-use Rattle.recovery_sender_calls.specs.declared.calls.Call.TheVariants as calls
-use Rattle.recovery_sender_calls.specs.declared.calls.Datagram.{Datagram}
-use Rattle.recovery_sender_calls.specs.declared.calls.CallReplyValue.{CallReplyValue}
-use Rattle.recovery_sender_calls.specs.declared.calls.CallReplyValue.TheVariants as replies
+use Rattle.recovery_sender.specs.declared.calls.Call.{Call}
+use Rattle.recovery_sender.specs.declared.calls.Call.TheVariants as calls
+use Rattle.recovery_sender.specs.declared.calls.Datagram.{Datagram}
+use Rattle.recovery_sender.specs.declared.calls.CallReplyValue.{CallReplyValue}
+use Rattle.recovery_sender.specs.declared.calls.CallReplyValue.TheVariants as replies
 
 -- done or refused
 abbrev pub is_done : {Q : Type 0} → Result (Unit {0}) SenderError → Result (CallReplyValue Q) SenderError

@@ -1,15 +1,15 @@
 //! A sender that takes calls as values.
 ghost use Rattle.std.specs.Prelude.{◌≡◌};
-ghost use Rattle.recovery_sender_calls.specs.Calls.{is_done, CallReply};
+ghost use Rattle.recovery_sender.specs.CallReplies.{is_done, CallReply};
 
 use crate::calls::{Call, CallReplyValue, Datagram, Expiry, Frame};
+use crate::sender::{Sender, SenderError, passes};
 use quic_recovery::Event;
 use quic_recovery::below::SpaceId;
 use quic_recovery::congestion::ControllerFactory;
 use quic_recovery::queue::RetransmitQueue;
 use quic_recovery::time::{Duration, Instant};
 use rand_core::Rng;
-use recovery_sender::{Sender, SenderError, passes};
 
 /// A sender that takes calls as values.
 #[derive(Drop)]

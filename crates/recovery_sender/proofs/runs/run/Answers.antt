@@ -1,6 +1,6 @@
 use Rattle.std.proofs.Common.{◌≡◌, ◌<◌, true, false, ℕ, zero, suc, length, Result, Ok, Err, OnErr, inr, arith, refl}
-use Rattle.recovery_sender_calls.proofs.RunLaws.{over_lists}
-use Rattle.recovery_sender_calls.proofs.runs.run.Goals as goal
+use Rattle.recovery_sender.proofs.RunLaws.{over_lists}
+use Rattle.recovery_sender.proofs.runs.run.Goals as goal
 
 pub returns-clause-runs : goal.returns-clause-runs
 returns-clause-runs g c = record {

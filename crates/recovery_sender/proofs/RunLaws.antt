@@ -4,9 +4,9 @@ use Rattle.std.specs.Global.{Vec}
 use Rattle.recovery_events.specs.Feeding.{PushesInto, TakesAll}
 use Rattle.recovery_events.proofs.FeedingLaws.{fills}
 use Rattle.recovery_sender.specs.declared.sender.Sender.{Sender}
-use Rattle.recovery_sender_calls.specs.Runs.{CallIntoSink, RunsCalls, CallsOverSource}
-use Rattle.recovery_sender_calls.specs.declared.calls.Call.{Call}
-use Rattle.recovery_sender_calls.specs.declared.calls.CallRecord.{CallRecord}
+use Rattle.recovery_sender.specs.Runs.{CallIntoSink, RunsCalls, CallsOverSource}
+use Rattle.recovery_sender.specs.declared.calls.Call.{Call}
+use Rattle.recovery_sender.specs.declared.calls.CallRecord.{CallRecord}
 
 module _ {F Q R C K S M P : Type 0} {f : _} {c : _} {q : _} {m : _} {r : _} where
   -- a sink of calls that passes on what is said to each
