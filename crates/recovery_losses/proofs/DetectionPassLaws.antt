@@ -160,7 +160,7 @@ module _ {P M : Type 0} (look : LossPass) (old : Packets P M) where
     };
     bytes = refl;
     last_sent = refl;
-    run = run_first _ _ look.period 0 none_told (λ number sent ends. absurd ends.told);
+    run = run_first _ _ look.skipped look.period 0 none_told (λ number sent ends. absurd ends.told);
   }
     where
       none_told : (number : ℕ) → IsDeclaredLost [] None number → ⊥
@@ -193,7 +193,7 @@ module _ {P M : Type 0} (look : LossPass) (old : Packets P M) where
       };
       bytes = looked.bytes;
       last_sent = looked.last_sent;
-      run = run_like _ _ look.period from end tally.run above looked.run;
+      run = run_like _ _ look.skipped look.period from end tally.run above looked.run;
     }
 
     -- ---- the next packet
@@ -239,7 +239,7 @@ module _ {P M : Type 0} (look : LossPass) (old : Packets P M) where
         earliest = record { one = one; least = least };
         bytes = looked.bytes;
         last_sent = looked.last_sent;
-        run = run_like _ _ look.period from (next.number + 1) tally.run (omega (arith, is.from_on)) looked.run;
+        run = run_like _ _ look.skipped look.period from (next.number + 1) tally.run (omega (arith, is.from_on)) looked.run;
       }
         where
           due_here : IsDueAt look next.number is.packet.time_sent due
@@ -315,7 +315,7 @@ module _ {P M : Type 0} (look : LossPass) (old : Packets P M) where
         bytes = looked.bytes;
         last_sent = looked.last_sent;
         run = run_on (IsDeclaredLost numbers tally.probe) (IsDeclaredLost numbers look.probe) (IsEndAt look old numbers)
-            (IsEndAt look old numbers) look.period from next.number tally.run looked.run is.from_on (inr probe)
+            (IsEndAt look old numbers) look from next.number tally.run looked.run is.from_on (inr probe)
             told_still was_told (λ other sent ends. ends) (λ other sent ends. ends);
       }
         where
@@ -358,9 +358,9 @@ module _ {P M : Type 0} (look : LossPass) (old : Packets P M) where
             ∙ sym (last_more look old numbers next.number
             ∙ ap (λ there. later_of (last_counted look old numbers) (sent_counted look old there)) here.0);
         run = subst (λ probe. IsLossRun (IsDeclaredLost (numbers ++ next.number ∷ []) probe)
-            (IsEndAt look old (numbers ++ next.number ∷ [])) look.period (next.number + 1)
+            (IsEndAt look old (numbers ++ next.number ∷ [])) look.skipped look.period (next.number + 1)
             (counting look next tally).run) (sym counted.1) (run_lost (is_counted look next.size next.path_generation)
-            (is_end look next.number next.ack_eliciting) refl refl);
+            (is_end look next.number next.time_sent next.ack_eliciting) refl refl);
       }
         where
           end_more : (number sent : ℕ) → IsEndAt look old numbers number sent
@@ -377,20 +377,20 @@ module _ {P M : Type 0} (look : LossPass) (old : Packets P M) where
           this_end : (number sent : ℕ) → IsEndAt look old (numbers ++ next.number ∷ []) number sent
               → next.number ≡ number → (next.number ≡ number) × (next.time_sent ≡ sent)
               × (is_counted look next.size next.path_generation ≡ true)
-              × (is_end look next.number next.ack_eliciting ≡ true)
+              × (is_end look next.number next.time_sent next.ack_eliciting ≡ true)
           this_end number sent ends same =
               let one : ends.packet ≡ is.packet = same_Some ends.packet is.packet
               (sym ends.is ∙ ap (λ n. packet_at old n) (sym same) ∙ here.0) in (
                 same,
                 is.is.time_sent ∙ sym (ap (λ (p : Packet P M). p.time_sent) one) ∙ ends.sent_then,
                 rw (is.is.size, is.is.path_generation, ← one) ends.counts,
-                rw (is.is.ack_eliciting, ← one, same) ends.ends,
+                rw (is.is.ack_eliciting, is.is.time_sent, ← one, same) ends.ends,
               )
 
           end_less : (number sent : ℕ) → IsEndAt look old (numbers ++ next.number ∷ []) number sent
               → IsEndAt look old numbers number sent ⊎ ((next.number ≡ number) × (next.time_sent ≡ sent)
               × (is_counted look next.size next.path_generation ≡ true)
-              × (is_end look next.number next.ack_eliciting ≡ true))
+              × (is_end look next.number next.time_sent next.ack_eliciting ≡ true))
           end_less number sent ends = elim (one_more numbers next.number number ends.told) [
             | inl before ↦ inl (record {
               told = before;
@@ -421,28 +421,28 @@ module _ {P M : Type 0} (look : LossPass) (old : Packets P M) where
           told_still number (inr told) = inr told
 
           run_before : IsLossRun (IsDeclaredLost (numbers ++ next.number ∷ []) tally.probe)
-              (IsEndAt look old numbers) look.period
-              (next.number + 1) (going_on next.number tally.run)
+              (IsEndAt look old numbers) look.skipped look.period
+              (next.number + 1) (going_on look next.number tally.run)
           run_before = run_on (IsDeclaredLost numbers tally.probe)
               (IsDeclaredLost (numbers ++ next.number ∷ []) tally.probe)
-              (IsEndAt look old numbers) (IsEndAt look old numbers) look.period from next.number tally.run looked.run
+              (IsEndAt look old numbers) (IsEndAt look old numbers) look from next.number tally.run looked.run
               is.from_on (inl (last_among numbers next.number)) told_still was_told (λ other sent ends. ends)
               (λ other sent ends. ends)
 
           run_no_end : ((number sent : ℕ) → IsEndAt look old (numbers ++ next.number ∷ []) number sent
               → IsEndAt look old numbers number sent)
               → IsLossRun (IsDeclaredLost (numbers ++ next.number ∷ []) tally.probe)
-              (IsEndAt look old (numbers ++ next.number ∷ [])) look.period (next.number + 1)
-              (going_on next.number tally.run)
+              (IsEndAt look old (numbers ++ next.number ∷ [])) look.skipped look.period (next.number + 1)
+              (going_on look next.number tally.run)
           run_no_end less = run_on (IsDeclaredLost numbers tally.probe)
               (IsDeclaredLost (numbers ++ next.number ∷ []) tally.probe)
-              (IsEndAt look old numbers) (IsEndAt look old (numbers ++ next.number ∷ [])) look.period from next.number
+              (IsEndAt look old numbers) (IsEndAt look old (numbers ++ next.number ∷ [])) look from next.number
               tally.run looked.run is.from_on (inl (last_among numbers next.number)) told_still was_told end_more less
 
           run_lost : (counts ends : Bool) → is_counted look next.size next.path_generation ≡ counts
-              → is_end look next.number next.ack_eliciting ≡ ends
+              → is_end look next.number next.time_sent next.ack_eliciting ≡ ends
               → IsLossRun (IsDeclaredLost (numbers ++ next.number ∷ []) tally.probe)
-              (IsEndAt look old (numbers ++ next.number ∷ [])) look.period (next.number + 1)
+              (IsEndAt look old (numbers ++ next.number ∷ [])) look.skipped look.period (next.number + 1)
               (counting look next tally).run
           run_lost false ends none_counts is_ends = rw none_counts (run_no_end (λ number sent found.
               elim (end_less number sent found) [
@@ -457,12 +457,12 @@ module _ {P M : Type 0} (look : LossPass) (old : Packets P M) where
           run_lost true true is_counts is_ends = rw (is_counts, is_ends) (run_end
               (IsDeclaredLost (numbers ++ next.number ∷ []) tally.probe) (IsEndAt look old numbers)
               (IsEndAt look old (numbers ++ next.number ∷ [])) look (next.number + 1) next.number next.time_sent
-              (going_on next.number tally.run) run_before refl end_under (record {
+              (going_on look next.number tally.run) run_before refl end_under (record {
                 told = last_among numbers next.number;
                 packet = is.packet;
                 is = here.0;
                 counts = rw (← is.is.size, ← is.is.path_generation) is_counts;
-                ends = rw (← is.is.ack_eliciting) is_ends;
+                ends = rw (← is.is.ack_eliciting, ← is.is.time_sent) is_ends;
                 sent_then = sym is.is.time_sent;
               }) end_more (λ number sent found. elim (end_less number sent found) [
                 | inl before ↦ inl before

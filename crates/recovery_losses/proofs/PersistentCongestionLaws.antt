@@ -1,20 +1,58 @@
 -- The run of numbers that are lost goes on from number to number (RFC 9002, 7.6).
 use Rattle.std.proofs.Common.{◌≡◌, ℕ, ◌+◌, ◌-◌, ◌<◌, ◌≤◌, ◌⊎◌, ◌||◌, min, nat_lt, true, false, Bool, Decides, true≢false, ltb-true, lt-ltb, Option, None, Some, if◌then◌else◌, refl, sym, ap, subst, ◌∙◌, inl, inr, arith}
 use Rattle.std.specs.Option.{option_map_or}
+use Rattle.std.proofs.lemmas.Bool.Decides.{nat_tests}
 use Rattle.std.proofs.lemmas.Bool.Decides.{eqb_tells, leb_tells}
 use Rattle.std.proofs.lemmas.Option.{none-some, same_Some}
 use Rattle.recovery_losses.specs.declared.looks.LossPass.{LossPass}
 use Rattle.recovery_losses.specs.declared.tally.Run.{Run}
 use Rattle.recovery_losses.specs.Losses.{ending, follows, going_on, no_run}
-use Rattle.recovery_losses.specs.PersistentCongestion.{IsInRun, IsPersistentCongestion, IsLossRun}
+use Rattle.recovery_losses.specs.PersistentCongestion.{IsInRun, IsLostOrSkipped, IsPersistentCongestion, IsLossRun}
+
+-- ---- what comes right after a number, but for one that was skipped
+
+follows_next : (skipped : Option ℕ) (last number : ℕ) → last + 1 ≡ number → follows skipped (Some last) number ≡ true
+follows_next None last number next = grind (arith, nat_tests, next)
+follows_next (Some other) last number next = grind (arith, nat_tests, next)
+
+follows_over : (skipped : Option ℕ) (last number : ℕ) → skipped ≡ Some (last + 1) → last + 2 ≡ number
+    → follows skipped (Some last) number ≡ true
+follows_over None last number is over = absurd (none-some (last + 1) is)
+follows_over (Some other) last number is over =
+    let same = same_Some other (last + 1) is in grind (arith, nat_tests, same, over)
+
+comes_after : (skipped previous : Option ℕ) (number : ℕ) → follows skipped previous number ≡ true
+    → (last : ℕ) × (previous ≡ Some last)
+    × ((last + 1 ≡ number) ⊎ (skipped ≡ Some (last + 1)) × (last + 2 ≡ number))
+comes_after None None number continued = absurd (true≢false (sym continued))
+comes_after (Some other) None number continued = absurd (true≢false (sym continued))
+comes_after None (Some last) number continued = (last, refl, inl (grind (arith, nat_tests, continued)))
+comes_after (Some other) (Some last) number continued = (
+  last,
+  refl,
+  elim (eqb_tells (last + 1) number) [
+    | inl next ↦ inl next.1
+    | inr apart ↦ (
+        let over : (last + 1 ≡ other) × (other + 1 ≡ number) = grind (arith, nat_tests, continued, apart.0) in
+        inr (ap (λ n. Some n) (sym over.0), omega (arith, over.0, over.1))
+        )
+  ],
+)
+
+-- what is lost or skipped by some numbers is so by others, of which they are
+passed_like : (IsLostNow LostThen : ℕ → Type 0) (skipped : Option ℕ) (number : ℕ)
+    → (IsLostNow number → LostThen number) → IsLostOrSkipped IsLostNow skipped number
+    → IsLostOrSkipped LostThen skipped number
+passed_like IsLostNow LostThen skipped number lost (inl now) = inl (lost now)
+passed_like IsLostNow LostThen skipped number lost (inr over) = inr over
 
 -- congestion that persists by some numbers persists by others, of which they are
-persists_like : (IsLostNow LostThen : ℕ → Type 0) (IsEnd EndThen : ℕ → ℕ → Type 0) (period : ℕ)
-    → (there : IsPersistentCongestion IsLostNow IsEnd period)
+persists_like : (IsLostNow LostThen : ℕ → Type 0) (IsEnd EndThen : ℕ → ℕ → Type 0) (skipped : Option ℕ) (period : ℕ)
+    → (there : IsPersistentCongestion IsLostNow IsEnd skipped period)
     → EndThen there.first there.first_sent → EndThen there.last there.last_sent
     → ((number : ℕ) → number ≤ there.last → IsLostNow number → LostThen number)
-    → IsPersistentCongestion LostThen EndThen period
-persists_like IsLostNow LostThen IsEnd EndThen period there begins ends lost = record {
+    → IsPersistentCongestion LostThen EndThen skipped period
+persists_like IsLostNow LostThen IsEnd EndThen skipped period there begins ends lost = record {
   first = there.first;
   last = there.last;
   first_sent = there.first_sent;
@@ -22,15 +60,16 @@ persists_like IsLostNow LostThen IsEnd EndThen period there begins ends lost = r
   rises = there.rises;
   begins = begins;
   ends = ends;
-  between = λ number on up. lost number up (there.between number on up);
+  between = λ number on up. passed_like IsLostNow LostThen skipped number (lost number up)
+      (there.between number on up);
   long = there.long;
 }
 
 -- nothing is lost yet
-pub run_first : (IsLostNow : ℕ → Type 0) (IsEnd : ℕ → ℕ → Type 0) (period end : ℕ)
+pub run_first : (IsLostNow : ℕ → Type 0) (IsEnd : ℕ → ℕ → Type 0) (skipped : Option ℕ) (period end : ℕ)
     → ((number : ℕ) → IsLostNow number → ⊥) → ((number sent : ℕ) → IsEnd number sent → ⊥)
-    → IsLossRun IsLostNow IsEnd period end no_run
-run_first IsLostNow IsEnd period end none no_end = record {
+    → IsLossRun IsLostNow IsEnd skipped period end no_run
+run_first IsLostNow IsEnd skipped period end none no_end = record {
   previous = λ last is. absurd (none-some last is);
   last = λ number lost. absurd (none number lost);
   told = λ number sent ends. absurd (no_end number sent ends);
@@ -40,9 +79,10 @@ run_first IsLostNow IsEnd period end none no_end = record {
 }
 
 -- only what a run is of changes
-pub run_like : (IsLostNow : ℕ → Type 0) (IsEnd : ℕ → ℕ → Type 0) (period end wider : ℕ) (run : Run) → end ≤ wider
-    → IsLossRun IsLostNow IsEnd period end run → IsLossRun IsLostNow IsEnd period wider run
-run_like IsLostNow IsEnd period end wider run within is = record {
+pub run_like : (IsLostNow : ℕ → Type 0) (IsEnd : ℕ → ℕ → Type 0) (skipped : Option ℕ) (period end wider : ℕ) (run : Run)
+    → end ≤ wider
+    → IsLossRun IsLostNow IsEnd skipped period end run → IsLossRun IsLostNow IsEnd skipped period wider run
+run_like IsLostNow IsEnd skipped period end wider run within is = record {
   previous = λ last told. (let was = is.previous last told in (was.0, omega (arith, was.1, within)));
   last = is.last;
   told = is.told;
@@ -53,8 +93,8 @@ run_like IsLostNow IsEnd period end wider run within is = record {
 
 -- ---- the next number is lost
 
-module _ (IsLostNow LostThen : ℕ → Type 0) (IsEnd EndThen : ℕ → ℕ → Type 0) (period end number : ℕ) (run : Run)
-    (is : IsLossRun IsLostNow IsEnd period end run) (above : end ≤ number) (lost : LostThen number)
+module _ (IsLostNow LostThen : ℕ → Type 0) (IsEnd EndThen : ℕ → ℕ → Type 0) (look : LossPass)
+    (end number : ℕ) (run : Run) (is : IsLossRun IsLostNow IsEnd look.skipped look.period end run) (above : end ≤ number) (lost : LostThen number)
     (still : (other : ℕ) → IsLostNow other → LostThen other)
     (was : (other : ℕ) → LostThen other → IsLostNow other ⊎ (number ≡ other))
     (to : (other sent : ℕ) → IsEnd other sent → EndThen other sent)
@@ -69,45 +109,56 @@ module _ (IsLostNow LostThen : ℕ → Type 0) (IsEnd EndThen : ℕ → ℕ → 
     | inr same ↦ absurd (omega (arith, small, same))
   ]
 
-  follows_last : (last : ℕ) → run.previous ≡ Some last → last + 1 ≡ number → follows run.previous number ≡ true
-  follows_last last previous next = rw previous (elim (eqb_tells (last + 1) number) [
-    | inl same ↦ same.0
-    | inr other ↦ absurd (other.1 next)
-  ])
+  -- no number between the last one that was lost and this one is lost
+  none_between : (last k : ℕ) → run.previous ≡ Some last → last < k → k < number → LostThen k → ⊥
+  none_between last k previous over small there =
+      let later = is.last k (was_under k small there) in
+      absurd (omega (arith, later.2, over, same_Some last later.0 (sym previous ∙ later.1)))
 
-  last_follows : (previous : Option ℕ) → run.previous ≡ previous → follows run.previous number ≡ true
-      → (last : ℕ) × (run.previous ≡ Some last) × (last + 1 ≡ number)
-  last_follows None none yes_follows = absurd (true≢false (sym yes_follows ∙ ap (λ p. follows p number) none))
-  last_follows (Some last) some yes_follows = (
-    last,
-    some,
-    elim (eqb_tells (last + 1) number) [
-      | inl same ↦ same.1
-      | inr other ↦ absurd (true≢false (sym yes_follows ∙ ap (λ p. follows p number) some ∙ other.0))
-    ],
-  )
-
-  -- a number that is in the run up to the next one was in the run before it, which that one follows
-  was_in_run : (other : ℕ) → other < number → ((k : ℕ) → other ≤ k → k ≤ number → LostThen k)
-      → (follows run.previous number ≡ true) × IsInRun IsLostNow IsEnd period end run other
-  was_in_run other small in_run =
-      let before = was_under (number - 1) (omega (arith, small)) (in_run (number - 1) (omega (arith, small))
-      (omega (arith, small))) in
-      let last = is.last (number - 1) before in
+  -- an end of persistent congestion that is in the run up to this number was in the run before it, which it continues
+  was_in_run : (other : ℕ) → other < number → IsLostNow other
+      → ((k : ℕ) → other ≤ k → k ≤ number → IsLostOrSkipped LostThen look.skipped k)
+      → (follows look.skipped run.previous number ≡ true)
+      × IsInRun IsLostNow IsEnd look.skipped look.period end run other
+  was_in_run other small there in_run =
+      let last = is.last other there in
       let at_end = (is.previous last.0 last.1).1 in (
-        follows_last last.0 last.1 (omega (arith, last.2, at_end, above, small)),
+        rw last.1 (continues last.0 last.1 last.2 (omega (arith, at_end, above))),
         λ final is_final k on up. (
             let same = same_Some last.0 final (sym last.1 ∙ is_final) in
-            was_under k (omega (arith, up, same, at_end, above))
-            (in_run k on (omega (arith, up, same, at_end, above)))
+            let under_this : k < number = omega (arith, up, same, at_end, above) in
+            passed_like LostThen IsLostNow look.skipped k (was_under k under_this)
+            (in_run k on (omega (arith, under_this)))
             ),
       )
-
-  pub run_on : IsLossRun LostThen EndThen period (number + 1) (going_on number run)
-  run_on = by (follows run.previous number) refl
     where
-      by : (test : Bool) → follows run.previous number ≡ test
-          → IsLossRun LostThen EndThen period (number + 1) (going_on number run)
+      over_skipped : (last : ℕ) → run.previous ≡ Some last → other ≤ last → last + 1 < number
+          → look.skipped ≡ Some (last + 1) → follows look.skipped (Some last) number ≡ true
+      over_skipped last previous on apart is_skipped = elim (eqb_tells (last + 2) number) [
+        | inl over ↦ follows_over look.skipped last number is_skipped over.1
+        | inr far ↦ elim (in_run (last + 2) (omega (arith, on)) (omega (arith, apart, far.1))) [
+          | inl lost_there ↦ absurd (none_between last (last + 2) previous (omega arith)
+              (omega (arith, apart, far.1)) lost_there)
+          | inr again ↦ absurd (omega (arith, same_Some (last + 1) (last + 2) (sym is_skipped ∙ again)))
+        ]
+      ]
+
+      continues : (last : ℕ) → run.previous ≡ Some last → other ≤ last → last < number
+          → follows look.skipped (Some last) number ≡ true
+      continues last previous on small_last = elim (eqb_tells (last + 1) number) [
+        | inl next ↦ follows_next look.skipped last number next.1
+        | inr apart ↦ elim (in_run (last + 1) (omega (arith, on)) (omega (arith, small_last))) [
+          | inl lost_there ↦ absurd (none_between last (last + 1) previous (omega arith)
+              (omega (arith, small_last, apart.1)) lost_there)
+          | inr is_skipped ↦ over_skipped last previous on (omega (arith, small_last, apart.1)) is_skipped
+        ]
+      ]
+
+  pub run_on : IsLossRun LostThen EndThen look.skipped look.period (number + 1) (going_on look number run)
+  run_on = by (follows look.skipped run.previous number) refl
+    where
+      by : (test : Bool) → follows look.skipped run.previous number ≡ test
+          → IsLossRun LostThen EndThen look.skipped look.period (number + 1) (going_on look number run)
       by test tested = record {
         previous = λ last told. (let same = same_Some number last told in
             (subst LostThen same lost, omega (arith, same)));
@@ -125,40 +176,51 @@ module _ (IsLostNow LostThen : ℕ → Type 0) (IsEnd EndThen : ℕ → ℕ → 
         persists = persists;
       }
         where
-          one : (test : Bool) → follows run.previous number ≡ test → (time : ℕ)
-              → (if follows run.previous number then run.oldest else None) ≡ Some time
+          one : (test : Bool) → follows look.skipped run.previous number ≡ test → (time : ℕ)
+              → (if follows look.skipped run.previous number then run.oldest else None) ≡ Some time
               → (other : ℕ) × EndThen other time
-              × IsInRun LostThen EndThen period (number + 1) (going_on number run) other
+              × IsInRun LostThen EndThen look.skipped look.period (number + 1) (going_on look number run) other
           one false apart time told = absurd (none-some time (rw apart at told))
           one true yes_follows time told =
               let found = is.one time (rw yes_follows at told) in
-              let last = last_follows run.previous refl yes_follows in (
+              let last = comes_after look.skipped run.previous number yes_follows in (
                 found.0,
                 to found.0 time found.1,
                 λ final is_final k on up. elim (leb_tells number k) [
-                  | inl large ↦ subst LostThen (omega (arith, large.1, up, same_Some number final is_final)) lost
-                  | inr small ↦ still k (found.2 last.0 last.1 k on (omega (arith, small.1, last.2)))
+                  | inl large ↦
+                      inl (subst LostThen (omega (arith, large.1, up, same_Some number final is_final)) lost)
+                  | inr small ↦ elim (leb_tells k last.0) [
+                    | inl in_before ↦ passed_like IsLostNow LostThen look.skipped k (still k)
+                        (found.2 last.0 last.1 k on in_before.1)
+                    | inr over ↦ inr (elim last.2 [
+                      | inl next ↦ absurd (omega (arith, next, small.1, over.1))
+                      | inr jump ↦ jump.0 ∙ ap (λ n. Some n) (omega (arith, jump.1, small.1, over.1))
+                    ])
+                  ]
                 ],
               )
 
-          oldest : (test : Bool) → follows run.previous number ≡ test → (other sent : ℕ) → EndThen other sent
-              → IsInRun LostThen EndThen period (number + 1) (going_on number run) other
-              → (time : ℕ) × ((if follows run.previous number then run.oldest else None) ≡ Some time) × (time ≤ sent)
+          oldest : (test : Bool) → follows look.skipped run.previous number ≡ test → (other sent : ℕ)
+              → EndThen other sent
+              → IsInRun LostThen EndThen look.skipped look.period (number + 1) (going_on look number run) other
+              → (time : ℕ) × ((if follows look.skipped run.previous number then run.oldest else None) ≡ Some time)
+              × (time ≤ sent)
           oldest test tested other sent ends in_run =
-              let small = under other (is.told other sent (from other sent ends)) in
-              let before = was_in_run other small (in_run number refl) in
+              let there = is.told other sent (from other sent ends) in
+              let before = was_in_run other (under other there) there (in_run number refl) in
               let found = is.oldest other sent (from other sent ends) before.1 in
               (found.0, rw before.0 found.1, found.2)
 
-          persists : Decides run.is_persistent (IsPersistentCongestion LostThen EndThen period)
+          persists : Decides run.is_persistent (IsPersistentCongestion LostThen EndThen look.skipped look.period)
           persists = (
-            (λ long. (let there = is.persists.0 long in persists_like IsLostNow LostThen IsEnd EndThen period there
+            (λ long. (let there = is.persists.0 long in
+                persists_like IsLostNow LostThen IsEnd EndThen look.skipped look.period there
                 (to there.first there.first_sent there.begins) (to there.last there.last_sent there.ends)
                 (λ k up. still k))),
             λ there. (
                 let last = under there.last (is.told there.last there.last_sent
                 (from there.last there.last_sent there.ends)) in
-                is.persists.1 (persists_like LostThen IsLostNow EndThen IsEnd period there
+                is.persists.1 (persists_like LostThen IsLostNow EndThen IsEnd look.skipped look.period there
                 (from there.first there.first_sent there.begins) (from there.last there.last_sent there.ends)
                 (λ k up. was_under k (omega (arith, up, last))))
                 ),
@@ -167,7 +229,7 @@ module _ (IsLostNow LostThen : ℕ → Type 0) (IsEnd EndThen : ℕ → ℕ → 
 -- ---- with the last number persistent congestion may end
 
 module _ (IsLostNow : ℕ → Type 0) (IsEnd EndThen : ℕ → ℕ → Type 0) (look : LossPass) (end number sent : ℕ) (run : Run)
-    (is : IsLossRun IsLostNow IsEnd look.period end run) (last : run.previous ≡ Some number)
+    (is : IsLossRun IsLostNow IsEnd look.skipped look.period end run) (last : run.previous ≡ Some number)
     (below : (other time : ℕ) → IsEnd other time → other < number)
     (here : EndThen number sent)
     (to : (other time : ℕ) → IsEnd other time → EndThen other time)
@@ -178,16 +240,16 @@ module _ (IsLostNow : ℕ → Type 0) (IsEnd EndThen : ℕ → ℕ → Type 0) (
   lost_here : IsLostNow number
   lost_here = (is.previous number last).0
 
-  in_itself : IsInRun IsLostNow EndThen look.period end now number
+  in_itself : IsInRun IsLostNow EndThen look.skipped look.period end now number
   in_itself final is_final k on up =
       let same = same_Some number final (sym last ∙ is_final) in
-      subst IsLostNow (omega (arith, same, on, up)) lost_here
+      inl (subst IsLostNow (omega (arith, same, on, up)) lost_here)
 
   oldest_now : (oldest : Option ℕ) → run.oldest ≡ oldest → (time : ℕ) × (now.oldest ≡ Some time)
   oldest_now oldest told = (option_map_or (λ before. min before sent) run.oldest sent, refl)
 
   one_now : (oldest : Option ℕ) → run.oldest ≡ oldest → (time : ℕ) → now.oldest ≡ Some time
-      → (other : ℕ) × EndThen other time × IsInRun IsLostNow EndThen look.period end now other
+      → (other : ℕ) × EndThen other time × IsInRun IsLostNow EndThen look.skipped look.period end now other
   one_now None none time told =
       let same : sent ≡ time = same_Some sent time
       (sym (ap (λ o. Some (option_map_or (λ before. min before sent) o sent)) none) ∙ told) in
@@ -207,7 +269,7 @@ module _ (IsLostNow : ℕ → Type 0) (IsEnd EndThen : ℕ → ℕ → Type 0) (
       ]
 
   least_now : (oldest : Option ℕ) → run.oldest ≡ oldest → (other time : ℕ) → EndThen other time
-      → IsInRun IsLostNow EndThen look.period end now other → (t : ℕ) × (now.oldest ≡ Some t) × (t ≤ time)
+      → IsInRun IsLostNow EndThen look.skipped look.period end now other → (t : ℕ) × (now.oldest ≡ Some t) × (t ≤ time)
   least_now None none other time ends in_run = (
     sent,
     ap (λ o. Some (option_map_or (λ b. min b sent) o sent)) none,
@@ -235,7 +297,7 @@ module _ (IsLostNow : ℕ → Type 0) (IsEnd EndThen : ℕ → ℕ → Type 0) (
   -- so long after the oldest of the run
   long_now : (oldest : Option ℕ) → run.oldest ≡ oldest
       → option_map_or (λ before. nat_lt look.period (sent - before)) run.oldest false ≡ true
-      → IsPersistentCongestion IsLostNow EndThen look.period
+      → IsPersistentCongestion IsLostNow EndThen look.skipped look.period
   long_now None none long = absurd (true≢false (sym long
       ∙ ap (λ o. option_map_or (λ before. nat_lt look.period (sent - before)) o false) none))
   long_now (Some before) some long =
@@ -254,12 +316,12 @@ module _ (IsLostNow : ℕ → Type 0) (IsEnd EndThen : ℕ → ℕ → Type 0) (
         long = past;
       }
 
-  long_then : IsPersistentCongestion IsLostNow EndThen look.period →
-      (IsPersistentCongestion IsLostNow IsEnd look.period)
+  long_then : IsPersistentCongestion IsLostNow EndThen look.skipped look.period →
+      (IsPersistentCongestion IsLostNow IsEnd look.skipped look.period)
       ⊎ (option_map_or (λ before. nat_lt look.period (sent - before)) run.oldest false ≡ true)
   long_then there = elim (from there.last there.last_sent there.ends) [
     | inl was ↦ elim (from there.first there.first_sent there.begins) [
-      | inl began ↦ inl (persists_like IsLostNow IsLostNow EndThen IsEnd look.period there began was
+      | inl began ↦ inl (persists_like IsLostNow IsLostNow EndThen IsEnd look.skipped look.period there began was
           (λ k up lost. lost))
       | inr same ↦ absurd (omega (arith, same.0, there.rises, below there.last there.last_sent was))
     ]
@@ -274,8 +336,8 @@ module _ (IsLostNow : ℕ → Type 0) (IsEnd EndThen : ℕ → ℕ → Type 0) (
     ]
   ]
 
-  still_long : IsPersistentCongestion IsLostNow IsEnd look.period → IsPersistentCongestion IsLostNow EndThen look.period
-  still_long there = persists_like IsLostNow IsLostNow IsEnd EndThen look.period there
+  still_long : IsPersistentCongestion IsLostNow IsEnd look.skipped look.period → IsPersistentCongestion IsLostNow EndThen look.skipped look.period
+  still_long there = persists_like IsLostNow IsLostNow IsEnd EndThen look.skipped look.period there
       (to there.first there.first_sent there.begins) (to there.last there.last_sent there.ends) (λ k up lost. lost)
 
   either : (one other : Bool) → (one || other) ≡ true → (one ≡ true) ⊎ (other ≡ true)
@@ -286,7 +348,7 @@ module _ (IsLostNow : ℕ → Type 0) (IsEnd EndThen : ℕ → ℕ → Type 0) (
   or_right true other is_true = refl
   or_right false other is_true = is_true
 
-  pub run_end : IsLossRun IsLostNow EndThen look.period end now
+  pub run_end : IsLossRun IsLostNow EndThen look.skipped look.period end now
   run_end = record {
     previous = is.previous;
     last = is.last;

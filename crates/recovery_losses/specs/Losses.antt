@@ -2,10 +2,12 @@
 use Rattle.std.specs.Prelude.{◌≡◌, ◌≢◌, ℕ, ◌+◌, ◌-◌, ◌^◌, ◌<◌, ◌≤◌, ◌⊎◌, ◌&&◌, ◌||◌, ◌==◌, min, max, nat_lt, nat_le, Bool, false, List, [], ◌∷◌, Option, None, Some, if◌then◌else◌}
 use Rattle.std.specs.Option.{ForSome, option_map_or}
 use Rattle.recovery_base.specs.declared.below.SpaceId.{SpaceId}
-use Rattle.recovery_base.specs.Spaces.{same_space, space_index}
+use Rattle.recovery_base.specs.Spaces.{same_space}
 use Rattle.recovery_base.specs.Timers.{earlier_of}
 use Rattle.recovery_spaces.specs.Packets.{Packet, Packets, packet_at, without}
 use Rattle.recovery_losses.specs.declared.looks.Candidate.{Candidate}
+use Rattle.recovery_losses.specs.declared.looks.FirstSample.{FirstSample}
+use Rattle.recovery_losses.specs.declared.looks.FirstSample.TheVariants.{Elsewhere, InSpace, Missing}
 use Rattle.recovery_losses.specs.declared.looks.LossPass.{LossPass}
 use Rattle.recovery_losses.specs.declared.tally.Run.{Run}
 use Rattle.recovery_losses.specs.declared.tally.Tally.{Tally}
@@ -23,20 +25,25 @@ AreIncreasing first (number ∷ numbers) end = (first ≤ number) × AreIncreasi
 
 -- ---- which are lost (RFC 9002, 6.1)
 
--- from which number on the packets of a space may make congestion persistent, as the path marked the first packet
--- behind a sample of the RTT (RFC 9002, 7.6.2), by space and then number
-abbrev pub first_of : Option (SpaceId × ℕ) → SpaceId → Option ℕ
-first_of None space = None
-first_of (Some mark) space = if nat_lt (space_index mark.0) (space_index space) then Some 0
-    else if same_space mark.0 space then Some mark.1 else None
+-- what the path's mark, the first packet after a sample of the RTT, says of a space: in its own space the number
+-- decides, in another one the time at which the path got the mark (RFC 9002, 7.6.2 and B.8)
+abbrev pub first_sample_in : Option (SpaceId × ℕ) → ℕ → SpaceId → FirstSample
+first_sample_in None sampled space = Missing
+first_sample_in (Some mark) sampled space = if same_space mark.0 space then InSpace mark.1 else Elsewhere sampled
+
+-- a packet was sent after the first sample of the RTT
+abbrev pub is_after_sample : FirstSample → ℕ → ℕ → Bool
+is_after_sample Missing number sent = false
+is_after_sample (InSpace first) number sent = nat_le first number
+is_after_sample (Elsewhere sampled) number sent = nat_lt sampled sent
 
 -- when a packet that was sent then is lost by its age (RFC 9002, 6.1.2): it stops at the last moment of the clock
 abbrev pub lost_at : LossPass → ℕ → ℕ
 lost_at look sent = min (sent + look.delay) (2 ^ 64 - 1)
 
--- three numbers below the largest acknowledged, or sent long ago (RFC 9002, 6.1.1 and 6.1.2)
+-- some numbers below the largest acknowledged, or sent long ago (RFC 9002, 6.1.1 and 6.1.2)
 abbrev pub IsLost : LossPass → ℕ → ℕ → Type 0
-IsLost look number sent = (number + 3 ≤ look.largest) ⊎ (lost_at look sent ≤ look.at)
+IsLost look number sent = (number + look.packet_threshold ≤ look.largest) ⊎ (lost_at look sent ≤ look.at)
 
 -- when it is to be looked at: once it is lost by its age, or now, where it is lost and memory was refused
 abbrev pub IsDueAt : LossPass → ℕ → ℕ → ℕ → Type 0
@@ -126,22 +133,23 @@ NoneFrom {P} {M} look packets from =
 abbrev pub waiting : ℕ → Tally → Tally
 waiting time tally = record tally { loss_time = earlier_of tally.loss_time (Some time) }
 
--- the number behind another, where there is one
-abbrev pub follows : Option ℕ → ℕ → Bool
-follows None number = false
-follows (Some last) number = last + 1 == number
+-- a number continues a run: it comes right after the last one, or only the number that was skipped lies between
+abbrev pub follows : Option ℕ → Option ℕ → ℕ → Bool
+follows skipped None number = false
+follows None (Some last) number = last + 1 == number
+follows (Some skipped) (Some last) number = last + 1 == number || (last + 1 == skipped && skipped + 1 == number)
 
 -- the next number is lost: the run goes on, or begins
-abbrev pub going_on : ℕ → Run → Run
-going_on number run = record {
+abbrev pub going_on : LossPass → ℕ → Run → Run
+going_on look number run = record {
   previous = Some number;
-  oldest = (if follows run.previous number then run.oldest else None);
+  oldest = (if follows look.skipped run.previous number then run.oldest else None);
   is_persistent = run.is_persistent;
 }
 
 -- a packet with which persistent congestion may begin or end (RFC 9002, 7.6.2)
-abbrev pub is_end : LossPass → ℕ → Bool → Bool
-is_end look number eliciting = eliciting && option_map_or (λ first. nat_le first number) look.first_of_run false
+abbrev pub is_end : LossPass → ℕ → ℕ → Bool → Bool
+is_end look number sent eliciting = eliciting && is_after_sample look.first_sample number sent
 
 -- it was sent then: so long after the oldest of the run, congestion is persistent
 abbrev pub ending : LossPass → ℕ → Run → Run
@@ -152,15 +160,15 @@ ending look sent run = record run {
 
 -- where the probe of the MTU is lost
 abbrev pub finding_probe : LossPass → Candidate → Tally → Tally
-finding_probe look packet tally = record tally { probe = look.probe; run = going_on packet.number tally.run }
+finding_probe look packet tally = record tally { probe = look.probe; run = going_on look packet.number tally.run }
 
 -- where a packet was told lost
 abbrev pub counting : LossPass → Candidate → Tally → Tally
-counting look packet tally = let run = going_on packet.number tally.run in
+counting look packet tally = let run = going_on look packet.number tally.run in
     if is_counted look packet.size packet.path_generation then record tally {
       last_sent = later_of tally.last_sent (Some packet.time_sent);
       bytes = min (tally.bytes + packet.size) (2 ^ 64 - 1);
-      run = (if is_end look packet.number packet.ack_eliciting then ending look packet.time_sent run else run);
+      run = (if is_end look packet.number packet.time_sent packet.ack_eliciting then ending look packet.time_sent run else run);
     } else record tally { run = run }
 
 -- a number was told lost, or is that of the probe, which is told last

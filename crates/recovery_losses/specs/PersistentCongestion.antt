@@ -1,5 +1,5 @@
 -- Persistent congestion (RFC 9002, 7.6): by what is lost now.
-use Rattle.std.specs.Prelude.{◌≡◌, ℕ, ◌-◌, ◌<◌, ◌≤◌, IsTrue, Decides, List, Some}
+use Rattle.std.specs.Prelude.{◌≡◌, ℕ, ◌-◌, ◌<◌, ◌≤◌, ◌⊎◌, IsTrue, Decides, List, Option, Some}
 use Rattle.recovery_spaces.specs.Packets.{Packet, Packets, packet_at}
 use Rattle.recovery_losses.specs.declared.looks.LossPass.{LossPass}
 use Rattle.recovery_losses.specs.declared.tally.Run.{Run}
@@ -14,26 +14,33 @@ pub record IsEndAt {P M : Type 0} (look : LossPass) (packets : Packets P M) (num
     pub packet : Packet P M
     pub is : packet_at packets number ≡ Some packet
     pub counts : IsTrue (is_counted look packet.size packet.path_generation)
-    pub ends : IsTrue (is_end look number packet.ack_eliciting)
+    pub ends : IsTrue (is_end look number packet.time_sent packet.ack_eliciting)
     pub sent_then : packet.time_sent ≡ sent
 
--- two such, the higher sent so long after the lower, with all numbers between them lost now
-pub record IsPersistentCongestion (IsLostNow : ℕ → Type 0) (IsEnd : ℕ → ℕ → Type 0) (period : ℕ) : Type 0 where
-  pub first : ℕ
-  pub last : ℕ
-  pub first_sent : ℕ
-  pub last_sent : ℕ
-  pub rises : first < last
-  pub begins : IsEnd first first_sent
-  pub ends : IsEnd last last_sent
-  pub between : (number : ℕ) → first ≤ number → number ≤ last → IsLostNow number
-  pub long : period < last_sent - first_sent
+-- a number is lost now, or was skipped, so that there is no packet under it (RFC 9000, 21.4)
+abbrev pub IsLostOrSkipped : (ℕ → Type 0) → Option ℕ → ℕ → Type 0
+IsLostOrSkipped IsLostNow skipped number = IsLostNow number ⊎ (skipped ≡ Some number)
+
+-- two such, the higher sent so long after the lower, with all packets between them lost now
+pub record IsPersistentCongestion (IsLostNow : ℕ → Type 0) (IsEnd : ℕ → ℕ → Type 0) (skipped : Option ℕ)
+    (period : ℕ) : Type 0
+  where
+    pub first : ℕ
+    pub last : ℕ
+    pub first_sent : ℕ
+    pub last_sent : ℕ
+    pub rises : first < last
+    pub begins : IsEnd first first_sent
+    pub ends : IsEnd last last_sent
+    pub between : (number : ℕ) → first ≤ number → number ≤ last → IsLostOrSkipped IsLostNow skipped number
+    pub long : period < last_sent - first_sent
 
 -- what was found of the numbers below an end, in a run of numbers that are lost now
-module _ (IsLostNow : ℕ → Type 0) (IsEnd : ℕ → ℕ → Type 0) (period end : ℕ) (run : Run) where
-  -- all numbers from this one on are lost, up to the last that is
+module _ (IsLostNow : ℕ → Type 0) (IsEnd : ℕ → ℕ → Type 0) (skipped : Option ℕ) (period end : ℕ) (run : Run) where
+  -- all packets from this number on are lost, up to the last that is
   abbrev pub IsInRun : ℕ → Type 0
-  IsInRun number = (last : ℕ) → run.previous ≡ Some last → (other : ℕ) → number ≤ other → other ≤ last → IsLostNow other
+  IsInRun number = (last : ℕ) → run.previous ≡ Some last → (other : ℕ) → number ≤ other → other ≤ last
+      → IsLostOrSkipped IsLostNow skipped other
 
   pub record IsLossRun : Type 0 where
     pub previous : (last : ℕ) → run.previous ≡ Some last → IsLostNow last × (last < end)
@@ -42,4 +49,4 @@ module _ (IsLostNow : ℕ → Type 0) (IsEnd : ℕ → ℕ → Type 0) (period e
     pub one : (time : ℕ) → run.oldest ≡ Some time → (number : ℕ) × IsEnd number time × IsInRun number
     pub oldest : (number sent : ℕ) → IsEnd number sent → IsInRun number
         → (time : ℕ) × (run.oldest ≡ Some time) × (time ≤ sent)
-    pub persists : Decides run.is_persistent (IsPersistentCongestion IsLostNow IsEnd period)
+    pub persists : Decides run.is_persistent (IsPersistentCongestion IsLostNow IsEnd skipped period)

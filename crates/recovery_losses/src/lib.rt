@@ -13,7 +13,7 @@ mod variables;
 
 pub use due::{Due, sooner};
 pub use frames::{Ack, are_ranges, is_unsent, largest_of};
-pub use looks::{Candidate, LossPass, first_of};
+pub use looks::{Candidate, FirstSample, LossPass};
 pub use tally::{Run, Tally};
 pub use timeouts::{loss_delay, probe_timeout};
 pub use variables::{Side, Variables};

@@ -1,12 +1,20 @@
 //! What a look for losses goes by, and when a packet is lost (RFC 9002, 6.1).
 ghost use Rattle.std.specs.Prelude.{◌≡◌, ◌<◌, Decides};
-ghost use Rattle.recovery_losses.specs.Losses.{first_of, lost_at, is_end, IsLost};
+ghost use Rattle.recovery_losses.specs.Losses.{first_sample_in, lost_at, is_after_sample, is_end, IsLost};
 
 use recovery_base::below::SpaceId;
 use recovery_base::time::{Duration, Instant};
 
-/// How far below the largest acknowledged number a packet is lost (RFC 9002, 6.1.1: kPacketThreshold).
-const PACKET_THRESHOLD: u64 = 3;
+/// Which packets of a space were sent after the first RTT sample of the path (RFC 9002, 7.6.2).
+#[derive(Clone, Copy)]
+pub enum FirstSample {
+    /// None: there was no sample, or this pass does not look for persistent congestion.
+    Missing,
+    /// The sample was taken in this space: the packets from this number on.
+    InSpace(u64),
+    /// The sample was taken in another space: the packets that were sent later than this time.
+    Elsewhere(Instant),
+}
 
 /// What a look for losses goes by.
 #[derive(Clone, Copy)]
@@ -17,14 +25,18 @@ pub struct LossPass {
     pub at: Instant,
     /// The largest number that was acknowledged in the space.
     pub largest: u64,
+    /// How many numbers below the largest acknowledged one a packet is lost (RFC 9002, 6.1.1: kPacketThreshold).
+    pub packet_threshold: u64,
     /// How long after its sending a packet is lost (RFC 9002, 6.1.2).
     pub delay: Duration,
     /// The number of the MTU's probe in flight, where it may be one of the space's.
     pub probe: Option<u64>,
     /// That of the path in use: packets of another one count for no congestion (RFC 9000, 9.4).
     pub generation: u64,
-    /// From which number on packets may make congestion persistent; none, where it is not looked for (RFC 9002, 7.6.2).
-    pub first_of_run: Option<u64>,
+    /// Which packets may begin or end persistent congestion (RFC 9002, 7.6.2).
+    pub first_sample: FirstSample,
+    /// The number that was skipped last in the space. It is no packet, so it does not end a run (RFC 9000, 21.4).
+    pub skipped: Option<u64>,
     /// How long persistent congestion lasts, in nanoseconds (RFC 9002, 7.6.1).
     pub period: u128,
 }
@@ -57,30 +69,38 @@ impl LossPass {
         requires below { packet.now.number < self.now.largest }
         ensures { Decides result (IsLost self.now packet.now.number packet.now.time_sent) }
     {
-        self.largest - packet.number >= PACKET_THRESHOLD || self.lost_at(packet) <= self.at
+        self.largest - packet.number >= self.packet_threshold || self.lost_at(packet) <= self.at
     }
 
     /// Whether persistent congestion may begin or end with a packet that counts (RFC 9002, 7.6.2).
     pub(crate) fn is_end(&self, packet: &Candidate) -> bool
-        ensures { result ≡ is_end self.now packet.now.number packet.now.ack_eliciting }
+        ensures { result ≡ is_end self.now packet.now.number packet.now.time_sent
+            packet.now.ack_eliciting }
     {
-        match self.first_of_run {
-            Some(first) => packet.ack_eliciting && first <= packet.number,
-            None => false,
-        }
+        packet.ack_eliciting && self.first_sample.precedes(packet)
     }
 }
 
-/// The first number of a space that is no earlier than a mark, by space and then number (RFC 9002, 7.6.2).
-pub fn first_of(mark: Option<(SpaceId, u64)>, space: SpaceId) -> Option<u64>
-    ensures { result ≡ first_of mark space }
-{
-    let (marked, number) = mark?;
-    if marked < space {
-        Some(0)
-    } else if marked == space {
-        Some(number)
-    } else {
-        None
+impl FirstSample {
+    /// What a path's mark, the first packet after a sample, says of a space: `sampled` is when the path got it.
+    pub fn of(mark: Option<(SpaceId, u64)>, sampled: Instant, space: SpaceId) -> Self
+        ensures { result ≡ first_sample_in mark sampled space }
+    {
+        match mark {
+            Some((marked, number)) if marked == space => FirstSample::InSpace(number),
+            Some(_) => FirstSample::Elsewhere(sampled),
+            None => FirstSample::Missing,
+        }
+    }
+
+    /// Whether a packet was sent after it.
+    fn precedes(&self, packet: &Candidate) -> bool
+        ensures { result ≡ is_after_sample self.now packet.now.number packet.now.time_sent }
+    {
+        match self {
+            FirstSample::Missing => false,
+            FirstSample::InSpace(first) => *first <= packet.number,
+            FirstSample::Elsewhere(sampled) => *sampled < packet.time_sent,
+        }
     }
 }

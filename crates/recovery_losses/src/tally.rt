@@ -1,6 +1,6 @@
 //! What a look for losses found so far, and whether congestion persists (RFC 9002, 7 and 7.6).
-ghost use Rattle.std.specs.Prelude.{◌≡◌, option_map};
-ghost use Rattle.recovery_losses.specs.Losses.{no_run, going_on, ending, nothing_found, waiting, counting, finding_probe};
+ghost use Rattle.std.specs.Prelude.{◌≡◌, ◌+◌, ◌==◌, option_map};
+ghost use Rattle.recovery_losses.specs.Losses.{no_run, follows, going_on, ending, nothing_found, waiting, counting, finding_probe};
 
 use crate::looks::{Candidate, LossPass};
 use recovery_base::time::Instant;
@@ -19,6 +19,26 @@ pub struct Tally {
     pub bytes: u64,
     /// The run of numbers that are lost.
     pub run: Run,
+}
+
+/// Whether one number comes right after another.
+fn is_next(last: u64, number: u64) -> bool
+    ensures { result ≡ (last + 1 == number) }
+{
+    last < number && number - last == 1
+}
+
+/// Whether a number continues a run that ends so: nothing lies between but a number that was skipped.
+fn follows(skipped: Option<u64>, previous: Option<u64>, number: u64) -> bool
+    ensures { result ≡ follows skipped previous number }
+{
+    match (skipped, previous) {
+        (_, None) => false,
+        (None, Some(last)) => is_next(last, number),
+        (Some(skipped), Some(last)) => {
+            is_next(last, number) || is_next(last, skipped) && is_next(skipped, number)
+        }
+    }
 }
 
 /// The numbers that are lost one behind another, and whether congestion persists over them (RFC 9002, 7.6).
@@ -45,14 +65,10 @@ impl Run {
     }
 
     /// A number is lost: the run goes on, where it is the next one.
-    fn go_on(&mut self, number: u64)
-        ensures { self.new ≡ going_on number self.old }
+    fn go_on(&mut self, look: &LossPass, number: u64)
+        ensures { self.new ≡ going_on look.now number self.old }
     {
-        let follows = match self.previous {
-            Some(last) => last < number && number - last == 1,
-            None => false,
-        };
-        if !follows {
+        if !follows(look.skipped, self.previous, number) {
             self.oldest = None;
         }
         self.previous = Some(number);
@@ -109,14 +125,14 @@ impl Tally {
         ensures { self.new ≡ finding_probe look.now packet.now self.old }
     {
         self.probe = look.probe;
-        self.run.go_on(packet.number);
+        self.run.go_on(look, packet.number);
     }
 
     /// A packet is lost: where it counts, that is a sign of congestion (RFC 9002, 7).
     pub fn counts(&mut self, look: &LossPass, packet: &Candidate)
         ensures { self.new ≡ counting look.now packet.now self.old }
     {
-        self.run.go_on(packet.number);
+        self.run.go_on(look, packet.number);
         if packet.size > 0 && packet.path_generation == look.generation {
             self.bytes = self.bytes.saturating_add(u64::from(packet.size));
             self.last_sent = Some(match self.last_sent {

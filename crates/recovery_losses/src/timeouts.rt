@@ -1,5 +1,5 @@
 //! How long to wait before a packet is lost and before a probe goes out (RFC 9002, 6.1.2 and 6.2.1).
-ghost use Rattle.std.specs.Prelude.{◌≡◌};
+ghost use Rattle.std.specs.Prelude.{◌≡◌, ◌<◌};
 ghost use Rattle.recovery_losses.specs.Timeouts.{loss_delay_of, probe_timeout_of, up_to_longest};
 
 use recovery_base::time::Duration;
@@ -7,13 +7,15 @@ use recovery_base::time::Duration;
 /// The least span that timers keep: a millisecond (RFC 9002, 6.1.2: kGranularity), in nanoseconds.
 const GRANULARITY: u128 = 1_000_000;
 
-/// How long after its sending a packet is lost, where a later one is acknowledged: 9/8 of the greater RTT, at least a
-/// millisecond (RFC 9002, 6.1.2). It stops at `Duration::MAX`.
-pub fn loss_delay(smoothed: Duration, latest: Duration) -> Duration
-    ensures { result ≡ loss_delay_of smoothed latest }
+/// How long after its sending a packet is lost, if a later one is acknowledged: the larger RTT times the time threshold,
+/// a fraction, but at least that RTT and at least a millisecond (RFC 9002, 6.1.2). It stops at `Duration::MAX`.
+pub fn loss_delay(threshold: (u64, u64), smoothed: Duration, latest: Duration) -> Duration
+    requires { 0 < threshold.1 }
+    ensures { result ≡ loss_delay_of threshold smoothed latest }
 {
-    let nanos = smoothed.max(latest).as_nanos() * 9 / 8;
-    up_to_longest(nanos.max(GRANULARITY))
+    let rtt = smoothed.max(latest).as_nanos();
+    let scaled = rtt.saturating_mul(u128::from(threshold.0)) / u128::from(threshold.1);
+    up_to_longest(rtt.max(scaled).max(GRANULARITY))
 }
 
 /// How long after the last ack-eliciting packet a probe goes out (RFC 9002, 6.2.1). `base` is the smoothed RTT with
