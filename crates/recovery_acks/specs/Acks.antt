@@ -1,10 +1,12 @@
 -- What is to be acknowledged, and what each event does to it (RFC 9000, 13.2 and 19.3).
-use Rattle.std.specs.Prelude.{ℕ, ◌≡◌, ◌+◌, ◌-◌, ◌<◌, ◌≤◌, ◌^◌, ◌⊎◌, ◌↔◌, min, max, List, length, Bool, true, false, cond, nat_lt, IsTrue, Option, None, Some, IsSome, ⊤}
+use Rattle.std.specs.Prelude.{ℕ, ◌≡◌, ◌+◌, ◌-◌, ◌<◌, ◌≤◌, ◌⊎◌, ◌↔◌, min, max, List, length, Bool, true, false, cond, nat_lt, IsTrue, Option, None, Some, IsSome, ⊤}
 use Rattle.std.specs.Option.{unwrap_or}
 use Rattle.std.specs.declared.ops.Range.{Range}
 use Rattle.recovery_base.specs.Numbers.{IsLeastMissing, InsertNumber}
 use Rattle.recovery_base.specs.Ranges.{InRanges, AreApart}
+use Rattle.recovery_base.specs.Units.{largest_u64, last_time}
 use Rattle.recovery_acks.specs.Runs.{IsInHighest}
+use Rattle.recovery_acks.specs.declared.pending.TheConstants.{MAX_ACK_BLOCKS}
 
 -- what decides of the next ACK, besides the numbers that came
 pub record AckCounts : Type 0 where
@@ -43,7 +45,7 @@ IsNotAbove (Some n) (Some m) = n ≤ m
 -- the most ranges that are kept: an ACK frame spells each in 16 bytes at most (RFC 9000, 19.3.1), so that one of 64
 -- fits into the least datagram, of 1200 bytes
 abbrev pub most_ranges : ℕ
-most_ranges = 64
+most_ranges = MAX_ACK_BLOCKS
 
 -- what holds of every value: ack-eliciting packets since the last ACK have a delay base or require an ACK at once
 pub record AreAcksSound (acks : Acks) : Type 0 where
@@ -60,7 +62,7 @@ fresh = record { eliciting = 0; silent = 0; thresholds = (1, 1); largest = None;
 
 -- counters stop at their greatest value
 abbrev pub counted : ℕ → ℕ
-counted n = min (n + 1) (2 ^ 64 - 1)
+counted n = min (n + 1) largest_u64
 
 -- the largest packet, with its moment, once another came
 abbrev pub largest_with : Option (ℕ × ℕ) → ℕ → ℕ → Option (ℕ × ℕ)
@@ -156,7 +158,7 @@ delay_at now (Some largest) = now - largest.1
 -- the end of a delay that starts at the base
 abbrev pub timeout_at : ℕ → Option ℕ → Option ℕ
 timeout_at delay None = None
-timeout_at delay (Some base) = Some (min (base + delay) (2 ^ 64 - 1))
+timeout_at delay (Some base) = Some (min (base + delay) last_time)
 
 -- some number known is at least this one
 abbrev pub IsAtLeastSome : (ℕ → Type 0) → ℕ → Type 0

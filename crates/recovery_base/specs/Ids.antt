@@ -2,6 +2,7 @@
 use Rattle.std.specs.Prelude.{ℕ, ◌≡◌, ◌-◌, ◌≤◌, List, ◌++◌, length, take, replicate, refl}
 use Rattle.std.proofs.Common.{arith, length-take}
 use Rattle.recovery_base.specs.declared.below.ids.ConnectionId.TheInside.{Inside}
+use Rattle.recovery_base.specs.declared.below.ids.TheConstants.{MAX_CID_SIZE}
 
 -- the bytes of an id, without the zeros behind them
 abbrev pub bytes_of : Inside → List ℕ
@@ -9,13 +10,13 @@ bytes_of id = take id.len id.bytes
 
 -- there are at most twenty bytes, and zeros behind them
 pub record IsPaddedId (id : Inside) : Type 0 where
-  pub small : id.len ≤ 20
-  pub room : length id.bytes ≡ 20
-  pub zeros : id.bytes ≡ take id.len id.bytes ++ replicate (20 - id.len) 0
+  pub small : id.len ≤ MAX_CID_SIZE
+  pub room : length id.bytes ≡ MAX_CID_SIZE
+  pub zeros : id.bytes ≡ take id.len id.bytes ++ replicate (MAX_CID_SIZE - id.len) 0
 
 -- what an id with these bytes holds
 abbrev pub padded : List ℕ → Inside
-padded bytes = record { len = length bytes; bytes = bytes ++ replicate (20 - length bytes) 0 }
+padded bytes = record { len = length bytes; bytes = bytes ++ replicate (MAX_CID_SIZE - length bytes) 0 }
 
 -- an id is told by its bytes alone
 pub padded-bytes_of : (id : Inside) → IsPaddedId id → padded (bytes_of id) ≡ id

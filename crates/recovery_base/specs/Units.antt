@@ -14,6 +14,10 @@ milliseconds = NANOS_PER_MILLI
 abbrev pub seconds : ℕ
 seconds = NANOS_PER_SEC
 
+-- the shortest span that timers keep (kGranularity of RFC 9002, 6.1.2), and so the min_ack_delay of this end
+abbrev pub timer_granularity : ℕ
+timer_granularity = milliseconds
+
 -- packet numbers, sequence numbers of connection IDs and variable-length integers are below it (RFC 9000, 12.3, 19.15
 -- and 16)
 abbrev pub number_limit : ℕ

@@ -7,6 +7,7 @@ use Rattle.recovery_mtud.specs.declared.config.MtuDiscoveryConfig.{MtuDiscoveryC
 use Rattle.recovery_mtud.specs.Search.{later, upper_from}
 use Rattle.recovery_mtud.specs.Discovery.{Discovery, limit_or_greatest}
 use Rattle.recovery_mtud.specs.MtuEntries.{MtuEntry, probed, unprobed, limited, acked, probe_lost, reported, reset, probe_in_flight, size_at, limit_in_use, mtu_in_use}
+use Rattle.recovery_mtud.specs.declared.search.TheConstants.{MAX_PROBES}
 
 -- ---- when a search runs
 
@@ -80,10 +81,18 @@ lost_sizes (probe_lost ∷ earlier) =
     option_to_list (option_map (λ probe. probe.size) (probe_in_flight earlier)) ++ lost_sizes earlier
 lost_sizes (entry ∷ earlier) = lost_sizes earlier
 
+-- the most sizes that one search probes: each halves what is left of 16 bits
+abbrev pub size_budget : ℕ
+size_budget = 16
+
+-- the most probes that one search sends: 48 (MAX_PROBES of RFC 8899, 5.1.2, for each size)
+abbrev pub probe_budget : ℕ
+probe_budget = size_budget * MAX_PROBES
+
 -- the search that runs has taken at most 16 sizes and 48 probes
 pub record UsesFewProbes (entries : List MtuEntry) : Type 0 where
-  pub sizes : distinct_count nat_eq (probed_sizes (search_of entries)) ≤ 16
-  pub probes : length (probed_sizes (search_of entries)) ≤ 48
+  pub sizes : distinct_count nat_eq (probed_sizes (search_of entries)) ≤ size_budget
+  pub probes : length (probed_sizes (search_of entries)) ≤ probe_budget
 
 -- ---- how near a search comes to what a link carries
 

@@ -13,6 +13,7 @@ use Rattle.recovery_history.specs.RecoveryState.{RecoveryState}
 use Rattle.recovery_sender.specs.declared.sender.losses.Losses.{Losses}
 use Rattle.recovery_losses.specs.declared.variables.Variables.{Variables}
 use Rattle.recovery_sender.specs.Spaces.{space_in}
+use Rattle.recovery_sender.specs.declared.sender.losses.TheConstants.{PERSISTENT_CONGESTION_THRESHOLD}
 
 -- nothing was lost
 pub record IsEmptyLosses (losses : Losses) : Type 0 where
@@ -37,5 +38,5 @@ look_of recovery variables space now due_to_ack largest = let path = recovery.pa
   probe = (if same_space space Data then probe_of path.state.discovery else None);
   generation = path.ledger.generation;
   first_of_run = (if due_to_ack then first_of path.marks.first_after_sample space else None);
-  period = 3 * (pto_base_of path.state.rtt + variables.max_ack_delay);
+  period = PERSISTENT_CONGESTION_THRESHOLD * (pto_base_of path.state.rtt + variables.max_ack_delay);
 }

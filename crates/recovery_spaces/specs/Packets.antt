@@ -1,10 +1,12 @@
 -- Tracked packets of one space, in the order of their numbers (RFC 9002, A.1).
-use Rattle.std.specs.Prelude.{◌≡◌, ◌≢◌, ℕ, ◌<◌, ◌≤◌, ◌^◌, IsSomeAnd, option_map, ◌⊎◌, Bool, IsTrue, true, not, ◌&&◌, nat_lt, nat_le, List, [], ◌∷◌, ◌++◌, length, filter, Option, None, Some, if◌then◌else◌}
+use Rattle.std.specs.Prelude.{◌≡◌, ◌≢◌, ℕ, ◌<◌, ◌≤◌, IsSomeAnd, option_map, ◌⊎◌, Bool, IsTrue, true, not, ◌&&◌, nat_lt, nat_le, List, [], ◌∷◌, ◌++◌, length, filter, Option, None, Some, if◌then◌else◌}
 use Rattle.std.specs.Option.{option_and_then, option_map_or}
 use Rattle.std.specs.Ordering.{nat_cmp}
 use Rattle.std.specs.BTreeMap.{is_at}
 use Rattle.std.specs.Map.{lookup, remove_entry, set_value}
+use Rattle.recovery_base.specs.Units.{number_limit}
 use Rattle.recovery_queue.specs.Slots.{first_entry, is_from}
+use Rattle.recovery_spaces.specs.declared.sent_packets.TheConstants.{MAX_SILENT}
 
 -- a packet as contracts see it; the contents P are what its queue holds (RFC 9000, 13.3), and M is what else an
 -- application keeps of it
@@ -91,7 +93,7 @@ least_number (entry ∷ packets) = Some entry.0
 
 -- the most silent packets above the last ack-eliciting one that are tracked: quinn-proto keeps 1000 beside the newest
 abbrev pub most_silent : ℕ
-most_silent = 1001
+most_silent = MAX_SILENT
 
 -- the number that is forgotten when a packet is sent: where that is silent, the least of so many silent ones
 abbrev pub forgotten_number : {P M : Type 0} → Option ℕ → Packet P M → Packets P M → Option ℕ
@@ -118,7 +120,7 @@ entry_number = option_map (λ entry. entry.0)
 
 -- a number that is none of a packet (RFC 9000, 12.3)
 abbrev pub IsTooLarge : Option ℕ → Type 0
-IsTooLarge number = IsSomeAnd number (λ n. 2 ^ 62 ≤ n)
+IsTooLarge number = IsSomeAnd number (λ n. number_limit ≤ n)
 
 -- the largest number that a packet acknowledges, where it is tracked and acknowledges one
 abbrev pub largest_acked_by : {P M : Type 0} → Option (Packet P M) → Option ℕ

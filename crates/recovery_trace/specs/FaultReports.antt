@@ -7,10 +7,11 @@ use lib.Chars.{codes}
 use Rattle.recovery_trace.specs.declared.faults.Fault.{Fault}
 use Rattle.recovery_trace.specs.declared.faults.Fault.TheVariants.{TooLong, TooShort, Word}
 use Rattle.recovery_trace.specs.Faults.{NamesWordOf}
+use Rattle.recovery_trace.specs.declared.telling.TheConstants.{SHOWN}
 
 -- the first 64 bytes of a word between quotes, each as Rust escapes it in a text
 abbrev pub quoted : List ℕ → List ℕ
-quoted word = 34 ∷ (flat_map (debug_escape 34) (take 64 word) ++ 34 ∷ [])
+quoted word = 34 ∷ (flat_map (debug_escape 34) (take SHOWN word) ++ 34 ∷ [])
 
 -- how the line of this number is named, and a word of it
 abbrev pub line_named : ℕ → List ℕ

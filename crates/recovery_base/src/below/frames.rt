@@ -3,6 +3,7 @@ ghost use Rattle.std.specs.Prelude.{◌≡◌, ℕ, ◌-◌, ◌<◌, None, Some
 ghost use Rattle.std.specs.Result.{OkIff};
 ghost use Rattle.recovery_base.specs.Ecn.{ecn_fault};
 ghost use Rattle.recovery_base.specs.Units.{number_limit};
+ghost use Rattle.recovery_base.specs.Errors.{protocol_violation};
 
 use std::marker::Model;
 use thiserror::Error;
@@ -112,7 +113,7 @@ pub struct TransportError {
 impl TransportError {
     /// The peer broke the protocol: code 10.
     pub fn PROTOCOL_VIOLATION(reason: &'static str) -> Self
-        ensures code { result.code ≡ 10 }
+        ensures code { result.code ≡ protocol_violation }
         ensures reason { result.reason.now ≡ reason.now }
     {
         TransportError { code: 10, reason }
