@@ -6,10 +6,9 @@ use lib.Chars.{codes}
 use Rattle.recovery_base.specs.declared.below.frames.AckFrequency.{AckFrequency}
 use Rattle.recovery_base.specs.declared.below.frames.TransportError.{TransportError}
 use Rattle.recovery_base.specs.Errors.{protocol_violation}
-use Rattle.recovery_base.specs.Units.{microseconds, milliseconds, timer_granularity}
+use Rattle.recovery_base.specs.Units.{assumed_ack_delay, microseconds, timer_granularity}
 use Rattle.recovery_acks.specs.declared.frequency.AckFrequencyState.{AckFrequencyState}
 use Rattle.recovery_acks.specs.Acks.{Acks, with_thresholds}
-use Rattle.recovery_acks.specs.declared.frequency.TheConstants.{MIN_AUTOMATIC_ACK_DELAY_MILLIS}
 
 abbrev pub delay_or : Option ℕ → ℕ → ℕ
 delay_or None other = other
@@ -28,7 +27,7 @@ frequency_made delay = record {
 -- an RTT counts as this much at least, the default of max_ack_delay (RFC 9000, 18.2): on a short path more ACKs would
 -- else be asked for than come without a request
 abbrev pub least_rtt : ℕ
-least_rtt = MIN_AUTOMATIC_ACK_DELAY_MILLIS * milliseconds
+least_rtt = assumed_ack_delay
 
 -- the delay to ask for: the configured or else the peer's, at most the RTT, at least the peer's min_ack_delay in
 -- microseconds

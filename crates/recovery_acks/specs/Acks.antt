@@ -6,7 +6,6 @@ use Rattle.recovery_base.specs.Numbers.{IsLeastMissing, InsertNumber}
 use Rattle.recovery_base.specs.Ranges.{InRanges, AreApart}
 use Rattle.recovery_base.specs.Units.{largest_u64, last_time}
 use Rattle.recovery_acks.specs.Runs.{IsInHighest}
-use Rattle.recovery_acks.specs.declared.pending.TheConstants.{MAX_ACK_BLOCKS}
 
 -- what decides of the next ACK, besides the numbers that came
 pub record AckCounts : Type 0 where
@@ -45,7 +44,11 @@ IsNotAbove (Some n) (Some m) = n ≤ m
 -- the most ranges that are kept: an ACK frame spells each in 16 bytes at most (RFC 9000, 19.3.1), so that one of 64
 -- fits into the least datagram, of 1200 bytes
 abbrev pub most_ranges : ℕ
-most_ranges = MAX_ACK_BLOCKS
+most_ranges = 64
+
+-- so many non-ack-eliciting packets need no ACK of their own; one more does (RFC 9000, 13.2.1)
+abbrev pub lazy_ack_threshold : ℕ
+lazy_ack_threshold = 10
 
 -- what holds of every value: ack-eliciting packets since the last ACK have a delay base or require an ACK at once
 pub record AreAcksSound (acks : Acks) : Type 0 where

@@ -4,9 +4,8 @@ ghost use Rattle.recovery_base.specs.Numbers.{InsertNumber};
 ghost use Rattle.recovery_base.specs.Received.{HasReceived};
 ghost use Rattle.recovery_base.specs.Ranges.{InRanges, AreApart};
 ghost use Rattle.recovery_base.specs.Units.{number_limit};
-ghost use Rattle.recovery_acks.specs.Acks.{IsPending, CanSend, new_acks, with_thresholds, with_required, acks_sent, ReceivesPacket, AddsPending, SubtractsBelow, delay_at, timeout_at, IsAtLeastSome, IsOutOfOrder, IsReported, IsNotAbove, AreAcksSound, largest_with, most_ranges};
+ghost use Rattle.recovery_acks.specs.Acks.{IsPending, CanSend, new_acks, with_thresholds, with_required, acks_sent, ReceivesPacket, AddsPending, SubtractsBelow, delay_at, timeout_at, IsAtLeastSome, IsOutOfOrder, IsReported, IsNotAbove, AreAcksSound, largest_with, most_ranges, lazy_ack_threshold};
 ghost use Rattle.recovery_acks.specs.Runs.{IsInHighest};
-ghost use Rattle.recovery_acks.specs.declared.pending.TheConstants.{LAZY_ACK_THRESHOLD};
 
 use recovery_base::below::{AckFrequency, ArrayRangeSet, NoMemory};
 use recovery_base::dedup::Dedup;
@@ -240,9 +239,9 @@ impl PendingAcks {
     ///
     /// To be called where a packet is sent anyway: such packets alone are not to make one be sent (RFC 9000, 13.2.1).
     pub fn maybe_ack_non_eliciting(&mut self)
-        ensures many { LAZY_ACK_THRESHOLD < self.old.counts.silent
+        ensures many { lazy_ack_threshold < self.old.counts.silent
             → self.new ≡ with_required true self.old }
-        ensures few { self.old.counts.silent ≤ LAZY_ACK_THRESHOLD → self.new ≡ self.old }
+        ensures few { self.old.counts.silent ≤ lazy_ack_threshold → self.new ≡ self.old }
         ensures sound { AreAcksSound self.new }
     {
         if self.non_ack_eliciting_since_last_ack_sent > LAZY_ACK_THRESHOLD {

@@ -1,22 +1,25 @@
 -- Units and limits: spans in nanoseconds, numbers on the wire, counters of 64 bits and less.
-use Rattle.std.specs.Prelude.{ℕ, ◌-◌, ◌^◌}
-use Rattle.recovery_base.specs.declared.time.TheConstants.{NANOS_PER_MICRO, NANOS_PER_MILLI, NANOS_PER_SEC}
+use Rattle.std.specs.Prelude.{ℕ, ◌-◌, ◌*◌, ◌^◌}
 
 -- the nanoseconds of a microsecond: `25 * microseconds`
 abbrev pub microseconds : ℕ
-microseconds = NANOS_PER_MICRO
+microseconds = 10 ^ 3
 
 -- the nanoseconds of a millisecond
 abbrev pub milliseconds : ℕ
-milliseconds = NANOS_PER_MILLI
+milliseconds = 10 ^ 6
 
 -- the nanoseconds of a second
 abbrev pub seconds : ℕ
-seconds = NANOS_PER_SEC
+seconds = 10 ^ 9
 
 -- the shortest span that timers keep (kGranularity of RFC 9002, 6.1.2), and so the min_ack_delay of this end
 abbrev pub timer_granularity : ℕ
 timer_granularity = milliseconds
+
+-- the max_ack_delay of a peer that has not said another one (RFC 9000, 18.2)
+abbrev pub assumed_ack_delay : ℕ
+assumed_ack_delay = 25 * milliseconds
 
 -- packet numbers, sequence numbers of connection IDs and variable-length integers are below it (RFC 9000, 12.3, 19.15
 -- and 16)

@@ -2,8 +2,7 @@
 -- what is sent is taken off. Moments and spans are in nanoseconds.
 use Rattle.std.specs.Prelude.{ℕ, ◌+◌, ◌-◌, ◌*◌, ◌/◌, ◌<◌, ◌≤◌, min, max, Bool, ◌&&◌, ◌||◌, ◌==◌, nat_le, if◌then◌else◌, Option, None, Some}
 use Rattle.recovery_base.specs.Times.{longest_span}
-use Rattle.recovery_base.specs.Units.{last_time, u32_limit}
-use Rattle.recovery_congestion.specs.declared.pacing.TheConstants.{BURST_INTERVAL_NANOS, MAX_BURST_SIZE, MIN_BURST_SIZE}
+use Rattle.recovery_base.specs.Units.{last_time, milliseconds, u32_limit}
 
 pub record Bucket : Type 0 where
   -- the most bytes that it takes, and the window and MTU that they were computed for
@@ -23,12 +22,26 @@ pub record PacerCall : Type 0 where
   pub window : ℕ
   pub now : ℕ
 
+-- ---- the size of bursts (RFC 9002, 7.7)
+
+-- a full bucket holds what a window gives in this span, in nanoseconds
+abbrev pub burst_interval : ℕ
+burst_interval = 2 * milliseconds
+
+-- the least packets that a full bucket holds
+abbrev pub min_burst : ℕ
+min_burst = 10
+
+-- the most packets that a full bucket holds
+abbrev pub max_burst : ℕ
+max_burst = 256
+
 -- ---- amounts
 
 -- what a window gives in two milliseconds, at least ten packets and at most 256 (bursts are limited, as 7.7 asks)
 abbrev pub capacity_of : ℕ → ℕ → ℕ → ℕ
 capacity_of rtt window mtu =
-    max (MIN_BURST_SIZE * mtu) (min (MAX_BURST_SIZE * mtu) (window * BURST_INTERVAL_NANOS / max rtt 1))
+    max (min_burst * mtu) (min (max_burst * mtu) (window * burst_interval / max rtt 1))
 
 -- the bytes that come in a span of time: the window for each RTT, times N = 5/4 (7.7), rounded down
 abbrev pub credit_of : ℕ → ℕ → ℕ → ℕ
@@ -95,7 +108,7 @@ less_tokens bytes old = record old { tokens = old.tokens - bytes }
 -- asks
 pub record IsBucketSound (bucket : Bucket) : Type 0 where
   pub tokens : bucket.tokens ≤ bucket.capacity
-  pub least : MIN_BURST_SIZE * bucket.mtu ≤ bucket.capacity
-  pub most : bucket.capacity ≤ MAX_BURST_SIZE * bucket.mtu
+  pub least : min_burst * bucket.mtu ≤ bucket.capacity
+  pub most : bucket.capacity ≤ max_burst * bucket.mtu
   pub window : 0 < bucket.window
   pub mtu : 0 < bucket.mtu

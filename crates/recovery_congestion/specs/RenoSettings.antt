@@ -1,6 +1,5 @@
 -- How a NewReno begins, and how a loss reduces its window (RFC 9002, 7.2 and 7.3.2).
 use Rattle.std.specs.Prelude.{ℕ, ◌<◌}
-use Rattle.recovery_congestion.specs.declared.congestion.new_reno.TheConstants.{INITIAL_WINDOW}
 
 pub record RenoSettings : Type 0 where
   -- the window at first, in bytes
@@ -15,4 +14,4 @@ ArePositive settings = (0 < settings.initial_window) × (0 < settings.denominato
 
 -- RFC 9002, 7.2, for datagrams of 1200 bytes, and half the window at a loss (RFC 9002, 7.3.2)
 abbrev pub default_reno : RenoSettings
-default_reno = record { initial_window = INITIAL_WINDOW; numerator = 1; denominator = 2 }
+default_reno = record { initial_window = 12000; numerator = 1; denominator = 2 }

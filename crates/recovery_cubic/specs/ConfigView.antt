@@ -1,7 +1,6 @@
 -- What a `CubicConfig` holds: the window at first, in bytes.
 use Rattle.std.specs.Prelude.{ℕ}
 use Rattle.recovery_cubic.specs.declared.cubic.CubicConfig.TheInside.{Inside}
-use Rattle.recovery_cubic.specs.declared.cubic.TheConstants.{INITIAL_WINDOW}
 
 abbrev pub window_in : Inside → ℕ
 window_in config = config.initial_window
@@ -11,4 +10,4 @@ window_back window = record { initial_window = window }
 
 -- RFC 9002, 7.2, for datagrams of 1200 bytes
 abbrev pub default_window : ℕ
-default_window = INITIAL_WINDOW
+default_window = 12000

@@ -9,7 +9,7 @@ use Rattle.recovery_cubic.specs.declared.cubic.Cubic.{Cubic}
 use Rattle.recovery_cubic.specs.declared.stage.Stage.{Stage}
 use Rattle.recovery_cubic.specs.Curve.{curve_from}
 use Rattle.recovery_cubic.specs.Stage.{parts, quotient_up, stage_from, flat_stage, counted, uncounted, raised, curve_window}
-use Rattle.recovery_cubic.specs.declared.cubic.TheConstants.{ALPHA_DENOMINATOR, ALPHA_NUMERATOR, BETA_DENOMINATOR, BETA_NUMERATOR, CONVERGENCE_DENOMINATOR, CONVERGENCE_NUMERATOR}
+use Rattle.recovery_cubic.specs.Fractions.{alpha_denominator, alpha_numerator, beta_denominator, beta_numerator, convergence_denominator, convergence_numerator}
 
 -- an MTU of zero counts as one byte
 abbrev pub datagram_of : ℕ → ℕ
@@ -44,9 +44,9 @@ slow_started now bytes cubic =
 abbrev pub friendly_step : ℕ → Cubic → ℕ
 friendly_step bytes cubic =
     let alpha =
-    if nat_le (parts * cubic.prior_window) cubic.stage.estimate then ALPHA_DENOMINATOR else ALPHA_NUMERATOR in
+    if nat_le (parts * cubic.prior_window) cubic.stage.estimate then alpha_denominator else alpha_numerator in
     quotient_up (parts * alpha * datagram_of cubic.current_mtu * bytes)
-    (ALPHA_DENOMINATOR * max cubic.window (least_window cubic))
+    (alpha_denominator * max cubic.window (least_window cubic))
 
 -- the window of the curve, but no more than half the bytes acknowledged above the window; the window before, where that
 -- is greater; and Reno's, where that is the greatest (RFC 9438, 4.2 and 4.3)
@@ -75,13 +75,13 @@ cubic_acked now sent bytes limited cubic =
 
 -- beta is 7/10, rounded down, and no less than the least window (RFC 9438, 4.6)
 abbrev pub reduced_window : Cubic → ℕ
-reduced_window cubic = max (cubic.window * BETA_NUMERATOR / BETA_DENOMINATOR) (least_window cubic)
+reduced_window cubic = max (cubic.window * beta_numerator / beta_denominator) (least_window cubic)
 
 -- W_max: the window before the reduction; where it had not reached the last plateau, (1 + beta)/2 of it, rounded down,
 -- so that a new flow finds room sooner (fast convergence: RFC 9438, 4.7)
 abbrev pub next_w_max : Cubic → ℕ
 next_w_max cubic =
-    if nat_lt cubic.window cubic.stage.curve.w_max then cubic.window * CONVERGENCE_NUMERATOR / CONVERGENCE_DENOMINATOR
+    if nat_lt cubic.window cubic.stage.curve.w_max then cubic.window * convergence_numerator / convergence_denominator
     else cubic.window
 
 -- the stage that begins with a reduction

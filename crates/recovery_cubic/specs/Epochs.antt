@@ -11,7 +11,7 @@ use Rattle.recovery_cubic.specs.History.{CubicEntry, grows, waits, reduces, pers
 use Rattle.recovery_cubic.specs.Growth.{bytes_of}
 use Rattle.recovery_cubic.specs.RealCurve.{IsSteady, IsNearReal}
 use Rattle.recovery_cubic.specs.Reno.{mtu_by, reno_by}
-use Rattle.recovery_cubic.specs.declared.cubic.TheConstants.{BETA_DENOMINATOR, BETA_NUMERATOR, CONVERGENCE_DENOMINATOR, CONVERGENCE_NUMERATOR}
+use Rattle.recovery_cubic.specs.Fractions.{beta_denominator, beta_numerator, convergence_denominator, convergence_numerator}
 
 -- ---- the time that counts, in nanoseconds (RFC 9438, 4.2 and 5.8)
 
@@ -36,7 +36,7 @@ time_next turn last time = time
 
 abbrev pub plateau_next : CubicEntry → ℕ → ℕ → ℕ → ℕ
 plateau_next (reduces now) before after plateau =
-    if nat_lt before plateau then before * CONVERGENCE_NUMERATOR / CONVERGENCE_DENOMINATOR else before
+    if nat_lt before plateau then before * convergence_numerator / convergence_denominator else before
 plateau_next (persists now) before after plateau = after
 plateau_next (starts now bytes) before after plateau = after
 plateau_next turn before after plateau = plateau
@@ -136,8 +136,8 @@ module _ (window now mtu : ℕ) where
     -- the plateau is the window before, unless that was below the last plateau
     pub plateau : plateau_by earlier ≤ window_by window now mtu earlier
         → plateau_by (reduction ∷ earlier) ≡ window_by window now mtu earlier
-    pub lacking : BETA_NUMERATOR * window_by window now mtu earlier
-        ≤ BETA_DENOMINATOR * window_by window now mtu (until ++ reduction ∷ earlier) + 9
+    pub lacking : beta_numerator * window_by window now mtu earlier
+        ≤ beta_denominator * window_by window now mtu (until ++ reduction ∷ earlier) + 9
     pub sooner : time_by (until ++ reduction ∷ earlier) / microseconds < k
         → curve_then until reduction earlier k ≤ plateau_by (reduction ∷ earlier)
     pub back : ReturnsToWmax later until reduction earlier k

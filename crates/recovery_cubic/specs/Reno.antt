@@ -5,14 +5,14 @@ use Rattle.recovery_congestion.specs.Calls.{ControllerCall}
 use Rattle.recovery_cubic.specs.Stage.{parts, quotient_up}
 use Rattle.recovery_cubic.specs.Cubic.{datagram_of}
 use Rattle.recovery_cubic.specs.History.{CubicEntry, grows, reduces, persists, starts, resizes, turn_at, window_by}
-use Rattle.recovery_cubic.specs.declared.cubic.TheConstants.{ALPHA_DENOMINATOR, ALPHA_NUMERATOR}
+use Rattle.recovery_cubic.specs.Fractions.{alpha_denominator, alpha_numerator}
 
 -- the growth by bytes acknowledged, where the window is at least two datagrams: alpha datagrams for a window of them,
 -- rounded up; alpha is 9/17, and 1 once the estimate is at the window before the reduction
 abbrev pub reno_growth : ℕ → ℕ → ℕ → ℕ → ℕ → ℕ
 reno_growth bytes window datagram prior estimate =
-    let alpha = if nat_le (parts * prior) estimate then ALPHA_DENOMINATOR else ALPHA_NUMERATOR in
-    quotient_up (parts * alpha * datagram * bytes) (ALPHA_DENOMINATOR * max window (2 * datagram))
+    let alpha = if nat_le (parts * prior) estimate then alpha_denominator else alpha_numerator in
+    quotient_up (parts * alpha * datagram * bytes) (alpha_denominator * max window (2 * datagram))
 
 -- the window before a reduction
 abbrev pub prior_next : CubicEntry → ℕ → ℕ → ℕ

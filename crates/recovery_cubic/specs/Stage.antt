@@ -1,15 +1,14 @@
 -- A stage of congestion avoidance: its curve, its time, and the Reno-friendly estimate (RFC 9438, 4.2, 4.3 and 5.8).
-use Rattle.std.specs.Prelude.{ℕ, ◌+◌, ◌-◌, ◌*◌, ◌/◌, min, max}
+use Rattle.std.specs.Prelude.{ℕ, ◌+◌, ◌-◌, ◌*◌, ◌/◌, ◌^◌, min, max}
 use Rattle.recovery_base.specs.Units.{largest_u64, microseconds}
 use Rattle.recovery_congestion.specs.NewReno.{sum_to_most}
 use Rattle.recovery_cubic.specs.declared.curve.Curve.{Curve}
 use Rattle.recovery_cubic.specs.declared.stage.Stage.{Stage}
 use Rattle.recovery_cubic.specs.Curve.{flat_curve, curve_at}
-use Rattle.recovery_cubic.specs.declared.stage.TheConstants.{PARTS}
 
 -- the estimate counts in parts of a byte: so many are one
 abbrev pub parts : ℕ
-parts = PARTS
+parts = 2 ^ 32
 
 -- a quotient, rounded up
 abbrev pub quotient_up : ℕ → ℕ → ℕ

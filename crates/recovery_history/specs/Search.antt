@@ -2,7 +2,7 @@
 use Rattle.std.specs.Prelude.{◌≤◌, Option, None, if◌then◌else◌}
 use Rattle.std.specs.Option.{ForSome}
 use Rattle.recovery_mtud.specs.declared.config.MtuDiscoveryConfig.{MtuDiscoveryConfig}
-use Rattle.recovery_mtud.specs.Settings.{smallest_change}
+use Rattle.recovery_mtud.specs.Search.{smallest_change}
 use Rattle.recovery_history.specs.History.{Beginning}
 
 module _ {F K Q S M P : Type 0} (beginning : Beginning F K Q S M P) where

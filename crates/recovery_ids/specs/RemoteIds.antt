@@ -6,12 +6,11 @@ use Rattle.std.specs.declared.ops.Range.{Range}
 use Rattle.recovery_base.specs.declared.below.ids.NewConnectionId.{NewConnectionId}
 use Rattle.recovery_ids.specs.declared.queue.InsertError.{InsertError}
 use Rattle.recovery_ids.specs.declared.queue.InsertError.TheVariants.{Retired, ExceedsLimit, Conflict}
-use Rattle.recovery_ids.specs.declared.window.TheConstants.{LEN}
 
 -- the most ids of the peer that this end is willing to store, as it tells the peer (RFC 9000, 18.2): the peer issues no
 -- more than it stores (5.1.1)
 abbrev pub active_connection_id_limit : ℕ
-active_connection_id_limit = LEN
+active_connection_id_limit = 8
 
 -- an id, with its token where there is one
 abbrev pub HeldId : Type 0

@@ -10,7 +10,6 @@ use Rattle.recovery_losses.specs.declared.looks.Candidate.{Candidate}
 use Rattle.recovery_losses.specs.declared.looks.LossPass.{LossPass}
 use Rattle.recovery_losses.specs.declared.tally.Run.{Run}
 use Rattle.recovery_losses.specs.declared.tally.Tally.{Tally}
-use Rattle.recovery_losses.specs.declared.looks.TheConstants.{PACKET_THRESHOLD}
 
 -- ---- numbers
 
@@ -36,9 +35,13 @@ first_of (Some mark) space = if nat_lt (space_index mark.0) (space_index space) 
 abbrev pub lost_at : LossPass → ℕ → ℕ
 lost_at look sent = min (sent + look.delay) last_time
 
+-- kPacketThreshold (RFC 9002, 6.1.1), in packets
+abbrev pub packet_reordering_threshold : ℕ
+packet_reordering_threshold = 3
+
 -- three numbers below the largest acknowledged, or sent long ago (RFC 9002, 6.1.1 and 6.1.2)
 abbrev pub IsLost : LossPass → ℕ → ℕ → Type 0
-IsLost look number sent = (number + PACKET_THRESHOLD ≤ look.largest) ⊎ (lost_at look sent ≤ look.at)
+IsLost look number sent = (number + packet_reordering_threshold ≤ look.largest) ⊎ (lost_at look sent ≤ look.at)
 
 -- when it is to be looked at: once it is lost by its age, or now, where it is lost and memory was refused
 abbrev pub IsDueAt : LossPass → ℕ → ℕ → ℕ → Type 0

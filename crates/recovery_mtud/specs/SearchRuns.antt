@@ -4,10 +4,9 @@ use Rattle.std.specs.Prelude.{◌≡◌, ℕ, ◌+◌, ◌*◌, ◌≤◌, ◌<�
 use Rattle.std.specs.Option.{option_map}
 use Rattle.std.specs.Set.{distinct_count}
 use Rattle.recovery_mtud.specs.declared.config.MtuDiscoveryConfig.{MtuDiscoveryConfig}
-use Rattle.recovery_mtud.specs.Search.{later, upper_from}
+use Rattle.recovery_mtud.specs.Search.{later, upper_from, size_budget, probe_budget}
 use Rattle.recovery_mtud.specs.Discovery.{Discovery, limit_or_greatest}
 use Rattle.recovery_mtud.specs.MtuEntries.{MtuEntry, probed, unprobed, limited, acked, probe_lost, reported, reset, probe_in_flight, size_at, limit_in_use, mtu_in_use}
-use Rattle.recovery_mtud.specs.declared.search.TheConstants.{MAX_PROBES}
 
 -- ---- when a search runs
 
@@ -80,14 +79,6 @@ lost_sizes [] = []
 lost_sizes (probe_lost ∷ earlier) =
     option_to_list (option_map (λ probe. probe.size) (probe_in_flight earlier)) ++ lost_sizes earlier
 lost_sizes (entry ∷ earlier) = lost_sizes earlier
-
--- the most sizes that one search probes: each halves what is left of 16 bits
-abbrev pub size_budget : ℕ
-size_budget = 16
-
--- the most probes that one search sends: 48 (MAX_PROBES of RFC 8899, 5.1.2, for each size)
-abbrev pub probe_budget : ℕ
-probe_budget = size_budget * MAX_PROBES
 
 -- the search that runs has taken at most 16 sizes and 48 probes
 pub record UsesFewProbes (entries : List MtuEntry) : Type 0 where

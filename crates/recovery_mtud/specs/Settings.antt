@@ -1,11 +1,7 @@
 -- The settings of MTU discovery (RFC 8899, 5.1; RFC 9000, 14.3).
-use Rattle.std.specs.Prelude.{ℕ, ◌*◌}
+use Rattle.std.specs.Prelude.{◌*◌}
 use Rattle.recovery_base.specs.Units.{seconds}
 use Rattle.recovery_mtud.specs.declared.config.MtuDiscoveryConfig.{MtuDiscoveryConfig}
-
--- the smallest `minimum_change`, in bytes, for which a search is proved short and near the best size (RFC 8899, 5.3.2)
-abbrev pub smallest_change : ℕ
-smallest_change = 3
 
 -- 600 s, 1452 bytes, 60 s, 20 bytes
 abbrev pub default_settings : MtuDiscoveryConfig

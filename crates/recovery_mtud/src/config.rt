@@ -2,7 +2,7 @@
 ghost use Rattle.std.specs.Prelude.{◌≡◌, ◌<◌, min, max};
 ghost use Rattle.recovery_base.specs.Units.{u16_limit};
 ghost use Rattle.recovery_mtud.specs.Settings.{default_settings};
-ghost use Rattle.recovery_mtud.specs.declared.config.TheConstants.{MAX_UDP_PAYLOAD};
+ghost use Rattle.recovery_mtud.specs.Search.{max_udp_payload};
 
 use recovery_base::time::Duration;
 
@@ -35,7 +35,7 @@ impl MtuDiscoveryConfig {
     /// IPv6 and UDP leave of an Ethernet frame.
     pub fn upper_bound(&mut self, value: u16) -> &mut Self
         ensures same { result.ghost_name ≡ self.entry.ghost_name }
-        ensures value { result.now ≡ record self.old { upper_bound = min value MAX_UDP_PAYLOAD } }
+        ensures value { result.now ≡ record self.old { upper_bound = min value max_udp_payload } }
     {
         self.upper_bound = value.min(MAX_UDP_PAYLOAD);
         self

@@ -7,7 +7,7 @@ ghost use Rattle.recovery_mtud.specs.DiscoveryLog.{MtuCall, discovery_after, dis
 ghost use Rattle.recovery_mtud.specs.MtuEntries.{IsFreshDiscovery, entries_by, search_settings};
 ghost use Rattle.recovery_mtud.specs.SearchRuns.{UsesFewProbes, AreLimitsOutside, EndsNearBest, ProbesInSearch};
 ghost use Rattle.recovery_mtud.specs.declared.config.MtuDiscoveryConfig.{MtuDiscoveryConfig};
-ghost use Rattle.recovery_mtud.specs.Settings.{smallest_change};
+ghost use Rattle.recovery_mtud.specs.Search.{smallest_change};
 
 /// Whatever is told of sizes above zero, the MTU in use stays above zero, and at most four bursts are kept.
 #[tactic(auto, using(crate::proofs::DiscoveryLaws::discovery_by_sound))]

@@ -11,8 +11,7 @@ use Rattle.recovery_base.specs.declared.below.SpaceId.TheVariants.{Data}
 use Rattle.recovery_base.specs.declared.below.frames.TransportError.{TransportError}
 use Rattle.recovery_base.specs.Errors.{protocol_violation}
 use Rattle.recovery_packet_numbers.specs.declared.filter.Skips.{Skips}
-use Rattle.recovery_packet_numbers.specs.Skips.{next_skip, skip_at, is_at, skips_below, skip_before}
-use Rattle.recovery_packet_numbers.specs.declared.filter.TheConstants.{FIRST_EXPONENT}
+use Rattle.recovery_packet_numbers.specs.Skips.{next_skip, skip_at, is_at, skips_below, skip_before, first_exponent}
 
 pub record Filter : Type 0 where
   -- the next number to skip
@@ -35,7 +34,7 @@ skipping_at skips words n =
     let filter : Filter = record {
       skip = next.0;
       last = skip_before skips words n;
-      exponent = FIRST_EXPONENT + count;
+      exponent = first_exponent + count;
     } in
     record { filter = filter; words = next.1 }
 
@@ -57,10 +56,10 @@ passed n old = if is_at n old.filter.skip then skipped n old else old
 -- what holds of every filter: the exponents below 6 and above 63 are never in use, and the next skip
 -- lies below 2 to the exponent, and, where it is not the first, not below half of that
 pub record IsFilterSound (filter : Filter) : Type 0 where
-  pub first : FIRST_EXPONENT ≤ filter.exponent
+  pub first : first_exponent ≤ filter.exponent
   pub last : filter.exponent ≤ 63
   pub below : (s : ℕ) → filter.skip ≡ Some s → s < 2 ^ filter.exponent
-  pub above : (s : ℕ) → filter.skip ≡ Some s → FIRST_EXPONENT < filter.exponent → 2 ^ (filter.exponent - 1) ≤ s
+  pub above : (s : ℕ) → filter.skip ≡ Some s → first_exponent < filter.exponent → 2 ^ (filter.exponent - 1) ≤ s
 
 -- ---- acknowledgements
 

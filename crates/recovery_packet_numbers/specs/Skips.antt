@@ -8,7 +8,6 @@ use Rattle.rand.specs.Uniform.{canon}
 use Rattle.recovery_base.specs.Units.{u64_limit}
 use Rattle.recovery_packet_numbers.specs.declared.filter.Skips.{Skips}
 use Rattle.recovery_packet_numbers.specs.declared.filter.Skips.TheVariants.{Drawn, Starting, Disabled}
-use Rattle.recovery_packet_numbers.specs.declared.filter.TheConstants.{FIRST_EXPONENT}
 
 -- each word of a stream fits 64 bits, as those of every generator do
 abbrev pub AreWords : Stream → Type 0
@@ -21,9 +20,13 @@ draw low end words = draw_map (λ above. low + above) (canon u64_limit next_u64 
 
 -- ---- the sequence of skips
 
+-- the first skip is below 2 to this power
+abbrev pub first_exponent : ℕ
+first_exponent = 6
+
 -- the first skip is below it
 abbrev pub first_skip_limit : ℕ
-first_skip_limit = 2 ^ FIRST_EXPONENT
+first_skip_limit = 2 ^ first_exponent
 
 -- `Starting(n)` is for n below 64
 abbrev pub IsSkips : Skips → Type 0
@@ -49,7 +52,7 @@ next_skip exponent (Some s, words) = drawn (max (2 ^ exponent) (s + 2)) (2 ^ (ex
 -- the skips, counted from 0
 abbrev pub skip_at : Skips → Stream → ℕ → Option ℕ × Stream
 skip_at skips words zero = first_skip skips words
-skip_at skips words (suc k) = next_skip (FIRST_EXPONENT + k) (skip_at skips words k)
+skip_at skips words (suc k) = next_skip (first_exponent + k) (skip_at skips words k)
 
 -- ---- the numbers
 

@@ -3,9 +3,8 @@ ghost use Rattle.std.specs.Prelude.{◌≡◌, ◌+◌, ◌<◌, ◌≤◌, ◌^
 ghost use Rattle.std.specs.Option.{SomeIff, ForSome};
 ghost use Rattle.rand_core.specs.Stream.{Stream};
 ghost use Rattle.recovery_base.specs.Units.{number_limit};
-ghost use Rattle.recovery_packet_numbers.specs.Skips.{IsSkips, draw, first_skip_limit};
+ghost use Rattle.recovery_packet_numbers.specs.Skips.{IsSkips, draw, first_skip_limit, first_exponent};
 ghost use Rattle.recovery_packet_numbers.specs.Filters.{skipping_at, number_by, skipped, passed, IsFilterSound, AcksSkippedNumber, IsUnsentAcked};
-ghost use Rattle.recovery_packet_numbers.specs.declared.filter.TheConstants.{FIRST_EXPONENT};
 
 use rand::RngExt;
 use rand_core::Rng;
@@ -108,7 +107,7 @@ impl PacketNumberFilter {
     /// No skip was passed yet.
     fn beginning(skip: Option<u64>) -> Self
         requires { ForSome skip (λ s. s < first_skip_limit) }
-        ensures { result ≡ record { skip = skip; last = None; exponent = FIRST_EXPONENT } }
+        ensures { result ≡ record { skip = skip; last = None; exponent = first_exponent } }
     {
         PacketNumberFilter {
             next_skipped_packet_number: skip,
@@ -132,7 +131,7 @@ impl PacketNumberFilter {
     /// The skip is passed, and the one behind it drawn.
     #[tactic(auto, using(crate::proofs::DrawRangeLaws::powers))]
     fn pass<R: Rng>(&mut self, rng: &mut R, skip: u64)
-        requires first { FIRST_EXPONENT ≤ self.old.exponent }
+        requires first { first_exponent ≤ self.old.exponent }
         requires last { self.old.exponent ≤ 62 }
         requires below { skip < 2 ^ self.old.exponent }
         ensures skipped { record { filter = self.new; words = R.stream rng.new }

@@ -8,8 +8,7 @@ use Rattle.recovery_base.specs.Timers.{timer_name}
 use Rattle.recovery_base.specs.Times.{span_limit}
 use Rattle.recovery_base.specs.Units.{byte_limit, number_limit, u16_limit, u64_limit}
 use Rattle.recovery_events.specs.declared.event.PathName.{PathName}
-use Rattle.recovery_script_syntax.specs.Words.{flag_word, space_word, path_word, largest_word}
-use Rattle.recovery_script_syntax.specs.declared.words.TheConstants.{MOST_IDS}
+use Rattle.recovery_script_syntax.specs.Words.{flag_word, space_word, path_word, largest_word, most_ids}
 
 pub data Field : Type 0 where
   a_space : Field
@@ -67,7 +66,7 @@ FitsFieldType a_span = λ n. n < span_limit
 FitsFieldType a_u16 = λ n. n < u16_limit
 FitsFieldType a_var_int = λ n. n < number_limit
 FitsFieldType a_byte = λ n. n < byte_limit
-FitsFieldType a_count = λ n. n < MOST_IDS + 1
+FitsFieldType a_count = λ n. n < most_ids + 1
 
 -- ---- the end of a line
 

@@ -26,16 +26,14 @@ use Rattle.recovery_events.specs.declared.event.Event.TheVariants.{QueueProbe, T
 use Rattle.recovery_events.specs.declared.event.Event.TheVariants.{NewPath, ResetPath, DropPrevious, RevertPath}
 use Rattle.recovery_base.specs.declared.timer.Timer.TheVariants.{Idle}
 use Rattle.recovery_base.specs.Units.{u64_limit}
-use Rattle.recovery_base.specs.declared.below.ids.TheConstants.{RESET_TOKEN_SIZE}
+use Rattle.recovery_base.specs.Ids.{reset_token_size}
 use Rattle.recovery_script_syntax.specs.declared.forms.Line.{Line}
 use Rattle.recovery_script_syntax.specs.declared.forms.Line.TheVariants.{Said, Ids, Path}
 use Rattle.recovery_script_syntax.specs.Fields.{Field, Values, words_for, AllFitFieldTypes}
 use Rattle.recovery_script_syntax.specs.Fields.{Tail, no_tail, an_item_tail}
 use Rattle.recovery_script_syntax.specs.Fields.{a_space, a_timer, a_path, a_flag, a_largest}
 use Rattle.recovery_script_syntax.specs.Fields.{a_u64, a_span, a_u16, a_var_int, a_byte, a_count}
-use Rattle.recovery_script_syntax.specs.Words.{words_of}
-use Rattle.recovery_script_syntax.specs.declared.lines.TheConstants.{LINE_LIMIT}
-use Rattle.recovery_script_syntax.specs.declared.words.TheConstants.{MOST_IDS}
+use Rattle.recovery_script_syntax.specs.Words.{words_of, longest_line, most_ids}
 
 -- the events of a script: what a packet carries is a list of items
 abbrev pub ItemEvent : Type 0
@@ -48,7 +46,7 @@ abbrev pub id_of : ℕ → List ℕ
 id_of byte = replicate 8 byte
 
 abbrev pub token_of : ℕ → List ℕ
-token_of byte = replicate RESET_TOKEN_SIZE byte
+token_of byte = replicate reset_token_size byte
 
 -- the first byte of an id
 abbrev pub byte_of : List ℕ → ℕ
@@ -341,7 +339,7 @@ pub record EncodesEvent (line : List ℕ) (event : ItemEvent) : Type 0 where
   pub unkept : ℕ
   pub words : words_of line ≡ encoding_of unkept event
   pub within : IsWithinTypes unkept event
-  pub short : length line ≤ LINE_LIMIT
+  pub short : length line ≤ longest_line
 
 -- the line issues ids, one at least, of which each has a number
 pub record IsIssueLine (line : List ℕ) : Type 0 where
@@ -351,9 +349,9 @@ pub record IsIssueLine (line : List ℕ) : Type 0 where
   pub words : words_of line ≡ words_said (issue_ids, (now, (first, (count, tt))))
   pub time : now < u64_limit
   pub some : 0 < count
-  pub few : count ≤ MOST_IDS
+  pub few : count ≤ most_ids
   pub bound : first + count ≤ u64_limit
-  pub short : length line ≤ LINE_LIMIT
+  pub short : length line ≤ longest_line
 
 -- the line sends a packet that carries items, one at least
 pub record SendsItems (line : List ℕ) : Type 0 where
@@ -361,7 +359,7 @@ pub record SendsItems (line : List ℕ) : Type 0 where
   pub words : words_of line ≡ words_said (send, values)
   pub fit : AllFitFieldTypes send.tail send.fields values
   pub some : 0 < length values.1.1.1.1.1
-  pub short : length line ≤ LINE_LIMIT
+  pub short : length line ≤ longest_line
 
 -- what was read of a line has one item at least, for which memory was taken
 abbrev pub TookMemory : Line → Type 0

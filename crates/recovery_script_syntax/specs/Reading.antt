@@ -22,8 +22,7 @@ use Rattle.recovery_script_syntax.specs.Fields.{Tail, TailValue, no_tail, an_ite
 use Rattle.recovery_script_syntax.specs.Fields.{a_space, a_timer, a_path, a_flag, a_largest}
 use Rattle.recovery_script_syntax.specs.Fields.{a_u64, a_span, a_u16, a_var_int, a_byte, a_count}
 use Rattle.recovery_script_syntax.specs.Lines.{Form, forms, ItemEvent, DenotesEvent, EncodesEvent, TookMemory}
-use Rattle.recovery_script_syntax.specs.Words.{words_of}
-use Rattle.recovery_script_syntax.specs.declared.words.TheConstants.{MOST_IDS}
+use Rattle.recovery_script_syntax.specs.Words.{words_of, most_ids}
 
 -- ---- a field
 
@@ -131,7 +130,7 @@ value_of a_span = number_of span_limit
 value_of a_u16 = number_of u16_limit
 value_of a_var_int = number_of number_limit
 value_of a_byte = number_of byte_limit
-value_of a_count = number_of (MOST_IDS + 1)
+value_of a_count = number_of (most_ids + 1)
 
 -- ---- items
 

@@ -5,10 +5,9 @@ ghost use Rattle.std.specs.List.{position_or_len, before_first};
 ghost use Rattle.recovery_base.specs.Timers.{timer_named};
 ghost use Rattle.recovery_base.specs.Times.{span_limit};
 ghost use Rattle.recovery_base.specs.Units.{byte_limit, number_limit, u16_limit, u64_limit};
-ghost use Rattle.recovery_script_syntax.specs.Words.{words_of};
+ghost use Rattle.recovery_script_syntax.specs.Words.{words_of, most_ids};
 ghost use Rattle.recovery_script_syntax.specs.Reading.{IsFirstNumber, ParsesTo, ReadsBy, words_left, first_word, field, flag_of, space_of, path_of, largest_of, number_of};
 ghost use Rattle.recovery_script_syntax.specs.Reading.{items_read, AreItemsRead, IsPlainName, TakesName};
-ghost use Rattle.recovery_script_syntax.specs.declared.words.TheConstants.{MOST_IDS};
 
 use crate::blanks::word_len;
 use crate::digits::{half_at, leading_digits, word_at};
@@ -282,7 +281,7 @@ impl<'a> Words<'a> {
     /// The next word as a count of ids, 0 to 64.
     #[tactic(auto, unfolding(crate::specs::Reading::field))]
     pub fn count(&mut self) -> Option<u64>
-        ensures { ReadsBy (field (number_of (MOST_IDS + 1))) self.old self.new result }
+        ensures { ReadsBy (field (number_of (most_ids + 1))) self.old self.new result }
     {
         let number = self.number()?;
         if number > MOST_IDS {

@@ -6,7 +6,6 @@ use Rattle.std.specs.BTreeMap.{is_at}
 use Rattle.std.specs.Map.{lookup, remove_entry, set_value}
 use Rattle.recovery_base.specs.Units.{number_limit}
 use Rattle.recovery_queue.specs.Slots.{first_entry, is_from}
-use Rattle.recovery_spaces.specs.declared.sent_packets.TheConstants.{MAX_SILENT}
 
 -- a packet as contracts see it; the contents P are what its queue holds (RFC 9000, 13.3), and M is what else an
 -- application keeps of it
@@ -93,7 +92,7 @@ least_number (entry ∷ packets) = Some entry.0
 
 -- the most silent packets above the last ack-eliciting one that are tracked: quinn-proto keeps 1000 beside the newest
 abbrev pub most_silent : ℕ
-most_silent = MAX_SILENT
+most_silent = 1001
 
 -- the number that is forgotten when a packet is sent: where that is silent, the least of so many silent ones
 abbrev pub forgotten_number : {P M : Type 0} → Option ℕ → Packet P M → Packets P M → Option ℕ

@@ -13,7 +13,7 @@ use Rattle.recovery_base.specs.declared.below.ids.NewConnectionId.{NewConnection
 use Rattle.recovery_base.specs.declared.timer.Timer.{Timer}
 use Rattle.recovery_base.specs.declared.timer.TheConstants.Timer.{VALUES}
 use Rattle.recovery_base.specs.Units.{largest_u64, number_limit, seconds}
-use Rattle.recovery_base.specs.declared.below.ids.TheConstants.{MAX_CID_SIZE}
+use Rattle.recovery_base.specs.Ids.{longest_cid}
 use Rattle.recovery_paths.specs.declared.path_pair.PathName.{PathName}
 use Rattle.recovery_paths.specs.declared.path_pair.PathName.TheVariants.{Current, Previous}
 use Rattle.recovery_losses.specs.declared.variables.Side.{Side}
@@ -67,7 +67,7 @@ spans delay_secs delay_nanos rtt_secs rtt_nanos =
 
 -- an id has at most 20 bytes
 abbrev pub cid : List ℕ → Option (List ℕ)
-cid bytes = if nat_le (length bytes) MAX_CID_SIZE then Some bytes else None
+cid bytes = if nat_le (length bytes) longest_cid then Some bytes else None
 
 -- the numbers of a frame lie below 2^62
 abbrev pub request : ℕ → ℕ → ℕ → ℕ → Option AckFrequency

@@ -10,7 +10,7 @@ use Rattle.recovery_congestion.specs.RenoSettings.{RenoSettings}
 use Rattle.recovery_config.specs.Settings.{settings_with}
 use Rattle.recovery_config.specs.declared.config.TransportConfig.{TransportConfig}
 use Rattle.recovery_mtud.specs.declared.config.MtuDiscoveryConfig.{MtuDiscoveryConfig}
-use Rattle.recovery_mtud.specs.declared.config.TheConstants.{MAX_UDP_PAYLOAD}
+use Rattle.recovery_mtud.specs.Search.{max_udp_payload}
 use Rattle.recovery_packet_numbers.specs.declared.filter.Skips.{Skips}
 use Rattle.recovery_packet_numbers.specs.declared.filter.Skips.TheVariants.{Drawn, Disabled, Starting}
 use Rattle.recovery_packet_numbers.specs.Skips.{first_skip_limit}
@@ -65,7 +65,7 @@ discovery_of settings =
     if settings.searches
     then Some (record {
       interval = settings.mtu_interval;
-      upper_bound = min settings.mtu_upper_bound MAX_UDP_PAYLOAD;
+      upper_bound = min settings.mtu_upper_bound max_udp_payload;
       black_hole_cooldown = settings.black_hole_cooldown;
       minimum_change = max settings.mtu_minimum_change 1;
     })

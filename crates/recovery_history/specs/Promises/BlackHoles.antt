@@ -4,7 +4,7 @@ use Rattle.std.specs.Prelude.{◌≡◌, ℕ, ◌≤◌, nat_lt, true, ◌||◌,
 use Rattle.std.specs.List.{list_any}
 use Rattle.recovery_base.specs.declared.below.SpaceId.TheVariants.{Data}
 use Rattle.recovery_mtud.specs.BurstRuns.{Loss, is_above, is_past}
-use Rattle.recovery_mtud.specs.declared.bursts.TheConstants.{BLACK_HOLE_BURSTS}
+use Rattle.recovery_mtud.specs.Bursts.{black_hole_bursts}
 use Rattle.recovery_events.specs.declared.event.Event.{Event}
 use Rattle.recovery_events.specs.declared.event.Event.TheVariants.{Acked, LossesDone, NewPath, RevertPath}
 use Rattle.recovery_events.specs.declared.event.Answer.TheVariants as answer
@@ -44,7 +44,7 @@ module _ {Q S M P : Type 0} where
   ReportsBlackHoleAtFour least history (LossesDone now) reply =
       let bursts = filter (is_above least) (open_run history ∷ unanswered least history) in
       (reply ≡ Ok (answer.BlackHole true)
-      → BLACK_HOLE_BURSTS ≤ length (filter (is_above least) (open_run history ∷ standing history)))
-      × (list_any (is_past (larger_acked least history)) (drop (BLACK_HOLE_BURSTS - 1) bursts) ≡ true
+      → black_hole_bursts ≤ length (filter (is_above least) (open_run history ∷ standing history)))
+      × (list_any (is_past (larger_acked least history)) (drop (black_hole_bursts - 1) bursts) ≡ true
       → reply ≡ Ok (answer.BlackHole true))
   ReportsBlackHoleAtFour least history event reply = Unit {0}

@@ -7,7 +7,7 @@ use Rattle.recovery_events.specs.declared.event.Event.TheVariants.{PollMtu, Acke
 use Rattle.recovery_events.specs.declared.event.Answer.TheVariants as answer
 use Rattle.recovery_history.specs.History.{Beginning, History, Reply}
 use Rattle.recovery_history.specs.Search.{WhereSearched}
-use Rattle.recovery_mtud.specs.SearchRuns.{probe_budget, size_budget}
+use Rattle.recovery_mtud.specs.Search.{probe_budget, size_budget}
 
 module _ {Q S M P : Type 0} where
   -- all begins anew: by a report of a black hole, by a reset, on a fresh path, or on one that is used again
