@@ -1,9 +1,10 @@
 -- Which packets are lost, when the next one is, and what that comes to (RFC 9002, 6.1, 7.6 and A.10).
-use Rattle.std.specs.Prelude.{◌≡◌, ◌≢◌, ℕ, ◌+◌, ◌-◌, ◌^◌, ◌<◌, ◌≤◌, ◌⊎◌, ◌&&◌, ◌||◌, ◌==◌, min, max, nat_lt, nat_le, Bool, false, List, [], ◌∷◌, Option, None, Some, if◌then◌else◌}
+use Rattle.std.specs.Prelude.{◌≡◌, ◌≢◌, ℕ, ◌+◌, ◌-◌, ◌<◌, ◌≤◌, ◌⊎◌, ◌&&◌, ◌||◌, ◌==◌, min, max, nat_lt, nat_le, Bool, false, List, [], ◌∷◌, Option, None, Some, if◌then◌else◌}
 use Rattle.std.specs.Option.{ForSome, option_map_or}
 use Rattle.recovery_base.specs.declared.below.SpaceId.{SpaceId}
 use Rattle.recovery_base.specs.Spaces.{same_space, space_index}
 use Rattle.recovery_base.specs.Timers.{earlier_of}
+use Rattle.recovery_base.specs.Units.{largest_u64, last_time}
 use Rattle.recovery_spaces.specs.Packets.{Packet, Packets, packet_at, without}
 use Rattle.recovery_losses.specs.declared.looks.Candidate.{Candidate}
 use Rattle.recovery_losses.specs.declared.looks.LossPass.{LossPass}
@@ -32,11 +33,15 @@ first_of (Some mark) space = if nat_lt (space_index mark.0) (space_index space) 
 
 -- when a packet that was sent then is lost by its age (RFC 9002, 6.1.2): it stops at the last moment of the clock
 abbrev pub lost_at : LossPass → ℕ → ℕ
-lost_at look sent = min (sent + look.delay) (2 ^ 64 - 1)
+lost_at look sent = min (sent + look.delay) last_time
+
+-- kPacketThreshold (RFC 9002, 6.1.1), in packets
+abbrev pub packet_reordering_threshold : ℕ
+packet_reordering_threshold = 3
 
 -- three numbers below the largest acknowledged, or sent long ago (RFC 9002, 6.1.1 and 6.1.2)
 abbrev pub IsLost : LossPass → ℕ → ℕ → Type 0
-IsLost look number sent = (number + 3 ≤ look.largest) ⊎ (lost_at look sent ≤ look.at)
+IsLost look number sent = (number + packet_reordering_threshold ≤ look.largest) ⊎ (lost_at look sent ≤ look.at)
 
 -- when it is to be looked at: once it is lost by its age, or now, where it is lost and memory was refused
 abbrev pub IsDueAt : LossPass → ℕ → ℕ → ℕ → Type 0
@@ -159,7 +164,7 @@ abbrev pub counting : LossPass → Candidate → Tally → Tally
 counting look packet tally = let run = going_on packet.number tally.run in
     if is_counted look packet.size packet.path_generation then record tally {
       last_sent = later_of tally.last_sent (Some packet.time_sent);
-      bytes = min (tally.bytes + packet.size) (2 ^ 64 - 1);
+      bytes = min (tally.bytes + packet.size) largest_u64;
       run = (if is_end look packet.number packet.ack_eliciting then ending look packet.time_sent run else run);
     } else record tally { run = run }
 

@@ -1,8 +1,9 @@
 -- What a sender keeps beside its recovery, and how it changes (RFC 9002, A.3).
-use Rattle.std.specs.Prelude.{ℕ, ◌+◌, ◌-◌, ◌*◌, ◌^◌, ◌||◌, min, Bool, true, false, Option, None, Some, if◌then◌else◌}
+use Rattle.std.specs.Prelude.{ℕ, ◌+◌, ◌||◌, min, Bool, true, false, Option, None, Some, if◌then◌else◌}
 use Rattle.recovery_base.specs.declared.below.SpaceId.{SpaceId}
 use Rattle.recovery_base.specs.declared.below.SpaceId.TheVariants.{Handshake, Data}
 use Rattle.recovery_base.specs.Spaces.{same_space}
+use Rattle.recovery_base.specs.Units.{assumed_ack_delay, largest_u32}
 use Rattle.recovery_losses.specs.Timeouts.{probe_timeout_of}
 use Rattle.recovery_losses.specs.declared.variables.Side.{Side}
 use Rattle.recovery_losses.specs.declared.variables.Side.TheVariants.{Client, Server}
@@ -13,7 +14,7 @@ use Rattle.recovery_losses.specs.declared.variables.Variables.{Variables}
 abbrev pub fresh : Side → ℕ → Variables
 fresh side now = record {
   side = side;
-  max_ack_delay = 25 * 10 ^ 6;
+  max_ack_delay = assumed_ack_delay;
   pto_count = 0;
   is_handshake_confirmed = false;
   is_address_known = false;
@@ -34,9 +35,14 @@ abbrev pub ack_delay_in : Variables → SpaceId → ℕ
 ack_delay_in variables Data = variables.max_ack_delay
 ack_delay_in variables space = 0
 
+-- how often a probe timeout is doubled at most
+abbrev pub most_doublings : ℕ
+most_doublings = 16
+
 -- the probe timeout, as often doubled as it expired in a row, but 16 times at most (RFC 9002, 6.2.1)
 abbrev pub pto_by : ℕ → Variables → SpaceId → ℕ
-pto_by base variables space = probe_timeout_of base (ack_delay_in variables space) (min variables.pto_count 16)
+pto_by base variables space =
+    probe_timeout_of base (ack_delay_in variables space) (min variables.pto_count most_doublings)
 
 -- probe timeouts are counted anew, but at a client that does not know its address validated, which an ACK of a
 -- Handshake packet tells it (RFC 9002, 6.2.1 and 6.2.2.1); a deadlock is counted on from there
@@ -59,4 +65,4 @@ begun_anew now variables = record variables { pto_count = 0; base = now }
 
 -- a probe timeout expired
 abbrev pub timed_out : ℕ → Variables → Variables
-timed_out now variables = record variables { pto_count = min (variables.pto_count + 1) (2 ^ 32 - 1); base = now }
+timed_out now variables = record variables { pto_count = min (variables.pto_count + 1) largest_u32; base = now }
