@@ -1,5 +1,6 @@
 //! The recovery of a connection that lives: its events come one at a time, and each finds the past behind it.
-ghost use Rattle.std.specs.Prelude.{◌≡◌, ◌<◌, ◌≤◌, ◌^◌, IfOk, OnErr, []};
+ghost use Rattle.std.specs.Prelude.{◌≡◌, ◌<◌, ◌≤◌, IfOk, OnErr, []};
+ghost use Rattle.recovery_base.specs.Units.{number_limit};
 ghost use Rattle.recovery_packet_numbers.specs.Skips.{IsSkips};
 ghost use Rattle.recovery_paths.specs.PathLog.{paths_marks};
 ghost use Rattle.recovery_history.specs.CallerState.{AreMarksFresh, HasNoLossTime, marks_at, with_marks_at, with_loss_time_at};
@@ -48,7 +49,7 @@ where
         rng: R,
         now: Instant,
     ) -> Result<Self, NoMemory>
-        requires issued { config.issued ≤ 2 ^ 62 }
+        requires issued { config.issued ≤ number_limit }
         requires skips { IsSkips config.skips }
         ensures came { IfOk result (λ live. ReachedBy (begun live.recovery config now rng)
             [] (state_of live.recovery)) }

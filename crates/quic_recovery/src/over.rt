@@ -1,5 +1,6 @@
 //! A run over events that come, with replies that go.
-ghost use Rattle.std.specs.Prelude.{◌≤◌, ◌<◌, ◌^◌, IfOk, OnErr};
+ghost use Rattle.std.specs.Prelude.{◌≤◌, ◌<◌, IfOk, OnErr};
+ghost use Rattle.recovery_base.specs.Units.{number_limit};
 ghost use Rattle.recovery_packet_numbers.specs.Skips.{IsSkips};
 ghost use Rattle.quic_recovery.specs.State.{begun, state_of};
 ghost use Rattle.recovery_events.specs.Feeding.{TakesAll};
@@ -68,7 +69,7 @@ where
     where
         E: Source<Event<Q>>,
         S: Sink<Result<Answer<Q>, Refusal>> + Drop,
-        requires issued { config.issued ≤ 2 ^ 62 }
+        requires issued { config.issued ≤ number_limit }
         requires skips { IsSkips config.skips }
 
         // The events that were given and the replies that were taken are those of a run, and each promise holds at each

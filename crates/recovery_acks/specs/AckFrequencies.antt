@@ -1,10 +1,12 @@
 -- How often the peer is asked to acknowledge, and how often it asks (draft-ietf-quic-ack-frequency-04, sections 4 and
 -- 7).
-use Rattle.std.specs.Prelude.{ℕ, ◌≡◌, ◌≢◌, ◌*◌, ◌<◌, ◌≤◌, ◌^◌, ◌⊎◌, min, max, IsSomeAnd, Bool, true, false, Option, None, Some, Result, Ok, Err}
+use Rattle.std.specs.Prelude.{ℕ, ◌≡◌, ◌≢◌, ◌*◌, ◌<◌, ◌≤◌, ◌⊎◌, min, max, IsSomeAnd, Bool, true, false, Option, None, Some, Result, Ok, Err}
 use Rattle.std.specs.Int.{abs_diff}
 use lib.Chars.{codes}
 use Rattle.recovery_base.specs.declared.below.frames.AckFrequency.{AckFrequency}
 use Rattle.recovery_base.specs.declared.below.frames.TransportError.{TransportError}
+use Rattle.recovery_base.specs.Errors.{protocol_violation}
+use Rattle.recovery_base.specs.Units.{assumed_ack_delay, microseconds, timer_granularity}
 use Rattle.recovery_acks.specs.declared.frequency.AckFrequencyState.{AckFrequencyState}
 use Rattle.recovery_acks.specs.Acks.{Acks, with_thresholds}
 
@@ -25,13 +27,13 @@ frequency_made delay = record {
 -- an RTT counts as this much at least, the default of max_ack_delay (RFC 9000, 18.2): on a short path more ACKs would
 -- else be asked for than come without a request
 abbrev pub least_rtt : ℕ
-least_rtt = 25 * 10 ^ 6
+least_rtt = assumed_ack_delay
 
 -- the delay to ask for: the configured or else the peer's, at most the RTT, at least the peer's min_ack_delay in
 -- microseconds
 abbrev pub candidate_delay : Option ℕ → ℕ → ℕ → Option ℕ → ℕ
 candidate_delay configured peer rtt least =
-    max (min (delay_or configured peer) (max rtt least_rtt)) (delay_or least 0 * 10 ^ 3)
+    max (min (delay_or configured peer) (max rtt least_rtt)) (delay_or least 0 * microseconds)
 
 -- the ACK_FREQUENCY frame on its way: the number of its packet, and the max_ack_delay that it asks for
 abbrev pub pending_of : AckFrequencyState → Option (ℕ × ℕ)
@@ -68,16 +70,12 @@ IsStale last sequence = IsSomeAnd last (λ newest. sequence ≤ newest)
 
 -- the delay that a frame asks for in microseconds
 abbrev pub delay_of : AckFrequency → ℕ
-delay_of frame = frame.request_max_ack_delay * 10 ^ 3
-
--- the least delay that this end's timers can keep (RFC 9002, 6.1.2), which is the min_ack_delay that it takes
-abbrev pub timer_granularity : ℕ
-timer_granularity = 10 ^ 6
+delay_of frame = frame.request_max_ack_delay * microseconds
 
 -- a frame that asks for less breaks the protocol (section 4)
 abbrev pub TellsTooSmall : TransportError → Type 0
 TellsTooSmall error =
-    (error.code ≡ 10)
+    (error.code ≡ protocol_violation)
     × (error.reason.now ≡ codes "Requested Max Ack Delay in ACK_FREQUENCY frame is less than min_ack_delay")
 
 abbrev pub with_last : ℕ → AckFrequencyState → AckFrequencyState

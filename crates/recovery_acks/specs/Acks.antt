@@ -1,9 +1,10 @@
 -- What is to be acknowledged, and what each event does to it (RFC 9000, 13.2 and 19.3).
-use Rattle.std.specs.Prelude.{ℕ, ◌≡◌, ◌+◌, ◌-◌, ◌<◌, ◌≤◌, ◌^◌, ◌⊎◌, ◌↔◌, min, max, List, length, Bool, true, false, cond, nat_lt, IsTrue, Option, None, Some, IsSome, ⊤}
+use Rattle.std.specs.Prelude.{ℕ, ◌≡◌, ◌+◌, ◌-◌, ◌<◌, ◌≤◌, ◌⊎◌, ◌↔◌, min, max, List, length, Bool, true, false, cond, nat_lt, IsTrue, Option, None, Some, IsSome, ⊤}
 use Rattle.std.specs.Option.{unwrap_or}
 use Rattle.std.specs.declared.ops.Range.{Range}
 use Rattle.recovery_base.specs.Numbers.{IsLeastMissing, InsertNumber}
 use Rattle.recovery_base.specs.Ranges.{InRanges, AreApart}
+use Rattle.recovery_base.specs.Units.{largest_u64, last_time}
 use Rattle.recovery_acks.specs.Runs.{IsInHighest}
 
 -- what decides of the next ACK, besides the numbers that came
@@ -45,6 +46,10 @@ IsNotAbove (Some n) (Some m) = n ≤ m
 abbrev pub most_ranges : ℕ
 most_ranges = 64
 
+-- so many non-ack-eliciting packets need no ACK of their own; one more does (RFC 9000, 13.2.1)
+abbrev pub lazy_ack_threshold : ℕ
+lazy_ack_threshold = 10
+
 -- what holds of every value: ack-eliciting packets since the last ACK have a delay base or require an ACK at once
 pub record AreAcksSound (acks : Acks) : Type 0 where
   pub ranges : length acks.ranges ≤ most_ranges
@@ -60,7 +65,7 @@ fresh = record { eliciting = 0; silent = 0; thresholds = (1, 1); largest = None;
 
 -- counters stop at their greatest value
 abbrev pub counted : ℕ → ℕ
-counted n = min (n + 1) (2 ^ 64 - 1)
+counted n = min (n + 1) largest_u64
 
 -- the largest packet, with its moment, once another came
 abbrev pub largest_with : Option (ℕ × ℕ) → ℕ → ℕ → Option (ℕ × ℕ)
@@ -156,7 +161,7 @@ delay_at now (Some largest) = now - largest.1
 -- the end of a delay that starts at the base
 abbrev pub timeout_at : ℕ → Option ℕ → Option ℕ
 timeout_at delay None = None
-timeout_at delay (Some base) = Some (min (base + delay) (2 ^ 64 - 1))
+timeout_at delay (Some base) = Some (min (base + delay) last_time)
 
 -- some number known is at least this one
 abbrev pub IsAtLeastSome : (ℕ → Type 0) → ℕ → Type 0

@@ -1,5 +1,6 @@
 //! How often the peer is asked to acknowledge, and how often it asks (draft-ietf-quic-ack-frequency-04).
-ghost use Rattle.std.specs.Prelude.{◌≡◌, ◌<◌, ◌≤◌, ◌^◌, ◌+◌, min, max, Decides, MatchOption, Some, None};
+ghost use Rattle.std.specs.Prelude.{◌≡◌, ◌<◌, ◌≤◌, ◌+◌, min, max, Decides, MatchOption, Some, None};
+ghost use Rattle.recovery_base.specs.Units.{number_limit};
 ghost use Rattle.recovery_acks.specs.AckFrequencies.{frequency_made, pending_of, next_of, candidate_delay, current_delay, longest_delay, IsWorthSending, FrequencyReceived, AcksRequest, with_next, with_pending};
 
 use crate::PendingAcks;
@@ -78,7 +79,7 @@ impl AckFrequencyState {
     /// The number of the next request, counted from 0 (draft-ietf-quic-ack-frequency-04, section 4). None past
     /// 2^62 - 1, and then nothing changes.
     pub fn next_sequence_number(&mut self) -> Option<VarInt>
-        ensures number { MatchOption result (2 ^ 62 ≤ next_of self.old)
+        ensures number { MatchOption result (number_limit ≤ next_of self.old)
             (λ number. number ≡ next_of self.old) }
         ensures next { MatchOption result (self.new ≡ self.old)
             (λ number. self.new ≡ with_next (number + 1) self.old) }

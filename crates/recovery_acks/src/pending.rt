@@ -1,9 +1,10 @@
 //! The packets of one space that are to be acknowledged.
-ghost use Rattle.std.specs.Prelude.{◌≡◌, ◌≢◌, ℕ, ◌<◌, ◌≤◌, ◌^◌, ◌⊎◌, IsTrue, IsSome, IfSome, OnOk, OnErr, IsErr, Decides, MatchBool, nat_lt, true, false, length, [], ◌↔◌, None, Some};
+ghost use Rattle.std.specs.Prelude.{◌≡◌, ◌≢◌, ℕ, ◌<◌, ◌≤◌, ◌⊎◌, IsTrue, IsSome, IfSome, OnOk, OnErr, IsErr, Decides, MatchBool, nat_lt, true, false, length, [], ◌↔◌, None, Some};
 ghost use Rattle.recovery_base.specs.Numbers.{InsertNumber};
 ghost use Rattle.recovery_base.specs.Received.{HasReceived};
 ghost use Rattle.recovery_base.specs.Ranges.{InRanges, AreApart};
-ghost use Rattle.recovery_acks.specs.Acks.{IsPending, CanSend, new_acks, with_thresholds, with_required, acks_sent, ReceivesPacket, AddsPending, SubtractsBelow, delay_at, timeout_at, IsAtLeastSome, IsOutOfOrder, IsReported, IsNotAbove, AreAcksSound, largest_with, most_ranges};
+ghost use Rattle.recovery_base.specs.Units.{number_limit};
+ghost use Rattle.recovery_acks.specs.Acks.{IsPending, CanSend, new_acks, with_thresholds, with_required, acks_sent, ReceivesPacket, AddsPending, SubtractsBelow, delay_at, timeout_at, IsAtLeastSome, IsOutOfOrder, IsReported, IsNotAbove, AreAcksSound, largest_with, most_ranges, lazy_ack_threshold};
 ghost use Rattle.recovery_acks.specs.Runs.{IsInHighest};
 
 use recovery_base::below::{AckFrequency, ArrayRangeSet, NoMemory};
@@ -205,7 +206,7 @@ impl PendingAcks {
     ///
     /// `NoMemory` changes nothing; a number that is there takes no memory.
     pub fn insert_one(&mut self, packet: u64, now: Instant) -> Result<(), NoMemory>
-        requires { packet < 2 ^ 62 }
+        requires { packet < number_limit }
         ensures inserts { OnOk result (AddsPending self.old packet now self.new) }
         ensures only_new_takes_memory { IsErr result → ¬ IsPending self.old packet }
         ensures err { OnErr result (self.new ≡ self.old) }
@@ -219,7 +220,7 @@ impl PendingAcks {
     /// The numbers up to `max`, below 2^62, need no acknowledgement any more: the peer has an ACK that went up to there
     /// (RFC 9000, 13.2.4). It takes no memory.
     pub fn subtract_below(&mut self, max: u64)
-        requires { max < 2 ^ 62 }
+        requires { max < number_limit }
         ensures subtracts { SubtractsBelow self.old max self.new }
         ensures sound { AreAcksSound self.new }
     {
@@ -238,8 +239,9 @@ impl PendingAcks {
     ///
     /// To be called where a packet is sent anyway: such packets alone are not to make one be sent (RFC 9000, 13.2.1).
     pub fn maybe_ack_non_eliciting(&mut self)
-        ensures many { 10 < self.old.counts.silent → self.new ≡ with_required true self.old }
-        ensures few { self.old.counts.silent ≤ 10 → self.new ≡ self.old }
+        ensures many { lazy_ack_threshold < self.old.counts.silent
+            → self.new ≡ with_required true self.old }
+        ensures few { self.old.counts.silent ≤ lazy_ack_threshold → self.new ≡ self.old }
         ensures sound { AreAcksSound self.new }
     {
         if self.non_ack_eliciting_since_last_ack_sent > LAZY_ACK_THRESHOLD {
@@ -280,7 +282,7 @@ fn larger(largest: Option<(u64, Instant)>, packet: u64, now: Instant) -> (u64, I
 
 /// Adds a number, and drops the lowest range where more than 64 stand.
 fn insert(ranges: &mut ArrayRangeSet, packet: u64) -> Result<(), NoMemory>
-    requires small { packet < 2 ^ 62 }
+    requires small { packet < number_limit }
     requires count { length ranges.old ≤ most_ranges }
     ensures pending { OnOk result ((n : ℕ) → InRanges ranges.new n
         ↔ IsInHighest most_ranges (InsertNumber packet (InRanges ranges.old)) n) }

@@ -3,19 +3,27 @@ use Rattle.std.specs.Prelude.{ℕ, ◌≡◌, ◌-◌, ◌≤◌, List, ◌++◌
 use Rattle.std.proofs.Common.{arith, length-take}
 use Rattle.recovery_base.specs.declared.below.ids.ConnectionId.TheInside.{Inside}
 
+-- the most bytes of a connection ID (RFC 9000, 17.2)
+abbrev pub longest_cid : ℕ
+longest_cid = 20
+
+-- the bytes of a stateless reset token (RFC 9000, 10.3)
+abbrev pub reset_token_size : ℕ
+reset_token_size = 16
+
 -- the bytes of an id, without the zeros behind them
 abbrev pub bytes_of : Inside → List ℕ
 bytes_of id = take id.len id.bytes
 
 -- there are at most twenty bytes, and zeros behind them
 pub record IsPaddedId (id : Inside) : Type 0 where
-  pub small : id.len ≤ 20
-  pub room : length id.bytes ≡ 20
-  pub zeros : id.bytes ≡ take id.len id.bytes ++ replicate (20 - id.len) 0
+  pub small : id.len ≤ longest_cid
+  pub room : length id.bytes ≡ longest_cid
+  pub zeros : id.bytes ≡ take id.len id.bytes ++ replicate (longest_cid - id.len) 0
 
 -- what an id with these bytes holds
 abbrev pub padded : List ℕ → Inside
-padded bytes = record { len = length bytes; bytes = bytes ++ replicate (20 - length bytes) 0 }
+padded bytes = record { len = length bytes; bytes = bytes ++ replicate (longest_cid - length bytes) 0 }
 
 -- an id is told by its bytes alone
 pub padded-bytes_of : (id : Inside) → IsPaddedId id → padded (bytes_of id) ≡ id

@@ -1,6 +1,8 @@
 //! Moments and spans of time in whole nanoseconds. No clock is read: the caller hands moments in.
-ghost use Rattle.std.specs.Prelude.{◌≡◌, ℕ, ◌+◌, ◌-◌, ◌*◌, ◌≤◌, ◌<◌, ◌^◌, min};
+ghost use Rattle.std.specs.Prelude.{◌≡◌, ℕ, ◌+◌, ◌-◌, ◌*◌, ◌≤◌, ◌<◌, min};
 ghost use Rattle.std.specs.Option.{SomeIff};
+ghost use Rattle.recovery_base.specs.Times.{longest_span, span_limit};
+ghost use Rattle.recovery_base.specs.Units.{last_time, microseconds, milliseconds, seconds, u64_limit};
 
 use std::marker::Model;
 use std::ops::{Add, Sub};
@@ -44,7 +46,7 @@ impl Instant {
 
     /// The moment a span later, or `None` past `u64::MAX` nanoseconds.
     pub fn checked_add(self, duration: Duration) -> Option<Instant>
-        ensures { SomeIff result (self + duration < 2 ^ 64) (self + duration) }
+        ensures { SomeIff result (self + duration < u64_limit) (self + duration) }
     {
         let sum = u128::from(self.nanos) + duration.as_nanos();
         match u64::try_from(sum) {
@@ -73,7 +75,7 @@ impl Instant {
 impl Add<Duration> for Instant {
     type Output = Instant;
 
-    ghost add_gives = { λ instant duration sum. sum ≡ min (instant + duration) (2 ^ 64 - 1) };
+    ghost add_gives = { λ instant duration sum. sum ≡ min (instant + duration) last_time };
 
     fn add(self, rhs: Duration) -> Instant {
         match self.checked_add(rhs) {
@@ -107,7 +109,7 @@ impl Model for Duration {
 
     ghost view = { λ duration. duration.nanos };
 
-    ghost invariant = { λ duration. duration.nanos < 2 ^ 64 * 10 ^ 9 };
+    ghost invariant = { λ duration. duration.nanos < span_limit };
 
     ghost inverse = { λ n. record { nanos = n } };
 }
@@ -140,7 +142,7 @@ impl Duration {
 
     /// A span of whole nanoseconds, or `None` past the longest.
     pub fn checked_from_nanos(nanos: u128) -> Option<Self>
-        ensures { SomeIff result (nanos < 2 ^ 64 * 10 ^ 9) nanos }
+        ensures { SomeIff result (nanos < span_limit) nanos }
     {
         if nanos > Self::MAX.nanos {
             return None;
@@ -150,7 +152,7 @@ impl Duration {
 
     /// A span of whole microseconds.
     pub fn from_micros(micros: u64) -> Self
-        ensures { result ≡ micros * 10 ^ 3 }
+        ensures { result ≡ micros * microseconds }
     {
         Duration {
             nanos: u128::from(micros) * NANOS_PER_MICRO,
@@ -159,7 +161,7 @@ impl Duration {
 
     /// A span of whole milliseconds.
     pub fn from_millis(millis: u64) -> Self
-        ensures { result ≡ millis * 10 ^ 6 }
+        ensures { result ≡ millis * milliseconds }
     {
         Duration {
             nanos: u128::from(millis) * NANOS_PER_MILLI,
@@ -168,7 +170,7 @@ impl Duration {
 
     /// A span of whole seconds.
     pub fn from_secs(secs: u64) -> Self
-        ensures { result ≡ secs * 10 ^ 9 }
+        ensures { result ≡ secs * seconds }
     {
         Duration {
             nanos: u128::from(secs) * NANOS_PER_SEC,
@@ -178,21 +180,21 @@ impl Duration {
     /// Whole nanoseconds.
     pub fn as_nanos(self) -> u128
         ensures value { result ≡ self }
-        ensures bound { result < 2 ^ 64 * 10 ^ 9 }
+        ensures bound { result < span_limit }
     {
         self.nanos
     }
 
     /// The sum, or `None` past the longest span.
     pub fn checked_add(self, other: Duration) -> Option<Duration>
-        ensures { SomeIff result (self + other < 2 ^ 64 * 10 ^ 9) (self + other) }
+        ensures { SomeIff result (self + other < span_limit) (self + other) }
     {
         Duration::checked_from_nanos(self.nanos + other.nanos)
     }
 
     /// The sum. It stops at the longest span.
     pub fn saturating_add(self, other: Duration) -> Duration
-        ensures { result ≡ min (self + other) (2 ^ 64 * 10 ^ 9 - 1) }
+        ensures { result ≡ min (self + other) longest_span }
     {
         match self.checked_add(other) {
             Some(sum) => sum,
@@ -222,7 +224,7 @@ impl Duration {
 impl Add for Duration {
     type Output = Duration;
 
-    ghost add_gives = { λ first second sum. sum ≡ min (first + second) (2 ^ 64 * 10 ^ 9 - 1) };
+    ghost add_gives = { λ first second sum. sum ≡ min (first + second) longest_span };
 
     fn add(self, rhs: Duration) -> Duration {
         self.saturating_add(rhs)

@@ -1,5 +1,6 @@
 -- The default settings of a connection.
-use Rattle.std.specs.Prelude.{ℕ, ◌-◌, ◌*◌, ◌^◌, max, true, false, Some, None}
+use Rattle.std.specs.Prelude.{ℕ, ◌-◌, ◌*◌, max, true, false, Some, None}
+use Rattle.recovery_base.specs.Units.{milliseconds, number_limit}
 use Rattle.recovery_mtud.specs.Settings.{default_settings}
 use Rattle.recovery_config.specs.declared.config.TransportConfig.{TransportConfig}
 
@@ -13,7 +14,7 @@ settings_with factory = record {
   -- 100 ms at 12.5 MB a second
   stream_receive_window = 1250000;
   -- the greatest that the wire can say (RFC 9000, 16)
-  receive_window = 2 ^ 62 - 1;
+  receive_window = number_limit - 1;
   -- the windows of eight streams
   send_window = 8 * 1250000;
   send_fairness = true;
@@ -22,7 +23,7 @@ settings_with factory = record {
   -- 9/8 (RFC 9002, 6.1.2)
   time_threshold = (9, 8);
   -- 333 ms (RFC 9002, 6.2.2)
-  initial_rtt = 333 * 10 ^ 6;
+  initial_rtt = 333 * milliseconds;
   -- RFC 9000, 14
   initial_mtu = 1200;
   min_mtu = 1200;

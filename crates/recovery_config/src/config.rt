@@ -1,6 +1,7 @@
 //! Settings of a connection.
-ghost use Rattle.std.specs.Prelude.{◌≡◌, ◌<◌, ◌^◌, max};
+ghost use Rattle.std.specs.Prelude.{◌≡◌, ◌<◌, max};
 ghost use Rattle.std.specs.Option.{ForSome};
+ghost use Rattle.recovery_base.specs.Units.{u16_limit};
 ghost use Rattle.recovery_congestion.specs.RenoSettings.{default_reno};
 ghost use Rattle.recovery_config.specs.Settings.{settings_with, initial_mtu_of};
 
@@ -283,7 +284,7 @@ impl<F> TransportConfig<F> {
 
     /// A law, for the proofs of callers: the largest size that is probed is below 2^16, as its type says.
     pub fn upper_bound_fits(&self)
-        ensures { ForSome self.now.mtu_discovery_config (λ config. config.upper_bound < 2 ^ 16) }
+        ensures { ForSome self.now.mtu_discovery_config (λ config. config.upper_bound < u16_limit) }
     {
         if let Some(config) = &self.mtu_discovery_config {
             config.upper_bound_fits();

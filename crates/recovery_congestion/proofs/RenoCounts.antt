@@ -2,8 +2,9 @@
 use Rattle.std.specs.Prelude.{ℕ, ◌≡◌, ◌+◌, ◌-◌, ◌*◌, ◌≤◌, Bool, true, false, nat_le, if◌then◌else◌, refl}
 use Rattle.std.proofs.Common.{arith, ap, subst, sym}
 use Rattle.std.proofs.lemmas.Bool.Decides.{nat_tests}
+use Rattle.recovery_base.specs.Units.{largest_u64}
 use Rattle.recovery_congestion.specs.declared.congestion.new_reno.NewReno.{NewReno}
-use Rattle.recovery_congestion.specs.NewReno.{most, sum_to_most, avoided, AvoidsBelowMost, CountsBytes}
+use Rattle.recovery_congestion.specs.NewReno.{sum_to_most, avoided, AvoidsBelowMost, CountsBytes}
 
 -- a window of bytes is taken off the count, and the window grows by one MTU
 counts-grown : (w m c b counted grown : ℕ) → counted ≡ c + b → grown ≡ w + m → w ≤ counted
@@ -42,7 +43,7 @@ counts-avoided sent bytes limited reno below = go (nat_le reno.window counted) r
         else record reno { bytes_acked = counted })
     go true is =
         let enough : reno.window ≤ counted = grind (arith, nat_tests) in
-        let room : reno.window + reno.current_mtu ≤ most = below.grown (omega (arith, sum, enough)) in
+        let room : reno.window + reno.current_mtu ≤ largest_u64 = below.grown (omega (arith, sum, enough)) in
         let grows : sum_to_most reno.window reno.current_mtu ≡ reno.window + reno.current_mtu = omega (arith, room) in
         counts-grown reno.window reno.current_mtu reno.bytes_acked bytes counted
         (sum_to_most reno.window reno.current_mtu) sum grows enough

@@ -2,16 +2,17 @@
 use Rattle.std.proofs.Common.{◌≡◌, ℕ, ◌+◌, ◌-◌, ◌<◌, ◌≤◌, arith, Bool, true, false, nat_le, nat_lt, List, [], ◌∷◌, refl, subst, sym}
 use Rattle.std.proofs.lemmas.Bool.Decides.{nat_tests}
 use Rattle.std.specs.Prelude.{if◌then◌else◌}
+use Rattle.recovery_base.specs.Units.{largest_u64}
 use Rattle.recovery_congestion.specs.declared.congestion.new_reno.NewReno.{NewReno}
 use Rattle.recovery_congestion.specs.Calls.{ControllerCall, acks, congests, ends_acks, sends, takes_mtu}
-use Rattle.recovery_congestion.specs.NewReno.{most, sum_to_most, is_ignored, slow_started, avoided, reno_acked, reno_grown, reno_recovering}
+use Rattle.recovery_congestion.specs.NewReno.{sum_to_most, is_ignored, slow_started, avoided, reno_acked, reno_grown, reno_recovering}
 use Rattle.recovery_congestion.specs.Rounds.{AreInOrder, RenoReducesOncePerRound, RenoReducedBefore, IsBehind, reno_by}
 
 -- ---- an acknowledgement: recovery begins at no other moment, and the window does not fall
 
 record Grows (old new : NewReno) : Type 0 where
   start : new.recovery_start_time ≡ old.recovery_start_time
-  window : old.window ≤ most → old.window ≤ new.window
+  window : old.window ≤ largest_u64 → old.window ≤ new.window
 
 stays : (reno : NewReno) → Grows reno reno
 stays reno = record { start = refl; window = λ within. omega arith }

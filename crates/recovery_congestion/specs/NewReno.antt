@@ -1,19 +1,16 @@
 -- NewReno (RFC 9002, 7 and appendix B), with whole numbers: a fraction in place of the reduction factor, sums that stop
 -- at the end of 64 bits, and growth in congestion avoidance by counted bytes (RFC 3465, 2.1).
-use Rattle.std.specs.Prelude.{ℕ, ◌≡◌, ◌+◌, ◌-◌, ◌*◌, ◌/◌, ◌<◌, ◌≤◌, ◌^◌, min, max, Bool, false, Some, None, ◌||◌, nat_le, nat_lt, if◌then◌else◌}
+use Rattle.std.specs.Prelude.{ℕ, ◌≡◌, ◌+◌, ◌-◌, ◌*◌, ◌/◌, ◌<◌, ◌≤◌, min, max, Bool, false, Some, None, ◌||◌, nat_le, nat_lt, if◌then◌else◌}
+use Rattle.recovery_base.specs.Units.{largest_u64}
 use Rattle.recovery_congestion.specs.declared.congestion.ControllerMetrics.{ControllerMetrics}
 use Rattle.recovery_congestion.specs.declared.congestion.new_reno.NewReno.{NewReno}
 use Rattle.recovery_congestion.specs.RenoSettings.{RenoSettings}
 use Rattle.recovery_congestion.specs.Calls.{ControllerCall, acks, congests, takes_mtu}
 use Rattle.recovery_congestion.specs.Controllers.{ControllerSemantics}
 
--- the greatest number of 64 bits
-abbrev pub most : ℕ
-most = 2 ^ 64 - 1
-
--- a sum that stops there
+-- a sum that stops at the largest number of 64 bits
 abbrev pub sum_to_most : ℕ → ℕ → ℕ
-sum_to_most a b = min (a + b) most
+sum_to_most a b = min (a + b) largest_u64
 
 -- at first in slow start (RFC 9002, 7.3.1)
 abbrev pub reno_made : RenoSettings → ℕ → ℕ → NewReno
@@ -21,7 +18,7 @@ reno_made config now mtu = record {
   config = config;
   current_mtu = mtu;
   window = config.initial_window;
-  ssthresh = most;
+  ssthresh = largest_u64;
   recovery_start_time = now;
   bytes_acked = 0;
 }
@@ -64,7 +61,7 @@ reno_acked sent bytes limited reno = if is_ignored sent limited reno then reno e
 -- the window after a loss (RFC 9002, 7.3.2)
 abbrev pub reduced_window : NewReno → ℕ
 reduced_window reno = min (max (reno.window * reno.config.numerator / reno.config.denominator) (minimum_window reno))
-    most
+    largest_u64
 
 -- a recovery begins; persistent congestion leaves the least window (RFC 9002, 7.3.2 and 7.6.2)
 abbrev pub reno_recovering : ℕ → Bool → NewReno → NewReno
@@ -106,8 +103,8 @@ reno_words = record {
 pub record AvoidsBelowMost (sent bytes : ℕ) (limited : Bool) (reno : NewReno) : Type 0 where
   pub counts : is_ignored sent limited reno ≡ false
   pub above : reno.ssthresh ≤ reno.window
-  pub counted : reno.bytes_acked + bytes ≤ most
-  pub grown : reno.window ≤ reno.bytes_acked + bytes → reno.window + reno.current_mtu ≤ most
+  pub counted : reno.bytes_acked + bytes ≤ largest_u64
+  pub grown : reno.window ≤ reno.bytes_acked + bytes → reno.window + reno.current_mtu ≤ largest_u64
 
 -- every byte counts once: to grow from a window of one MTU m to w, by m for each window of bytes, takes w·(w - m) /
 -- (2·m) bytes; these and the bytes counted since then rise by exactly the bytes acknowledged (here times 2·m, and with

@@ -1,7 +1,8 @@
 -- What happened to a pacer since it was made, and what it lets pass by that alone (RFC 9002, 7.7). Lists are newest
 -- first.
-use Rattle.std.specs.Prelude.{◌≡◌, ℕ, ◌+◌, ◌-◌, ◌*◌, ◌^◌, ◌<◌, ◌≤◌, min, max, Bool, true, ◌&&◌, ◌||◌, ◌==◌, nat_le, if◌then◌else◌, List, [], ◌∷◌, ◌++◌, Option, SomeIff}
+use Rattle.std.specs.Prelude.{◌≡◌, ℕ, ◌+◌, ◌-◌, ◌*◌, ◌<◌, ◌≤◌, min, max, Bool, true, ◌&&◌, ◌||◌, ◌==◌, nat_le, if◌then◌else◌, List, [], ◌∷◌, ◌++◌, Option, SomeIff}
 use Rattle.std.specs.List.{AllByRecursion}
+use Rattle.recovery_base.specs.Units.{u32_limit}
 use Rattle.recovery_congestion.specs.Pacing.{Bucket, PacerCall, capacity_of, credit_of, is_unpaced, paced, next_moment, less_tokens}
 
 pub data PacerEntry : Type 0 where
@@ -21,7 +22,7 @@ bucket_by made (took bytes checked ∷ earlier) = less_tokens bytes (bucket_by m
 -- all that was transmitted was checked, and all calls came with a window within 32 bits and an RTT above zero
 abbrev pub AreChecked : List PacerEntry → Type 0
 AreChecked [] = Unit {0}
-AreChecked (asked call ∷ earlier) = ((call.window < 2 ^ 32) × (0 < call.rtt)) × AreChecked earlier
+AreChecked (asked call ∷ earlier) = ((call.window < u32_limit) × (0 < call.rtt)) × AreChecked earlier
 AreChecked (took bytes checked ∷ earlier) = (checked ≡ true) × AreChecked earlier
 
 -- ---- the history: what calls did, and what was transmitted

@@ -1,7 +1,8 @@
 -- A token bucket that paces packets (RFC 9002, 7.7): its bytes fill up at five fourths of a window in each RTT, and
 -- what is sent is taken off. Moments and spans are in nanoseconds.
-use Rattle.std.specs.Prelude.{ℕ, ◌+◌, ◌-◌, ◌*◌, ◌/◌, ◌^◌, ◌<◌, ◌≤◌, min, max, Bool, ◌&&◌, ◌||◌, ◌==◌, nat_le, if◌then◌else◌, Option, None, Some}
+use Rattle.std.specs.Prelude.{ℕ, ◌+◌, ◌-◌, ◌*◌, ◌/◌, ◌<◌, ◌≤◌, min, max, Bool, ◌&&◌, ◌||◌, ◌==◌, nat_le, if◌then◌else◌, Option, None, Some}
 use Rattle.recovery_base.specs.Times.{longest_span}
+use Rattle.recovery_base.specs.Units.{last_time, milliseconds, u32_limit}
 
 pub record Bucket : Type 0 where
   -- the most bytes that it takes, and the window and MTU that they were computed for
@@ -21,11 +22,26 @@ pub record PacerCall : Type 0 where
   pub window : ℕ
   pub now : ℕ
 
+-- ---- the size of bursts (RFC 9002, 7.7)
+
+-- a full bucket holds what a window gives in this span, in nanoseconds
+abbrev pub burst_interval : ℕ
+burst_interval = 2 * milliseconds
+
+-- the least packets that a full bucket holds
+abbrev pub min_burst : ℕ
+min_burst = 10
+
+-- the most packets that a full bucket holds
+abbrev pub max_burst : ℕ
+max_burst = 256
+
 -- ---- amounts
 
 -- what a window gives in two milliseconds, at least ten packets and at most 256 (bursts are limited, as 7.7 asks)
 abbrev pub capacity_of : ℕ → ℕ → ℕ → ℕ
-capacity_of rtt window mtu = max (10 * mtu) (min (256 * mtu) (window * (2 * 10 ^ 6) / max rtt 1))
+capacity_of rtt window mtu =
+    max (min_burst * mtu) (min (max_burst * mtu) (window * burst_interval / max rtt 1))
 
 -- the bytes that come in a span of time: the window for each RTT, times N = 5/4 (7.7), rounded down
 abbrev pub credit_of : ℕ → ℕ → ℕ → ℕ
@@ -60,7 +76,7 @@ refilled rtt window now old =
 
 -- nothing is delayed at a window past 32 bits or an RTT of zero
 abbrev pub is_unpaced : PacerCall → Bool
-is_unpaced call = nat_le (2 ^ 32) call.window || (call.rtt == 0)
+is_unpaced call = nat_le u32_limit call.window || (call.rtt == 0)
 
 -- the bytes may be sent at once
 abbrev pub may_send : PacerCall → Bucket → Bool
@@ -75,7 +91,7 @@ paced call old =
 -- when the bytes that are short have come, or a full bucket where that is more; it stops at the last moment
 abbrev pub next_moment : PacerCall → ℕ → ℕ → ℕ → ℕ
 next_moment call capacity tokens last =
-    min (last + wait_of call.rtt call.window (max call.bytes capacity - tokens)) (2 ^ 64 - 1)
+    min (last + wait_of call.rtt call.window (max call.bytes capacity - tokens)) last_time
 
 -- what a call is told, by the bucket that it leaves: nothing where the bytes may be sent, and else when to ask again
 abbrev pub pacer_delay : PacerCall → Bucket → Option ℕ
@@ -92,7 +108,7 @@ less_tokens bytes old = record old { tokens = old.tokens - bytes }
 -- asks
 pub record IsBucketSound (bucket : Bucket) : Type 0 where
   pub tokens : bucket.tokens ≤ bucket.capacity
-  pub least : 10 * bucket.mtu ≤ bucket.capacity
-  pub most : bucket.capacity ≤ 256 * bucket.mtu
+  pub least : min_burst * bucket.mtu ≤ bucket.capacity
+  pub most : bucket.capacity ≤ max_burst * bucket.mtu
   pub window : 0 < bucket.window
   pub mtu : 0 < bucket.mtu

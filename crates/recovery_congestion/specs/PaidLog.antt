@@ -1,13 +1,14 @@
 -- What a pacer's tokens pay for, checked or not (RFC 9002, 7.7). What it lets pass follows from that alone. Lists are
 -- newest first.
-use Rattle.std.specs.Prelude.{◌≡◌, ℕ, ◌-◌, ◌*◌, ◌^◌, ◌<◌, ◌≤◌, min, List, [], ◌∷◌, ◌++◌, Option, None, SomeIff}
+use Rattle.std.specs.Prelude.{◌≡◌, ℕ, ◌-◌, ◌*◌, ◌<◌, ◌≤◌, min, List, [], ◌∷◌, ◌++◌, Option, None, SomeIff}
 use Rattle.std.specs.List.{AllByRecursion}
+use Rattle.recovery_base.specs.Units.{u32_limit}
 use Rattle.recovery_congestion.specs.Pacing.{Bucket, PacerCall, next_moment}
 use Rattle.recovery_congestion.specs.PacerLog.{PacerEntry, asked, took, PacerMark, transmitted, bytes_in, refills_in, capacity_in, greatest_moment, balance_in, IsBalance, marks_asking}
 
 -- a call at a window within 32 bits and an RTT above zero; no other is delayed
 abbrev pub IsPaced : PacerCall → Type 0
-IsPaced call = (call.window < 2 ^ 32) × (0 < call.rtt)
+IsPaced call = (call.window < u32_limit) × (0 < call.rtt)
 
 module _ (made : Bucket) where
   -- of so many bytes the balance pays for as many as it has: a debt is not kept

@@ -1,6 +1,7 @@
 -- How soon what was delayed passes, where nothing is sent in between (RFC 9002, 7.7).
-use Rattle.std.specs.Prelude.{◌≡◌, ℕ, ◌+◌, ◌*◌, ◌^◌, ◌<◌, ◌≤◌, ⊤, List, ◌∷◌, Option, None, Some}
+use Rattle.std.specs.Prelude.{◌≡◌, ℕ, ◌+◌, ◌*◌, ◌<◌, ◌≤◌, ⊤, List, ◌∷◌, Option, None, Some}
 use Rattle.recovery_base.specs.Times.{longest_span}
+use Rattle.recovery_base.specs.Units.{u64_limit}
 use Rattle.recovery_congestion.specs.PacerLog.{PacerEntry, asked, bucket_by}
 use Rattle.recovery_congestion.specs.Pacing.{Bucket, PacerCall, paced, pacer_delay}
 
@@ -17,5 +18,5 @@ abbrev pub PassesBehind : Bucket → List PacerEntry → PacerCall → Option �
 PassesBehind made (asked call ∷ earlier) later given =
     let bucket = paced call (bucket_by made earlier) in
     (until : ℕ) → pacer_delay call bucket ≡ Some until → later ≡ record call { now = later.now } → IsInReach call bucket
-    → until + 4 ≤ later.now → later.now < 2 ^ 64 → given ≡ None
+    → until + 4 ≤ later.now → later.now < u64_limit → given ≡ None
 PassesBehind made entries later given = ⊤

@@ -1,10 +1,11 @@
 -- NewReno (RFC 9002, 7.3) keeps the laws of controllers: its window stays above zero.
 use Rattle.std.specs.Prelude.{ℕ, ◌-◌, ◌*◌, ◌/◌, ◌<◌, min, max, Bool, true, false, nat_le, nat_lt, if◌then◌else◌}
 use Rattle.std.proofs.Common.{arith}
+use Rattle.recovery_base.specs.Units.{largest_u64}
 use Rattle.recovery_congestion.specs.declared.congestion.new_reno.NewReno.{NewReno}
 use Rattle.recovery_congestion.specs.Calls.{ControllerCall, acks, congests, takes_mtu, IsPositive}
 use Rattle.recovery_congestion.specs.Controllers.{ControllerLaws}
-use Rattle.recovery_congestion.specs.NewReno.{most, sum_to_most, is_ignored, slow_started, avoided, reno_grown, reno_acked, reno_recovering, reno_congested, IsRenoSound, reno_words}
+use Rattle.recovery_congestion.specs.NewReno.{sum_to_most, is_ignored, slow_started, avoided, reno_grown, reno_acked, reno_recovering, reno_congested, IsRenoSound, reno_words}
 
 sound-avoided : (counted : ℕ) (reno : NewReno) → IsRenoSound reno → IsRenoSound (avoided counted reno)
 sound-avoided counted reno sound =
@@ -25,7 +26,7 @@ sound-acked sent bytes limited reno sound =
     [ true ↦ sound | false ↦ sound-grown bytes reno sound ]
 
 reduced-positive : (reduced mtu : ℕ) (persistent : Bool) → 0 < mtu
-    → 0 < (if persistent then 2 * mtu else min (max reduced (2 * mtu)) most)
+    → 0 < (if persistent then 2 * mtu else min (max reduced (2 * mtu)) largest_u64)
 reduced-positive reduced mtu true positive = omega (arith, positive)
 reduced-positive reduced mtu false positive = omega (arith, positive)
 

@@ -1,8 +1,9 @@
 -- The moment that a delayed call was told suffices (RFC 9002, 7.7). A timer that is set to it need not be set again,
 -- whoever asks in between.
-use Rattle.std.specs.Prelude.{◌≡◌, ℕ, ◌+◌, ◌-◌, ◌*◌, ◌^◌, ◌<◌, ◌≤◌, List, ◌∷◌, ◌++◌, map, length, Option, None, Some}
+use Rattle.std.specs.Prelude.{◌≡◌, ℕ, ◌+◌, ◌*◌, ◌<◌, ◌≤◌, List, ◌∷◌, ◌++◌, map, length, Option, None, Some}
 use Rattle.std.specs.List.{AllByRecursion}
 use Rattle.recovery_base.specs.Times.{longest_span}
+use Rattle.recovery_base.specs.Units.{last_time}
 use Rattle.recovery_congestion.specs.PacerLog.{PacerEntry, asked, bucket_by}
 use Rattle.recovery_congestion.specs.Pacing.{Bucket, PacerCall, paced, pacer_delay}
 
@@ -22,4 +23,4 @@ PassesAtMoment made entries later given =
     → AllByRecursion (λ other. other ≡ record call { bytes = other.bytes; now = other.now }) between
     → let bucket = paced call (bucket_by made earlier) in
     pacer_delay call bucket ≡ Some until → later ≡ record call { now = later.now }
-    → HasRoom call (length between) bucket → until < 2 ^ 64 - 1 → until ≤ later.now → given ≡ None
+    → HasRoom call (length between) bucket → until < last_time → until ≤ later.now → given ≡ None

@@ -1,8 +1,9 @@
 -- NewReno's window falls once for all that was in flight as it fell (RFC 9002, 7.3.2). Lists are newest first.
 use Rattle.std.specs.Prelude.{ℕ, ◌<◌, ◌≤◌, List, [], ◌∷◌}
+use Rattle.recovery_base.specs.Units.{largest_u64}
 use Rattle.recovery_congestion.specs.declared.congestion.new_reno.NewReno.{NewReno}
 use Rattle.recovery_congestion.specs.Calls.{ControllerCall, congests}
-use Rattle.recovery_congestion.specs.NewReno.{most, reno_after}
+use Rattle.recovery_congestion.specs.NewReno.{reno_after}
 
 -- congestion is told in the order of time
 abbrev pub IsBehind : ℕ → List ControllerCall → Type 0
@@ -36,4 +37,4 @@ module _ (made : NewReno) where
   abbrev pub RenoReducesOncePerRound : ControllerCall → List ControllerCall → Type 0
   RenoReducesOncePerRound (congests now sent persistent lost) earlier =
       LowersRenoWindow (congests now sent persistent lost) earlier → RenoReducedBefore sent earlier
-  RenoReducesOncePerRound call earlier = (reno_by earlier).window ≤ most → LowersRenoWindow call earlier → ⊥
+  RenoReducesOncePerRound call earlier = (reno_by earlier).window ≤ largest_u64 → LowersRenoWindow call earlier → ⊥

@@ -1,8 +1,9 @@
 -- The estimate of the round-trip time, in nanoseconds (RFC 9002, 5).
-use Rattle.std.specs.Prelude.{ℕ, ◌≡◌, ◌+◌, ◌-◌, ◌*◌, ◌/◌, ◌≤◌, ◌^◌, min, max, List, [], ◌∷◌, Option, None, Some, nat_le, if◌then◌else◌}
+use Rattle.std.specs.Prelude.{ℕ, ◌≡◌, ◌+◌, ◌-◌, ◌*◌, ◌/◌, ◌≤◌, min, max, List, [], ◌∷◌, Option, None, Some, nat_le, if◌then◌else◌}
 use Rattle.std.specs.Option.{option_map_or, unwrap_or}
 use Rattle.std.specs.Int.{abs_diff}
 use Rattle.recovery_base.specs.Times.{longest_span}
+use Rattle.recovery_base.specs.Units.{timer_granularity}
 
 pub record Rtt : Type 0 where
   -- the last sample; before the first one, the initial RTT
@@ -52,13 +53,9 @@ rtt_get rtt = unwrap_or rtt.smoothed rtt.latest
 abbrev pub rtt_conservative : Rtt → ℕ
 rtt_conservative rtt = max (rtt_get rtt) rtt.latest
 
--- the least span that timers can keep (RFC 9002, 6.1.2)
-abbrev pub granularity : ℕ
-granularity = 10 ^ 6
-
 -- the probe timeout without the delay of ACKs (RFC 9002, 6.2.1)
 abbrev pub pto_base_of : Rtt → ℕ
-pto_base_of rtt = min (rtt_get rtt + max (4 * rtt.variance) granularity) longest_span
+pto_base_of rtt = min (rtt_get rtt + max (4 * rtt.variance) timer_granularity) longest_span
 
 -- what holds of every estimate: it is never below the least sample (RFC 9002, 5.3), or the initial RTT before the first
 -- one

@@ -1,5 +1,7 @@
 //! Spreads packets over time, so that a window is not sent in one burst (RFC 9002, 7.7).
 ghost use Rattle.std.specs.Prelude.{◌≡◌, ◌+◌, ◌-◌, ◌*◌, ◌/◌, ◌^◌, ◌<◌, ◌≤◌, min, max, None, IfSome};
+ghost use Rattle.recovery_base.specs.Times.{span_limit};
+ghost use Rattle.recovery_base.specs.Units.{last_time, u32_limit};
 ghost use Rattle.recovery_congestion.specs.PacerView.{bucket_of};
 ghost use Rattle.recovery_congestion.specs.Pacing.{capacity_of, credit_of, wait_of, bucket_made, resized, refilled, paced, pacer_delay, less_tokens, IsBucketSound};
 
@@ -183,7 +185,7 @@ impl Pacer {
     }
 
     fn refill(&mut self, rtt: Duration, window: u64, now: Instant)
-        requires window { window < 2 ^ 32 }
+        requires window { window < u32_limit }
         requires rtt { 0 < rtt }
         ensures { self.new ≡ refilled rtt window now self.old }
     {
@@ -209,7 +211,7 @@ fn optimal_capacity(rtt: Duration, window: u64, mtu: u16) -> u64
 
 /// The bytes that time brings. They may be more than 64 bits hold.
 fn credit(rtt: Duration, window: u64, elapsed: u64) -> u128
-    requires window { window < 2 ^ 32 }
+    requires window { window < u32_limit }
     requires rtt { 0 < rtt }
     ensures value { result ≡ credit_of rtt window elapsed }
     ensures bound { result < 2 ^ 99 }
@@ -225,7 +227,7 @@ fn credit(rtt: Duration, window: u64, elapsed: u64) -> u128
 fn wait(rtt: Duration, window: u64, short: u64) -> u128
     requires { 0 < window }
     ensures value { result ≡ wait_of rtt window short }
-    ensures bound { result < 2 ^ 64 * 10 ^ 9 }
+    ensures bound { result < span_limit }
 {
     let product = rtt.as_nanos().saturating_mul(u128::from(short));
     let product = product.min(Duration::MAX.as_nanos());
@@ -233,8 +235,8 @@ fn wait(rtt: Duration, window: u64, short: u64) -> u128
 }
 
 fn later_by(moment: Instant, nanos: u128) -> Instant
-    requires { nanos < 2 ^ 64 * 10 ^ 9 }
-    ensures { result ≡ min (moment + nanos) (2 ^ 64 - 1) }
+    requires { nanos < span_limit }
+    ensures { result ≡ min (moment + nanos) last_time }
 {
     let sum = u128::from(moment.as_nanos()) + nanos;
     Instant::from_nanos(sum.min(u128::from(u64::MAX)) as u64)

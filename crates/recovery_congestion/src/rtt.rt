@@ -1,5 +1,6 @@
 //! The estimate of the round-trip time (RFC 9002, 5).
-ghost use Rattle.std.specs.Prelude.{◌≡◌, ◌<◌, ◌≤◌, ◌*◌, ◌^◌, min, max, IsSomeAnd};
+ghost use Rattle.std.specs.Prelude.{◌≡◌, ◌<◌, ◌≤◌, ◌*◌, min, max, IsSomeAnd};
+ghost use Rattle.recovery_base.specs.Times.{span_limit};
 ghost use Rattle.recovery_congestion.specs.Rtt.{rtt_made, rtt_updated, rtt_get, rtt_conservative, pto_base_of, adjusted_rtt, greatest_of, IsAboveLeast, KeepsLeast};
 
 use recovery_base::time::Duration;
@@ -143,7 +144,7 @@ fn without_delay(least: Duration, ack_delay: Duration, rtt: Duration) -> Duratio
 }
 
 fn span(nanos: u128) -> Duration
-    requires { nanos < 2 ^ 64 * 10 ^ 9 }
+    requires { nanos < span_limit }
     ensures { result ≡ nanos }
 {
     match Duration::checked_from_nanos(nanos) {

@@ -5,7 +5,7 @@ use Rattle.std.proofs.lemmas.Bool.{cases_lt}
 use Rattle.std.proofs.lemmas.Bool.Decides.{nat_tests}
 use Rattle.std.proofs.lemmas.Nat.{mul-le}
 use Rattle.std.proofs.Math.Nat.{mul-div-le, lt-mul-div-succ, mul-le-mul_left}
-use Rattle.recovery_congestion.specs.NewReno.{most}
+use Rattle.recovery_base.specs.Units.{largest_u64}
 use Rattle.recovery_cubic.specs.Curve.{cube, cube_root, k_of, micros, IsCubeRoot, IsGreatestK}
 
 pub cube-le : (a b : ℕ) → a ≤ b → cube a ≤ cube b
@@ -90,7 +90,8 @@ cube_fits n low = let up = cube-le n 6981463658331 (omega (arith, low)) in omega
 
 -- a product that stops at the end of 128 bits, divided, is that of the whole one, as far as 64 bits go
 pub stops : (x y : ℕ)
-    → min (min (min x (2 ^ 128 - 1) * y) (2 ^ 128 - 1) / (5 * 10 ^ 18)) most ≡ min (x * y / (5 * 10 ^ 18)) most
+    → min (min (min x (2 ^ 128 - 1) * y) (2 ^ 128 - 1) / (5 * 10 ^ 18)) largest_u64
+    ≡ min (x * y / (5 * 10 ^ 18)) largest_u64
 stops x zero = omega arith
 stops x (suc y) =
     let up : x ≤ x * suc y = omega arith in

@@ -2,8 +2,8 @@
 use Rattle.std.proofs.Common.{◌≡◌, ℕ, ◌+◌, ◌<◌, ◌≤◌, arith, Bool, true, false, nat_le, nat_lt, List, [], ◌∷◌, refl, subst, sym}
 use Rattle.std.proofs.lemmas.Bool.Decides.{nat_tests}
 use Rattle.std.specs.Prelude.{if◌then◌else◌}
+use Rattle.recovery_base.specs.Units.{largest_u64}
 use Rattle.recovery_congestion.specs.Calls.{ControllerCall, acks, congests, ends_acks, sends, takes_mtu}
-use Rattle.recovery_congestion.specs.NewReno.{most}
 use Rattle.recovery_congestion.specs.Rounds.{AreInOrder, IsBehind}
 use Rattle.recovery_cubic.specs.declared.cubic.Cubic.{Cubic}
 use Rattle.recovery_cubic.specs.Stage.{uncounted}
@@ -15,7 +15,7 @@ use Rattle.recovery_cubic.specs.Reductions.{CubicReducesOncePerRound, CubicReduc
 
 record Grows (old new : Cubic) : Type 0 where
   start : new.recovery_start_time ≡ old.recovery_start_time
-  window : old.window ≤ most → old.window ≤ new.window
+  window : old.window ≤ largest_u64 → old.window ≤ new.window
 
 grows_open : (now bytes : ℕ) (limited slow : Bool) (cubic : Cubic)
     → Grows cubic (if limited then record cubic { stage = uncounted now cubic.stage }

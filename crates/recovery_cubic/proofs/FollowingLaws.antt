@@ -3,8 +3,9 @@ use Rattle.std.proofs.Common.{◌≡◌, ℕ, ◌+◌, ◌-◌, ◌*◌, ◌/◌
 use Rattle.std.specs.Prelude.{if◌then◌else◌}
 use Rattle.std.proofs.lemmas.Bool.Decides.{nat_tests}
 use Rattle.std.proofs.Math.Nat.{mul-le-mul_right}
+use Rattle.recovery_base.specs.Units.{largest_u64}
 use Rattle.recovery_congestion.specs.Calls.{ControllerCall}
-use Rattle.recovery_congestion.specs.NewReno.{most, sum_to_most}
+use Rattle.recovery_congestion.specs.NewReno.{sum_to_most}
 use Rattle.recovery_cubic.specs.declared.cubic.Cubic.{Cubic}
 use Rattle.recovery_cubic.specs.declared.curve.Curve.{Curve}
 use Rattle.recovery_cubic.specs.Curve.{micros, rise, curve_from, curve_at, k_of, IsGreatestK}
@@ -26,7 +27,7 @@ rise-le datagram a b less =
     let up = mul-le-mul_right (2 * datagram) (cube-le a b less) in omega (arith, up)
 
 curve-le-by : (curve : Curve) (s t : ℕ) (first second : Bool) → nat_le curve.k s ≡ first → nat_le curve.k t ≡ second
-    → curve.w_max ≤ most → s ≤ t
+    → curve.w_max ≤ largest_u64 → s ≤ t
     → (if first then sum_to_most curve.w_max (rise curve.datagram (s - curve.k))
     else curve.w_max - rise curve.datagram (curve.k - s))
     ≤ (if second then sum_to_most curve.w_max (rise curve.datagram (t - curve.k))
@@ -41,12 +42,12 @@ curve-le-by curve s t false true is too within less = omega (arith, within)
 curve-le-by curve s t false false is too within less =
     let up = rise-le curve.datagram (curve.k - t) (curve.k - s) (omega (arith, less)) in omega (arith, up)
 
-curve-le : (curve : Curve) (s t : ℕ) → curve.w_max ≤ most → s ≤ t → curve_at curve s ≤ curve_at curve t
+curve-le : (curve : Curve) (s t : ℕ) → curve.w_max ≤ largest_u64 → s ≤ t → curve_at curve s ≤ curve_at curve t
 curve-le curve s t within less =
     curve-le-by curve s t (nat_le curve.k s) (nat_le curve.k t) refl refl within less
 
 -- from K on it is not below the plateau
-from_k : (curve : Curve) (t : ℕ) → curve.w_max ≤ most → curve.k ≤ t → curve.w_max ≤ curve_at curve t
+from_k : (curve : Curve) (t : ℕ) → curve.w_max ≤ largest_u64 → curve.k ≤ t → curve.w_max ≤ curve_at curve t
 from_k curve t within past = grind (arith, nat_tests)
 
 -- the curve of these numbers has the greatest K
@@ -66,7 +67,7 @@ record Times (window now mtu : ℕ) (calls : List ControllerCall) (cubic : Cubic
   last : cubic.stage.last ≡ last_by window now mtu calls
   time : cubic.stage.elapsed ≡ time_by window now mtu calls
   plateau : cubic.stage.curve.w_max ≡ plateau_by window now mtu calls
-  within : cubic.stage.elapsed ≤ most
+  within : cubic.stage.elapsed ≤ largest_u64
 
 module _ (window now mtu : ℕ) where
   record NextTimes (earlier : List ControllerCall) (turn : CubicEntry) (new : Cubic) : Type 0 where
@@ -74,7 +75,7 @@ module _ (window now mtu : ℕ) where
     time : new.stage.elapsed ≡ time_next turn (last_by window now mtu earlier) (time_by window now mtu earlier)
     plateau : new.stage.curve.w_max
         ≡ plateau_next turn (window_by window now mtu earlier) new.window (plateau_by window now mtu earlier)
-    within : new.stage.elapsed ≤ most
+    within : new.stage.elapsed ≤ largest_u64
 
   next_times : (earlier : List ControllerCall) → Times window now mtu earlier (cubic_by window now mtu earlier)
       → Turns (cubic_by window now mtu earlier) (NextTimes earlier)
@@ -145,7 +146,7 @@ module _ (window now mtu : ℕ) where
         (datagram_of (mtu_by window now mtu earlier)) k plateau reduced datagram (omega arith) b.k_is
 
     -- the plateau fits 64 bits
-    plateau_fits : plateau_by window now mtu (reduction ∷ earlier) ≤ most
+    plateau_fits : plateau_by window now mtu (reduction ∷ earlier) ≤ largest_u64
     unfolding old
     plateau_fits =
         let plateau : next_w_max old ≡ plateau_by window now mtu (reduction ∷ earlier) =
@@ -160,8 +161,8 @@ module _ (window now mtu : ℕ) where
     window_is : cubic.window
         ≤ max (max reduced (curve_at curve (cubic.stage.elapsed / 1000))) (quotient_up cubic.stage.estimate parts)
     kept : reduced ≤ cubic.window
-    time : cubic.stage.elapsed ≤ most
-    estimate : cubic.stage.estimate ≤ parts * most
+    time : cubic.stage.elapsed ≤ largest_u64
+    estimate : cubic.stage.estimate ≤ parts * largest_u64
 
   -- one acknowledgement, over plain numbers
   below-more : (window reduced before curve half estimate more : ℕ)
@@ -170,7 +171,7 @@ module _ (window now mtu : ℕ) where
       ≤ max (max reduced curve) (quotient_up more parts)
   below-more window reduced before curve half estimate more is up rises = omega arith
 
-  below_next : (curve : Curve) (reduced : ℕ) → curve.w_max ≤ most → (cubic : Cubic) → Below curve reduced cubic
+  below_next : (curve : Curve) (reduced : ℕ) → curve.w_max ≤ largest_u64 → (cubic : Cubic) → Below curve reduced cubic
       → Turns cubic (λ turn new. ContinuesEpoch turn → Below curve reduced new)
   below_next curve reduced fits cubic h = record {
     growing = λ at bytes goes.
@@ -296,14 +297,15 @@ module _ (window now mtu : ℕ) where
   record Back (curve : Curve) (goal : ℕ) (cubic : Cubic) : Type 0 where
     curve_is : cubic.stage.curve ≡ curve
     window_is : min curve.w_max goal ≤ cubic.window
-    time : cubic.stage.elapsed ≤ most
+    time : cubic.stage.elapsed ≤ largest_u64
     past : curve.k ≤ cubic.stage.elapsed / 1000
 
-  back-more : (window plateau goal curve half more : ℕ) → min plateau goal ≤ window → plateau ≤ most → plateau ≤ curve
+  back-more : (window plateau goal curve half more : ℕ) → min plateau goal ≤ window → plateau ≤ largest_u64
+      → plateau ≤ curve
       → min plateau (half + goal) ≤ max (max window (min curve (sum_to_most window half))) more
   back-more window plateau goal curve half more is fits up = omega arith
 
-  back_next : (curve : Curve) (goal : ℕ) → curve.w_max ≤ most → (cubic : Cubic) → Back curve goal cubic
+  back_next : (curve : Curve) (goal : ℕ) → curve.w_max ≤ largest_u64 → (cubic : Cubic) → Back curve goal cubic
       → Turns cubic (λ turn new. ContinuesEpoch turn → Back curve (bytes_of turn / 2 + goal) new)
   back_next curve goal fits cubic h = record {
     growing = λ at bytes goes.

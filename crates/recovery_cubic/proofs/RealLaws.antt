@@ -5,7 +5,8 @@ use Rattle.std.specs.Int.{abs_diff}
 use Rattle.std.proofs.lemmas.Bool.{cases_lt}
 use Rattle.std.proofs.lemmas.Bool.Decides.{nat_tests}
 use Rattle.std.proofs.Math.Nat.{mul-le-mul_left, mul-le-mul_right}
-use Rattle.recovery_congestion.specs.NewReno.{most, sum_to_most}
+use Rattle.recovery_base.specs.Units.{largest_u64}
+use Rattle.recovery_congestion.specs.NewReno.{sum_to_most}
 use Rattle.recovery_cubic.specs.declared.curve.Curve.{Curve}
 use Rattle.recovery_cubic.specs.Curve.{cube, micros, rise, curve_at, IsGreatestK}
 use Rattle.recovery_cubic.specs.RealCurve.{AreNear, IsSteady, IsNearReal}
@@ -180,9 +181,9 @@ real-sooner datagram plateau q t T k K x v w p is some steady f down = (
       before (one q) datagram plateau w v _ down way.up way.down,
 )
 
-module _ (curve : Curve) (window time : ℕ) (some : 0 < curve.datagram) (within : curve.w_max ≤ most)
+module _ (curve : Curve) (window time : ℕ) (some : 0 < curve.datagram) (within : curve.w_max ≤ largest_u64)
     (whole : IsGreatestK micros curve.datagram (curve.w_max - window) curve.k)
-    (room : curve_at curve (time / 1000) < most) (steady : IsSteady curve time) where
+    (room : curve_at curve (time / 1000) < largest_u64) (steady : IsSteady curve time) where
   in_parts : (a k : ℕ) → 0 < a → IsGreatestK (micros * (1000 * a)) curve.datagram (curve.w_max - window) k
       → InParts (1000 * a) (time / 1000) (time * a) curve.k k
   in_parts a k any fine =
@@ -205,7 +206,7 @@ module _ (curve : Curve) (window time : ℕ) (some : 0 < curve.datagram) (within
   near_by : (a k : ℕ) (test : Bool) → nat_le curve.k (time / 1000) ≡ test
       → InParts (1000 * a) (time / 1000) (time * a) curve.k k
       → (if test then sum_to_most curve.w_max (rise curve.datagram (time / 1000 - curve.k))
-      else curve.w_max - rise curve.datagram (curve.k - time / 1000)) < most
+      else curve.w_max - rise curve.datagram (curve.k - time / 1000)) < largest_u64
       → Near a k (if test then sum_to_most curve.w_max (rise curve.datagram (time / 1000 - curve.k))
       else curve.w_max - rise curve.datagram (curve.k - time / 1000))
   near_by a k true is parts less =

@@ -1,13 +1,15 @@
 -- CUBIC (RFC 9438), with whole numbers: what each call does. Each division says how it is rounded.
 use Rattle.std.specs.Prelude.{ℕ, ◌*◌, ◌/◌, ◌<◌, min, max, Bool, Some, None, nat_le, nat_lt, if◌then◌else◌}
+use Rattle.recovery_base.specs.Units.{largest_u64}
 use Rattle.recovery_congestion.specs.declared.congestion.ControllerMetrics.{ControllerMetrics}
 use Rattle.recovery_congestion.specs.Calls.{ControllerCall, acks, congests, takes_mtu}
 use Rattle.recovery_congestion.specs.Controllers.{ControllerSemantics}
-use Rattle.recovery_congestion.specs.NewReno.{most, sum_to_most}
+use Rattle.recovery_congestion.specs.NewReno.{sum_to_most}
 use Rattle.recovery_cubic.specs.declared.cubic.Cubic.{Cubic}
 use Rattle.recovery_cubic.specs.declared.stage.Stage.{Stage}
 use Rattle.recovery_cubic.specs.Curve.{curve_from}
 use Rattle.recovery_cubic.specs.Stage.{parts, quotient_up, stage_from, flat_stage, counted, uncounted, raised, curve_window}
+use Rattle.recovery_cubic.specs.Fractions.{alpha_denominator, alpha_numerator, beta_denominator, beta_numerator, convergence_denominator, convergence_numerator}
 
 -- an MTU of zero counts as one byte
 abbrev pub datagram_of : ℕ → ℕ
@@ -23,7 +25,7 @@ cubic_made window now mtu = record {
   initial_window = window;
   current_mtu = mtu;
   window = window;
-  ssthresh = most;
+  ssthresh = largest_u64;
   recovery_start_time = now;
   prior_window = window;
   stage = flat_stage window (datagram_of mtu) now;
@@ -41,8 +43,10 @@ slow_started now bytes cubic =
 -- where alpha is 9/17, and 1 once Reno's window is where the window was before the reduction (RFC 9438, 4.3)
 abbrev pub friendly_step : ℕ → Cubic → ℕ
 friendly_step bytes cubic =
-    let alpha = if nat_le (parts * cubic.prior_window) cubic.stage.estimate then 17 else 9 in
-    quotient_up (parts * alpha * datagram_of cubic.current_mtu * bytes) (17 * max cubic.window (least_window cubic))
+    let alpha =
+    if nat_le (parts * cubic.prior_window) cubic.stage.estimate then alpha_denominator else alpha_numerator in
+    quotient_up (parts * alpha * datagram_of cubic.current_mtu * bytes)
+    (alpha_denominator * max cubic.window (least_window cubic))
 
 -- the window of the curve, but no more than half the bytes acknowledged above the window; the window before, where that
 -- is greater; and Reno's, where that is the greatest (RFC 9438, 4.2 and 4.3)
@@ -71,12 +75,14 @@ cubic_acked now sent bytes limited cubic =
 
 -- beta is 7/10, rounded down, and no less than the least window (RFC 9438, 4.6)
 abbrev pub reduced_window : Cubic → ℕ
-reduced_window cubic = max (cubic.window * 7 / 10) (least_window cubic)
+reduced_window cubic = max (cubic.window * beta_numerator / beta_denominator) (least_window cubic)
 
 -- W_max: the window before the reduction; where it had not reached the last plateau, (1 + beta)/2 of it, rounded down,
 -- so that a new flow finds room sooner (fast convergence: RFC 9438, 4.7)
 abbrev pub next_w_max : Cubic → ℕ
-next_w_max cubic = if nat_lt cubic.window cubic.stage.curve.w_max then cubic.window * 17 / 20 else cubic.window
+next_w_max cubic =
+    if nat_lt cubic.window cubic.stage.curve.w_max then cubic.window * convergence_numerator / convergence_denominator
+    else cubic.window
 
 -- the stage that begins with a reduction
 abbrev pub next_stage : ℕ → Cubic → Stage

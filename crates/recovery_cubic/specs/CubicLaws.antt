@@ -6,6 +6,7 @@ use Rattle.recovery_congestion.specs.Controllers.{ControllerLaws}
 use Rattle.recovery_cubic.specs.declared.cubic.Cubic.{Cubic}
 use Rattle.recovery_cubic.specs.Stage.{uncounted}
 use Rattle.recovery_cubic.specs.Cubic.{slow_started, avoided, cubic_grown, cubic_acked, cubic_recovering, cubic_congested, IsCubicSound, cubic_words}
+use Rattle.recovery_cubic.specs.Fractions.{beta_denominator, beta_numerator}
 
 sound-grown : (now bytes : ℕ) (cubic : Cubic) → IsCubicSound cubic → IsCubicSound (cubic_grown now bytes cubic)
 sound-grown now bytes cubic sound =
@@ -38,7 +39,7 @@ sound-congested now sent persistent cubic sound =
     elim (nat_le sent cubic.recovery_start_time) as
     (λ b. IsCubicSound (if b then cubic else cubic_recovering now persistent cubic)) [
       | true ↦ sound
-      | false ↦ positive-window (cubic.window * 7 / 10) cubic.current_mtu persistent
+      | false ↦ positive-window (cubic.window * beta_numerator / beta_denominator) cubic.current_mtu persistent
     ]
 
 sound-after : (call : ControllerCall) (cubic : Cubic) → IsPositive call → IsCubicSound cubic

@@ -1,7 +1,8 @@
 -- The cubic curve (RFC 9438, 4.2), with whole numbers: bytes, and microseconds behind the beginning of a stage of
 -- congestion avoidance. C is 2/5 datagrams for each cubed second, which is 2·10^-18/5 for each cubed microsecond.
 use Rattle.std.specs.Prelude.{ℕ, zero, suc, ◌+◌, ◌-◌, ◌*◌, ◌/◌, ◌<◌, ◌≤◌, ◌^◌, min, nat_le, if◌then◌else◌}
-use Rattle.recovery_congestion.specs.NewReno.{most, sum_to_most}
+use Rattle.recovery_base.specs.Units.{largest_u64}
+use Rattle.recovery_congestion.specs.NewReno.{sum_to_most}
 use Rattle.recovery_cubic.specs.declared.curve.Curve.{Curve}
 
 -- so many microseconds are a second
@@ -23,7 +24,7 @@ cube_root (suc n) = let root = cube_root n in if nat_le (cube (root + 1)) (suc n
 
 -- C·t^3 in bytes, rounded down, where a datagram has so many
 abbrev pub rise : ℕ → ℕ → ℕ
-rise datagram time = min (cube time * (2 * datagram) / (5 * cube micros)) most
+rise datagram time = min (cube time * (2 * datagram) / (5 * cube micros)) largest_u64
 
 -- K, in whole parts of a second: the greatest with C·K^3 at most the distance from the window to the plateau
 pub record IsGreatestK (a_second datagram distance k : ℕ) : Type 0 where

@@ -1,7 +1,8 @@
 -- CUBIC's window goes by the curve from a reduction until the next (RFC 9438, 4.2). Lists are newest first.
 use Rattle.std.specs.Prelude.{ℕ, ◌≡◌, ◌+◌, ◌-◌, ◌*◌, ◌/◌, ◌<◌, ◌≤◌, min, max, nat_lt, if◌then◌else◌, List, [], ◌∷◌, ◌++◌}
+use Rattle.recovery_base.specs.Units.{largest_u64, microseconds}
 use Rattle.recovery_congestion.specs.Calls.{ControllerCall}
-use Rattle.recovery_congestion.specs.NewReno.{most, sum_to_most}
+use Rattle.recovery_congestion.specs.NewReno.{sum_to_most}
 use Rattle.recovery_cubic.specs.declared.curve.Curve.{Curve}
 use Rattle.recovery_cubic.specs.Stage.{parts, quotient_up}
 use Rattle.recovery_cubic.specs.Curve.{curve_at, micros, IsGreatestK}
@@ -10,6 +11,7 @@ use Rattle.recovery_cubic.specs.History.{CubicEntry, grows, waits, reduces, pers
 use Rattle.recovery_cubic.specs.Growth.{bytes_of}
 use Rattle.recovery_cubic.specs.RealCurve.{IsSteady, IsNearReal}
 use Rattle.recovery_cubic.specs.Reno.{mtu_by, reno_by}
+use Rattle.recovery_cubic.specs.Fractions.{beta_denominator, beta_numerator, convergence_denominator, convergence_numerator}
 
 -- ---- the time that counts, in nanoseconds (RFC 9438, 4.2 and 5.8)
 
@@ -33,7 +35,8 @@ time_next turn last time = time
 -- ---- W_max (RFC 9438, 4.6 to 4.8)
 
 abbrev pub plateau_next : CubicEntry → ℕ → ℕ → ℕ → ℕ
-plateau_next (reduces now) before after plateau = if nat_lt before plateau then before * 17 / 20 else before
+plateau_next (reduces now) before after plateau =
+    if nat_lt before plateau then before * convergence_numerator / convergence_denominator else before
 plateau_next (persists now) before after plateau = after
 plateau_next (starts now bytes) before after plateau = after
 plateau_next turn before after plateau = plateau
@@ -57,8 +60,8 @@ module _ (window now mtu : ℕ) where
   pub record BeginsEpoch (reduction : ControllerCall) (earlier : List ControllerCall) (k : ℕ) : Type 0 where
     pub moment : ℕ
     pub reduced : turn_at window now mtu reduction earlier ≡ reduces moment
-    pub before : window_by window now mtu earlier ≤ most
-    pub after : window_by window now mtu (reduction ∷ earlier) ≤ most
+    pub before : window_by window now mtu earlier ≤ largest_u64
+    pub after : window_by window now mtu (reduction ∷ earlier) ≤ largest_u64
     pub k_is : IsGreatestK micros (datagram_of (mtu_by window now mtu earlier))
         (plateau_by (reduction ∷ earlier) - window_by window now mtu (reduction ∷ earlier)) k
 
@@ -72,7 +75,7 @@ module _ (window now mtu : ℕ) where
 
   abbrev pub curve_then : List ControllerCall → ControllerCall → List ControllerCall → ℕ → ℕ
   curve_then later reduction earlier k =
-      curve_at (curve_of reduction earlier k) (time_by (later ++ reduction ∷ earlier) / 1000)
+      curve_at (curve_of reduction earlier k) (time_by (later ++ reduction ∷ earlier) / microseconds)
 
   -- the window is at most the greatest of the curve, of Reno's, and of the window that the reduction left
   abbrev pub IsBelowCurve : List ControllerCall → ControllerCall → List ControllerCall → ℕ → Type 0
@@ -86,7 +89,7 @@ module _ (window now mtu : ℕ) where
   IsReal later reduction earlier k =
       let curve = curve_of reduction earlier k in
       let time = time_by (later ++ reduction ∷ earlier) in
-      curve_then later reduction earlier k < most → IsSteady curve time
+      curve_then later reduction earlier k < largest_u64 → IsSteady curve time
       → IsNearReal curve (window_by window now mtu (reduction ∷ earlier)) time
 
   -- an acknowledgement in congestion avoidance, of so many bytes, behind later calls behind a reduction
@@ -124,7 +127,7 @@ module _ (window now mtu : ℕ) where
   abbrev pub ReturnsToWmax : List ControllerCall → List ControllerCall → ControllerCall → List ControllerCall → ℕ
       → Type 0
   ReturnsToWmax later until reduction earlier k =
-      k ≤ time_by (until ++ reduction ∷ earlier) / 1000 → HasReturnedToWmax later until reduction earlier
+      k ≤ time_by (until ++ reduction ∷ earlier) / microseconds → HasReturnedToWmax later until reduction earlier
 
   -- so the window before the reduction is reached again at K, in whole microseconds, as soon as acknowledgements let
   -- it: until then no more than 3/10 of it is lacking, which those of a round trip come up for
@@ -133,8 +136,8 @@ module _ (window now mtu : ℕ) where
     -- the plateau is the window before, unless that was below the last plateau
     pub plateau : plateau_by earlier ≤ window_by window now mtu earlier
         → plateau_by (reduction ∷ earlier) ≡ window_by window now mtu earlier
-    pub lacking : 7 * window_by window now mtu earlier
-        ≤ 10 * window_by window now mtu (until ++ reduction ∷ earlier) + 9
-    pub sooner : time_by (until ++ reduction ∷ earlier) / 1000 < k
+    pub lacking : beta_numerator * window_by window now mtu earlier
+        ≤ beta_denominator * window_by window now mtu (until ++ reduction ∷ earlier) + 9
+    pub sooner : time_by (until ++ reduction ∷ earlier) / microseconds < k
         → curve_then until reduction earlier k ≤ plateau_by (reduction ∷ earlier)
     pub back : ReturnsToWmax later until reduction earlier k

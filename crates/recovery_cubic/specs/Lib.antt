@@ -4,6 +4,7 @@ pub mod CubicLaws
 pub mod Curve
 pub mod Reductions
 pub mod Epochs
+pub mod Fractions
 pub mod Growth
 pub mod History
 pub mod RealCurve

@@ -1,6 +1,7 @@
 -- The curve of RFC 9438, 4.2, as a real number, and how near to it the curve in whole microseconds and bytes is.
-use Rattle.std.specs.Prelude.{ℕ, ◌+◌, ◌-◌, ◌*◌, ◌/◌, ◌^◌, ◌<◌, ◌≤◌}
+use Rattle.std.specs.Prelude.{ℕ, ◌+◌, ◌-◌, ◌*◌, ◌/◌, ◌<◌, ◌≤◌}
 use Rattle.std.specs.Int.{abs_diff}
+use Rattle.recovery_base.specs.Units.{microseconds, seconds}
 use Rattle.recovery_cubic.specs.declared.curve.Curve.{Curve}
 use Rattle.recovery_cubic.specs.Curve.{cube, curve_at, micros, IsGreatestK}
 
@@ -13,7 +14,7 @@ pub record AreNear (a b apart : ℕ) : Type 0 where
 -- 1200 bytes that is 15 minutes to both sides of K
 abbrev pub IsSteady : Curve → ℕ → Type 0
 IsSteady curve time =
-    let apart = abs_diff (time / 1000) curve.k in
+    let apart = abs_diff (time / microseconds) curve.k in
     2 * curve.datagram * cube (apart + 1) + 5 * cube micros
     ≤ 2 * curve.datagram * cube apart + 5 * cube micros * curve.datagram
 
@@ -21,11 +22,11 @@ IsSteady curve time =
 -- Then W(t) = C·(t - K)^3 + W_max, here times 5·s^3 where a second has s parts, is within one datagram of the curve
 abbrev pub IsNearReal : Curve → ℕ → ℕ → Type 0
 IsNearReal curve window time = (a_nano k : ℕ) → 0 < a_nano
-    → let a_second = 10 ^ 9 * a_nano in
+    → let a_second = seconds * a_nano in
     let one = 5 * cube a_second in
     let way = 2 * curve.datagram * cube (abs_diff (time * a_nano) k) in
     IsGreatestK a_second curve.datagram (curve.w_max - window) k
     → (k ≤ time * a_nano
-    → AreNear (one * curve_at curve (time / 1000)) (one * curve.w_max + way) (one * curve.datagram))
+    → AreNear (one * curve_at curve (time / microseconds)) (one * curve.w_max + way) (one * curve.datagram))
     × (time * a_nano ≤ k
-    → AreNear (one * curve_at curve (time / 1000) + way) (one * curve.w_max) (one * curve.datagram))
+    → AreNear (one * curve_at curve (time / microseconds) + way) (one * curve.w_max) (one * curve.datagram))

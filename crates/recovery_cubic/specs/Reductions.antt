@@ -1,8 +1,8 @@
 -- CUBIC's window falls once for all that was in flight as it fell (RFC 9002, 7.3.2; RFC 9438, 4.6). Lists are newest
 -- first.
 use Rattle.std.specs.Prelude.{ℕ, ◌<◌, ◌≤◌, List, [], ◌∷◌}
+use Rattle.recovery_base.specs.Units.{largest_u64}
 use Rattle.recovery_congestion.specs.Calls.{ControllerCall, congests}
-use Rattle.recovery_congestion.specs.NewReno.{most}
 use Rattle.recovery_cubic.specs.History.{window_by}
 
 module _ (window now mtu : ℕ) where
@@ -21,4 +21,5 @@ module _ (window now mtu : ℕ) where
   abbrev pub CubicReducesOncePerRound : ControllerCall → List ControllerCall → Type 0
   CubicReducesOncePerRound (congests at sent persistent lost) earlier =
       LowersCubicWindow (congests at sent persistent lost) earlier → CubicReducedBefore sent earlier
-  CubicReducesOncePerRound call earlier = window_by window now mtu earlier ≤ most → LowersCubicWindow call earlier → ⊥
+  CubicReducesOncePerRound call earlier =
+      window_by window now mtu earlier ≤ largest_u64 → LowersCubicWindow call earlier → ⊥

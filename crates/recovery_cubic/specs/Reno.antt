@@ -1,17 +1,18 @@
 -- What Reno's window would be (RFC 9438, 4.3), in parts of a byte. Lists are newest first.
 use Rattle.std.specs.Prelude.{ℕ, ◌+◌, ◌*◌, ◌≤◌, min, max, nat_le, if◌then◌else◌, List, [], ◌∷◌}
+use Rattle.recovery_base.specs.Units.{largest_u64}
 use Rattle.recovery_congestion.specs.Calls.{ControllerCall}
-use Rattle.recovery_congestion.specs.NewReno.{most}
 use Rattle.recovery_cubic.specs.Stage.{parts, quotient_up}
 use Rattle.recovery_cubic.specs.Cubic.{datagram_of}
 use Rattle.recovery_cubic.specs.History.{CubicEntry, grows, reduces, persists, starts, resizes, turn_at, window_by}
+use Rattle.recovery_cubic.specs.Fractions.{alpha_denominator, alpha_numerator}
 
 -- the growth by bytes acknowledged, where the window is at least two datagrams: alpha datagrams for a window of them,
 -- rounded up; alpha is 9/17, and 1 once the estimate is at the window before the reduction
 abbrev pub reno_growth : ℕ → ℕ → ℕ → ℕ → ℕ → ℕ
 reno_growth bytes window datagram prior estimate =
-    let alpha = if nat_le (parts * prior) estimate then 17 else 9 in
-    quotient_up (parts * alpha * datagram * bytes) (17 * max window (2 * datagram))
+    let alpha = if nat_le (parts * prior) estimate then alpha_denominator else alpha_numerator in
+    quotient_up (parts * alpha * datagram * bytes) (alpha_denominator * max window (2 * datagram))
 
 -- the window before a reduction
 abbrev pub prior_next : CubicEntry → ℕ → ℕ → ℕ
@@ -26,7 +27,7 @@ mtu_next turn before = before
 -- a stage begins with the window that a turn leaves; it stops at the end of 64 bits
 abbrev pub reno_next : CubicEntry → ℕ → ℕ → ℕ → ℕ → ℕ → ℕ
 reno_next (grows now bytes) before after datagram prior estimate =
-    min (estimate + reno_growth bytes before datagram prior estimate) (parts * most)
+    min (estimate + reno_growth bytes before datagram prior estimate) (parts * largest_u64)
 reno_next (reduces now) before after datagram prior estimate = parts * after
 reno_next (persists now) before after datagram prior estimate = parts * after
 reno_next (starts now bytes) before after datagram prior estimate = parts * after

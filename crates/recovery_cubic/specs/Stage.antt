@@ -1,6 +1,7 @@
 -- A stage of congestion avoidance: its curve, its time, and the Reno-friendly estimate (RFC 9438, 4.2, 4.3 and 5.8).
 use Rattle.std.specs.Prelude.{ℕ, ◌+◌, ◌-◌, ◌*◌, ◌/◌, ◌^◌, min, max}
-use Rattle.recovery_congestion.specs.NewReno.{most, sum_to_most}
+use Rattle.recovery_base.specs.Units.{largest_u64, microseconds}
+use Rattle.recovery_congestion.specs.NewReno.{sum_to_most}
 use Rattle.recovery_cubic.specs.declared.curve.Curve.{Curve}
 use Rattle.recovery_cubic.specs.declared.stage.Stage.{Stage}
 use Rattle.recovery_cubic.specs.Curve.{flat_curve, curve_at}
@@ -34,8 +35,8 @@ uncounted now stage = record stage { last = max stage.last now }
 
 -- Reno's window grows
 abbrev pub raised : ℕ → Stage → Stage
-raised step stage = record stage { estimate = min (stage.estimate + step) (parts * most) }
+raised step stage = record stage { estimate = min (stage.estimate + step) (parts * largest_u64) }
 
 -- the curve at the whole microseconds that count
 abbrev pub curve_window : Stage → ℕ
-curve_window stage = curve_at stage.curve (stage.elapsed / 1000)
+curve_window stage = curve_at stage.curve (stage.elapsed / microseconds)

@@ -1,5 +1,6 @@
 //! CUBIC as a controller (RFC 9438), and what makes it.
-ghost use Rattle.std.specs.Prelude.{◌≡◌, ◌<◌, ◌≤◌, ◌^◌, true, nat_le, Ok, refl};
+ghost use Rattle.std.specs.Prelude.{◌≡◌, ◌<◌, ◌≤◌, true, nat_le, Ok, refl};
+ghost use Rattle.recovery_base.specs.Units.{u16_limit};
 ghost use Rattle.recovery_cubic.specs.ConfigView.{default_window};
 ghost use Rattle.recovery_cubic.specs.Cubic.{datagram_of, least_window, cubic_made, slow_started, friendly_step, avoided, cubic_acked, reduced_window, next_w_max, next_stage, cubic_recovering, cubic_congested, cubic_with_mtu, cubic_metrics, IsCubicSound, cubic_words};
 ghost use Rattle.recovery_cubic.specs.CubicLaws.{cubic_laws};
@@ -128,7 +129,7 @@ impl Cubic {
     /// The size of a datagram, in bytes.
     fn datagram(&self) -> u64
         ensures value { result ≡ datagram_of self.now.current_mtu }
-        ensures small { result < 2 ^ 16 }
+        ensures small { result < u16_limit }
     {
         u64::from(self.current_mtu).max(1)
     }

@@ -1,6 +1,7 @@
 //! The recovery that a stack keeps: one that stands alone, or one of a sender.
-ghost use Rattle.std.specs.Prelude.{◌≡◌, ◌≤◌, ◌^◌, Decides, IfOk};
+ghost use Rattle.std.specs.Prelude.{◌≡◌, ◌≤◌, Decides, IfOk};
 ghost use Rattle.rand_core.specs.Steps.{stream_of, steps_u32};
+ghost use Rattle.recovery_base.specs.Units.{number_limit};
 ghost use Rattle.rand_pcg.specs.Pcg.{pcg32};
 ghost use Rattle.quic_recovery.specs.State.{state_of};
 ghost use Rattle.recovery_packet_numbers.specs.Skips.{IsSkips};
@@ -60,7 +61,7 @@ impl Engine {
         rng: Pcg32,
         now: Instant,
     ) -> Result<Engine, NoMemory>
-        requires issued { config.issued ≤ 2 ^ 62 }
+        requires issued { config.issued ≤ number_limit }
         requires skips { IsSkips config.skips }
         ensures { IfOk result
             (λ kept. IsFresh side config now (stream_of (steps_u32 pcg32) rng) kept) }
@@ -77,7 +78,7 @@ impl Engine {
         rng: Pcg32,
         now: Instant,
     ) -> Result<Engine, NoMemory>
-        requires issued { config.issued ≤ 2 ^ 62 }
+        requires issued { config.issued ≤ number_limit }
         requires skips { IsSkips config.skips }
         ensures { IfOk result
             (λ kept. IsFreshAlone config now (stream_of (steps_u32 pcg32) rng) kept) }
@@ -93,7 +94,7 @@ impl Engine {
         rng: Pcg32,
         now: Instant,
     ) -> Result<Engine, NoMemory>
-        requires issued { config.issued ≤ 2 ^ 62 }
+        requires issued { config.issued ≤ number_limit }
         requires skips { IsSkips config.skips }
         ensures { IfOk result
             (λ kept. IsFreshSender side config now (stream_of (steps_u32 pcg32) rng) kept) }

@@ -1,6 +1,7 @@
 //! Connection ids of the peer and of this end (RFC 9000, 5.1): an export for each event, and what is read of tokens.
 ghost use Rattle.std.specs.Prelude.{◌≡◌, ◌≤◌, Decides, IsFalse, replicate};
 ghost use Rattle.std.specs.List.{All};
+ghost use Rattle.recovery_base.specs.Ids.{longest_cid, reset_token_size};
 ghost use Rattle.recovery_stack.specs.Answers.{HandleApplies, HandleAppliesTo, IsBadArgument, IssuesIdsOrNoMemory, ReadsHandle};
 ghost use Rattle.recovery_stack.specs.Codes.{cid, frame};
 ghost use Rattle.recovery_events.specs.declared.event.Event.TheVariants.{IdTimeout, InitialId, NewId, NextId, PeerRetired};
@@ -73,9 +74,9 @@ pub extern "C" fn recovery_ffi_issue_ids(
     now: u64,
     given: &[Id],
 ) -> EncodedReply
-    ensures short { All (λ id. id.len ≤ 20) given.now
+    ensures short { All (λ id. id.len ≤ longest_cid) given.now
         → IssuesIdsOrNoMemory handle.old.slot.held now given.now result handle.new.slot.held }
-    ensures long { ¬ All (λ id. id.len ≤ 20) given.now
+    ensures long { ¬ All (λ id. id.len ≤ longest_cid) given.now
         → IsBadArgument handle.old.slot.held result handle.new.slot.held }
 {
     handle.issue_ids(alloc, now, given)
@@ -107,7 +108,7 @@ pub extern "C" fn recovery_ffi_peer_retired(
 #[unsafe(no_mangle)]
 pub extern "C" fn recovery_ffi_token(alloc: Global, handle: &mut Handle, out: &mut [u8; 16])
     ensures { ReadsHandle handle.old.slot.held handle.new.slot.held
-        (λ stack. out.new ≡ stack.token) (out.new ≡ replicate 16 0) }
+        (λ stack. out.new ≡ stack.token) (out.new ≡ replicate reset_token_size 0) }
 {
     handle.token(alloc, out);
 }

@@ -1,6 +1,7 @@
 -- What a recovery starts with where nothing else is said (RFC 9000, 5.1, 8.1, 14.3 and 18.2).
-use Rattle.std.specs.Prelude.{ℕ, ◌*◌, ◌^◌, true, false, List, Some}
+use Rattle.std.specs.Prelude.{ℕ, ◌*◌, true, false, List, Some}
 use Rattle.std.specs.declared.net.socket_addr.SocketAddr.{SocketAddr}
+use Rattle.recovery_base.specs.Units.{milliseconds, seconds}
 use Rattle.recovery_config.specs.declared.config.TransportConfig.{TransportConfig}
 use Rattle.recovery_packet_numbers.specs.declared.filter.Skips.TheVariants.{Disabled}
 use Rattle.recovery_history.specs.declared.config.RecoveryConfig.{RecoveryConfig}
@@ -12,10 +13,10 @@ config_with transport remote initial_cid = record {
   remote = remote;
   validated = false;
   allow_mtud = true;
-  max_ack_delay = 25 * 10 ^ 6;
+  max_ack_delay = 25 * milliseconds;
   initial_cid = initial_cid;
   cid_len = 8;
-  cid_lifetime = Some (10 * 10 ^ 9);
+  cid_lifetime = Some (10 * seconds);
   issued = 1;
   skips = Disabled;
 }

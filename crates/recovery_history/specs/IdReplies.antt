@@ -1,8 +1,9 @@
 -- What the events of connection ids are told (RFC 9000, 5.1, 19.15 and 19.16).
-use Rattle.std.specs.Prelude.{◌≡◌, ◌≢◌, ℕ, ◌+◌, ◌<◌, ◌≤◌, ◌^◌, max, min, List, [], length, map, None, Some}
+use Rattle.std.specs.Prelude.{◌≡◌, ◌≢◌, ℕ, ◌+◌, ◌<◌, ◌≤◌, max, min, List, [], length, map, None, Some}
 use Rattle.std.specs.List.{range_with_len}
 use Rattle.recovery_base.specs.declared.below.ids.IssuedCid.{IssuedCid}
 use Rattle.recovery_base.specs.declared.below.ids.NewConnectionId.{NewConnectionId}
+use Rattle.recovery_base.specs.Units.{number_limit}
 use Rattle.recovery_ids.specs.LocalIds.{LocalIds, without_number}
 use Rattle.recovery_ids.specs.RemoteIds.{IdTable, RemoteIds, IsLeastHeld, RepeatsFrame, active_connection_id_limit, with_frame}
 use Rattle.recovery_events.specs.declared.event.Answer.{Answer}
@@ -29,7 +30,7 @@ IsFrameAnswer ids frame answer = ⊥
 
 -- why a frame is refused, and what it is answered (19.15)
 abbrev pub FrameReply : {Q : Type 0} → RemoteIds → NewConnectionId → Reply Q → Type 0
-FrameReply ids frame = RejectsWhen NumberTooLarge (2 ^ 62 ≤ frame.sequence)
+FrameReply ids frame = RejectsWhen NumberTooLarge (number_limit ≤ frame.sequence)
     (RejectsWhen BadRetirePriorTo (frame.sequence < frame.retire_prior_to)
     (RejectsWhen Retired (frame.sequence < ids.active)
     (RejectsWhen ExceedsLimit (max ids.active frame.retire_prior_to + active_connection_id_limit ≤ frame.sequence)
@@ -48,7 +49,7 @@ IsNextAnswer ids answer = ⊥
 -- ids are issued in the order of their numbers, which go on from the count issued and end below 2^62; only where there
 -- are ids is memory taken
 abbrev pub IssueReply : {Q : Type 0} → LocalIds → List IssuedCid → Reply Q → Type 0
-IssueReply ids more = RejectsWhen NumberTooLarge (2 ^ 62 < ids.issued + length more)
+IssueReply ids more = RejectsWhen NumberTooLarge (number_limit < ids.issued + length more)
     (RejectsWhen BadRange (map (λ id. id.sequence) more ≢ range_with_len ids.issued (length more))
     (AnswersOrNoMemory (more ≢ []) (λ answer. answer ≡ Done)))
 

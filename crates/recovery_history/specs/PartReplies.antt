@@ -1,10 +1,11 @@
 -- What events in a space, on a path and in the search for the MTU are told, over what is known of the past.
-use Rattle.std.specs.Prelude.{◌≡◌, ℕ, ◌≤◌, ◌^◌, ◌↔◌, nat_lt, Bool, true, false, IsTrue, Option, None, Some, Ok, Err, if◌then◌else◌}
+use Rattle.std.specs.Prelude.{◌≡◌, ℕ, ◌≤◌, ◌↔◌, nat_lt, Bool, true, false, IsTrue, Option, None, Some, Ok, Err, if◌then◌else◌}
 use Rattle.recovery_base.specs.declared.below.SpaceId.{SpaceId}
 use Rattle.recovery_base.specs.declared.below.SpaceId.TheVariants.{Data}
 use Rattle.recovery_base.specs.declared.below.frames.EcnCounts.{EcnCounts}
 use Rattle.recovery_base.specs.Ecn.{ecn_fault}
 use Rattle.recovery_base.specs.Numbers.{IsNewNumber}
+use Rattle.recovery_base.specs.Units.{number_limit}
 use Rattle.recovery_congestion.specs.Controllers.{ControllerSemantics}
 use Rattle.recovery_acks.specs.Acks.{AckCounts}
 use Rattle.recovery_spaces.specs.Acks.{ArmsAckTimer, AckState}
@@ -49,14 +50,14 @@ module _ {Q P M : Type 0} (here : SpaceReplyInputs P M) where
   -- what a received packet comes to, from the numbers that came before it; only a new number takes memory
   abbrev pub ReceivedReply : AckState → ℕ → Bool → Reply Q → Type 0
   ReceivedReply heard number eliciting = UnlessSpaceDiscarded
-      (RejectsWhen refusal.NumberTooLarge (2 ^ 62 ≤ number)
+      (RejectsWhen refusal.NumberTooLarge (number_limit ≤ number)
       (AnswersOrNoMemory (IsNewNumber heard.came number) (ReceivedAnswer heard here.counts number eliciting)))
 
   -- a packet that is sent is given this number, and a silent packet may be forgotten for it
   abbrev pub SendReply : Counters → ℕ → Packet P M → Reply Q → Type 0
   SendReply counters number packet = UnlessSpaceDiscarded
       (RejectsWhen refusal.NumberTooLarge (IsTooLarge packet.largest_acked)
-      (RejectsWhen refusal.NumbersExhausted (2 ^ 62 ≤ number)
+      (RejectsWhen refusal.NumbersExhausted (number_limit ≤ number)
       (RejectsWhen refusal.Overflow (Overflows counters packet)
       (AnswersOrNoMemory (Unit {0}) (EqualsAnswer (answer.Sent number (forgotten_by here.sent packet)))))))
 

@@ -1,7 +1,8 @@
 -- The past of a live recovery: the events by which it came to be what it is, and what one event more keeps.
-use Rattle.std.specs.Prelude.{ℕ, ◌∷◌, ◌<◌, ◌^◌, None, if◌then◌else◌}
+use Rattle.std.specs.Prelude.{ℕ, ◌∷◌, ◌<◌, None, if◌then◌else◌}
 use Rattle.std.specs.Option.{ForSome}
 use Rattle.rand_core.specs.Stream.{Stream}
+use Rattle.recovery_base.specs.Units.{u16_limit}
 use Rattle.recovery_congestion.specs.Controllers.{ControllerSemantics}
 use Rattle.recovery_history.specs.declared.config.RecoveryConfig.{RecoveryConfig}
 use Rattle.recovery_events.specs.declared.event.Event.{Event}
@@ -53,7 +54,7 @@ module _ {F K Q S M P : Type 0} (beginning : Beginning F K Q S M P) where
     pub state_after : LoggedStateAfter beginning past recovery
     -- the bound of a search is a `u16`
     pub small : ForSome (if beginning.config.allow_mtud then beginning.config.transport.mtu_discovery_config else None)
-        (λ settings. settings.upper_bound < 2 ^ 16)
+        (λ settings. settings.upper_bound < u16_limit)
 
   -- all that is promised of an event and its reply, by the history before it
   pub record StepGuarantees (before : History Q S M P) (event : Event Q S M P) (reply : Reply Q) : Type 0 where

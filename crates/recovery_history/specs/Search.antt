@@ -2,6 +2,7 @@
 use Rattle.std.specs.Prelude.{◌≤◌, Option, None, if◌then◌else◌}
 use Rattle.std.specs.Option.{ForSome}
 use Rattle.recovery_mtud.specs.declared.config.MtuDiscoveryConfig.{MtuDiscoveryConfig}
+use Rattle.recovery_mtud.specs.Search.{smallest_change}
 use Rattle.recovery_history.specs.History.{Beginning}
 
 module _ {F K Q S M P : Type 0} (beginning : Beginning F K Q S M P) where
@@ -11,4 +12,5 @@ module _ {F K Q S M P : Type 0} (beginning : Beginning F K Q S M P) where
 
   -- where paths are searched, and the least change is at least 3
   abbrev pub WhereSearched : (MtuDiscoveryConfig → Type 0) → Type 0
-  WhereSearched Holds = ForSome discovery_settings (λ settings. 3 ≤ settings.minimum_change → Holds settings)
+  WhereSearched Holds =
+      ForSome discovery_settings (λ settings. smallest_change ≤ settings.minimum_change → Holds settings)

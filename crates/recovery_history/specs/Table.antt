@@ -1,6 +1,6 @@
 -- All that an event is: what it is told in reply, what it is to each part, and what it does to the parts without a log.
 -- The tables have one line an event, or few; they are over what is known of the past.
-use Rattle.std.specs.Prelude.{◌≡◌, ◌≢◌, ℕ, ◌+◌, ◌<◌, ◌≤◌, ◌^◌, true, false, not, map, IsTrue, IsSome, IsSomeAnd, Option, None, Some, Ok, Err, ◌∷◌, ◌++◌, length, []}
+use Rattle.std.specs.Prelude.{◌≡◌, ◌≢◌, ℕ, ◌+◌, ◌<◌, ◌≤◌, true, false, not, map, IsTrue, IsSome, IsSomeAnd, Option, None, Some, Ok, Err, ◌∷◌, ◌++◌, length, []}
 use Rattle.recovery_base.specs.declared.below.SpaceId.{SpaceId}
 use Rattle.recovery_base.specs.declared.below.SpaceId.TheVariants.{Data}
 use Rattle.recovery_acks.specs.AckFrequencies.{IsStale, delay_of, with_last, with_request}
@@ -27,6 +27,7 @@ use Rattle.recovery_congestion.specs.Calls.{sends as sends_bytes, ends_acks, con
 use Rattle.recovery_mtud.specs.DiscoveryLog.{polls, is_limited, losses_end}
 use Rattle.recovery_spaces.specs.SpaceLog.{heard as hears, heard_again, acknowledged, loses, probes, takes_pending, feeds_back, emptied, ack_goes, ack_is_late, asked}
 use Rattle.recovery_base.specs.Timers.{TimerStep}
+use Rattle.recovery_base.specs.Units.{number_limit, timer_granularity, u64_limit}
 use Rattle.recovery_acks.specs.declared.frequency.AckFrequencyState.{AckFrequencyState}
 use Rattle.recovery_ids.specs.RemoteStep.{RemoteStep, given, used, replaced}
 use Rattle.recovery_spaces.specs.Discarded.{DiscardedStep}
@@ -107,7 +108,8 @@ module _ {K Q S M P : Type 0} (q : QueueModel Q S M P) (words : ControllerSemant
   ReplyTable (AckFrequencyIn frame) =
       let is_newer = ¬ IsStale known.last_asked frame.sequence in
       UnlessSpaceDiscarded (known.spaces Data)
-      (RejectsWhen refusals.DelayTooSmall (is_newer × (delay_of frame < 10 ^ 6)) (AlwaysAnswers (IsFlag is_newer)))
+      (RejectsWhen refusals.DelayTooSmall (is_newer × (delay_of frame < timer_granularity))
+      (AlwaysAnswers (IsFlag is_newer)))
   ReplyTable (AcksSent space) = UnlessSpaceDiscarded (known.spaces space) AnswersDone
   ReplyTable (AckDelayTimeout space) = UnlessSpaceDiscarded (known.spaces space) AnswersDone
   ReplyTable (SetTimer timer time) = AnswersDone
@@ -118,12 +120,12 @@ module _ {K Q S M P : Type 0} (q : QueueModel Q S M P) (words : ControllerSemant
       (λ there. let counters = in_flight_on known there in
       AlwaysAnswers (EqualsAnswer (answers.InFlight counters.bytes counters.ack_eliciting)))
   ReplyTable (DatagramIn path bytes) = UnlessPathMissing (path_of path known.paths)
-      (λ there. RejectsWhen refusals.Overflow (2 ^ 64 ≤ there.state.total_recvd + bytes) AnswersDone)
+      (λ there. RejectsWhen refusals.Overflow (u64_limit ≤ there.state.total_recvd + bytes) AnswersDone)
   ReplyTable (Validated path) = UnlessPathMissing (path_of path known.paths) (λ there. AnswersDone)
   ReplyTable (Sample delay rtt) = AnswersDone
   ReplyTable (Transmit now bytes checked) =
       let path = known.paths.current.state in
-      RejectsWhen refusals.Overflow (2 ^ 64 ≤ path.total_sent + bytes)
+      RejectsWhen refusals.Overflow (u64_limit ≤ path.total_sent + bytes)
       (AlwaysAnswers (EqualsAnswer (transmit_answer words now bytes checked path)))
   ReplyTable (PacerCheck now bytes) =
       AlwaysAnswers (EqualsAnswer (delayed_or words answers.Ready
@@ -131,7 +133,7 @@ module _ {K Q S M P : Type 0} (q : QueueModel Q S M P) (words : ControllerSemant
   ReplyTable (Congestion now sent persistent bytes) = AnswersDone
   ReplyTable (EndAcks now app_limited largest) = AnswersDone
   ReplyTable (PollMtu now) = UnlessSpaceDiscarded (known.spaces Data)
-      (RejectsWhen refusals.NumbersExhausted (2 ^ 62 ≤ known.next_number)
+      (RejectsWhen refusals.NumbersExhausted (number_limit ≤ known.next_number)
       (MtuProbeReply q known now (poll_of now known.paths.current.state.discovery)))
   -- a limit is taken while no search runs
   ReplyTable (PeerLimit size) = RejectsWhen refusals.ZeroMtu (size ≡ 0)
@@ -142,7 +144,7 @@ module _ {K Q S M P : Type 0} (q : QueueModel Q S M P) (words : ControllerSemant
       (EcnAnswer (known.spaces space) newly counts)
   -- no acknowledged range holds the last number that was skipped
   ReplyTable (CheckAck space low high) = UnlessSpaceDiscarded (known.spaces space)
-      (RejectsWhen refusals.NumberTooLarge (2 ^ 62 ≤ high)
+      (RejectsWhen refusals.NumberTooLarge (number_limit ≤ high)
       (RejectsWhen refusals.BadRange (high < low)
       (RejectsWhen refusals.SkippedAcked (IsSomeAnd (skipped_in known space) (λ s. (low ≤ s) × (s ≤ high)))
       AnswersDone)))
@@ -153,7 +155,7 @@ module _ {K Q S M P : Type 0} (q : QueueModel Q S M P) (words : ControllerSemant
   ReplyTable (TakePending space) = UnlessSpaceDiscarded (known.spaces space)
       (AlwaysAnswers (IsPendingQueue q (known.spaces space)))
   -- a path that goes on from the current one needs a second controller
-  ReplyTable (NewPath now remote is_fresh) = RejectsWhen refusals.Overflow (2 ^ 64 ≤ known.paths.made + 1)
+  ReplyTable (NewPath now remote is_fresh) = RejectsWhen refusals.Overflow (u64_limit ≤ known.paths.made + 1)
       (AnswersOrNoMemory (IsTrue (not is_fresh)) (EqualsAnswer answers.Done))
   ReplyTable (ResetPath now) = AnswersDone
   ReplyTable DropPrevious = UnlessPathMissing known.paths.previous (λ there. AnswersDone)

@@ -1,8 +1,9 @@
 -- The ids that this end issued (RFC 9000, 5.1.2 and 19.16): those that the peer did not retire, and when the peer is to
 -- be asked to retire them.
-use Rattle.std.specs.Prelude.{ℕ, zero, suc, ◌≡◌, ◌≢◌, ◌+◌, ◌^◌, ◌<◌, ◌≤◌, ◌==◌, ◌&&◌, nat_lt, nat_le, not, Bool, IsTrue, ◌↔◌, List, [], ◌∷◌, ◌++◌, length, map, filter, drop, Option, None, Some, if◌then◌else◌}
+use Rattle.std.specs.Prelude.{ℕ, zero, suc, ◌≡◌, ◌≢◌, ◌+◌, ◌<◌, ◌≤◌, ◌==◌, ◌&&◌, nat_lt, nat_le, not, Bool, IsTrue, ◌↔◌, List, [], ◌∷◌, ◌++◌, length, map, filter, drop, Option, None, Some, if◌then◌else◌}
 use Rattle.std.specs.List.{list_any, range_with_len}
 use lib.Chars.{codes}
+use Rattle.recovery_base.specs.Units.{number_limit, u64_limit}
 use Rattle.recovery_ids.specs.declared.state.CidTimestamp.{CidTimestamp}
 use Rattle.recovery_ids.specs.declared.state.RetireError.{RetireError}
 use Rattle.recovery_ids.specs.declared.state.RetireError.TheVariants.{CidsNotInUse, UnissuedCid}
@@ -33,7 +34,7 @@ with_deadline deadline deadlines = without_last_at deadline.timestamp deadlines 
 abbrev pub deadlines_with : Option ℕ → ℕ → ℕ → List CidTimestamp → List CidTimestamp
 deadlines_with None now number deadlines = deadlines
 deadlines_with (Some lifetime) now number deadlines =
-    if nat_lt (now + lifetime) (2 ^ 64)
+    if nat_lt (now + lifetime) u64_limit
     then with_deadline record { sequence = number; timestamp = now + lifetime } deadlines
     else deadlines
 
@@ -108,7 +109,7 @@ AreIncreasingWithin low high (n ∷ ns) = (low ≤ n) × AreIncreasingWithin (n 
 
 -- the unretired numbers rise from the first mark, the deadlines' numbers from the second, all below the count issued
 pub record AreSoundIds (ids : LocalIds) : Type 0 where
-  pub small : ids.issued ≤ 2 ^ 62
+  pub small : ids.issued ≤ number_limit
   pub marks : ids.retired_below ≤ ids.retire_prior_to
   pub unretired : AreIncreasingWithin ids.retired_below ids.issued ids.unretired
   pub deadlines : AreIncreasingWithin ids.retire_prior_to ids.issued (map (λ deadline. deadline.sequence) ids.deadlines)

@@ -1,5 +1,6 @@
 -- What a window holds for each number.
-use Rattle.std.specs.Prelude.{ℕ, ◌≡◌, ◌+◌, ◌%◌, ◌^◌, ◌<◌, ◌≤◌, ◌&&◌, nat_lt, nat_le, List, Option, None, Some, IsSome, IfSome, slice_index_or, if◌then◌else◌}
+use Rattle.std.specs.Prelude.{ℕ, ◌≡◌, ◌+◌, ◌%◌, ◌<◌, ◌≤◌, ◌&&◌, nat_lt, nat_le, List, Option, None, Some, IsSome, IfSome, slice_index_or, if◌then◌else◌}
+use Rattle.recovery_base.specs.Units.{number_limit}
 use Rattle.recovery_ids.specs.RemoteIds.{HeldId, RemoteIds, IsLeastHeld, without_below}
 use Rattle.recovery_ids.specs.declared.window.TheConstants.{LEN}
 use Rattle.recovery_ids.specs.declared.window.Window.{Window}
@@ -20,10 +21,10 @@ ids_in window = record { active = window.start; held = held_at window }
 
 -- the least number of the window is held, each number above it that is held has a token, and all lie below 2^62
 pub record IsWindowSound (window : Window) : Type 0 where
-  pub small : window.start < 2 ^ 62
+  pub small : window.start < number_limit
   pub active_held : IsSome (held_at window window.start)
   pub tokens : (n : ℕ) → window.start < n → IfSome (held_at window n) (λ entry. IsSome entry.1)
-  pub numbers : (n : ℕ) → IsSome (held_at window n) → n < 2 ^ 62
+  pub numbers : (n : ℕ) → IsSome (held_at window n) → n < number_limit
 
 -- a move of the start to the least number held at or above another, which has a token
 pub record Advances (old : Window) (low : ℕ) (token : List ℕ) (new : Window) : Type 0 where

@@ -1,6 +1,7 @@
 //! The ids that a queue holds, one by one.
-ghost use Rattle.std.specs.Prelude.{◌≡◌, ◌<◌, ◌^◌};
+ghost use Rattle.std.specs.Prelude.{◌≡◌, ◌<◌};
 ghost use Rattle.std.specs.Iterator.{YieldsFirst, item_count};
+ghost use Rattle.recovery_base.specs.Units.{number_limit};
 ghost use Rattle.recovery_ids.specs.RemoteIds.{items_from};
 ghost use Rattle.recovery_ids.specs.Window.{ids_in};
 
@@ -18,7 +19,8 @@ pub struct CidIter<'a> {
 }
 
 impl<'a> Model for CidIter<'a> {
-    ghost use Rattle.std.specs.Prelude.{ℕ, List, ◌<◌, ◌^◌};
+    ghost use Rattle.std.specs.Prelude.{ℕ, List, ◌<◌};
+    ghost use Rattle.recovery_base.specs.Units.{number_limit};
     ghost use Rattle.recovery_ids.specs.RemoteIds.{HeldId, items_from};
     ghost use Rattle.recovery_ids.specs.Window.{ids_in};
 
@@ -26,12 +28,12 @@ impl<'a> Model for CidIter<'a> {
 
     ghost view = { λ it. items_from it.step (ids_in it.window.now) };
 
-    ghost invariant = { λ it. it.window.now.start < 2 ^ 62 };
+    ghost invariant = { λ it. it.window.now.start < number_limit };
 }
 
 /// What a window holds, from its start on.
 pub fn items(window: &Window) -> CidIter<'_>
-    requires { window.now.start < 2 ^ 62 }
+    requires { window.now.start < number_limit }
     ensures { result ≡ items_from 0 (ids_in window.now) }
 {
     CidIter { window, step: 0 }

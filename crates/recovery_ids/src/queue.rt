@@ -1,5 +1,6 @@
 //! The ids of the peer that packets may be sent to.
-ghost use Rattle.std.specs.Prelude.{◌≡◌, ℕ, ◌+◌, ◌<◌, ◌≤◌, ◌^◌, ◌==◌, Some, None, IsSome, IfSome, IfOk, OnOk, OnErr, IfNone, IsSomeAnd, MatchOption, MatchResult, Decides, length, if◌then◌else◌};
+ghost use Rattle.std.specs.Prelude.{◌≡◌, ℕ, ◌+◌, ◌<◌, ◌≤◌, ◌==◌, Some, None, IsSome, IfSome, IfOk, OnOk, OnErr, IfNone, IsSomeAnd, MatchOption, MatchResult, Decides, length, if◌then◌else◌};
+ghost use Rattle.recovery_base.specs.Units.{number_limit};
 ghost use Rattle.recovery_ids.specs.CidQueue.{held, active_of, remote_ids};
 ghost use Rattle.recovery_ids.specs.RemoteIds.{AcceptsFrame, RefusesFrame, RepeatsFrame, MovesToNext, IsRetirement, AreInWindow, with_id, items_from, active_connection_id_limit};
 ghost use Rattle.recovery_ids.specs.RemoteStep.{RemoteStep, given, used, replaced, initial_ids};
@@ -80,7 +81,7 @@ impl CidQueue {
         cid: NewConnectionId,
     ) -> Result<Option<(Range<u64>, ResetToken)>, InsertError>
         requires ordered { cid.retire_prior_to ≤ cid.sequence }
-        requires small { cid.sequence < 2 ^ 62 }
+        requires small { cid.sequence < number_limit }
         ensures reply { MatchResult result
             (λ answer. AcceptsFrame (remote_ids self.old) cid answer (remote_ids self.new))
             (RefusesFrame (remote_ids self.old) cid) }
@@ -169,7 +170,7 @@ impl CidQueue {
     /// The number of the active id.
     pub fn active_seq(&self) -> u64
         ensures number { result ≡ active_of self.now }
-        ensures bound { result < 2 ^ 62 }
+        ensures bound { result < number_limit }
         ensures window { AreInWindow (remote_ids self.now) }
     {
         self.window.start()
@@ -203,9 +204,9 @@ fn is_same_token(given: &ResetToken, held: Option<ResetToken>) -> bool
 /// Moves to the least number held at or above another, where there is one, and answers its token.
 fn advance(window: &mut Window, low: u64) -> Option<ResetToken>
     requires ahead { window.old.start ≤ low }
-    requires small { window.old.start < 2 ^ 62 }
+    requires small { window.old.start < number_limit }
     requires tokens { (n : ℕ) → low ≤ n → IfSome (held_at window.old n) (λ entry. IsSome entry.1) }
-    requires numbers { (n : ℕ) → IsSome (held_at window.old n) → n < 2 ^ 62 }
+    requires numbers { (n : ℕ) → IsSome (held_at window.old n) → n < number_limit }
     ensures sound { IfSome result (λ _. IsWindowSound window.new) }
     ensures moves { MatchOption result ((n : ℕ) → low ≤ n → held_at window.old n ≡ None)
         (λ token. Advances window.old low token window.new) }

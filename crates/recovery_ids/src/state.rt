@@ -1,7 +1,8 @@
 //! The ids that this end issued.
-ghost use Rattle.std.specs.Prelude.{◌≡◌, ℕ, List, ◌+◌, ◌-◌, ◌<◌, ◌≤◌, ◌^◌, ◌==◌, nat_lt, [], ◌++◌, length, map, filter, drop, not, IsOk, IfOk, OnOk, OnErr, MatchResult};
+ghost use Rattle.std.specs.Prelude.{◌≡◌, ℕ, List, ◌+◌, ◌-◌, ◌<◌, ◌≤◌, ◌==◌, nat_lt, [], ◌++◌, length, map, filter, drop, not, IsOk, IfOk, OnOk, OnErr, MatchResult};
 ghost use Rattle.std.specs.List.{list_any, range_with_len};
 ghost use Rattle.std.specs.VecDeque.{deque_len, deque_capacity};
+ghost use Rattle.recovery_base.specs.Units.{number_limit};
 ghost use Rattle.recovery_ids.specs.LocalIds.{without_last_at, with_deadline, deadlines_with_last, next_mark, no_ids, with_issued, holds_unretired, timed_out, first_moment, RefusesRetirement, AcceptsRetirement, AreIncreasingWithin, AreSoundIds};
 ghost use Rattle.recovery_ids.specs.CidState.{numbers_in};
 
@@ -67,10 +68,11 @@ pub enum RetireError {
 
 impl From<RetireError> for TransportError {
     ghost use Rattle.std.specs.Prelude.{◌≡◌};
+    ghost use Rattle.recovery_base.specs.Errors.{protocol_violation};
     ghost use Rattle.recovery_ids.specs.LocalIds.{retire_text};
 
     // It is a violation of the protocol, with the refusal's text.
-    ghost from_gives = { λ error transport. (transport.code ≡ 10)
+    ghost from_gives = { λ error transport. (transport.code ≡ protocol_violation)
         × (transport.reason.now ≡ retire_text error) };
 
     fn from(error: RetireError) -> Self {
@@ -98,7 +100,7 @@ impl CidState {
         now: Instant,
         issued: u64,
     ) -> Result<Self, NoMemory>
-        requires { issued ≤ 2 ^ 62 }
+        requires { issued ≤ number_limit }
         ensures ids { IfOk result
             (λ ids. ids ≡ with_issued issued now (no_ids cid_len cid_lifetime)) }
         ensures memory { OnErr result (0 < issued) }
@@ -154,7 +156,7 @@ impl CidState {
     pub fn new_cids(&mut self, ids: &[IssuedCid], now: Instant) -> Result<(), NoMemory>
         requires numbers { map (λ id. id.sequence) ids.now
             ≡ range_with_len self.old.issued (length ids.now) }
-        requires small { self.old.issued + length ids.now ≤ 2 ^ 62 }
+        requires small { self.old.issued + length ids.now ≤ number_limit }
         ensures ok { OnOk result (self.new ≡ with_issued (length ids.now) now self.old) }
         ensures err { OnErr result (self.new ≡ self.old) }
         ensures empty { ids.now ≡ [] → IsOk result }
@@ -215,7 +217,7 @@ impl CidState {
     /// How many ids were issued.
     pub fn issued(&self) -> u64
         ensures value { result ≡ self.now.issued }
-        ensures bound { result ≤ 2 ^ 62 }
+        ensures bound { result ≤ number_limit }
         ensures sound { AreSoundIds self.now }
     {
         self.issued
@@ -311,7 +313,7 @@ fn drop_last_at(deadlines: &mut VecDeque<CidTimestamp>, timestamp: Instant)
 
 /// Takes the oldest deadline, and answers the mark behind its number. Without one the mark stays.
 fn pop_mark(deadlines: &mut VecDeque<CidTimestamp>, mark: u64) -> u64
-    requires { AreIncreasingWithin 0 (2 ^ 62)
+    requires { AreIncreasingWithin 0 number_limit
         (map (λ deadline. deadline.sequence) deadlines.old.items) }
     ensures mark { result ≡ next_mark mark deadlines.old.items }
     ensures items { deadlines.new.items ≡ drop 1 deadlines.old.items }
@@ -324,7 +326,7 @@ fn pop_mark(deadlines: &mut VecDeque<CidTimestamp>, mark: u64) -> u64
 
 /// Whether one of the numbers lies below another.
 fn is_any_below(numbers: &SlotQueue<()>, end: u64) -> bool
-    requires { AreIncreasingWithin 0 (2 ^ 62) (numbers_in numbers.now) }
+    requires { AreIncreasingWithin 0 number_limit (numbers_in numbers.now) }
     ensures { result ≡ list_any (λ n. nat_lt n end) (numbers_in numbers.now) }
 {
     match numbers.first_from(0) {
@@ -335,7 +337,7 @@ fn is_any_below(numbers: &SlotQueue<()>, end: u64) -> bool
 
 /// Takes a number out, if it is there.
 fn remove(numbers: &mut SlotQueue<()>, number: u64)
-    requires { AreIncreasingWithin 0 (2 ^ 62) (numbers_in numbers.old) }
+    requires { AreIncreasingWithin 0 number_limit (numbers_in numbers.old) }
     ensures { numbers_in numbers.new ≡ filter (λ n. not (n == number)) (numbers_in numbers.old) }
 {
     let _removed = numbers.take(number);

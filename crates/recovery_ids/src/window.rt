@@ -1,5 +1,6 @@
 //! What is held for the numbers of a window.
-ghost use Rattle.std.specs.Prelude.{◌≡◌, ℕ, ◌+◌, ◌<◌, ◌≤◌, ◌^◌, ◌%◌, ◌==◌, Some, None, MatchOption, set, if◌then◌else◌};
+ghost use Rattle.std.specs.Prelude.{◌≡◌, ℕ, ◌+◌, ◌<◌, ◌≤◌, ◌%◌, ◌==◌, Some, None, MatchOption, set, if◌then◌else◌};
+ghost use Rattle.recovery_base.specs.Units.{number_limit};
 ghost use Rattle.recovery_ids.specs.RemoteIds.{IsLeastHeld, with_id, without_below};
 ghost use Rattle.recovery_ids.specs.Window.{held_at, FitsInWindow};
 
@@ -82,7 +83,7 @@ impl Window {
     /// numbers in the new window alone, at most `LEN`.
     pub fn drop_below(&mut self, low: u64)
         requires ahead { self.old.start ≤ low }
-        requires small { low < 2 ^ 62 }
+        requires small { low < number_limit }
         ensures start { self.new.start ≡ low }
         ensures entries { (n : ℕ) → held_at self.new n ≡ without_below low (held_at self.old) n }
     {
@@ -97,7 +98,7 @@ impl Window {
     /// The least number at or above another for which something is held. It looks at no number past the window.
     pub fn least_from(&self, low: u64) -> Option<u64>
         requires ahead { self.now.start ≤ low }
-        requires small { self.now.start < 2 ^ 62 }
+        requires small { self.now.start < number_limit }
         ensures { MatchOption result ((n : ℕ) → low ≤ n → held_at self.now n ≡ None)
             (IsLeastHeld (held_at self.now) low) }
     {

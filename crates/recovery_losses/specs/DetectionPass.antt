@@ -1,6 +1,7 @@
 -- What a look for losses found of the packets below a number.
-use Rattle.std.specs.Prelude.{◌≡◌, ℕ, ◌-◌, ◌^◌, ◌<◌, min, List, Some}
+use Rattle.std.specs.Prelude.{◌≡◌, ℕ, ◌<◌, min, List, Some}
 use Rattle.std.specs.Option.{ForSome}
+use Rattle.recovery_base.specs.Units.{largest_u64}
 use Rattle.recovery_spaces.specs.Packets.{Packets}
 use Rattle.recovery_losses.specs.declared.looks.LossPass.{LossPass}
 use Rattle.recovery_losses.specs.declared.tally.Tally.{Tally}
@@ -13,7 +14,7 @@ pub record PassSoFar {P M : Type 0} (look : LossPass) (old : Packets P M) (end :
   pub taken : new ≡ without_all old numbers
   pub probe : ForSome tally.probe (λ number. (look.probe ≡ Some number) × (number < end) × IsLostBelow look old number)
   pub earliest : IsEarliest look old end (IsDeclaredLost numbers tally.probe) tally.loss_time
-  pub bytes : tally.bytes ≡ min (bytes_counted look old numbers) (2 ^ 64 - 1)
+  pub bytes : tally.bytes ≡ min (bytes_counted look old numbers) largest_u64
   pub last_sent : tally.last_sent ≡ last_counted look old numbers
   -- the numbers that are lost now, one behind another
   pub run : IsLossRun (IsDeclaredLost numbers tally.probe) (IsEndAt look old numbers) look.skipped look.period end tally.run

@@ -1,9 +1,10 @@
 -- Which packets are lost, when the next one is, and what that comes to (RFC 9002, 6.1, 7.6 and A.10).
-use Rattle.std.specs.Prelude.{◌≡◌, ◌≢◌, ℕ, ◌+◌, ◌-◌, ◌^◌, ◌<◌, ◌≤◌, ◌⊎◌, ◌&&◌, ◌||◌, ◌==◌, min, max, nat_lt, nat_le, Bool, false, List, [], ◌∷◌, Option, None, Some, if◌then◌else◌}
+use Rattle.std.specs.Prelude.{◌≡◌, ◌≢◌, ℕ, ◌+◌, ◌-◌, ◌<◌, ◌≤◌, ◌⊎◌, ◌&&◌, ◌||◌, ◌==◌, min, max, nat_lt, nat_le, Bool, false, List, [], ◌∷◌, Option, None, Some, if◌then◌else◌}
 use Rattle.std.specs.Option.{ForSome, option_map_or}
 use Rattle.recovery_base.specs.declared.below.SpaceId.{SpaceId}
 use Rattle.recovery_base.specs.Spaces.{same_space}
 use Rattle.recovery_base.specs.Timers.{earlier_of}
+use Rattle.recovery_base.specs.Units.{largest_u64, last_time}
 use Rattle.recovery_spaces.specs.Packets.{Packet, Packets, packet_at, without}
 use Rattle.recovery_losses.specs.declared.looks.Candidate.{Candidate}
 use Rattle.recovery_losses.specs.declared.looks.FirstSample.{FirstSample}
@@ -39,7 +40,7 @@ is_after_sample (Elsewhere sampled) number sent = nat_lt sampled sent
 
 -- when a packet that was sent then is lost by its age (RFC 9002, 6.1.2): it stops at the last moment of the clock
 abbrev pub lost_at : LossPass → ℕ → ℕ
-lost_at look sent = min (sent + look.delay) (2 ^ 64 - 1)
+lost_at look sent = min (sent + look.delay) last_time
 
 -- some numbers below the largest acknowledged, or sent long ago (RFC 9002, 6.1.1 and 6.1.2)
 abbrev pub IsLost : LossPass → ℕ → ℕ → Type 0
@@ -167,8 +168,9 @@ abbrev pub counting : LossPass → Candidate → Tally → Tally
 counting look packet tally = let run = going_on look packet.number tally.run in
     if is_counted look packet.size packet.path_generation then record tally {
       last_sent = later_of tally.last_sent (Some packet.time_sent);
-      bytes = min (tally.bytes + packet.size) (2 ^ 64 - 1);
-      run = (if is_end look packet.number packet.time_sent packet.ack_eliciting then ending look packet.time_sent run else run);
+      bytes = min (tally.bytes + packet.size) largest_u64;
+      run = (if is_end look packet.number packet.time_sent packet.ack_eliciting then ending look packet.time_sent run
+          else run);
     } else record tally { run = run }
 
 -- a number was told lost, or is that of the probe, which is told last

@@ -1,24 +1,37 @@
 -- What a sender keeps beside its recovery, and how it changes (RFC 9002, A.3).
-use Rattle.std.specs.Prelude.{ℕ, ◌+◌, ◌-◌, ◌*◌, ◌^◌, ◌||◌, min, Bool, true, false, Option, None, Some, if◌then◌else◌}
+use Rattle.std.specs.Prelude.{ℕ, ◌+◌, ◌||◌, min, max, Bool, true, false, Option, None, Some, if◌then◌else◌}
 use Rattle.recovery_base.specs.declared.below.SpaceId.{SpaceId}
 use Rattle.recovery_base.specs.declared.below.SpaceId.TheVariants.{Handshake, Data}
 use Rattle.recovery_base.specs.Spaces.{same_space}
+use Rattle.recovery_base.specs.Units.{assumed_ack_delay, largest_u32}
 use Rattle.recovery_losses.specs.Timeouts.{probe_timeout_of}
 use Rattle.recovery_losses.specs.declared.variables.Side.{Side}
 use Rattle.recovery_losses.specs.declared.variables.Side.TheVariants.{Client, Server}
+use Rattle.recovery_losses.specs.declared.thresholds.Thresholds.{Thresholds}
 use Rattle.recovery_losses.specs.declared.variables.Variables.{Variables}
 
 -- nothing was said of the connection, and no probe timeout expired; the peer's max_ack_delay is 25 ms until it is told
 -- (RFC 9000, 18.2)
-abbrev pub fresh : Side → ℕ → Variables
-fresh side now = record {
+abbrev pub fresh : Side → Thresholds → ℕ → Variables
+fresh side thresholds now = record {
   side = side;
-  max_ack_delay = 25 * 10 ^ 6;
+  max_ack_delay = assumed_ack_delay;
   pto_count = 0;
   is_handshake_confirmed = false;
   is_address_known = false;
   has_handshake_keys = false;
   base = now;
+  thresholds = thresholds;
+  sampled = now;
+}
+
+-- the thresholds that settings give: with a packet threshold of 0 a packet would be lost with its own ACK, with a
+-- persistent congestion threshold of 0 any two packets would do (RFC 9002, 6.1.1 and 7.6.1)
+abbrev pub thresholds_of : ℕ → ℕ × ℕ → ℕ → Thresholds
+thresholds_of packets time persistent = record {
+  packets = max packets 1;
+  time = time;
+  persistent = max persistent 1;
 }
 
 abbrev pub is_server : Side → Bool
@@ -34,9 +47,14 @@ abbrev pub ack_delay_in : Variables → SpaceId → ℕ
 ack_delay_in variables Data = variables.max_ack_delay
 ack_delay_in variables space = 0
 
+-- how often a probe timeout is doubled at most
+abbrev pub most_doublings : ℕ
+most_doublings = 16
+
 -- the probe timeout, as often doubled as it expired in a row, but 16 times at most (RFC 9002, 6.2.1)
 abbrev pub pto_by : ℕ → Variables → SpaceId → ℕ
-pto_by base variables space = probe_timeout_of base (ack_delay_in variables space) (min variables.pto_count 16)
+pto_by base variables space =
+    probe_timeout_of base (ack_delay_in variables space) (min variables.pto_count most_doublings)
 
 -- probe timeouts are counted anew, but at a client that does not know its address validated, which an ACK of a
 -- Handshake packet tells it (RFC 9002, 6.2.1 and 6.2.2.1); a deadlock is counted on from there
@@ -47,6 +65,10 @@ heard_in space now variables =
       base = now;
     } in
     record known { pto_count = (if is_address_validated known then 0 else variables.pto_count) }
+
+-- the path in use got its first RTT sample then, if it did (RFC 9002, 7.6.2 and B.8: first_rtt_sample)
+abbrev pub sampled_first : Bool → ℕ → Variables → Variables
+sampled_first is_first now variables = record variables { sampled = (if is_first then now else variables.sampled) }
 
 -- a deadlock is counted on from there (RFC 9002, 6.2.2.1)
 abbrev pub based : Option ℕ → Variables → Variables
@@ -59,4 +81,4 @@ begun_anew now variables = record variables { pto_count = 0; base = now }
 
 -- a probe timeout expired
 abbrev pub timed_out : ℕ → Variables → Variables
-timed_out now variables = record variables { pto_count = min (variables.pto_count + 1) (2 ^ 32 - 1); base = now }
+timed_out now variables = record variables { pto_count = min (variables.pto_count + 1) largest_u32; base = now }

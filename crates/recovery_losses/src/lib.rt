@@ -8,6 +8,7 @@ mod due;
 mod frames;
 mod looks;
 mod tally;
+mod thresholds;
 mod timeouts;
 mod variables;
 
@@ -15,5 +16,6 @@ pub use due::{Due, sooner};
 pub use frames::{Ack, are_ranges, is_unsent, largest_of};
 pub use looks::{Candidate, FirstSample, LossPass};
 pub use tally::{Run, Tally};
+pub use thresholds::Thresholds;
 pub use timeouts::{loss_delay, probe_timeout};
 pub use variables::{Side, Variables};

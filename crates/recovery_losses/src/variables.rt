@@ -1,7 +1,8 @@
 //! What a sender keeps beside the packets that its recovery tracks, and what follows of that alone (RFC 9002, A.3).
 ghost use Rattle.std.specs.Prelude.{◌≡◌, min};
-ghost use Rattle.recovery_losses.specs.Variables.{ack_delay_in, based, begun_anew, fresh, heard_in, is_address_validated, pto_by, timed_out};
+ghost use Rattle.recovery_losses.specs.Variables.{ack_delay_in, based, begun_anew, fresh, heard_in, is_address_validated, pto_by, sampled_first, timed_out};
 
+use crate::thresholds::Thresholds;
 use crate::timeouts::probe_timeout;
 use recovery_base::below::SpaceId;
 use recovery_base::time::{Duration, Instant};
@@ -38,12 +39,17 @@ pub struct Variables {
     pub has_handshake_keys: bool,
     /// From when on the timer runs that is to end a deadlock (RFC 9002, 6.2.2.1).
     pub base: Instant,
+    /// The thresholds of loss detection, which the settings give.
+    pub thresholds: Thresholds,
+    /// When a path was given its first RTT sample last; at first the start (RFC 9002, 7.6.2 and B.8:
+    /// first_rtt_sample).
+    pub sampled: Instant,
 }
 
 impl Variables {
-    /// Those of a sender to which nothing has happened yet. The peer's max_ack_delay is 25 ms until it is told.
-    pub fn new(side: Side, now: Instant) -> Self
-        ensures { result ≡ fresh side now }
+    /// The variables of a new sender. The peer's max_ack_delay is 25 ms until the sender learns another one.
+    pub fn new(side: Side, thresholds: Thresholds, now: Instant) -> Self
+        ensures { result ≡ fresh side thresholds now }
     {
         Variables {
             side,
@@ -53,6 +59,8 @@ impl Variables {
             is_address_known: false,
             has_handshake_keys: false,
             base: now,
+            thresholds,
+            sampled: now,
         }
     }
 
@@ -108,6 +116,14 @@ impl Variables {
             base: now,
             ..self
         }
+    }
+
+    /// The path in use got its first RTT sample now, if it did (RFC 9002, 7.6.2).
+    pub fn sampled_first(self, is_first: bool, now: Instant) -> Self
+        ensures { result ≡ sampled_first is_first now self }
+    {
+        let sampled = if is_first { now } else { self.sampled };
+        Variables { sampled, ..self }
     }
 
     /// A deadlock is counted on from a moment, if there is one (RFC 9002, 6.2.2.1).

@@ -1,10 +1,11 @@
 -- Whole runs of the detection of black holes (RFC 8899, 4.3), over what a discovery was told and answered. Every list
 -- here has the newest entry first.
-use Rattle.std.specs.Prelude.{◌≡◌, ℕ, ◌+◌, ◌≤◌, ◌==◌, nat_lt, nat_eq, Bool, true, false, ◌||◌, if◌then◌else◌, Option, is_some, List, [], ◌∷◌, ◌++◌, drop, length, filter}
+use Rattle.std.specs.Prelude.{◌≡◌, ℕ, ◌+◌, ◌≤◌, ◌==◌, nat_lt, nat_eq, Bool, true, false, ◌||◌, if◌then◌else◌, Option, is_some, List, [], ◌∷◌, ◌++◌, drop, length, filter, ◌-◌}
 use Rattle.std.specs.List.{list_all, list_any}
 use Rattle.std.specs.Set.{is_member}
 use Rattle.recovery_mtud.specs.Discovery.{Discovery}
 use Rattle.recovery_mtud.specs.MtuEntries.{MtuEntry, acked, lost, losses_over, reported, reset, MtuProbe, probe_in_flight, size_at, min_mtu_in_use}
+use Rattle.recovery_mtud.specs.Bursts.{black_hole_bursts}
 
 -- ---- bursts: packets of Data that were lost one after another, none of them the probe in flight
 
@@ -108,7 +109,7 @@ module _ (made : Discovery) where
   -- four bursts stand whose packets are all larger than the least MTU
   abbrev pub AreFourStanding : List MtuEntry → Type 0
   AreFourStanding entries =
-      4 ≤ length (filter (is_above (min_mtu_in_use made entries)) (open_run entries ∷ standing entries))
+      black_hole_bursts ≤ length (filter (is_above (min_mtu_in_use made entries)) (open_run entries ∷ standing entries))
 
   -- behind such a burst that ends past every larger packet that was acknowledged three more have closed, and none was
   -- acknowledged since it closed
@@ -116,4 +117,4 @@ module _ (made : Discovery) where
   AreFourUnanswered entries =
       let least = min_mtu_in_use made entries in
       let bursts = filter (is_above least) (open_run entries ∷ unanswered least entries) in
-      list_any (is_past (larger_acked least entries)) (drop 3 bursts) ≡ true
+      list_any (is_past (larger_acked least entries)) (drop (black_hole_bursts - 1) bursts) ≡ true

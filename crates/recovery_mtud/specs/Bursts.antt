@@ -5,6 +5,10 @@ use Rattle.std.specs.List.{reduce}
 use Rattle.std.specs.Option.{option_map, option_map_or, unwrap_or}
 use Rattle.recovery_mtud.specs.declared.detector.Burst.{Burst}
 
+-- so many suspicious bursts of losses are a black hole (RFC 8899, 4.3)
+abbrev pub black_hole_bursts : ℕ
+black_hole_bursts = 4
+
 pub record LossBursts : Type 0 where
   -- the least sizes of the suspicious bursts that have closed
   pub kept : List ℕ
@@ -38,7 +42,7 @@ in_place this that (size ∷ sizes) = if size == that then this ∷ sizes else s
 abbrev pub with_burst : ℕ → List ℕ → List ℕ
 with_burst size sizes =
     let least = unwrap_or (reduce min sizes) 0 in
-    if nat_lt (length sizes) 4 then sizes ++ size ∷ []
+    if nat_lt (length sizes) black_hole_bursts then sizes ++ size ∷ []
     else (if nat_lt least size then in_place size least sizes else sizes)
 
 -- its packets were larger than the least MTU, and than a packet that was sent after it and acknowledged
@@ -69,5 +73,5 @@ bursts_lost number size old =
 -- ---- what holds of all bursts
 
 pub record AreBurstsSound (bursts : LossBursts) : Type 0 where
-  pub few : length bursts.kept ≤ 4
+  pub few : length bursts.kept ≤ black_hole_bursts
   pub min_mtu : 0 < bursts.min_mtu

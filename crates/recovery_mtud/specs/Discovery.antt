@@ -3,8 +3,8 @@
 use Rattle.std.specs.Prelude.{ℕ, ◌<◌, min, nat_le, Bool, Option, None, is_some, length, unwrap_or}
 use Rattle.std.specs.Option.{option_and, option_map, option_map_or, option_and_then, IfSome}
 use Rattle.recovery_mtud.specs.declared.config.MtuDiscoveryConfig.{MtuDiscoveryConfig}
-use Rattle.recovery_mtud.specs.Search.{MtuSearch, IsSearchSound, search_poll, probed_size}
-use Rattle.recovery_mtud.specs.Bursts.{LossBursts, AreBurstsSound, bursts_made, bursts_closed}
+use Rattle.recovery_mtud.specs.Search.{MtuSearch, IsSearchSound, search_poll, probed_size, max_udp_payload}
+use Rattle.recovery_mtud.specs.Bursts.{LossBursts, AreBurstsSound, bursts_made, bursts_closed, black_hole_bursts}
 
 pub record Discovery : Type 0 where
   -- the MTU in use
@@ -17,7 +17,7 @@ pub record Discovery : Type 0 where
 
 -- the peer takes any size until it tells a limit (RFC 9000, 18.2)
 abbrev pub limit_or_greatest : Option ℕ → ℕ
-limit_or_greatest limit = unwrap_or limit 65527
+limit_or_greatest limit = unwrap_or limit max_udp_payload
 
 abbrev pub within : ℕ → Option ℕ → ℕ
 within mtu limit = option_map_or (min mtu) limit mtu
@@ -58,7 +58,7 @@ poll_of now discovery = option_and_then (search_poll discovery.mtu now) discover
 
 -- the end of losses reports a black hole: four suspicious bursts have closed
 abbrev pub reports : Discovery → Bool
-reports discovery = nat_le 4 (length (bursts_closed discovery.bursts).kept)
+reports discovery = nat_le black_hole_bursts (length (bursts_closed discovery.bursts).kept)
 
 -- ---- what holds of every discovery
 

@@ -1,8 +1,9 @@
 -- The search for a path's MTU (RFC 8899, 5; RFC 9000, 14.3): it halves the distance between a size that gets through
 -- and the largest that may. Sizes are in bytes, moments and spans in nanoseconds.
-use Rattle.std.specs.Prelude.{ℕ, ◌+◌, ◌-◌, ◌/◌, ◌^◌, ◌≤◌, ◌<◌, ◌==◌, nat_lt, nat_le, min, max, Bool, ◌&&◌, if◌then◌else◌, Option, Some, None, is_some, IfSome}
+use Rattle.std.specs.Prelude.{ℕ, ◌+◌, ◌-◌, ◌*◌, ◌/◌, ◌≤◌, ◌<◌, ◌==◌, nat_lt, nat_le, min, max, Bool, ◌&&◌, if◌then◌else◌, Option, Some, None, is_some, IfSome}
 use Rattle.std.specs.Int.{abs_diff}
 use Rattle.std.specs.Option.{option_map, option_map_or, option_and_then}
+use Rattle.recovery_base.specs.Units.{last_time}
 use Rattle.recovery_mtud.specs.declared.config.MtuDiscoveryConfig.{MtuDiscoveryConfig}
 use Rattle.recovery_mtud.specs.declared.search.Probing.{Probing}
 
@@ -14,9 +15,29 @@ pub record MtuSearch : Type 0 where
   pub activation : ℕ
   pub settings : MtuDiscoveryConfig
 
+-- the largest UDP payload, in bytes (RFC 9000, 18.2)
+abbrev pub max_udp_payload : ℕ
+max_udp_payload = 65527
+
+-- how often one size is probed (MAX_PROBES of RFC 8899, 5.1.2)
+abbrev pub max_probes : ℕ
+max_probes = 3
+
+-- the smallest `minimum_change`, in bytes, for which a search is proved short and near the best size (RFC 8899, 5.3.2)
+abbrev pub smallest_change : ℕ
+smallest_change = 3
+
+-- the most sizes that one search probes: each halves what is left of 16 bits
+abbrev pub size_budget : ℕ
+size_budget = 16
+
+-- the most probes that one search sends: 48
+abbrev pub probe_budget : ℕ
+probe_budget = size_budget * max_probes
+
 -- a moment this much later, or the last one
 abbrev pub later : ℕ → ℕ → ℕ
-later now span = min (now + span) (2 ^ 64 - 1)
+later now span = min (now + span) last_time
 
 -- ---- a search that runs
 
@@ -33,7 +54,7 @@ search_begun mtu search =
 
 -- a size counts as too large once it was lost three times (MAX_PROBES of RFC 8899, 5.1.2)
 abbrev pub repeats : Probing → Bool
-repeats p = nat_lt 0 p.losses && nat_lt p.losses 3
+repeats p = nat_lt 0 p.losses && nat_lt p.losses max_probes
 
 -- the bounds after what became of the last size
 abbrev pub narrowed : Probing → Probing
@@ -99,7 +120,7 @@ search_with change search = record search { probing = option_map change search.p
 
 -- the last size is above zero, and at most three probes of it were lost, at most two while one is in flight
 abbrev pub IsProbingSound : Probing → Type 0
-IsProbingSound p = (0 < p.last) × (p.losses ≤ (if is_some p.in_flight then 2 else 3))
+IsProbingSound p = (0 < p.last) × (p.losses ≤ (if is_some p.in_flight then max_probes - 1 else max_probes))
 
 pub record IsSearchSound (search : MtuSearch) : Type 0 where
   pub limit : 0 < search.limit

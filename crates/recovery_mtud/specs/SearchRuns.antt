@@ -4,7 +4,7 @@ use Rattle.std.specs.Prelude.{◌≡◌, ℕ, ◌+◌, ◌*◌, ◌≤◌, ◌<�
 use Rattle.std.specs.Option.{option_map}
 use Rattle.std.specs.Set.{distinct_count}
 use Rattle.recovery_mtud.specs.declared.config.MtuDiscoveryConfig.{MtuDiscoveryConfig}
-use Rattle.recovery_mtud.specs.Search.{later, upper_from}
+use Rattle.recovery_mtud.specs.Search.{later, upper_from, size_budget, probe_budget}
 use Rattle.recovery_mtud.specs.Discovery.{Discovery, limit_or_greatest}
 use Rattle.recovery_mtud.specs.MtuEntries.{MtuEntry, probed, unprobed, limited, acked, probe_lost, reported, reset, probe_in_flight, size_at, limit_in_use, mtu_in_use}
 
@@ -82,8 +82,8 @@ lost_sizes (entry ∷ earlier) = lost_sizes earlier
 
 -- the search that runs has taken at most 16 sizes and 48 probes
 pub record UsesFewProbes (entries : List MtuEntry) : Type 0 where
-  pub sizes : distinct_count nat_eq (probed_sizes (search_of entries)) ≤ 16
-  pub probes : length (probed_sizes (search_of entries)) ≤ 48
+  pub sizes : distinct_count nat_eq (probed_sizes (search_of entries)) ≤ size_budget
+  pub probes : length (probed_sizes (search_of entries)) ≤ probe_budget
 
 -- ---- how near a search comes to what a link carries
 

@@ -1,6 +1,6 @@
 //! Sizes of the bursts of losses that are suspicious.
 ghost use Rattle.std.specs.Prelude.{◌≡◌, ◌<◌, ◌≤◌, nat_lt, [], ◌∷◌, ◌++◌, filter, length};
-ghost use Rattle.recovery_mtud.specs.Bursts.{with_burst};
+ghost use Rattle.recovery_mtud.specs.Bursts.{with_burst, black_hole_bursts};
 
 use std::marker::Model;
 
@@ -45,13 +45,13 @@ impl Bursts {
 
     pub(crate) fn len(&self) -> usize
         ensures value { result ≡ length self.now }
-        ensures few { length self.now ≤ 4 }
+        ensures few { length self.now ≤ black_hole_bursts }
     {
         self.count
     }
 
     fn push(&mut self, size: u16)
-        requires { length self.old < 4 }
+        requires { length self.old < black_hole_bursts }
         ensures { self.new ≡ self.old ++ size ∷ [] }
     {
         self.sizes[self.count] = size;
@@ -61,7 +61,7 @@ impl Bursts {
     /// One more, or in place of the first of the least: that is the one that an acknowledgement would refute first.
     pub(crate) fn add(&mut self, size: u16)
         ensures sizes { self.new ≡ with_burst size self.old }
-        ensures few { length self.new ≤ 4 }
+        ensures few { length self.new ≤ black_hole_bursts }
     {
         if self.count < BLACK_HOLE_BURSTS {
             self.push(size);
@@ -86,7 +86,7 @@ impl Bursts {
     /// Keeps those that are above a size.
     pub(crate) fn retain_above(&mut self, size: u16)
         ensures sizes { self.new ≡ filter (λ least. nat_lt size least) self.old }
-        ensures few { length self.new ≤ 4 }
+        ensures few { length self.new ≤ black_hole_bursts }
     {
         let mut kept = Bursts::new();
         for place in 0..self.count {

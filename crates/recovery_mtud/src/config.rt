@@ -1,6 +1,8 @@
 //! Settings of MTU discovery.
-ghost use Rattle.std.specs.Prelude.{◌≡◌, ◌<◌, ◌^◌, min, max};
+ghost use Rattle.std.specs.Prelude.{◌≡◌, ◌<◌, min, max};
+ghost use Rattle.recovery_base.specs.Units.{u16_limit};
 ghost use Rattle.recovery_mtud.specs.Settings.{default_settings};
+ghost use Rattle.recovery_mtud.specs.Search.{max_udp_payload};
 
 use recovery_base::time::Duration;
 
@@ -33,7 +35,7 @@ impl MtuDiscoveryConfig {
     /// IPv6 and UDP leave of an Ethernet frame.
     pub fn upper_bound(&mut self, value: u16) -> &mut Self
         ensures same { result.ghost_name ≡ self.entry.ghost_name }
-        ensures value { result.now ≡ record self.old { upper_bound = min value 65527 } }
+        ensures value { result.now ≡ record self.old { upper_bound = min value max_udp_payload } }
     {
         self.upper_bound = value.min(MAX_UDP_PAYLOAD);
         self
@@ -63,7 +65,7 @@ impl MtuDiscoveryConfig {
 
     /// A law, for the proofs of callers: the largest size that is probed is below 2^16, as its type says.
     pub fn upper_bound_fits(&self)
-        ensures { self.now.upper_bound < 2 ^ 16 }
+        ensures { self.now.upper_bound < u16_limit }
     {
         let _upper_bound = self.upper_bound;
     }

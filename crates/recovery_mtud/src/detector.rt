@@ -4,7 +4,7 @@
 //! any size. So losses are held against the MTU only where all packets that were lost together are above the least MTU,
 //! and none as large as the smallest of them arrived after them.
 ghost use Rattle.std.specs.Prelude.{◌≡◌, ◌<◌, nat_le, [], length, if◌then◌else◌};
-ghost use Rattle.recovery_mtud.specs.Bursts.{bursts_made, bursts_acked, bursts_closed, bursts_lost};
+ghost use Rattle.recovery_mtud.specs.Bursts.{bursts_made, bursts_acked, bursts_closed, bursts_lost, black_hole_bursts};
 
 use crate::bursts::{BLACK_HOLE_BURSTS, Bursts};
 use std::marker::Model;
@@ -140,7 +140,7 @@ impl Detector {
     /// All losses of a moment were told: whether there is a black hole. The open burst closes here, since a black hole
     /// lets nothing through that would close it.
     pub(crate) fn black_hole_detected(&mut self) -> bool
-        ensures answer { result ≡ nat_le 4 (length (bursts_closed self.old).kept) }
+        ensures answer { result ≡ nat_le black_hole_bursts (length (bursts_closed self.old).kept) }
         ensures after { self.new
             ≡ (if result then record (bursts_closed self.old) { kept = [] }
             else bursts_closed self.old) }

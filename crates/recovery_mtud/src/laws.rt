@@ -1,11 +1,13 @@
 //! Laws of MTU discovery that no call states.
-ghost use Rattle.std.specs.Prelude.{◌≡◌, ◌≤◌, ◌<◌, ◌^◌, ℕ, List, Option, Some, None, true};
+ghost use Rattle.std.specs.Prelude.{◌≡◌, ◌≤◌, ◌<◌, ℕ, List, Option, Some, None, true};
+ghost use Rattle.recovery_base.specs.Units.{u16_limit};
 ghost use Rattle.recovery_mtud.specs.BurstRuns.{AreFatesApart, AreFourStanding, AreFourUnanswered};
 ghost use Rattle.recovery_mtud.specs.Discovery.{Discovery, IsDiscoverySound, discovery_made, poll_of, reports};
 ghost use Rattle.recovery_mtud.specs.DiscoveryLog.{MtuCall, discovery_after, discovery_by, mtu_after, ArePositiveMtuCalls};
 ghost use Rattle.recovery_mtud.specs.MtuEntries.{IsFreshDiscovery, entries_by, search_settings};
 ghost use Rattle.recovery_mtud.specs.SearchRuns.{UsesFewProbes, AreLimitsOutside, EndsNearBest, ProbesInSearch};
 ghost use Rattle.recovery_mtud.specs.declared.config.MtuDiscoveryConfig.{MtuDiscoveryConfig};
+ghost use Rattle.recovery_mtud.specs.Search.{smallest_change};
 
 /// Whatever is told of sizes above zero, the MTU in use stays above zero, and at most four bursts are kept.
 #[tactic(auto, using(crate::proofs::DiscoveryLaws::discovery_by_sound))]
@@ -39,8 +41,8 @@ pub fn discoveries_begin_untold()
 /// probes (RFC 8899, 5.3.2 leaves the search to us).
 pub fn searches_take_few()
     ensures { (made : Discovery) (settings : MtuDiscoveryConfig) → IsFreshDiscovery made
-        → search_settings made ≡ Some settings → 3 ≤ settings.minimum_change
-        → settings.upper_bound < 2 ^ 16 → (calls : List MtuCall)
+        → search_settings made ≡ Some settings → smallest_change ≤ settings.minimum_change
+        → settings.upper_bound < u16_limit → (calls : List MtuCall)
         → UsesFewProbes (entries_by made calls) }
 {}
 
@@ -49,8 +51,8 @@ pub fn searches_take_few()
 #[tactic(auto, using(crate::proofs::SearchRunLaws::search_ends_near))]
 pub fn searches_end_near_the_best()
     ensures { (made : Discovery) (settings : MtuDiscoveryConfig) → IsFreshDiscovery made
-        → search_settings made ≡ Some settings → 3 ≤ settings.minimum_change
-        → settings.upper_bound < 2 ^ 16 → (calls : List MtuCall)
+        → search_settings made ≡ Some settings → smallest_change ≤ settings.minimum_change
+        → settings.upper_bound < u16_limit → (calls : List MtuCall)
         → AreLimitsOutside (entries_by made calls)
         → EndsNearBest made settings (entries_by made calls) }
 {}

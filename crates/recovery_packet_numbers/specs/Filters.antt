@@ -9,8 +9,9 @@ use Rattle.rand_core.specs.Stream.{Stream}
 use Rattle.recovery_base.specs.declared.below.SpaceId.{SpaceId}
 use Rattle.recovery_base.specs.declared.below.SpaceId.TheVariants.{Data}
 use Rattle.recovery_base.specs.declared.below.frames.TransportError.{TransportError}
+use Rattle.recovery_base.specs.Errors.{protocol_violation}
 use Rattle.recovery_packet_numbers.specs.declared.filter.Skips.{Skips}
-use Rattle.recovery_packet_numbers.specs.Skips.{next_skip, skip_at, is_at, skips_below, skip_before}
+use Rattle.recovery_packet_numbers.specs.Skips.{next_skip, skip_at, is_at, skips_below, skip_before, first_exponent}
 
 pub record Filter : Type 0 where
   -- the next number to skip
@@ -30,7 +31,11 @@ abbrev pub skipping_at : Skips → Stream → ℕ → SkipState
 skipping_at skips words n =
     let count = skips_below skips words n in
     let next = skip_at skips words count in
-    let filter : Filter = record { skip = next.0; last = skip_before skips words n; exponent = 6 + count } in
+    let filter : Filter = record {
+      skip = next.0;
+      last = skip_before skips words n;
+      exponent = first_exponent + count;
+    } in
     record { filter = filter; words = next.1 }
 
 -- the number that a filter gives out where the next one is n
@@ -51,10 +56,10 @@ passed n old = if is_at n old.filter.skip then skipped n old else old
 -- what holds of every filter: the exponents below 6 and above 63 are never in use, and the next skip
 -- lies below 2 to the exponent, and, where it is not the first, not below half of that
 pub record IsFilterSound (filter : Filter) : Type 0 where
-  pub first : 6 ≤ filter.exponent
+  pub first : first_exponent ≤ filter.exponent
   pub last : filter.exponent ≤ 63
   pub below : (s : ℕ) → filter.skip ≡ Some s → s < 2 ^ filter.exponent
-  pub above : (s : ℕ) → filter.skip ≡ Some s → 6 < filter.exponent → 2 ^ (filter.exponent - 1) ≤ s
+  pub above : (s : ℕ) → filter.skip ≡ Some s → first_exponent < filter.exponent → 2 ^ (filter.exponent - 1) ≤ s
 
 -- ---- acknowledgements
 
@@ -74,5 +79,5 @@ pub record AcksSkippedNumber (space : SpaceId) (range : RangeInclusive ℕ) (las
 
 -- a violation of the protocol, with its text
 pub record IsUnsentAcked (error : TransportError) : Type 0 where
-  pub code : error.code ≡ 10
+  pub code : error.code ≡ protocol_violation
   pub reason : error.reason.now ≡ codes "unsent packet acked"

@@ -5,24 +5,33 @@ use Rattle.std.specs.Option.{option_map_or}
 use Rattle.rand_core.specs.Stream.{Call, Stream, next_u64}
 use Rattle.rand.specs.Draw.{draw_map}
 use Rattle.rand.specs.Uniform.{canon}
+use Rattle.recovery_base.specs.Units.{u64_limit}
 use Rattle.recovery_packet_numbers.specs.declared.filter.Skips.{Skips}
 use Rattle.recovery_packet_numbers.specs.declared.filter.Skips.TheVariants.{Drawn, Starting, Disabled}
 
 -- each word of a stream fits 64 bits, as those of every generator do
 abbrev pub AreWords : Stream → Type 0
-AreWords words = (calls : List Call) → words.u64_after calls < 2 ^ 64
+AreWords words = (calls : List Call) → words.u64_after calls < u64_limit
 
 -- a number from low up to below end, as `random_range` gives it on the words that come next, and the
 -- words behind it
 abbrev pub draw : ℕ → ℕ → Stream → ℕ × Stream
-draw low end words = draw_map (λ above. low + above) (canon (2 ^ 64) next_u64 (end - low)) words
+draw low end words = draw_map (λ above. low + above) (canon u64_limit next_u64 (end - low)) words
 
 -- ---- the sequence of skips
+
+-- the first skip is below 2 to this power
+abbrev pub first_exponent : ℕ
+first_exponent = 6
+
+-- the first skip is below it
+abbrev pub first_skip_limit : ℕ
+first_skip_limit = 2 ^ first_exponent
 
 -- `Starting(n)` is for n below 64
 abbrev pub IsSkips : Skips → Type 0
 IsSkips Drawn = ⊤
-IsSkips (Starting n) = n < 64
+IsSkips (Starting n) = n < first_skip_limit
 IsSkips Disabled = ⊤
 
 -- a skip that is drawn so
@@ -31,7 +40,7 @@ drawn low end = draw_map Some (draw low end)
 
 -- the first skip, if there is one, and the words behind it
 abbrev pub first_skip : Skips → Stream → Option ℕ × Stream
-first_skip Drawn words = drawn 0 64 words
+first_skip Drawn words = drawn 0 first_skip_limit words
 first_skip (Starting n) words = (Some n, words)
 first_skip Disabled words = (None, words)
 
@@ -43,7 +52,7 @@ next_skip exponent (Some s, words) = drawn (max (2 ^ exponent) (s + 2)) (2 ^ (ex
 -- the skips, counted from 0
 abbrev pub skip_at : Skips → Stream → ℕ → Option ℕ × Stream
 skip_at skips words zero = first_skip skips words
-skip_at skips words (suc k) = next_skip (6 + k) (skip_at skips words k)
+skip_at skips words (suc k) = next_skip (first_exponent + k) (skip_at skips words k)
 
 -- ---- the numbers
 

@@ -2,7 +2,8 @@
 ghost use Rattle.std.specs.Prelude.{◌≡◌, ◌+◌, ◌<◌, ◌≤◌, ◌^◌, None, Some, MatchResult, IfNone, OnSome};
 ghost use Rattle.std.specs.Option.{SomeIff, ForSome};
 ghost use Rattle.rand_core.specs.Stream.{Stream};
-ghost use Rattle.recovery_packet_numbers.specs.Skips.{IsSkips, draw};
+ghost use Rattle.recovery_base.specs.Units.{number_limit};
+ghost use Rattle.recovery_packet_numbers.specs.Skips.{IsSkips, draw, first_skip_limit, first_exponent};
 ghost use Rattle.recovery_packet_numbers.specs.Filters.{skipping_at, number_by, skipped, passed, IsFilterSound, AcksSkippedNumber, IsUnsentAcked};
 
 use rand::RngExt;
@@ -75,7 +76,7 @@ impl PacketNumberFilter {
 
     /// The first skip is `next`, which lies below 64.
     pub fn starting(next: u64) -> Self
-        requires { next < 64 }
+        requires { next < first_skip_limit }
         ensures { (words : Stream) → record { filter = result; words = words }
             ≡ skipping_at (Skips.Starting next) words 0 }
     {
@@ -105,8 +106,8 @@ impl PacketNumberFilter {
 
     /// No skip was passed yet.
     fn beginning(skip: Option<u64>) -> Self
-        requires { ForSome skip (λ s. s < 64) }
-        ensures { result ≡ record { skip = skip; last = None; exponent = 6 } }
+        requires { ForSome skip (λ s. s < first_skip_limit) }
+        ensures { result ≡ record { skip = skip; last = None; exponent = first_exponent } }
     {
         PacketNumberFilter {
             next_skipped_packet_number: skip,
@@ -130,7 +131,7 @@ impl PacketNumberFilter {
     /// The skip is passed, and the one behind it drawn.
     #[tactic(auto, using(crate::proofs::DrawRangeLaws::powers))]
     fn pass<R: Rng>(&mut self, rng: &mut R, skip: u64)
-        requires first { 6 ≤ self.old.exponent }
+        requires first { first_exponent ≤ self.old.exponent }
         requires last { self.old.exponent ≤ 62 }
         requires below { skip < 2 ^ self.old.exponent }
         ensures skipped { record { filter = self.new; words = R.stream rng.new }
@@ -152,7 +153,7 @@ impl PacketNumberFilter {
     ///
     /// `None` where `peek` tells 2^62 or more (RFC 9000, 12.3): nothing has changed then, and no word is drawn.
     pub fn allocate<R: Rng>(&mut self, rng: &mut R, next: u64) -> Option<u64>
-        ensures answer { SomeIff result (number_by self.old next < 2 ^ 62)
+        ensures answer { SomeIff result (number_by self.old next < number_limit)
             (number_by self.old next) }
         ensures kept { IfNone result (self.new ≡ self.old) }
         ensures rng_kept { IfNone result (rng.new ≡ rng.old) }

@@ -1,7 +1,7 @@
 //! Laws of skipped packet numbers that no call states.
 ghost use Rattle.std.specs.Prelude.{◌≡◌, ◌↔◌, ◌+◌, ◌<◌, ◌≤◌, ◌^◌, ℕ, suc, Some, true, false};
 ghost use Rattle.rand_core.specs.Stream.{Stream};
-ghost use Rattle.recovery_packet_numbers.specs.Skips.{IsSkips, AreWords, skip_at, skips_below, is_skipped, number_from, skip_before, IsGreatestBelow};
+ghost use Rattle.recovery_packet_numbers.specs.Skips.{IsSkips, AreWords, skip_at, skips_below, is_skipped, number_from, skip_before, IsGreatestBelow, first_exponent};
 ghost use Rattle.recovery_packet_numbers.specs.Filters.{skipping_at, passed};
 ghost use Rattle.recovery_packet_numbers.specs.declared.filter.Skips.{Skips};
 
@@ -36,9 +36,9 @@ pub fn skips_ascend()
 pub fn skips_lie_between_powers()
     ensures below { (skips : Skips) (words : Stream) → IsSkips skips → AreWords words →
         (k s : ℕ) → k ≤ 57 →
-        (skip_at skips words k).0 ≡ Some s → s < 2 ^ (6 + k) }
+        (skip_at skips words k).0 ≡ Some s → s < 2 ^ (first_exponent + k) }
     ensures above { (skips : Skips) (words : Stream) (k s : ℕ) →
-        (skip_at skips words (suc k)).0 ≡ Some s → 2 ^ (6 + k) ≤ s }
+        (skip_at skips words (suc k)).0 ≡ Some s → 2 ^ (first_exponent + k) ≤ s }
 {}
 
 /// A number is skipped just where it stands in the sequence of skips, and those below a number are counted.

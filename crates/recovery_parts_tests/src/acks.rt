@@ -1,5 +1,6 @@
 //! Acknowledgements. Rows are what happens, and what is seen after it.
-ghost use Rattle.std.specs.Prelude.{◌≡◌, ◌<◌, ◌≤◌, ◌^◌, None, unwrap_or};
+ghost use Rattle.std.specs.Prelude.{◌≡◌, ◌<◌, ◌≤◌, None, unwrap_or};
+ghost use Rattle.recovery_base.specs.Units.{number_limit};
 
 use crate::rows::{finds, holds, same};
 use recovery_base::below::{AckFrequency, NoMemory, TransportParameters, VarInt};
@@ -45,7 +46,7 @@ fn receive(
     number: u64,
     ack_eliciting: bool,
 ) -> Option<bool>
-    requires small { number < 2 ^ 62 }
+    requires small { number < number_limit }
     requires above { unwrap_or acks.old.counts.greatest 0 ≤ number }
     ensures { unwrap_or acks.new.counts.greatest 0 ≤ number }
 {
@@ -59,7 +60,7 @@ fn receive(
 
 /// What happens, to the packet of a number where it is one that comes: whether it starts the timer.
 fn apply(acks: &mut PendingAcks, dedup: &mut Dedup, call: Call, number: u64) -> Option<bool>
-    requires small { number < 2 ^ 62 }
+    requires small { number < number_limit }
     requires above { unwrap_or acks.old.counts.greatest 0 ≤ number }
     ensures { unwrap_or acks.new.counts.greatest 0 ≤ number }
 {

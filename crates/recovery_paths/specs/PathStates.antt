@@ -57,12 +57,17 @@ with_marks marks path = record path { marks = marks }
 abbrev pub loss_call : ℕ → ℕ → Discovery → MtuCall
 loss_call number bytes discovery = if is_probe number discovery then loses_probe else loses number bytes
 
+-- how many bytes an address that is not validated gets for each byte received from it (RFC 9000, 8.1)
+abbrev pub amplification_factor : ℕ
+amplification_factor = 3
+
 module _ {K : Type 0} where
   -- ---- the amplification limit (RFC 9000, 8.1)
 
   -- with so many bytes more, an address that is not validated would get more than three times what came from it
   abbrev pub is_blocked : PathState K → ℕ → Bool
-  is_blocked path bytes = not path.validated && nat_lt (3 * path.total_recvd) (path.total_sent + bytes)
+  is_blocked path bytes =
+      not path.validated && nat_lt (amplification_factor * path.total_recvd) (path.total_sent + bytes)
 
   -- ---- what changes a path, whatever its controller
 

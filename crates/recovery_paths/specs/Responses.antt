@@ -23,9 +23,13 @@ goes_to remote response = same_address response.remote remote
 abbrev pub remotes : List PathResponse → List SocketAddr
 remotes responses = map (λ response. response.remote) responses
 
+-- the most PATH_RESPONSE frames that wait
+abbrev pub most_responses : ℕ
+most_responses = 16
+
 -- at most 16 wait, and no two go to the same address
 pub record AreSoundResponses (responses : List PathResponse) : Type 0 where
-  pub few : length responses ≤ 16
+  pub few : length responses ≤ most_responses
   pub apart : IsDistinct same_address (remotes responses)
 
 -- a response once a new one came: the new one takes its place if both go to one address, unless the challenge of the
@@ -41,7 +45,7 @@ renewed new kept =
 abbrev pub with_response : PathResponse → List PathResponse → List PathResponse
 with_response new responses =
     if list_any (goes_to new.remote) responses then map (renewed new) responses
-    else if nat_lt (length responses) 16 then responses ++ new ∷ []
+    else if nat_lt (length responses) most_responses then responses ++ new ∷ []
     else responses
 
 abbrev pub last_of : List PathResponse → Option PathResponse

@@ -1,6 +1,7 @@
 //! The paths of a connection that live: the one in use, and the one that was in use before it (RFC 9000, 9).
 ghost use Rattle.std.specs.Prelude.{◌≡◌, ◌↔◌, ◌<◌, ◌≤◌, ◌+◌, ◌^◌, None, OnOk, OnErr, IfOk, IsErrOf, IsSomeAnd, is_some, option_map, option_copied};
 ghost use Rattle.std.specs.Option.{ForSome, IfSome, SomeIff};
+ghost use Rattle.recovery_base.specs.Units.{u64_limit};
 ghost use Rattle.recovery_congestion.specs.Calls.{sends};
 ghost use Rattle.recovery_spaces.specs.InFlight.{Overflows};
 ghost use Rattle.recovery_spaces.specs.Packets.{forgotten_entry, after_sending};
@@ -89,7 +90,7 @@ impl<C: Controller + Drop> PathPair<C> {
     /// The generation of the next path that is made: past those of all that were, also of the dropped ones, whose
     /// packets may still be tracked. `None` where 2^64 paths were made.
     pub fn next_generation(&self) -> Option<u64>
-        ensures { SomeIff result (self.now.made + 1 < 2 ^ 64) (self.now.made + 1) }
+        ensures { SomeIff result (self.now.made + 1 < u64_limit) (self.now.made + 1) }
     {
         self.made.checked_add(1)
     }
@@ -118,7 +119,8 @@ impl<C: Controller + Drop> PathPair<C> {
             (self.new ≡ on_path_of name (on_state (after_receiving bytes)) self.old) }
         ensures no_path { IsErrOf result DatagramError.NoSuchPath ↔ (path_of name self.old ≡ None) }
         ensures overflow { IsErrOf result DatagramError.Overflow
-            ↔ IsSomeAnd (path_of name self.old) (λ path. 2 ^ 64 ≤ path.state.total_recvd + bytes) }
+            ↔ IsSomeAnd (path_of name self.old)
+            (λ path. u64_limit ≤ path.state.total_recvd + bytes) }
         ensures err { OnErr result (self.new ≡ self.old) }
     {
         match name {

@@ -2,6 +2,7 @@
 //! and what is in flight on it (RFC 9000, 8 and 9; RFC 9002).
 ghost use Rattle.std.specs.Prelude.{◌≡◌, Decides, ◌↔◌, ◌<◌, ◌+◌, ◌^◌, ◌≤◌, Bool, None, false, OnOk, OnErr, IfOk, IsErrOf};
 ghost use Rattle.std.specs.Option.{IfSome};
+ghost use Rattle.recovery_base.specs.Units.{u64_limit};
 ghost use Rattle.recovery_congestion.specs.Calls.{sends, ends_acks, congests};
 ghost use Rattle.recovery_spaces.specs.InFlight.{Overflows};
 ghost use Rattle.recovery_spaces.specs.Packets.{forgotten_entry, after_sending};
@@ -337,8 +338,8 @@ impl<C: Controller + Drop> PathData<C> {
     /// would pass `u64::MAX`, changes nothing.
     pub fn receive_datagram(&mut self, bytes: u64) -> Result<(), TotalOverflow>
         ensures ok { OnOk result (self.new ≡ on_state (after_receiving bytes) self.old) }
-        ensures overflow { OnErr result (2 ^ 64 ≤ self.old.state.total_recvd + bytes) }
-        ensures fits { OnOk result (self.old.state.total_recvd + bytes < 2 ^ 64) }
+        ensures overflow { OnErr result (u64_limit ≤ self.old.state.total_recvd + bytes) }
+        ensures fits { OnOk result (self.old.state.total_recvd + bytes < u64_limit) }
         ensures err { OnErr result (self.new ≡ self.old) }
     {
         let Some(total) = self.total_recvd.checked_add(bytes) else {
@@ -456,7 +457,7 @@ impl<C: Controller + Drop> PathData<C> {
 
     /// Whether the total sent has room for so many bytes more: it stays at most `u64::MAX`.
     pub fn has_room(&self, bytes: u16) -> bool
-        ensures { Decides result (self.now.state.total_sent + bytes < 2 ^ 64) }
+        ensures { Decides result (self.now.state.total_sent + bytes < u64_limit) }
     {
         self.total_sent.checked_add(u64::from(bytes)).is_some()
     }
@@ -464,7 +465,7 @@ impl<C: Controller + Drop> PathData<C> {
     /// A datagram of so many bytes is transmitted: the total has them (RFC 9000, 8.1), and the pacer takes its tokens
     /// off (RFC 9002, 7.7).
     pub fn transmit(&mut self, bytes: u16)
-        requires { self.old.state.total_sent + bytes < 2 ^ 64 }
+        requires { self.old.state.total_sent + bytes < u64_limit }
         ensures { self.new ≡ on_state (after_transmitting bytes) self.old }
     {
         self.total_sent += u64::from(bytes);

@@ -1,11 +1,12 @@
 -- What reading one line takes from an input.
-use Rattle.std.specs.Prelude.{◌≡◌, ℕ, ◌<◌, ◌⊎◌, List, [], ◌∷◌, ◌++◌, length, take, Option, None, Some}
+use Rattle.std.specs.Prelude.{◌≡◌, ℕ, ◌<◌, ◌⊎◌, List, [], ◌∷◌, ◌++◌, length, take, Option, None, Some, ◌+◌}
 use Rattle.std.specs.Io.KnownBytes.{Consumes, IsAtEnd}
 use Rattle.recovery_replay.specs.Script.{NoFeed}
 use Rattle.recovery_replay.specs.declared.reading.Next.{Next}
 use Rattle.recovery_replay.specs.declared.reading.Next.TheVariants.{Line, Last}
 use Rattle.recovery_replay.specs.declared.reading.Unread.{Unread}
 use Rattle.recovery_replay.specs.declared.reading.Unread.TheVariants.{OutOfMemory, ReadFailed}
+use Rattle.recovery_script_syntax.specs.Words.{longest_line}
 
 -- one byte was taken, or the input is over
 abbrev pub IsByte : Option (List ℕ) → Option (List ℕ) → Option ℕ → Type 0
@@ -15,7 +16,7 @@ IsByte before after (Some byte) = Consumes before after (byte ∷ [])
 -- a line of which this is kept: all of it, but of a long one no more than tells that it is long
 pub record TruncatedLine (line kept : List ℕ) : Type 0 where
   pub no_feed : NoFeed line
-  pub is : kept ≡ take 4097 line
+  pub is : kept ≡ take (longest_line + 1) line
 
 -- a line was taken and its line feed, or the last line without one, or nothing was left
 abbrev pub IsLine : Option (List ℕ) → Option (List ℕ) → List ℕ → Option Next → Type 0

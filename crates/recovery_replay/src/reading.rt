@@ -1,8 +1,9 @@
 //! One line of an input after the other, in memory that does not grow with it.
-ghost use Rattle.std.specs.Prelude.{◌≡◌, ◌≤◌, ◌++◌, ◌∷◌, [], IfErr, OnOk, MatchResult, length, take};
+ghost use Rattle.std.specs.Prelude.{◌≡◌, ◌≤◌, ◌++◌, ◌∷◌, [], IfErr, OnOk, MatchResult, length, take, ◌+◌};
 ghost use Rattle.std.specs.Io.KnownBytes.{Keeps};
 ghost use Rattle.recovery_replay.specs.declared.reading.Unread.TheVariants.{OutOfMemory, ReadFailed};
 ghost use Rattle.recovery_replay.specs.Reading.{BreaksOff, IsByte, IsLine};
+ghost use Rattle.recovery_script_syntax.specs.Words.{longest_line};
 
 use recovery_script_syntax::lines::LINE_LIMIT;
 use std::io::{ErrorKind, Read};
@@ -48,8 +49,9 @@ fn next_byte<R: Read>(input: &mut R) -> Result<Option<u8>, Unread>
 
 /// Keeps a byte of a line, unless 4097 of them are kept.
 fn keep(line: &mut Vec<u8>, byte: u8) -> Result<(), Unread>
-    requires { length line.old.items ≤ 4097 }
-    ensures kept { OnOk result (line.new.items ≡ take 4097 (line.old.items ++ byte ∷ [])) }
+    requires { length line.old.items ≤ longest_line + 1 }
+    ensures kept { OnOk result (line.new.items
+        ≡ take (longest_line + 1) (line.old.items ++ byte ∷ [])) }
     ensures memory { IfErr result (λ unread. unread ≡ OutOfMemory) }
 {
     if line.len() > LINE_LIMIT {

@@ -1,12 +1,14 @@
 -- What stands behind the name of a line: fields, each of one word, and behind them nothing or
 -- items.
-use Rattle.std.specs.Prelude.{ℕ, ◌*◌, ◌<◌, ◌^◌, Bool, List, [], ◌∷◌, map, Option, IfSome, decimal}
+use Rattle.std.specs.Prelude.{ℕ, ◌<◌, Bool, List, [], ◌∷◌, map, Option, IfSome, decimal, ◌+◌}
 use Rattle.std.specs.List.{AllByRecursion}
 use Rattle.recovery_base.specs.declared.below.SpaceId.{SpaceId}
 use Rattle.recovery_base.specs.declared.timer.Timer.{Timer}
 use Rattle.recovery_base.specs.Timers.{timer_name}
+use Rattle.recovery_base.specs.Times.{span_limit}
+use Rattle.recovery_base.specs.Units.{byte_limit, number_limit, u16_limit, u64_limit}
 use Rattle.recovery_events.specs.declared.event.PathName.{PathName}
-use Rattle.recovery_script_syntax.specs.Words.{flag_word, space_word, path_word, largest_word}
+use Rattle.recovery_script_syntax.specs.Words.{flag_word, space_word, path_word, largest_word, most_ids}
 
 pub data Field : Type 0 where
   a_space : Field
@@ -58,13 +60,13 @@ FitsFieldType a_space = λ space. Unit {0}
 FitsFieldType a_timer = λ timer. Unit {0}
 FitsFieldType a_path = λ path. Unit {0}
 FitsFieldType a_flag = λ flag. Unit {0}
-FitsFieldType a_largest = λ largest. IfSome largest (λ n. n < 2 ^ 64)
-FitsFieldType a_u64 = λ n. n < 2 ^ 64
-FitsFieldType a_span = λ n. n < 2 ^ 64 * 10 ^ 9
-FitsFieldType a_u16 = λ n. n < 2 ^ 16
-FitsFieldType a_var_int = λ n. n < 2 ^ 62
-FitsFieldType a_byte = λ n. n < 2 ^ 8
-FitsFieldType a_count = λ n. n < 65
+FitsFieldType a_largest = λ largest. IfSome largest (λ n. n < u64_limit)
+FitsFieldType a_u64 = λ n. n < u64_limit
+FitsFieldType a_span = λ n. n < span_limit
+FitsFieldType a_u16 = λ n. n < u16_limit
+FitsFieldType a_var_int = λ n. n < number_limit
+FitsFieldType a_byte = λ n. n < byte_limit
+FitsFieldType a_count = λ n. n < most_ids + 1
 
 -- ---- the end of a line
 
@@ -84,7 +86,7 @@ tail_words an_item_tail items = map decimal items
 -- each item is a u64
 abbrev pub TailFits : (tail : Tail) → TailValue tail → Type 0
 TailFits no_tail value = Unit {0}
-TailFits an_item_tail items = AllByRecursion (λ item. item < 2 ^ 64) items
+TailFits an_item_tail items = AllByRecursion (λ item. item < u64_limit) items
 
 -- ---- several fields, and what stands behind them
 

@@ -1,5 +1,5 @@
 -- How a line spells an event: this is the grammar of scripts.
-use Rattle.std.specs.Prelude.{◌≡◌, ℕ, ◌+◌, ◌<◌, ◌≤◌, ◌^◌, ◌⊎◌, List, [], ◌∷◌, length, map, get_or, replicate, decimal, refl}
+use Rattle.std.specs.Prelude.{◌≡◌, ℕ, ◌+◌, ◌<◌, ◌≤◌, ◌⊎◌, List, [], ◌∷◌, length, map, get_or, replicate, decimal, refl}
 use Rattle.std.specs.List.{range_with_len}
 use Rattle.std.specs.Global.{Vec}
 use Rattle.std.specs.declared.net.ip_addr.IpAddr.TheVariants.{V4}
@@ -25,13 +25,15 @@ use Rattle.recovery_events.specs.declared.event.Event.TheVariants.{Ecn, CheckAck
 use Rattle.recovery_events.specs.declared.event.Event.TheVariants.{QueueProbe, TakePending}
 use Rattle.recovery_events.specs.declared.event.Event.TheVariants.{NewPath, ResetPath, DropPrevious, RevertPath}
 use Rattle.recovery_base.specs.declared.timer.Timer.TheVariants.{Idle}
+use Rattle.recovery_base.specs.Units.{u64_limit}
+use Rattle.recovery_base.specs.Ids.{reset_token_size}
 use Rattle.recovery_script_syntax.specs.declared.forms.Line.{Line}
 use Rattle.recovery_script_syntax.specs.declared.forms.Line.TheVariants.{Said, Ids, Path}
 use Rattle.recovery_script_syntax.specs.Fields.{Field, Values, words_for, AllFitFieldTypes}
 use Rattle.recovery_script_syntax.specs.Fields.{Tail, no_tail, an_item_tail}
 use Rattle.recovery_script_syntax.specs.Fields.{a_space, a_timer, a_path, a_flag, a_largest}
 use Rattle.recovery_script_syntax.specs.Fields.{a_u64, a_span, a_u16, a_var_int, a_byte, a_count}
-use Rattle.recovery_script_syntax.specs.Words.{words_of}
+use Rattle.recovery_script_syntax.specs.Words.{words_of, longest_line, most_ids}
 
 -- the events of a script: what a packet carries is a list of items
 abbrev pub ItemEvent : Type 0
@@ -44,7 +46,7 @@ abbrev pub id_of : ℕ → List ℕ
 id_of byte = replicate 8 byte
 
 abbrev pub token_of : ℕ → List ℕ
-token_of byte = replicate 16 byte
+token_of byte = replicate reset_token_size byte
 
 -- the first byte of an id
 abbrev pub byte_of : List ℕ → ℕ
@@ -78,7 +80,8 @@ pub record IsDocumentationAddress (port : ℕ) (remote : SocketAddr) : Type 0 wh
 abbrev pub DenotesEvent : Line → ItemEvent → Type 0
 DenotesEvent (Said said) event = event ≡ said
 DenotesEvent (Ids now first count) event =
-    (ids : Vec IssuedCid) × (event ≡ IssueIds now ids) × (ids.items ≡ zero_ids first count) × (first + count ≤ 2 ^ 64)
+    (ids : Vec IssuedCid) × (event ≡ IssueIds now ids) × (ids.items ≡ zero_ids first count)
+    × (first + count ≤ u64_limit)
 DenotesEvent (Path now port fresh) event =
     (remote : SocketAddr) × (event ≡ NewPath now remote fresh) × IsDocumentationAddress port remote
 
@@ -336,7 +339,7 @@ pub record EncodesEvent (line : List ℕ) (event : ItemEvent) : Type 0 where
   pub unkept : ℕ
   pub words : words_of line ≡ encoding_of unkept event
   pub within : IsWithinTypes unkept event
-  pub short : length line ≤ 4096
+  pub short : length line ≤ longest_line
 
 -- the line issues ids, one at least, of which each has a number
 pub record IsIssueLine (line : List ℕ) : Type 0 where
@@ -344,11 +347,11 @@ pub record IsIssueLine (line : List ℕ) : Type 0 where
   pub first : ℕ
   pub count : ℕ
   pub words : words_of line ≡ words_said (issue_ids, (now, (first, (count, tt))))
-  pub time : now < 2 ^ 64
+  pub time : now < u64_limit
   pub some : 0 < count
-  pub few : count ≤ 64
-  pub bound : first + count ≤ 2 ^ 64
-  pub short : length line ≤ 4096
+  pub few : count ≤ most_ids
+  pub bound : first + count ≤ u64_limit
+  pub short : length line ≤ longest_line
 
 -- the line sends a packet that carries items, one at least
 pub record SendsItems (line : List ℕ) : Type 0 where
@@ -356,7 +359,7 @@ pub record SendsItems (line : List ℕ) : Type 0 where
   pub words : words_of line ≡ words_said (send, values)
   pub fit : AllFitFieldTypes send.tail send.fields values
   pub some : 0 < length values.1.1.1.1.1
-  pub short : length line ≤ 4096
+  pub short : length line ≤ longest_line
 
 -- what was read of a line has one item at least, for which memory was taken
 abbrev pub TookMemory : Line → Type 0

@@ -1,5 +1,5 @@
 -- How the parser goes over the words of a line. What a line means is said by the grammar in Lines.antt alone.
-use Rattle.std.specs.Prelude.{◌≡◌, ℕ, ◌+◌, ◌*◌, ◌<◌, ◌≤◌, ◌^◌, ◌==◌, nat_lt, ◌&&◌, Bool, true}
+use Rattle.std.specs.Prelude.{◌≡◌, ℕ, ◌+◌, ◌*◌, ◌<◌, ◌≤◌, ◌==◌, nat_lt, ◌&&◌, Bool, true}
 use Rattle.std.specs.Prelude.{false, List, [], ◌∷◌, ◌++◌, length, Option, Some, None, IfSome, IsSomeAnd, option_and_then, Result, Ok, Err}
 use Rattle.std.specs.Prelude.{if◌then◌else◌, bytes_eq, decimal, slice_index}
 use Rattle.std.specs.Global.{Vec}
@@ -10,6 +10,8 @@ use lib.Chars.{codes}
 use Rattle.recovery_base.specs.declared.below.SpaceId.{SpaceId}
 use Rattle.recovery_base.specs.declared.below.SpaceId.TheVariants.{Initial, Handshake, Data}
 use Rattle.recovery_base.specs.Timers.{timer_named}
+use Rattle.recovery_base.specs.Times.{span_limit}
+use Rattle.recovery_base.specs.Units.{byte_limit, number_limit, u16_limit, u64_limit}
 use Rattle.recovery_events.specs.declared.event.PathName.{PathName}
 use Rattle.recovery_events.specs.declared.event.PathName.TheVariants.{Current, Previous}
 use Rattle.recovery_script_syntax.specs.declared.forms.Line.{Line}
@@ -20,7 +22,7 @@ use Rattle.recovery_script_syntax.specs.Fields.{Tail, TailValue, no_tail, an_ite
 use Rattle.recovery_script_syntax.specs.Fields.{a_space, a_timer, a_path, a_flag, a_largest}
 use Rattle.recovery_script_syntax.specs.Fields.{a_u64, a_span, a_u16, a_var_int, a_byte, a_count}
 use Rattle.recovery_script_syntax.specs.Lines.{Form, forms, ItemEvent, DenotesEvent, EncodesEvent, TookMemory}
-use Rattle.recovery_script_syntax.specs.Words.{words_of}
+use Rattle.recovery_script_syntax.specs.Words.{words_of, most_ids}
 
 -- ---- a field
 
@@ -75,7 +77,7 @@ IsFirstNumber limit bytes (Some (number, end)) =
 
 -- a number, or none
 unfoldable pub largest_of : List ℕ → Option (Option ℕ)
-largest_of word = if bytes_eq word (codes "-") then Some None else (number_of (2 ^ 64) word >>= λ n. Some (Some n))
+largest_of word = if bytes_eq word (codes "-") then Some None else (number_of u64_limit word >>= λ n. Some (Some n))
 
 -- ---- reading words from the left
 
@@ -123,12 +125,12 @@ value_of a_timer = timer_named
 value_of a_path = path_of
 value_of a_flag = flag_of
 value_of a_largest = largest_of
-value_of a_u64 = number_of (2 ^ 64)
-value_of a_span = number_of (2 ^ 64 * 10 ^ 9)
-value_of a_u16 = number_of (2 ^ 16)
-value_of a_var_int = number_of (2 ^ 62)
-value_of a_byte = number_of (2 ^ 8)
-value_of a_count = number_of 65
+value_of a_u64 = number_of u64_limit
+value_of a_span = number_of span_limit
+value_of a_u16 = number_of u16_limit
+value_of a_var_int = number_of number_limit
+value_of a_byte = number_of byte_limit
+value_of a_count = number_of (most_ids + 1)
 
 -- ---- items
 
@@ -136,7 +138,7 @@ value_of a_count = number_of 65
 abbrev pub items_read : List (List ℕ) → Option (List ℕ)
 items_read [] = Some []
 items_read (word ∷ words) = do
-  item ← number_of (2 ^ 64) word
+  item ← number_of u64_limit word
   items ← items_read words
   Some (item ∷ items)
 
@@ -207,7 +209,7 @@ all_of (Some line) left = if length left == 0 then Some line else None
 -- ids are made of what was read, so memory is taken
 abbrev pub TakesMemory : Line → Type 0
 TakesMemory (Said said) = ⊥
-TakesMemory (Ids now first count) = (0 < count) × (first + count ≤ 2 ^ 64)
+TakesMemory (Ids now first count) = (0 < count) × (first + count ≤ u64_limit)
 TakesMemory (Path now port fresh) = ⊥
 
 -- memory was taken for items, with nothing left to read

@@ -2,6 +2,7 @@
 ghost use Rattle.std.specs.Prelude.{◌≡◌, ℕ, ◌*◌, ◌%◌, ◌-◌, ◌+◌, ◌<◌, ◌≤◌, ◌^◌, List, length, take, nat_le, slice_index};
 ghost use Rattle.std.specs.Str.Parse.{digits_value};
 ghost use lib.Lanes.{number_l};
+ghost use Rattle.recovery_base.specs.Units.{u64_limit};
 ghost use Rattle.core.specs.Slice.Scan.{digits_from, flag_word, little_endian};
 ghost use Rattle.core.specs.Dec2flt.Digits.{IsEightBytes, IsEightDigits};
 ghost use Rattle.core.specs.Float.Numeral.{digits_len};
@@ -64,7 +65,7 @@ fn flags_from_ten(word: u64) -> u64
 #[inline(always)]
 fn keep_first(word: u64, count: u32) -> u64
     requires { count < 8 }
-    ensures { result ≡ word * 256 ^ (8 - count) % 2 ^ 64 }
+    ensures { result ≡ word * 256 ^ (8 - count) % u64_limit }
 {
     // Two shifts, since a shift by 64 is not defined.
     word << (56 - 8 * count) << 8
@@ -92,7 +93,7 @@ pub fn leading_digits(bytes: &[u8]) -> (u64, usize)
     ensures value { result.1 ≤ 19 → result.0 ≡ digits_value 10 (take result.1 bytes.now) }
     ensures digits { AreDigits bytes.now result.1 }
     ensures within { result.1 ≤ length bytes.now }
-    ensures fits { result.0 < 2 ^ 64 }
+    ensures fits { result.0 < u64_limit }
 {
     let mut value = 0u64;
     let mut count = 0;

@@ -1,5 +1,6 @@
 //! The event that a line of a script spells, put into a sink.
-ghost use Rattle.std.specs.Prelude.{◌≡◌, ◌+◌, ◌<◌, ◌≤◌, ◌^◌, Some, IfOk, OnErr, vec_len, vec_capacity};
+ghost use Rattle.std.specs.Prelude.{◌≡◌, ◌+◌, ◌<◌, ◌≤◌, Some, IfOk, OnErr, vec_len, vec_capacity};
+ghost use Rattle.recovery_base.specs.Units.{u64_limit};
 ghost use Rattle.recovery_script_syntax.specs.Lines.{zero_ids, IsDocumentationAddress, HoldsList, forms_without_items, send};
 ghost use Rattle.recovery_script_syntax.specs.Reading.{reading, line_behind, words_left};
 ghost use Rattle.recovery_script_syntax.specs.Reading.{ConstructsEvent, PushesToSink, PutsRead, PutsSpelled, PushesSpelled, all_of, whole};
@@ -33,7 +34,7 @@ pub fn peer_at(port: u16) -> SocketAddr
 
 /// The ids of a line that issues them, each of zero bytes.
 fn zero_ids(alloc: Global, first: u64, count: u64) -> Result<Vec<IssuedCid>, NoMemory>
-    requires { first + count ≤ 2 ^ 64 }
+    requires { first + count ≤ u64_limit }
     ensures made { IfOk result (λ ids. ids.items ≡ zero_ids first count) }
     ensures memory { OnErr result (0 < count) }
 {

@@ -1,9 +1,11 @@
 //! The words of a line, read one after the other.
-ghost use Rattle.std.specs.Prelude.{◌≡◌, ◌*◌, ◌<◌, ◌≤◌, ◌^◌, ◌==◌, [], Some, length, take, slice_index};
+ghost use Rattle.std.specs.Prelude.{◌≡◌, ◌*◌, ◌<◌, ◌≤◌, ◌^◌, ◌==◌, [], Some, length, take, slice_index, ◌+◌};
 ghost use Rattle.std.specs.Prelude.{bytes_eq, Decides, IfOk, IfSome, OnErr, IsSome, IsSomeAnd};
 ghost use Rattle.std.specs.List.{position_or_len, before_first};
 ghost use Rattle.recovery_base.specs.Timers.{timer_named};
-ghost use Rattle.recovery_script_syntax.specs.Words.{words_of};
+ghost use Rattle.recovery_base.specs.Times.{span_limit};
+ghost use Rattle.recovery_base.specs.Units.{byte_limit, number_limit, u16_limit, u64_limit};
+ghost use Rattle.recovery_script_syntax.specs.Words.{words_of, most_ids};
 ghost use Rattle.recovery_script_syntax.specs.Reading.{IsFirstNumber, ParsesTo, ReadsBy, words_left, first_word, field, flag_of, space_of, path_of, largest_of, number_of};
 ghost use Rattle.recovery_script_syntax.specs.Reading.{items_read, AreItemsRead, IsPlainName, TakesName};
 
@@ -115,7 +117,7 @@ fn long_number_in(digits: &[u8]) -> Option<u128>
 /// The number that a word spells, 0 to `u64::MAX`: digits without a sign and without leading zeros.
 #[tactic(auto, unfolding(crate::specs::Reading::number_of))]
 pub fn number_in(word: &[u8]) -> Option<u64>
-    ensures { result ≡ number_of (2 ^ 64) word.now }
+    ensures { result ≡ number_of u64_limit word.now }
 {
     match long_number_in(word) {
         Some(number) => u64::try_from(number).ok(),
@@ -126,7 +128,7 @@ pub fn number_in(word: &[u8]) -> Option<u64>
 /// The span that a word spells: nanoseconds, 0 to 2^64 · 10^9 - 1, as a number is spelled.
 #[tactic(auto, unfolding(crate::specs::Reading::number_of))]
 fn span_in(word: &[u8]) -> Option<Duration>
-    ensures { result ≡ number_of (2 ^ 64 * 10 ^ 9) word.now }
+    ensures { result ≡ number_of span_limit word.now }
 {
     match long_number_in(word) {
         Some(nanos) => Duration::checked_from_nanos(nanos),
@@ -138,7 +140,7 @@ fn span_in(word: &[u8]) -> Option<Duration>
 /// has no more than 19 digits; else `None`, whatever it spells.
 #[inline(always)]
 fn first_short_number(bytes: &[u8]) -> Option<(u64, usize)>
-    ensures { IfSome result (λ found. IsFirstNumber (2 ^ 64) bytes.now (Some found)) }
+    ensures { IfSome result (λ found. IsFirstNumber u64_limit bytes.now (Some found)) }
 {
     let (value, end) = leading_digits(bytes);
     if end == 0 || end > 19 || (end > 1 && bytes[0] == b'0') {
@@ -207,7 +209,7 @@ impl<'a> Words<'a> {
     #[inline(never)]
     #[tactic(auto, unfolding(crate::specs::Reading::field))]
     pub fn number(&mut self) -> Option<u64>
-        ensures { ReadsBy (field (number_of (2 ^ 64))) self.old self.new result }
+        ensures { ReadsBy (field (number_of u64_limit)) self.old self.new result }
     {
         let rest = self.rest?;
         let Some((number, end)) = first_short_number(rest) else {
@@ -222,7 +224,7 @@ impl<'a> Words<'a> {
     #[inline(never)]
     #[tactic(auto, unfolding(crate::specs::Reading::field))]
     fn number_of_any_length(&mut self) -> Option<u64>
-        ensures { ReadsBy (field (number_of (2 ^ 64))) self.old self.new result }
+        ensures { ReadsBy (field (number_of u64_limit)) self.old self.new result }
     {
         number_in(self.next()?)
     }
@@ -230,7 +232,7 @@ impl<'a> Words<'a> {
     /// The next word as a moment: nanoseconds, 0 to `u64::MAX`.
     #[tactic(auto, unfolding(crate::specs::Reading::field))]
     pub fn moment(&mut self) -> Option<Instant>
-        ensures { ReadsBy (field (number_of (2 ^ 64))) self.old self.new result }
+        ensures { ReadsBy (field (number_of u64_limit)) self.old self.new result }
     {
         Some(Instant::from_nanos(self.number()?))
     }
@@ -239,7 +241,7 @@ impl<'a> Words<'a> {
     #[inline(never)]
     #[tactic(auto, unfolding(crate::specs::Reading::field, crate::specs::Reading::number_of))]
     pub fn span(&mut self) -> Option<Duration>
-        ensures { ReadsBy (field (number_of (2 ^ 64 * 10 ^ 9))) self.old self.new result }
+        ensures { ReadsBy (field (number_of span_limit)) self.old self.new result }
     {
         let rest = self.rest?;
         let Some((nanos, end)) = first_short_number(rest) else {
@@ -253,7 +255,7 @@ impl<'a> Words<'a> {
     #[inline(never)]
     #[tactic(auto, unfolding(crate::specs::Reading::field))]
     fn span_of_any_length(&mut self) -> Option<Duration>
-        ensures { ReadsBy (field (number_of (2 ^ 64 * 10 ^ 9))) self.old self.new result }
+        ensures { ReadsBy (field (number_of span_limit)) self.old self.new result }
     {
         span_in(self.next()?)
     }
@@ -261,7 +263,7 @@ impl<'a> Words<'a> {
     /// The next word as a number, 0 to `u16::MAX`: a size in bytes, or a port.
     #[tactic(auto, unfolding(crate::specs::Reading::field))]
     pub fn short(&mut self) -> Option<u16>
-        ensures { ReadsBy (field (number_of (2 ^ 16))) self.old self.new result }
+        ensures { ReadsBy (field (number_of u16_limit)) self.old self.new result }
     {
         let number = self.number()?;
         u16::try_from(number).ok()
@@ -270,7 +272,7 @@ impl<'a> Words<'a> {
     /// The next word as a byte, 0 to 255.
     #[tactic(auto, unfolding(crate::specs::Reading::field))]
     pub fn byte(&mut self) -> Option<u8>
-        ensures { ReadsBy (field (number_of (2 ^ 8))) self.old self.new result }
+        ensures { ReadsBy (field (number_of byte_limit)) self.old self.new result }
     {
         let number = self.number()?;
         u8::try_from(number).ok()
@@ -279,7 +281,7 @@ impl<'a> Words<'a> {
     /// The next word as a count of ids, 0 to 64.
     #[tactic(auto, unfolding(crate::specs::Reading::field))]
     pub fn count(&mut self) -> Option<u64>
-        ensures { ReadsBy (field (number_of 65)) self.old self.new result }
+        ensures { ReadsBy (field (number_of (most_ids + 1))) self.old self.new result }
     {
         let number = self.number()?;
         if number > MOST_IDS {
@@ -291,7 +293,7 @@ impl<'a> Words<'a> {
     /// The next word as a number below 2^62.
     #[tactic(auto, unfolding(crate::specs::Reading::field))]
     pub fn var_int(&mut self) -> Option<VarInt>
-        ensures { ReadsBy (field (number_of (2 ^ 62))) self.old self.new result }
+        ensures { ReadsBy (field (number_of number_limit)) self.old self.new result }
     {
         let number = self.number()?;
         VarInt::from_u64(number).ok()

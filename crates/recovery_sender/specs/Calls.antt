@@ -1,8 +1,9 @@
 -- What the calls beside ACK frames and losses come to, by the state before them (RFC 9002, A.5, A.9 and A.11).
-use Rattle.std.specs.Prelude.{◌≡◌, ℕ, ◌+◌, ◌^◌, ◌||◌, ◌&&◌, ◌==◌, not, nat_lt, nat_le, Bool, true, false, Option, None, Some, Result, Ok, Err, List, [], ◌∷◌, if◌then◌else◌}
+use Rattle.std.specs.Prelude.{◌≡◌, ℕ, ◌+◌, ◌||◌, ◌&&◌, ◌==◌, not, nat_lt, nat_le, Bool, true, false, Option, None, Some, Result, Ok, Err, List, [], ◌∷◌, if◌then◌else◌}
 use Rattle.std.specs.Option.{option_and_then}
 use Rattle.recovery_base.specs.declared.below.SpaceId.{SpaceId}
 use Rattle.recovery_base.specs.declared.timer.Timer.TheVariants.{LossDetection}
+use Rattle.recovery_base.specs.Units.{u64_limit}
 use Rattle.recovery_congestion.specs.Controllers.{ControllerSemantics}
 use Rattle.recovery_events.specs.declared.event.Answer.{Answer}
 use Rattle.recovery_events.specs.declared.event.Answer.TheVariants as answers
@@ -76,7 +77,7 @@ module _ {K P M : Type 0} (words : ControllerSemantics K) (recovery : RecoverySt
   abbrev pub transmit_reply : ℕ → ℕ → SpaceId → Bool → Result Transmission SenderError
   transmit_reply now bytes space in_flight =
       if is_discarded space recovery.discarded then Err (refused.Event SpaceDiscarded)
-      else if nat_lt (recovery.paths.current.state.total_sent + bytes) (2 ^ 64)
+      else if nat_lt (recovery.paths.current.state.total_sent + bytes) u64_limit
       then Ok (transmission now bytes (is_checked recovery space in_flight))
       else Err (refused.Event Overflow)
 
@@ -140,7 +141,7 @@ IsPassedThrough event = Unit {0}
 -- the total of what came in on the path in use has no room for so many bytes (RFC 9000, 8.1)
 abbrev pub datagram_reply : {K P M : Type 0} → RecoveryState K P M → ℕ → Result (Unit {0}) SenderError
 datagram_reply recovery bytes =
-    if nat_lt (recovery.paths.current.state.total_recvd + bytes) (2 ^ 64) then Ok (tt {0})
+    if nat_lt (recovery.paths.current.state.total_recvd + bytes) u64_limit then Ok (tt {0})
     else Err (refused.Event Overflow)
 
 -- ---- probes (RFC 9002, 6.2.4 and A.9)

@@ -1,7 +1,8 @@
 -- What becomes of the packets that a look for losses goes over, one after another.
-use Rattle.std.specs.Prelude.{◌≡◌, ◌≢◌, ℕ, ◌-◌, ◌^◌, ◌<◌, ◌⊎◌, Decides, min, List, [], ◌∷◌, ◌++◌, Bool, false, Option, None, Some, option_map, map, Ok}
+use Rattle.std.specs.Prelude.{◌≡◌, ◌≢◌, ℕ, ◌<◌, ◌⊎◌, Decides, min, List, [], ◌∷◌, ◌++◌, Bool, false, Option, None, Some, option_map, map, Ok}
 use Rattle.std.specs.Option.{ForSome}
 use Rattle.recovery_base.specs.declared.below.SpaceId.{SpaceId}
+use Rattle.recovery_base.specs.Units.{largest_u64}
 use Rattle.recovery_events.specs.declared.event.Answer.{Answer}
 use Rattle.recovery_events.specs.declared.event.Answer.TheVariants.{BlackHole}
 use Rattle.recovery_events.specs.declared.event.Event.TheVariants.{Lost, LossesDone, Congestion}
@@ -103,7 +104,7 @@ pub record PassResult {P M : Type 0} (look : LossPass) (packets : Packets P M) (
         (IsEndAt look packets losses.numbers.items) look.period)
     -- the bytes of those that count, where there is one
     pub congestion : losses.congestion
-        ≡ option_map (λ sent. min (bytes_counted look packets losses.numbers.items) (2 ^ 64 - 1))
+        ≡ option_map (λ sent. min (bytes_counted look packets losses.numbers.items) largest_u64)
         (last_counted look packets losses.numbers.items)
     -- where nothing was told lost, no black hole is reported
     pub black_hole : losses.numbers.items ≡ [] → losses.is_black_hole ≡ false
@@ -129,7 +130,7 @@ pub record DetectsLosses {F Q R C K S M P : Type 0} {f : _} {c : _} {q : _} {m :
       (time : Option ℕ) × PassResult look (packets_in (state_in old) space) losses time
       × ForEveryPast old (LosesTracked look losses time)
       × TakesSteps (detecting look losses losses.is_persistent
-      (min (bytes_counted look (packets_in (state_in old) space) losses.numbers.items) (2 ^ 64 - 1))
+      (min (bytes_counted look (packets_in (state_in old) space) losses.numbers.items) largest_u64)
       (last_counted look (packets_in (state_in old) space) losses.numbers.items) time) old new)
   pub none : largest_in (state_in old) space ≡ None
       → IsEmptyLosses losses × TakesSteps (loss_time space None ∷ []) old new

@@ -26,6 +26,10 @@ pub record IsEmptyLosses (losses : Losses) : Type 0 where
 abbrev pub largest_in : {K P M : Type 0} → RecoveryState K P M → SpaceId → Option ℕ
 largest_in recovery space = option_and_then (λ here. here.largest_acked_packet) (space_in recovery space)
 
+-- kPersistentCongestionThreshold (RFC 9002, 7.6.1)
+abbrev pub persistence_threshold : ℕ
+persistence_threshold = 3
+
 -- what a look goes by, at a space whose largest acknowledged number is this; only one that is due to an ACK finds
 -- persistent congestion
 abbrev pub look_of : {K P M : Type 0} → RecoveryState K P M → Variables → SpaceId → ℕ → Bool → ℕ → LossPass
@@ -37,5 +41,5 @@ look_of recovery variables space now due_to_ack largest = let path = recovery.pa
   probe = (if same_space space Data then probe_of path.state.discovery else None);
   generation = path.ledger.generation;
   first_of_run = (if due_to_ack then first_of path.marks.first_after_sample space else None);
-  period = 3 * (pto_base_of path.state.rtt + variables.max_ack_delay);
+  period = persistence_threshold * (pto_base_of path.state.rtt + variables.max_ack_delay);
 }

@@ -1,5 +1,5 @@
 -- When the timer for losses is due, and what for (RFC 9002, 6.2 and A.8), by what can be read of a sender.
-use Rattle.std.specs.Prelude.{◌≡◌, ℕ, ◌+◌, ◌-◌, ◌^◌, ◌||◌, ◌&&◌, not, min, Bool, Option, None, Some, option_map, if◌then◌else◌}
+use Rattle.std.specs.Prelude.{◌≡◌, ℕ, ◌+◌, ◌||◌, ◌&&◌, not, min, Bool, Option, None, Some, option_map, if◌then◌else◌}
 use Rattle.std.specs.List.{list_any}
 use Rattle.std.specs.Option.{option_and_then, option_or}
 use Rattle.recovery_base.specs.declared.below.SpaceId.{SpaceId}
@@ -7,6 +7,7 @@ use Rattle.recovery_base.specs.declared.below.SpaceId.TheVariants.{Initial, Hand
 use Rattle.recovery_base.specs.declared.timer.Timer.TheVariants.{LossDetection}
 use Rattle.recovery_base.specs.Spaces.{same_space}
 use Rattle.recovery_base.specs.Timers.{moment}
+use Rattle.recovery_base.specs.Units.{last_time}
 use Rattle.recovery_congestion.specs.Rtt.{pto_base_of}
 use Rattle.recovery_spaces.specs.Discarded.{is_discarded}
 use Rattle.recovery_spaces.specs.Packets.{Packets}
@@ -28,7 +29,7 @@ soonest due = sooner (sooner (due Initial) (due Handshake)) (due Data)
 
 -- a span later; it stops at the last moment of the clock
 abbrev pub behind : ℕ → ℕ → ℕ
-behind time span = min (time + span) (2 ^ 64 - 1)
+behind time span = min (time + span) last_time
 
 -- ---- what is asked of packets
 

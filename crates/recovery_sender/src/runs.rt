@@ -1,6 +1,7 @@
 //! A run of a sender over calls that come, with what they come to going on.
-ghost use Rattle.std.specs.Prelude.{◌≤◌, ◌<◌, ◌^◌, ◌⊎◌, IfOk, OnErr, length};
+ghost use Rattle.std.specs.Prelude.{◌≤◌, ◌<◌, ◌⊎◌, IfOk, OnErr, length};
 ghost use Rattle.recovery_base.specs.declared.timer.Timer.TheVariants.{LossDetection};
+ghost use Rattle.recovery_base.specs.Units.{number_limit};
 ghost use Rattle.recovery_events.specs.Feeding.{TakesAll};
 ghost use Rattle.recovery_packet_numbers.specs.Skips.{IsSkips};
 ghost use Rattle.recovery_sender.specs.Runs.{IsRun, CallIntoSink, CallsOverSource};
@@ -92,7 +93,7 @@ where
     Q::Meta: Drop,
     Q::Streams: Drop,
     R: Rng + Drop,
-    requires issued { config.issued ≤ 2 ^ 62 }
+    requires issued { config.issued ≤ number_limit }
     requires skips { IsSkips config.skips }
 
     // Each call has one reply, and all that is promised of a call holds of it: by the state before, and by the events

@@ -1,5 +1,6 @@
 -- The counts that are kept beside the tracked packets (RFC 9002, A.1).
-use Rattle.std.specs.Prelude.{◌≡◌, ℕ, ◌^◌, ◌<◌, ◌≤◌, ◌==◌, ◌&&◌, sum_by, List, [], ◌∷◌, true, Option, if◌then◌else◌}
+use Rattle.std.specs.Prelude.{◌≡◌, ℕ, ◌<◌, ◌≤◌, ◌==◌, ◌&&◌, sum_by, List, [], ◌∷◌, true, Option, if◌then◌else◌}
+use Rattle.recovery_base.specs.Units.{u64_limit}
 use Rattle.recovery_queue.specs.declared.slots.Slot.{Slot}
 use Rattle.recovery_queue.specs.Slots.{entries_in, IsClosedUp}
 use Rattle.recovery_queue.specs.Queues.{QueueSemantics, IsVoid}
@@ -47,5 +48,5 @@ pub record AreTracked {P M S : Type 0} (words : QueueSemantics P S) (slots : Lis
   pub counted : AreCounted (entries_in slots) last silent sized eliciting
   pub closed : IsClosedUp slots
   pub found : AreAboveFrom last from (entries_in slots)
-  pub small : AreBelow (entries_in slots) (2 ^ 64)
+  pub small : AreBelow (entries_in slots) u64_limit
   pub void : AreVoidBelow words filled_from (entries_in slots)

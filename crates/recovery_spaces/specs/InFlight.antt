@@ -1,7 +1,8 @@
 -- Bytes in flight (RFC 9002, 2 and B.2): sums over the tracked packets of a path's generation.
-use Rattle.std.specs.Prelude.{ℕ, ◌+◌, ◌-◌, ◌≤◌, ◌^◌, ◌==◌, ◌&&◌, ◌⊎◌, sum_by, if◌then◌else◌}
+use Rattle.std.specs.Prelude.{ℕ, ◌+◌, ◌-◌, ◌≤◌, ◌==◌, ◌&&◌, ◌⊎◌, sum_by, if◌then◌else◌}
 use Rattle.recovery_base.specs.declared.below.SpaceId.{SpaceId}
 use Rattle.recovery_base.specs.declared.below.SpaceId.TheVariants.{Initial, Handshake, Data}
+use Rattle.recovery_base.specs.Units.{u64_limit}
 use Rattle.recovery_spaces.specs.declared.paths.InFlight.{InFlight}
 use Rattle.recovery_spaces.specs.Packets.{Packet, Packets}
 
@@ -52,5 +53,5 @@ IsCountedIn counters generation packets =
 
 -- a counter would pass the end of its type
 abbrev pub Overflows : {P M : Type 0} → InFlight → Packet P M → Type 0
-Overflows counters packet = (2 ^ 64 ≤ counters.bytes + packet.size)
-    ⊎ (2 ^ 64 ≤ counters.ack_eliciting + (if packet.ack_eliciting then 1 else 0))
+Overflows counters packet = (u64_limit ≤ counters.bytes + packet.size)
+    ⊎ (u64_limit ≤ counters.ack_eliciting + (if packet.ack_eliciting then 1 else 0))

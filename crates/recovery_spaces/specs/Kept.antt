@@ -1,7 +1,8 @@
 -- What a space keeps of the packets that it sent, for loss recovery and probes (RFC 9002, A.3 and
 -- 6.2.4).
-use Rattle.std.specs.Prelude.{ℕ, ◌+◌, ◌-◌, ◌^◌, min, List, [], ◌∷◌, Option, None, Some, if◌then◌else◌}
+use Rattle.std.specs.Prelude.{ℕ, ◌+◌, ◌-◌, min, List, [], ◌∷◌, Option, None, Some, if◌then◌else◌}
 use Rattle.std.specs.Option.{option_map_or}
+use Rattle.recovery_base.specs.Units.{largest_u32}
 use Rattle.recovery_queue.specs.Queues.{QueueSemantics}
 use Rattle.recovery_spaces.specs.Packets.{packet_at, is_above}
 use Rattle.recovery_spaces.specs.SpaceLog.{SpaceEntry, sends, acknowledged, probes}
@@ -16,7 +17,7 @@ last_eliciting_sent (entry ∷ earlier) = last_eliciting_sent earlier
 
 -- one probe more, as far as they are counted
 abbrev pub one_more : ℕ → ℕ
-one_more count = min (count + 1) (2 ^ 32 - 1)
+one_more count = min (count + 1) largest_u32
 
 -- how many probes are still to be sent: each ack-eliciting packet is one of them
 abbrev pub probes_by : {P M : Type 0} → List (SpaceEntry P M) → ℕ

@@ -1,9 +1,10 @@
 -- Tracked packets of one space, in the order of their numbers (RFC 9002, A.1).
-use Rattle.std.specs.Prelude.{◌≡◌, ◌≢◌, ℕ, ◌<◌, ◌≤◌, ◌^◌, IsSomeAnd, option_map, ◌⊎◌, Bool, IsTrue, true, not, ◌&&◌, nat_lt, nat_le, List, [], ◌∷◌, ◌++◌, length, filter, Option, None, Some, if◌then◌else◌}
+use Rattle.std.specs.Prelude.{◌≡◌, ◌≢◌, ℕ, ◌<◌, ◌≤◌, IsSomeAnd, option_map, ◌⊎◌, Bool, IsTrue, true, not, ◌&&◌, nat_lt, nat_le, List, [], ◌∷◌, ◌++◌, length, filter, Option, None, Some, if◌then◌else◌}
 use Rattle.std.specs.Option.{option_and_then, option_map_or}
 use Rattle.std.specs.Ordering.{nat_cmp}
 use Rattle.std.specs.BTreeMap.{is_at}
 use Rattle.std.specs.Map.{lookup, remove_entry, set_value}
+use Rattle.recovery_base.specs.Units.{number_limit}
 use Rattle.recovery_queue.specs.Slots.{first_entry, is_from}
 
 -- a packet as contracts see it; the contents P are what its queue holds (RFC 9000, 13.3), and M is what else an
@@ -118,7 +119,7 @@ entry_number = option_map (λ entry. entry.0)
 
 -- a number that is none of a packet (RFC 9000, 12.3)
 abbrev pub IsTooLarge : Option ℕ → Type 0
-IsTooLarge number = IsSomeAnd number (λ n. 2 ^ 62 ≤ n)
+IsTooLarge number = IsSomeAnd number (λ n. number_limit ≤ n)
 
 -- the largest number that a packet acknowledges, where it is tracked and acknowledges one
 abbrev pub largest_acked_by : {P M : Type 0} → Option (Packet P M) → Option ℕ

@@ -1,5 +1,5 @@
 -- The three packet number spaces (RFC 9000, 12.3), and what an event does to one.
-use Rattle.std.specs.Prelude.{◌≡◌, ℕ, ◌+◌, ◌-◌, ◌^◌, ◌⊎◌, ◌↔◌, ◌||◌, ◌&&◌, not, min, max, nat_lt, List, [], Bool, IsTrue, Option, None, Some, if◌then◌else◌, ◌<◌, ◌≤◌, Result, Ok, Err}
+use Rattle.std.specs.Prelude.{◌≡◌, ℕ, ◌+◌, ◌-◌, ◌⊎◌, ◌↔◌, ◌||◌, ◌&&◌, not, min, max, nat_lt, List, [], Bool, IsTrue, Option, None, Some, if◌then◌else◌, ◌<◌, ◌≤◌, Result, Ok, Err}
 use Rattle.std.specs.Option.{option_and_then, option_map_or}
 use Rattle.recovery_base.specs.declared.below.SpaceId.{SpaceId}
 use Rattle.recovery_base.specs.declared.below.SpaceId.TheVariants.{Initial, Handshake, Data}
@@ -8,6 +8,7 @@ use Rattle.recovery_base.specs.declared.below.frames.EcnCounts.{EcnCounts}
 use Rattle.recovery_base.specs.declared.dedup.Dedup.{Dedup}
 use Rattle.recovery_base.specs.Numbers.{RecentNumbers, InsertNumber, Exceeds, IsNewNumber}
 use Rattle.recovery_base.specs.Received.{HasReceived}
+use Rattle.recovery_base.specs.Units.{largest_u64, number_limit}
 use Rattle.recovery_acks.specs.Acks.{AckCounts, Acks, RequiresImmediateAck, IsPending, SubtractsBelow, acks_sent, counts_inserted, counts_received, most_ranges, new_acks, with_required, with_thresholds}
 use Rattle.recovery_queue.specs.Queues.{QueueSemantics}
 use Rattle.recovery_spaces.specs.declared.spaces.ReceiveError.{ReceiveError}
@@ -111,7 +112,7 @@ pub record IsCoherent {P M : Type 0} (space : Space P M) : Type 0 where
 abbrev pub after_number : {P M : Type 0} → ℕ → Space P M → Space P M
 after_number number space = record space {
   next_packet_number = number + 1;
-  sent_with_keys = min (space.sent_with_keys + (number + 1 - space.next_packet_number)) (2 ^ 64 - 1);
+  sent_with_keys = min (space.sent_with_keys + (number + 1 - space.next_packet_number)) largest_u64;
 }
 
 -- a packet that elicits an ACK was sent at this moment
@@ -287,9 +288,9 @@ IsReceipt known counts number eliciting Duplicate = ¬ IsNewNumber known.came nu
 -- what comes of a received packet: its number may be too large, and only a new one takes memory
 abbrev pub ReceiveReply : AckState → AckCounts → ℕ → Bool → Result Receipt ReceiveError → Type 0
 ReceiveReply known counts number eliciting (Ok receipt) =
-    (number < 2 ^ 62) × IsReceipt known counts number eliciting receipt
-ReceiveReply known counts number eliciting (Err NumberTooLarge) = 2 ^ 62 ≤ number
-ReceiveReply known counts number eliciting (Err NoMemory) = (number < 2 ^ 62) × IsNewNumber known.came number
+    (number < number_limit) × IsReceipt known counts number eliciting receipt
+ReceiveReply known counts number eliciting (Err NumberTooLarge) = number_limit ≤ number
+ReceiveReply known counts number eliciting (Err NoMemory) = (number < number_limit) × IsNewNumber known.came number
 
 -- ---- what a log leaves
 
@@ -331,5 +332,5 @@ module _ {P M S : Type 0} (words : QueueSemantics P S) where
     pub last_sent : left.time_of_last_ack_eliciting_packet ≡ last_eliciting_sent log
     pub probes : left.loss_probes ≡ probes_by log
     -- how many numbers were given out or skipped, as far as its type counts
-    pub given_out : left.sent_with_keys ≡ min (sent_by words log).next (2 ^ 64 - 1)
+    pub given_out : left.sent_with_keys ≡ min (sent_by words log).next largest_u64
     pub queued : queued_of left ≡ queued_by words log

@@ -1,6 +1,7 @@
 //! The packets that a packet number space tracks (RFC 9002, A.1), by number.
-ghost use Rattle.std.specs.Prelude.{◌≡◌, Decides, ◌^◌, ◌<◌, ◌≤◌, [], ◌∷◌, None, Some, IfSome, IfOk, OnOk, OnErr, IfNone, MatchOption, length, filter};
+ghost use Rattle.std.specs.Prelude.{◌≡◌, Decides, ◌<◌, ◌≤◌, [], ◌∷◌, None, Some, IfSome, IfOk, OnOk, OnErr, IfNone, MatchOption, length, filter};
 ghost use Rattle.std.specs.Option.{is_some};
+ghost use Rattle.recovery_base.specs.Units.{u64_limit};
 ghost use Rattle.recovery_spaces.specs.Packets.{Tracking, no_packets, packet_at, AreBelow, IsAboveLast, HasSize, HasEliciting, first_from, most_silent, is_above, least_number, silent_in, forgotten_number, forgotten_entry, after_sending, after_taking, after_carrying, contents_or};
 ghost use Rattle.recovery_queue.specs.Queues.{IsVoid};
 ghost use Rattle.recovery_queue.specs.Slots.{entries_in, is_from, AreFrom};
@@ -275,7 +276,7 @@ where
     Q: RetransmitQueue + Drop,
     Q::Meta: Drop,
     requires found { AreAboveFrom last from (entries_in packets.now) }
-    requires small { AreBelow (entries_in packets.now) (2 ^ 64) }
+    requires small { AreBelow (entries_in packets.now) u64_limit }
     ensures first { result
         ≡ least_number (filter (λ entry. is_above last entry.0) (entries_in packets.now)) }
     ensures least { IfSome result (λ least. AreAboveFrom last least (entries_in packets.now)) }

@@ -4,6 +4,7 @@ ghost use Rattle.std.specs.Prelude.{◌≡◌, ◌≢◌, ◌<◌, ◌≤◌, �
 ghost use Rattle.std.specs.Option.{is_some};
 ghost use Rattle.recovery_base.specs.declared.below.SpaceId.{SpaceId};
 ghost use Rattle.recovery_base.specs.Ecn.{ecn_fault};
+ghost use Rattle.recovery_base.specs.Units.{number_limit};
 ghost use Rattle.recovery_spaces.specs.Packets.{IsTooLarge, packet_at, with_contents};
 ghost use Rattle.recovery_spaces.specs.Probes.{probe_found};
 ghost use Rattle.recovery_spaces.specs.Queued.{IsSendable};
@@ -219,9 +220,9 @@ where
     /// 12.3).
     pub fn get_tx_number(&mut self) -> Option<u64>
         ensures number { IfSome result (λ number. number ≡ next_number_of self.old) }
-        ensures limit { IfSome result (λ number. number < 2 ^ 62) }
+        ensures limit { IfSome result (λ number. number < number_limit) }
         ensures given { IfSome result (λ number. self.new ≡ after_number number self.old) }
-        ensures none { IfNone result (2 ^ 62 ≤ next_number_of self.old) }
+        ensures none { IfNone result (number_limit ≤ next_number_of self.old) }
         ensures unchanged { IfNone result (self.new ≡ self.old) }
     {
         let number = self.next_packet_number;
@@ -235,7 +236,7 @@ where
     /// The numbers from the next one to this one are given out or skipped.
     fn give_out(&mut self, number: u64)
         requires above { next_number_of self.old ≤ number }
-        requires small { number < 2 ^ 62 }
+        requires small { number < number_limit }
         ensures { self.new ≡ after_number number self.old }
     {
         let count = number + 1 - self.next_packet_number;
@@ -309,7 +310,7 @@ where
     #[inline(always)]
     pub fn on_sent(&mut self, number: u64, ack_eliciting: bool, now: Instant)
         requires above { next_number_of self.old ≤ number }
-        requires small { number < 2 ^ 62 }
+        requires small { number < number_limit }
         ensures { self.new ≡ after_eliciting ack_eliciting now (after_number number self.old) }
     {
         self.give_out(number);

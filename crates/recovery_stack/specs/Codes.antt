@@ -1,5 +1,5 @@
 -- Enums and what else crosses by numbers.
-use Rattle.std.specs.Prelude.{◌≡◌, ℕ, ◌+◌, ◌-◌, ◌*◌, ◌^◌, ◌&&◌, Bool, IsTrue, IsFalse, List, length, Option, Some, None, option_map, option_and_then, min, take, slice_get, if◌then◌else◌, ◌==◌, nat_lt, nat_le}
+use Rattle.std.specs.Prelude.{◌≡◌, ℕ, ◌+◌, ◌*◌, ◌&&◌, Bool, IsTrue, IsFalse, List, length, Option, Some, None, option_map, option_and_then, min, take, slice_get, if◌then◌else◌, ◌==◌, nat_lt, nat_le}
 use Rattle.std.specs.Net.Addr.{ipv4_octets, ipv6_segments, segments_of}
 use Rattle.std.specs.Net.Socket.{v4_ip, v4_port, v6_ip, v6_port, v6_flowinfo, v6_scope_id}
 use Rattle.std.specs.declared.net.socket_addr.SocketAddr.{SocketAddr}
@@ -12,6 +12,8 @@ use Rattle.recovery_base.specs.declared.below.ids.IssuedCid.{IssuedCid}
 use Rattle.recovery_base.specs.declared.below.ids.NewConnectionId.{NewConnectionId}
 use Rattle.recovery_base.specs.declared.timer.Timer.{Timer}
 use Rattle.recovery_base.specs.declared.timer.TheConstants.Timer.{VALUES}
+use Rattle.recovery_base.specs.Units.{largest_u64, number_limit, seconds}
+use Rattle.recovery_base.specs.Ids.{longest_cid}
 use Rattle.recovery_paths.specs.declared.path_pair.PathName.{PathName}
 use Rattle.recovery_paths.specs.declared.path_pair.PathName.TheVariants.{Current, Previous}
 use Rattle.recovery_losses.specs.declared.variables.Side.{Side}
@@ -39,7 +41,7 @@ maybe some number = if some then Some number else None
 
 -- nanoseconds that stop at the end of 64 bits
 abbrev pub nanos_shown : ℕ → ℕ
-nanos_shown span = min span (2 ^ 64 - 1)
+nanos_shown span = min span largest_u64
 
 -- the address that is given
 abbrev pub IsSocketAddress : Address → SocketAddr → Type 0
@@ -57,7 +59,7 @@ issued_of given = record { sequence = given.sequence; id = take given.len given.
 
 -- seconds and nanoseconds, which are fewer than a second's
 abbrev pub span : ℕ → ℕ → Option ℕ
-span secs nanos = if nat_lt nanos (10 ^ 9) then Some (secs * 10 ^ 9 + nanos) else None
+span secs nanos = if nat_lt nanos seconds then Some (secs * seconds + nanos) else None
 
 abbrev pub spans : ℕ → ℕ → ℕ → ℕ → Option (ℕ × ℕ)
 spans delay_secs delay_nanos rtt_secs rtt_nanos =
@@ -65,12 +67,13 @@ spans delay_secs delay_nanos rtt_secs rtt_nanos =
 
 -- an id has at most 20 bytes
 abbrev pub cid : List ℕ → Option (List ℕ)
-cid bytes = if nat_le (length bytes) 20 then Some bytes else None
+cid bytes = if nat_le (length bytes) longest_cid then Some bytes else None
 
 -- the numbers of a frame lie below 2^62
 abbrev pub request : ℕ → ℕ → ℕ → ℕ → Option AckFrequency
 request sequence threshold micros reordering =
-    if nat_lt sequence (2 ^ 62) && nat_lt threshold (2 ^ 62) && nat_lt micros (2 ^ 62) && nat_lt reordering (2 ^ 62)
+    if nat_lt sequence number_limit && nat_lt threshold number_limit && nat_lt micros number_limit
+    && nat_lt reordering number_limit
     then Some (record {
       sequence = sequence;
       ack_eliciting_threshold = threshold;

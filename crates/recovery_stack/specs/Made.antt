@@ -3,6 +3,7 @@ use Rattle.std.specs.Prelude.{◌≡◌, ◌≢◌, ◌⊎◌, ℕ, Bool, true, 
 use Rattle.std.specs.declared.net.socket_addr.SocketAddr.{SocketAddr}
 use Rattle.recovery_engine.specs.declared.controllers.ChosenConfig.{ChosenConfig}
 use Rattle.rand_core.specs.Stream.{Stream}
+use Rattle.recovery_base.specs.Ids.{longest_cid, reset_token_size}
 use Rattle.recovery_history.specs.declared.config.RecoveryConfig.{RecoveryConfig}
 use Rattle.recovery_losses.specs.declared.variables.Side.{Side}
 use Rattle.recovery_stack.specs.Codes.{IsSocketAddress}
@@ -20,7 +21,7 @@ pub record IsNewHandle (side : Option Side) (config : RecoveryConfig ChosenConfi
     : Type 0 where
   pub came : IsFresh side config now words stack.kept
   pub taken : stack.taken ≡ []
-  pub token : stack.token ≡ replicate 16 0
+  pub token : stack.token ≡ replicate reset_token_size 0
 
 pub record Made (side : Option Side) (settings : Settings) (given : Address) (cid : List ℕ) (now : ℕ)
     (in_handle : Option Stack) : Type 0 where
@@ -38,7 +39,7 @@ MadeOrNoMemory side false settings given cid now held = held ≡ None
 -- what is wrong with what a recovery is to be made of, first of all with the id of the peer; `NEW_MADE` where
 -- nothing is
 abbrev pub new_fault : Settings → List ℕ → ℕ
-new_fault settings cid = if nat_lt 20 (length cid) then NEW_CID_TOO_LONG else settings_fault settings
+new_fault settings cid = if nat_lt longest_cid (length cid) then NEW_CID_TOO_LONG else settings_fault settings
 
 -- nothing is wrong, and one is held, or there was no memory; or what is wrong is answered, and none is held
 abbrev pub NewReply : Option Side → ℕ → Settings → Address → List ℕ → ℕ → Option Stack → Type 0

@@ -1,16 +1,19 @@
 -- What a recovery is made with.
-use Rattle.std.specs.Prelude.{ℕ, ◌*◌, ◌≤◌, ◌<◌, ◌^◌, ◌==◌, ◌||◌, nat_lt, nat_le, min, max, true, false, List, Option, None, Some, if◌then◌else◌}
+use Rattle.std.specs.Prelude.{ℕ, ◌*◌, ◌≤◌, ◌<◌, ◌==◌, ◌||◌, nat_lt, nat_le, min, max, true, false, List, Option, None, Some, if◌then◌else◌}
 use Rattle.std.specs.declared.net.socket_addr.SocketAddr.{SocketAddr}
 use Rattle.rand_core.specs.Pcg32Seed.{pcg32_seed}
 use Rattle.rand_core.specs.Steps.{stream_of, steps_u32}
 use Rattle.rand_core.specs.Stream.{Stream}
+use Rattle.recovery_base.specs.Units.{milliseconds, number_limit, seconds}
 use Rattle.rand_pcg.specs.Pcg.{pcg32, pcg32_of_seed}
 use Rattle.recovery_congestion.specs.RenoSettings.{RenoSettings}
 use Rattle.recovery_config.specs.Settings.{settings_with}
 use Rattle.recovery_config.specs.declared.config.TransportConfig.{TransportConfig}
 use Rattle.recovery_mtud.specs.declared.config.MtuDiscoveryConfig.{MtuDiscoveryConfig}
+use Rattle.recovery_mtud.specs.Search.{max_udp_payload}
 use Rattle.recovery_packet_numbers.specs.declared.filter.Skips.{Skips}
 use Rattle.recovery_packet_numbers.specs.declared.filter.Skips.TheVariants.{Drawn, Disabled, Starting}
+use Rattle.recovery_packet_numbers.specs.Skips.{first_skip_limit}
 use Rattle.recovery_history.specs.declared.config.RecoveryConfig.{RecoveryConfig}
 use Rattle.recovery_history.specs.Config.{config_with}
 use Rattle.recovery_engine.specs.declared.controllers.ChosenConfig.{ChosenConfig}
@@ -22,8 +25,8 @@ use Rattle.recovery_stack.specs.Codes.{maybe}
 -- the first thing that is wrong with settings; `NEW_MADE` where nothing is
 abbrev pub settings_fault : Settings → ℕ
 settings_fault settings =
-    if nat_lt (2 ^ 62) settings.issued then NEW_TOO_MANY_ISSUED else
-    (if nat_le 64 settings.first_skip then NEW_SKIP_TOO_LARGE else
+    if nat_lt number_limit settings.issued then NEW_TOO_MANY_ISSUED else
+    (if nat_le first_skip_limit settings.first_skip then NEW_SKIP_TOO_LARGE else
     (if settings.initial_mtu == 0 || settings.min_mtu == 0 then NEW_ZERO_MTU else
     (if settings.initial_window == 0 then NEW_ZERO_WINDOW else
     (if settings.loss_denominator == 0 then NEW_ZERO_DENOMINATOR else
@@ -32,8 +35,8 @@ settings_fault settings =
 
 -- what the parts of a recovery require of settings in which nothing is wrong
 pub record AreSettingsSound (settings : Settings) : Type 0 where
-  pub issued : settings.issued ≤ 2 ^ 62
-  pub first_skip : settings.first_skip < 64
+  pub issued : settings.issued ≤ number_limit
+  pub first_skip : settings.first_skip < first_skip_limit
   pub window : 0 < settings.initial_window
   pub factor : 0 < settings.loss_denominator
   pub initial_mtu : 0 < settings.initial_mtu
@@ -62,7 +65,7 @@ discovery_of settings =
     if settings.searches
     then Some (record {
       interval = settings.mtu_interval;
-      upper_bound = min settings.mtu_upper_bound 65527;
+      upper_bound = min settings.mtu_upper_bound max_udp_payload;
       black_hole_cooldown = settings.black_hole_cooldown;
       minimum_change = max settings.mtu_minimum_change 1;
     })
@@ -90,14 +93,14 @@ config_of settings cid remote = record (config_with (transport_of settings) remo
 -- the settings that are used by default (RFC 9000, 14 and 18.2; RFC 9002, 6.2.2 and 7.2)
 abbrev pub default_settings : Settings
 default_settings = record {
-  max_ack_delay = 25 * 10 ^ 6;
-  cid_lifetime = 10 * 10 ^ 9;
+  max_ack_delay = 25 * milliseconds;
+  cid_lifetime = 10 * seconds;
   issued = 1;
   seed = 0;
   first_skip = 0;
-  initial_rtt = 333 * 10 ^ 6;
-  mtu_interval = 600 * 10 ^ 9;
-  black_hole_cooldown = 60 * 10 ^ 9;
+  initial_rtt = 333 * milliseconds;
+  mtu_interval = 600 * seconds;
+  black_hole_cooldown = 60 * seconds;
   initial_window = 12000;
   loss_numerator = 1;
   loss_denominator = 2;

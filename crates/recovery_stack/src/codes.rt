@@ -1,6 +1,7 @@
 //! Enums by their numbers, and what else crosses.
 ghost use Rattle.std.specs.Prelude.{◌≡◌, ◌≤◌, ◌<◌, Decides, IfOk, OnErr, length, map};
 ghost use Rattle.std.specs.List.{All};
+ghost use Rattle.recovery_base.specs.Ids.{longest_cid};
 ghost use Rattle.recovery_engine.specs.Replies.{IsWritten};
 ghost use Rattle.recovery_stack.specs.Codes.{space_coded, timer_coded, path_coded, maybe, nanos_shown, issued_of, cid, request, span, spans, IsSocketAddress};
 
@@ -124,7 +125,7 @@ pub fn copy_items(queue: &ItemQueue, out: &mut [u64]) -> usize
 
 /// An id as it is issued.
 fn issued_of(given: &Id) -> IssuedCid
-    requires { given.now.len ≤ 20 }
+    requires { given.now.len ≤ longest_cid }
     ensures { result ≡ issued_of given.now }
 {
     IssuedCid {
@@ -136,14 +137,14 @@ fn issued_of(given: &Id) -> IssuedCid
 
 /// Whether each id has at most 20 bytes.
 pub fn are_ids(given: &[Id]) -> bool
-    ensures { Decides result (All (λ id. id.len ≤ 20) given.now) }
+    ensures { Decides result (All (λ id. id.len ≤ longest_cid) given.now) }
 {
     given.iter().all(|id| id.len <= 20)
 }
 
 /// Ids as they are issued, in the same order; where there are none, it takes no memory.
 pub fn ids_of(alloc: Global, given: &[Id]) -> Result<Vec<IssuedCid>, NoMemory>
-    requires { All (λ id. id.len ≤ 20) given.now }
+    requires { All (λ id. id.len ≤ longest_cid) given.now }
     ensures ids { IfOk result (λ ids. ids.items ≡ map issued_of given.now) }
     ensures memory { OnErr result (0 < length given.now) }
 {

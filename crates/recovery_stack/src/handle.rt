@@ -1,6 +1,7 @@
 //! What C holds of a stack.
 ghost use Rattle.std.specs.Prelude.{◌≡◌, ◌≤◌, Some, None, is_some, IfSome, MatchOption};
 ghost use Rattle.std.specs.List.{All};
+ghost use Rattle.recovery_base.specs.Ids.{longest_cid};
 ghost use Rattle.recovery_stack.specs.Answers.{HandleApplies, IsBadArgument, IssuesIdsOrNoMemory};
 ghost use Rattle.recovery_stack.specs.Held.{HoldsIf};
 ghost use Rattle.recovery_stack.specs.SenderCalls.{CallsSender, AsksWith};
@@ -115,9 +116,9 @@ impl Handle {
 
     /// This end issues these ids (RFC 9000, 5.1.1): the event `IssueIds`; an id has at most 20 bytes.
     pub fn issue_ids(&mut self, alloc: Global, now: u64, given: &[Id]) -> EncodedReply
-        ensures short { All (λ id. id.len ≤ 20) given.now
+        ensures short { All (λ id. id.len ≤ longest_cid) given.now
             → IssuesIdsOrNoMemory self.old.slot.held now given.now result self.new.slot.held }
-        ensures long { ¬ All (λ id. id.len ≤ 20) given.now
+        ensures long { ¬ All (λ id. id.len ≤ longest_cid) given.now
             → IsBadArgument self.old.slot.held result self.new.slot.held }
     {
         if !are_ids(given) {

@@ -1,6 +1,7 @@
 //! What can be read of what a handle holds: paths, spaces, ranges to be acknowledged, timers, ids, and what was handed
 //! out last. Of a handle that holds none it is what there is where there is nothing.
 ghost use Rattle.std.specs.Prelude.{◌≡◌, slice_get, replicate, Decides, IsFalse, None};
+ghost use Rattle.recovery_base.specs.Ids.{reset_token_size};
 ghost use Rattle.recovery_ids.specs.LocalIds.{first_moment};
 ghost use Rattle.recovery_paths.specs.PathLog.{path_of};
 ghost use Rattle.recovery_stack.specs.Answers.{ReadsHandle};
@@ -130,7 +131,7 @@ impl Handle {
     /// Writes the bytes of the token that was answered last; all zeros before there was one.
     pub fn token(&mut self, alloc: Global, out: &mut [u8; 16])
         ensures { ReadsHandle self.old.slot.held self.new.slot.held
-            (λ stack. out.new ≡ stack.token) (out.new ≡ replicate 16 0) }
+            (λ stack. out.new ≡ stack.token) (out.new ≡ replicate reset_token_size 0) }
     {
         let Some(stack) = self.take(alloc) else {
             *out = [0; 16];

@@ -1,6 +1,6 @@
 //! What a recovery is made with.
 ghost use Rattle.std.specs.Prelude.{◌≡◌, ◌<◌, None, Some};
-ghost use Rattle.recovery_packet_numbers.specs.Skips.{IsSkips};
+ghost use Rattle.recovery_packet_numbers.specs.Skips.{IsSkips, first_skip_limit};
 ghost use Rattle.recovery_stack.specs.Codes.{maybe};
 ghost use Rattle.recovery_stack.specs.Settings.{config_of, controller_of, default_settings, discovery_of, settings_fault, transport_of, skips_of, AreSettingsSound};
 
@@ -208,7 +208,7 @@ fn lifetime(ends: bool, nanos: u64) -> Option<Duration>
 }
 
 fn skips(kind: u8, first: u64) -> Skips
-    requires { first < 64 }
+    requires { first < first_skip_limit }
     ensures skips { result ≡ skips_of kind first }
     ensures sound { IsSkips result }
 {

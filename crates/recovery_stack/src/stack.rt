@@ -1,6 +1,7 @@
 //! What a handle holds: a recovery, and what its last answers hold beside numbers.
-ghost use Rattle.std.specs.Prelude.{◌≡◌, ◌≤◌, ◌^◌, IfOk};
+ghost use Rattle.std.specs.Prelude.{◌≡◌, ◌≤◌, IfOk};
 ghost use Rattle.rand_core.specs.Steps.{stream_of, steps_u32};
+ghost use Rattle.recovery_base.specs.Units.{number_limit};
 ghost use Rattle.rand_pcg.specs.Pcg.{pcg32};
 ghost use Rattle.recovery_packet_numbers.specs.Skips.{IsSkips};
 ghost use Rattle.quic_recovery.specs.State.{state_of};
@@ -49,7 +50,7 @@ impl Stack {
         rng: Pcg32,
         now: Instant,
     ) -> Result<Stack, NoMemory>
-        requires issued { config.issued ≤ 2 ^ 62 }
+        requires issued { config.issued ≤ number_limit }
         requires skips { IsSkips config.skips }
         ensures { IfOk result
             (λ stack. IsNewHandle side config now (stream_of (steps_u32 pcg32) rng) stack) }

@@ -8,9 +8,13 @@ use Rattle.recovery_trace.specs.declared.faults.Fault.{Fault}
 use Rattle.recovery_trace.specs.declared.faults.Fault.TheVariants.{TooLong, TooShort, Word}
 use Rattle.recovery_trace.specs.Faults.{NamesWordOf}
 
+-- the most bytes of a word that are shown
+abbrev pub most_shown : ℕ
+most_shown = 64
+
 -- the first 64 bytes of a word between quotes, each as Rust escapes it in a text
 abbrev pub quoted : List ℕ → List ℕ
-quoted word = 34 ∷ (flat_map (debug_escape 34) (take 64 word) ++ 34 ∷ [])
+quoted word = 34 ∷ (flat_map (debug_escape 34) (take most_shown word) ++ 34 ∷ [])
 
 -- how the line of this number is named, and a word of it
 abbrev pub line_named : ℕ → List ℕ

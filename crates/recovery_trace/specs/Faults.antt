@@ -2,6 +2,7 @@
 use Rattle.std.specs.Prelude.{◌≡◌, ◌≢◌, ℕ, ◌+◌, ◌-◌, ◌<◌, ◌≤◌, ◌==◌, ◌⊎◌, List, ◌++◌, length, take, slice_index}
 use Rattle.std.specs.List.{count_by}
 use Rattle.recovery_script_syntax.specs.Lines.{ItemEvent, EncodesEvent}
+use Rattle.recovery_script_syntax.specs.Words.{longest_line}
 use Rattle.recovery_trace.specs.declared.faults.Fault.{Fault}
 use Rattle.recovery_trace.specs.declared.faults.Fault.TheVariants.{TooLong, TooShort, Word}
 
@@ -19,12 +20,12 @@ pub record EndsWord (line : List ℕ) (start end : ℕ) : Type 0 where
 -- A word of a line: its number is the spaces before it and one. It is the first, or what stands before the space in
 -- front of it begins a line that spells an event.
 pub record NamesWord (line : List ℕ) (number start end : ℕ) : Type 0 where
-  pub short : length line ≤ 4096
+  pub short : length line ≤ longest_line
   pub word : EndsWord line start end
   pub counted : number ≡ count_by (λ byte. byte == 32) (take start line) + 1
   pub begun : (start ≡ 0) ⊎ ((slice_index line (start - 1) ≡ 32) × IsEventPrefix (take (start - 1) line))
 
 abbrev pub NamesWordOf : List ℕ → Fault → Type 0
-NamesWordOf line TooLong = 4096 < length line
+NamesWordOf line TooLong = longest_line < length line
 NamesWordOf line TooShort = IsEventPrefix line
 NamesWordOf line (Word number start end) = NamesWord line number start end

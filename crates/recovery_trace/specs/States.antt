@@ -1,6 +1,7 @@
 -- The line of a path's state at a time.
-use Rattle.std.specs.Prelude.{ℕ, ◌-◌, ◌^◌, nat_lt, List, [], ◌++◌, Option, Some, None, decimal, if◌then◌else◌}
+use Rattle.std.specs.Prelude.{ℕ, nat_lt, List, [], ◌++◌, Option, Some, None, decimal, if◌then◌else◌}
 use lib.Chars.{codes}
+use Rattle.recovery_base.specs.Units.{largest_u64}
 use Rattle.recovery_congestion.specs.Controllers.{ControllerSemantics}
 use Rattle.recovery_congestion.specs.Rtt.{Rtt, rtt_get}
 use Rattle.recovery_congestion.specs.declared.congestion.ControllerMetrics.{ControllerMetrics}
@@ -19,7 +20,7 @@ flight_text flight =
 
 -- none yet where it is infinite (RFC 9002, B.3), which is 2^64 - 1
 abbrev pub threshold_text : Option ℕ → List ℕ
-threshold_text (Some bytes) = if nat_lt bytes (2 ^ 64 - 1) then codes ",\"ssthresh\":" ++ decimal bytes else []
+threshold_text (Some bytes) = if nat_lt bytes largest_u64 then codes ",\"ssthresh\":" ++ decimal bytes else []
 threshold_text None = []
 
 abbrev pub window_text : ControllerMetrics → List ℕ

@@ -16,7 +16,7 @@ use Rattle.recovery_cubic.specs.ConfigView.{default_window}
 use Rattle.recovery_cubic.specs.Cubic.{cubic_made, cubic_words}
 use Rattle.recovery_script_syntax.specs.Lines.{IsDocumentationAddress, EncodesEvent}
 use Rattle.recovery_replay.specs.FixedWindow.{fixed_made, fixed_words}
-use Rattle.recovery_replay.specs.Replay.{begun_over}
+use Rattle.recovery_replay.specs.Replay.{begun_over, first_port}
 use Rattle.recovery_replay.specs.Script.{NoFeed, ended, lines_of}
 use Rattle.recovery_replay.specs.Writing.{AppendsFront}
 use Rattle.recovery_trace.specs.declared.outcome.Outcome.{Outcome}
@@ -167,7 +167,7 @@ module _ {F R C K : Type 0} {f : _} {c : _} {q : _} {m : _} {r : _} where
 abbrev pub TracesOver : {F K : Type 0} → (F → ℕ → ℕ → K) → ControllerSemantics K → F → Choice → Streams → Outcome
     → Type 0
 TracesOver built words factory choice streams outcome =
-    (remote : SocketAddr) × IsDocumentationAddress 4433 remote
+    (remote : SocketAddr) × IsDocumentationAddress first_port remote
     × TracesInput (begun_over built words factory choice.seed remote) choice streams outcome
 
 -- the same over the controllers that are chosen: NewReno (RFC 9002, 7), CUBIC (RFC 9438), or those of a fixed window

@@ -1,6 +1,7 @@
 //! What it is of a line that cannot be read.
 ghost use Rattle.std.specs.Prelude.{◌≤◌, IfOk, IsTrue, length};
 ghost use Rattle.recovery_trace.specs.Faults.{IsEventPrefix, EndsWord, NamesWordOf};
+ghost use Rattle.recovery_script_syntax.specs.Words.{longest_line};
 
 use quic_recovery::below::NoMemory;
 use recovery_script_syntax::lines::{LINE_LIMIT, push_event};
@@ -109,7 +110,7 @@ fn behind_word(words: &[u8]) -> &[u8] {
 
 /// Which word of a line is the first that the words of an example cannot follow.
 fn fault_beside(alloc: Global, line: &[u8], example: &[u8]) -> Result<Fault, NoMemory>
-    requires { length line.now ≤ 4096 }
+    requires { length line.now ≤ longest_line }
     ensures { IfOk result (NamesWordOf line.now) }
 {
     let mut behind = example;

@@ -2,7 +2,7 @@
 ghost use Rattle.std.specs.Prelude.{◌≡◌, ◌≤◌, ◌++◌, true, min, IfOk, OnOk, length, string_bytes};
 ghost use Rattle.recovery_trace.specs.Faults.{NamesWordOf};
 ghost use Rattle.std.specs.Str.{IsAscii};
-ghost use Rattle.recovery_trace.specs.FaultReports.{ReportsFault, TellsFault, quoted};
+ghost use Rattle.recovery_trace.specs.FaultReports.{ReportsFault, TellsFault, quoted, most_shown};
 
 use crate::faults::{Fault, fault_in};
 use quic_recovery::below::NoMemory;
@@ -21,8 +21,8 @@ fn is_inside(byte: u8) -> bool
 
 /// How many bytes of a word are shown: at most 64, and of a character all or none.
 fn shown_len(word: &[u8]) -> usize
-    ensures within { result ≤ min 64 (length word.now) }
-    ensures plain { IsAscii word.now → result ≡ min 64 (length word.now) }
+    ensures within { result ≤ min most_shown (length word.now) }
+    ensures plain { IsAscii word.now → result ≡ min most_shown (length word.now) }
 {
     if word.len() <= SHOWN {
         return word.len();

@@ -1,5 +1,6 @@
 //! The events of packets and spaces (RFC 9000, 12.3 and 13; RFC 9002, A).
-ghost use Rattle.std.specs.Prelude.{◌≡◌, ◌<◌, ◌^◌, Decides};
+ghost use Rattle.std.specs.Prelude.{◌≡◌, ◌<◌, Decides};
+ghost use Rattle.recovery_base.specs.Units.{number_limit};
 ghost use Rattle.recovery_spaces.specs.Packets.{entry_number, IsTooLarge};
 ghost use Rattle.recovery_history.specs.Numbers.{number_behind, skipping_behind};
 ghost use Rattle.recovery_history.specs.Replies.{reply_to, refusal_of};
@@ -172,7 +173,7 @@ fn number_behind(filter: &PacketNumberFilter, space: SpaceId, next: u64) -> u64
 
 /// That number is given out, below 2^62: where a 1-RTT number was skipped for it, the next skip is drawn.
 fn draw_skip<R: Rng>(filter: &mut PacketNumberFilter, rng: &mut R, space: SpaceId, next: u64)
-    requires { number_behind filter.old space next < 2 ^ 62 }
+    requires { number_behind filter.old space next < number_limit }
     ensures { record { filter = filter.new; words = R.stream rng.new }
         ≡ skipping_behind space next (record { filter = filter.old; words = R.stream rng.old }) }
 {

@@ -1,7 +1,9 @@
 //! Numbers, frames and parameters of the wire that loss recovery reads.
-ghost use Rattle.std.specs.Prelude.{◌≡◌, ℕ, ◌-◌, ◌<◌, ◌^◌, None, Some, MatchResult, OnOk, OnErr, nat_lt};
+ghost use Rattle.std.specs.Prelude.{◌≡◌, ℕ, ◌-◌, ◌<◌, None, Some, MatchResult, OnOk, OnErr, nat_lt};
 ghost use Rattle.std.specs.Result.{OkIff};
 ghost use Rattle.recovery_base.specs.Ecn.{ecn_fault};
+ghost use Rattle.recovery_base.specs.Units.{number_limit};
+ghost use Rattle.recovery_base.specs.Errors.{protocol_violation};
 
 use std::marker::Model;
 use thiserror::Error;
@@ -19,7 +21,7 @@ impl Model for VarInt {
 
     ghost view = { λ number. number.value };
 
-    ghost invariant = { λ number. number.value < 2 ^ 62 };
+    ghost invariant = { λ number. number.value < number_limit };
 
     ghost inverse = { λ n. record { value = n } };
 }
@@ -49,7 +51,7 @@ impl VarInt {
 
     /// The number itself, 0 to 2^62 - 1 (RFC 9000, 16). 2^62 or more is refused with `VarIntBoundsExceeded`.
     pub fn from_u64(value: u64) -> Result<Self, VarIntBoundsExceeded>
-        ensures { OkIff result (value < 2 ^ 62) value }
+        ensures { OkIff result (value < number_limit) value }
     {
         if value > Self::MAX.value {
             return Err(VarIntBoundsExceeded);
@@ -60,7 +62,7 @@ impl VarInt {
     /// The number, below 2^62.
     pub fn into_inner(self) -> u64
         ensures value { result ≡ self }
-        ensures bound { result < 2 ^ 62 }
+        ensures bound { result < number_limit }
     {
         self.value
     }
@@ -71,7 +73,7 @@ impl TryFrom<u128> for VarInt {
     type Error = VarIntBoundsExceeded;
 
     fn try_from(value: u128) -> Result<Self, VarIntBoundsExceeded>
-        ensures { OkIff result (value < 2 ^ 62) value }
+        ensures { OkIff result (value < number_limit) value }
     {
         match u64::try_from(value) {
             Ok(value) => Self::from_u64(value),
@@ -111,7 +113,7 @@ pub struct TransportError {
 impl TransportError {
     /// The peer broke the protocol: code 10.
     pub fn PROTOCOL_VIOLATION(reason: &'static str) -> Self
-        ensures code { result.code ≡ 10 }
+        ensures code { result.code ≡ protocol_violation }
         ensures reason { result.reason.now ≡ reason.now }
     {
         TransportError { code: 10, reason }

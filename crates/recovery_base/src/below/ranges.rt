@@ -1,9 +1,10 @@
 //! A set of numbers kept as ranges.
-ghost use Rattle.std.specs.Prelude.{◌≡◌, ℕ, ◌+◌, ◌<◌, ◌^◌, ◌==◌, ◌++◌, List, [], length, IfNone, IfOk, OnErr, IsErr, IsOk, MatchBool, ⊤};
+ghost use Rattle.std.specs.Prelude.{◌≡◌, ℕ, ◌+◌, ◌<◌, ◌==◌, ◌++◌, List, [], length, IfNone, IfOk, OnErr, IsErr, IsOk, MatchBool, ⊤};
 ghost use Rattle.std.specs.Option.{option_to_list};
 ghost use Rattle.std.specs.Slice.Iter.{iter_rest};
 ghost use Rattle.std.specs.declared.ops.Range.{Range};
 ghost use Rattle.recovery_base.specs.Ranges.{InRanges, AreApart, InsertsOne, Removes, IsSplitBy, IsPlace, clipped, cut_ranges};
+ghost use Rattle.recovery_base.specs.Units.{number_limit};
 
 use super::NoMemory;
 use std::alloc::Global;
@@ -70,7 +71,7 @@ impl ArrayRangeSet {
     /// binary search of the ranges where the number lies below that one, and a move of those above where one comes or
     /// goes.
     pub fn insert_one(&mut self, x: u64) -> Result<bool, NoMemory>
-        requires { x < 2 ^ 62 }
+        requires { x < number_limit }
         ensures inserts { IfOk result (λ new. InsertsOne self.old x new self.new) }
         ensures known_changes_nothing { IfOk result (λ new.
             MatchBool new ⊤ (self.new ≡ self.old)) }
@@ -153,7 +154,7 @@ fn place(ranges: &[Range<u64>], x: u64) -> usize
 }
 
 fn insert(ranges: &mut Vec<Range<u64>>, x: u64) -> Result<bool, NoMemory>
-    requires small { x < 2 ^ 62 }
+    requires small { x < number_limit }
     requires apart { AreApart 0 ranges.old.items }
     ensures inserts { IfOk result (λ new. InsertsOne ranges.old.items x new ranges.new.items) }
     ensures known_changes_nothing { IfOk result (λ new.

@@ -1,6 +1,7 @@
 //! How long a connection may be idle.
-ghost use Rattle.std.specs.Prelude.{◌≡◌, ℕ, ◌/◌, ◌<◌, ◌^◌};
+ghost use Rattle.std.specs.Prelude.{◌≡◌, ℕ, ◌/◌, ◌<◌};
 ghost use Rattle.std.specs.Result.{OkIff};
+ghost use Rattle.recovery_base.specs.Units.{milliseconds, number_limit};
 
 use recovery_base::below::{VarInt, VarIntBoundsExceeded};
 use recovery_base::time::Duration;
@@ -58,7 +59,7 @@ impl TryFrom<Duration> for IdleTimeout {
     type Error = VarIntBoundsExceeded;
 
     fn try_from(span: Duration) -> Result<Self, VarIntBoundsExceeded>
-        ensures { OkIff result (span / 10 ^ 6 < 2 ^ 62) (span / 10 ^ 6) }
+        ensures { OkIff result (span / milliseconds < number_limit) (span / milliseconds) }
     {
         let millis = VarInt::try_from(span.as_nanos() / NANOS_PER_MILLI)?;
         Ok(IdleTimeout { millis })

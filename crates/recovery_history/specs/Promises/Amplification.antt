@@ -3,6 +3,7 @@
 use Rattle.std.specs.Prelude.{◌≡◌, ◌∷◌, ◌*◌, ◌≤◌, Bool, true, false, sum_by}
 use Rattle.std.specs.List.{list_all}
 use Rattle.recovery_paths.specs.declared.path_pair.PathName.{PathName}
+use Rattle.recovery_paths.specs.PathStates.{amplification_factor}
 use Rattle.recovery_events.specs.declared.event.Event.{Event}
 use Rattle.recovery_events.specs.declared.event.Event.TheVariants.{Transmit}
 use Rattle.recovery_history.specs.History.{History, Reply}
@@ -18,7 +19,7 @@ module _ {Q S M P : Type 0} where
   IsWithinAmplificationLimit first history = (name : PathName) →
       let here = datagrams_on name history in
       is_validated first name history ≡ false → list_all is_checked here ≡ true
-      → sum_by bytes_out here ≤ 3 * sum_by bytes_in here
+      → sum_by bytes_out here ≤ amplification_factor * sum_by bytes_in here
 
   -- after an event
   abbrev pub LimitsAmplification : Bool → History Q S M P → Event Q S M P → Reply Q → Type 0

@@ -1,9 +1,10 @@
 -- Black holes (RFC 8899, 4.3): a report needs four bursts of losses of large packets that no acknowledgement refuted,
 -- and it comes at four since the first of which no large packet was acknowledged, though small ones may be.
-use Rattle.std.specs.Prelude.{◌≡◌, ℕ, ◌≤◌, nat_lt, true, ◌||◌, List, [], ◌∷◌, ◌++◌, drop, length, filter, Ok, if◌then◌else◌}
+use Rattle.std.specs.Prelude.{◌≡◌, ℕ, ◌≤◌, nat_lt, true, ◌||◌, List, [], ◌∷◌, ◌++◌, drop, length, filter, Ok, if◌then◌else◌, ◌-◌}
 use Rattle.std.specs.List.{list_any}
 use Rattle.recovery_base.specs.declared.below.SpaceId.TheVariants.{Data}
 use Rattle.recovery_mtud.specs.BurstRuns.{Loss, is_above, is_past}
+use Rattle.recovery_mtud.specs.Bursts.{black_hole_bursts}
 use Rattle.recovery_events.specs.declared.event.Event.{Event}
 use Rattle.recovery_events.specs.declared.event.Event.TheVariants.{Acked, LossesDone, NewPath, RevertPath}
 use Rattle.recovery_events.specs.declared.event.Answer.TheVariants as answer
@@ -42,6 +43,8 @@ module _ {Q S M P : Type 0} where
   abbrev pub ReportsBlackHoleAtFour : ℕ → History Q S M P → Event Q S M P → Reply Q → Type 0
   ReportsBlackHoleAtFour least history (LossesDone now) reply =
       let bursts = filter (is_above least) (open_run history ∷ unanswered least history) in
-      (reply ≡ Ok (answer.BlackHole true) → 4 ≤ length (filter (is_above least) (open_run history ∷ standing history)))
-      × (list_any (is_past (larger_acked least history)) (drop 3 bursts) ≡ true → reply ≡ Ok (answer.BlackHole true))
+      (reply ≡ Ok (answer.BlackHole true)
+      → black_hole_bursts ≤ length (filter (is_above least) (open_run history ∷ standing history)))
+      × (list_any (is_past (larger_acked least history)) (drop (black_hole_bursts - 1) bursts) ≡ true
+      → reply ≡ Ok (answer.BlackHole true))
   ReportsBlackHoleAtFour least history event reply = Unit {0}

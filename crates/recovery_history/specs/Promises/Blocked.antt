@@ -1,7 +1,9 @@
 -- Amplification (RFC 9000, 8.1): a checked datagram is blocked exactly where the address of the path in use is not
 -- validated and these bytes more would pass three times those that came in on it; an unchecked one is never blocked.
-use Rattle.std.specs.Prelude.{◌≡◌, ◌+◌, ◌*◌, ◌^◌, Bool, true, false, not, ◌&&◌, nat_lt, nat_le, sum_by, Ok, Err}
+use Rattle.std.specs.Prelude.{◌≡◌, ◌+◌, ◌*◌, Bool, true, false, not, ◌&&◌, nat_lt, nat_le, sum_by, Ok, Err}
+use Rattle.recovery_base.specs.Units.{u64_limit}
 use Rattle.recovery_paths.specs.declared.path_pair.PathName.TheVariants.{Current}
+use Rattle.recovery_paths.specs.PathStates.{amplification_factor}
 use Rattle.recovery_events.specs.declared.event.Event.{Event}
 use Rattle.recovery_events.specs.declared.event.Event.TheVariants.{Transmit}
 use Rattle.recovery_events.specs.declared.event.Answer.TheVariants.{Transmitted, Blocked, Delayed}
@@ -25,6 +27,7 @@ module _ {Q S M P : Type 0} where
   BlocksExactly first history (Transmit now bytes checked) reply =
       let here = datagrams_on Current history in
       let total = sum_by bytes_out here + bytes in
-      let forbidden = not (is_validated first Current history) && nat_lt (3 * sum_by bytes_in here) total in
-      IsTransmitReply (nat_le (2 ^ 64) total) checked forbidden reply
+      let forbidden =
+      not (is_validated first Current history) && nat_lt (amplification_factor * sum_by bytes_in here) total in
+      IsTransmitReply (nat_le u64_limit total) checked forbidden reply
   BlocksExactly first history event reply = Unit {0}

@@ -1,7 +1,8 @@
 -- Requests for fewer ACKs (draft-ietf-quic-ack-frequency-04, section 4): a frame is taken exactly where its number is
 -- above those of all that came before it; one that asks for less than a millisecond is refused then.
-use Rattle.std.specs.Prelude.{◌≡◌, ℕ, ◌^◌, Bool, true, false, not, ◌&&◌, nat_lt, [], ◌∷◌, Ok, Err, if◌then◌else◌}
+use Rattle.std.specs.Prelude.{◌≡◌, ℕ, Bool, true, false, not, ◌&&◌, nat_lt, [], ◌∷◌, Ok, Err, if◌then◌else◌}
 use Rattle.recovery_base.specs.declared.below.SpaceId.TheVariants.{Data}
+use Rattle.recovery_base.specs.Units.{timer_granularity}
 use Rattle.recovery_acks.specs.AckFrequencies.{delay_of}
 use Rattle.recovery_events.specs.declared.event.Event.{Event}
 use Rattle.recovery_events.specs.declared.event.Event.TheVariants.{AckFrequencyIn}
@@ -22,6 +23,6 @@ module _ {Q S M P : Type 0} where
   AppliesNewestFrequency history (AckFrequencyIn frame) reply =
       reply ≡ (if is_discarded Data history then Err SpaceDiscarded
       else if not (is_newest frame.sequence history) then Ok (Flag false)
-      else if nat_lt (delay_of frame) (10 ^ 6) then Err DelayTooSmall
+      else if nat_lt (delay_of frame) timer_granularity then Err DelayTooSmall
       else Ok (Flag true))
   AppliesNewestFrequency history event reply = Unit {0}

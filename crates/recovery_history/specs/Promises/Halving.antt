@@ -5,6 +5,7 @@ use Rattle.std.specs.Int.{abs_diff}
 use Rattle.recovery_config.specs.Settings.{initial_mtu_of}
 use Rattle.recovery_mtud.specs.declared.config.MtuDiscoveryConfig.{MtuDiscoveryConfig}
 use Rattle.recovery_mtud.specs.Discovery.{limit_or_greatest}
+use Rattle.recovery_mtud.specs.Search.{max_probes}
 use Rattle.recovery_events.specs.declared.event.Event.{Event}
 use Rattle.recovery_events.specs.declared.event.Event.TheVariants.{PollMtu}
 use Rattle.recovery_events.specs.declared.event.Answer.TheVariants as answer
@@ -21,14 +22,14 @@ use Rattle.recovery_history.specs.Search.{WhereSearched}
 abbrev pub may_pass : ℕ → List ℕ → ℕ
 may_pass bound [] = bound
 may_pass bound (size ∷ lost) =
-    let most = may_pass bound lost in if tries size (size ∷ lost) == 3 then min (size - 1) most else most
+    let most = may_pass bound lost in if tries size (size ∷ lost) == max_probes then min (size - 1) most else most
 
 -- what gets through, what may, the last size, and how often that was lost: it is tried again, up to three times; else
 -- comes the middle, or the most that may, whichever first lies a least change from the last size; else none
 abbrev pub size_after : ℕ → ℕ → ℕ → ℕ → ℕ → Option ℕ
 size_after change through most last losses =
     let middle = (through + most) / 2 in
-    if nat_lt through last && nat_lt losses 3 then Some last
+    if nat_lt through last && nat_lt losses max_probes then Some last
     else if nat_le change (abs_diff middle last) then Some middle
     else if nat_le change (most - last) then Some most else None
 

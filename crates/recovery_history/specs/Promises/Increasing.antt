@@ -1,7 +1,8 @@
 -- Numbers rise (RFC 9000, 12.3): a packet goes out under a number below 2^62, above all that were given out in its
 -- space before.
-use Rattle.std.specs.Prelude.{◌≡◌, ℕ, ◌<◌, ◌≤◌, ◌^◌, true}
+use Rattle.std.specs.Prelude.{◌≡◌, ℕ, ◌<◌, ◌≤◌, true}
 use Rattle.recovery_base.specs.declared.below.SpaceId.{SpaceId}
+use Rattle.recovery_base.specs.Units.{number_limit}
 use Rattle.recovery_events.specs.declared.event.Event.{Event}
 use Rattle.recovery_history.specs.History.{History, Reply}
 use Rattle.recovery_history.specs.Promises.Fates.{times, is_given}
@@ -11,4 +12,4 @@ module _ {Q S M P : Type 0} where
   -- neither the number nor one above it was given out in the space before
   abbrev pub NumbersIncrease : History Q S M P → Event Q S M P → Reply Q → Type 0
   NumbersIncrease history event reply = (space : SpaceId) (number : ℕ) → goes_out (event, reply) space number ≡ true
-      → (number < 2 ^ 62) × ((n : ℕ) → number ≤ n → times (is_given space n) history ≡ 0)
+      → (number < number_limit) × ((n : ℕ) → number ≤ n → times (is_given space n) history ≡ 0)

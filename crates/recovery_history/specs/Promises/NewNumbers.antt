@@ -1,11 +1,12 @@
 -- New packet numbers (RFC 9000, 12.3): a packet is processed once. Its number is new where it exceeds all that came in
 -- its space, or is none of them and not too old.
-use Rattle.std.specs.Prelude.{◌≡◌, ℕ, ◌+◌, ◌^◌, Bool, true, false, not, ◌&&◌, ◌||◌, nat_eq, nat_lt, nat_le, List, [], ◌∷◌, Ok, Err, if◌then◌else◌}
+use Rattle.std.specs.Prelude.{◌≡◌, ℕ, ◌+◌, Bool, true, false, not, ◌&&◌, ◌||◌, nat_eq, nat_lt, nat_le, List, [], ◌∷◌, Ok, Err, if◌then◌else◌}
 use Rattle.std.specs.List.{list_all}
 use Rattle.std.specs.Set.{is_member}
 use Rattle.recovery_base.specs.declared.below.SpaceId.{SpaceId}
 use Rattle.recovery_base.specs.Numbers.{most_below}
 use Rattle.recovery_base.specs.Spaces.{same_space}
+use Rattle.recovery_base.specs.Units.{number_limit}
 use Rattle.recovery_events.specs.declared.event.Event.{Event}
 use Rattle.recovery_events.specs.declared.event.Event.TheVariants.{Received, DiscardSpace}
 use Rattle.recovery_events.specs.declared.event.Answer.TheVariants.{New, Duplicate}
@@ -42,5 +43,6 @@ module _ {Q S M P : Type 0} where
 
   abbrev pub DetectsDuplicates : History Q S M P → Event Q S M P → Reply Q → Type 0
   DetectsDuplicates history (Received space now number eliciting) reply =
-      IsReceiveReply (is_discarded space history) (nat_le (2 ^ 62) number) (is_new (came_in space history) number) reply
+      IsReceiveReply (is_discarded space history) (nat_le number_limit number)
+      (is_new (came_in space history) number) reply
   DetectsDuplicates history event reply = Unit {0}

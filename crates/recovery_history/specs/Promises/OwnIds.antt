@@ -1,8 +1,9 @@
 -- Ids of this end (RFC 9000, 5.1.1 and 19.16): their numbers go on from those issued before, and a peer retires only
 -- what was issued; the answer says whether it has room for one more.
-use Rattle.std.specs.Prelude.{◌≡◌, ℕ, ◌+◌, ◌^◌, ◌==◌, Bool, true, false, not, ◌&&◌, ◌||◌, nat_lt, nat_le, List, [], ◌∷◌, length, Ok, Err, count_by, if◌then◌else◌}
+use Rattle.std.specs.Prelude.{◌≡◌, ℕ, ◌+◌, ◌==◌, Bool, true, false, not, ◌&&◌, ◌||◌, nat_lt, nat_le, List, [], ◌∷◌, length, Ok, Err, count_by, if◌then◌else◌}
 use Rattle.std.specs.List.{range_with_len}
 use Rattle.recovery_base.specs.declared.below.ids.IssuedCid.{IssuedCid}
+use Rattle.recovery_base.specs.Units.{number_limit}
 use Rattle.recovery_events.specs.declared.event.Event.{Event}
 use Rattle.recovery_events.specs.declared.event.Event.TheVariants.{IssueIds, PeerRetired}
 use Rattle.recovery_events.specs.declared.event.Answer.TheVariants.{Done, Flag}
@@ -17,7 +18,7 @@ go_on n (id ∷ ids) = id.sequence == n && go_on (n + 1) ids
 -- the reply to these ids, where so many were issued before
 abbrev pub issue_reply : {Q : Type 0} → ℕ → List IssuedCid → Reply Q
 issue_reply count ids =
-    if nat_lt (2 ^ 62) (count + length ids) then Err NumberTooLarge
+    if nat_lt number_limit (count + length ids) then Err NumberTooLarge
     else if go_on count ids then Ok Done else Err BadRange
 
 -- only where there are ids, memory may be refused in place of an answer

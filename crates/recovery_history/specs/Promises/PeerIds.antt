@@ -1,8 +1,9 @@
 -- Ids of the peer (RFC 9000, 5.1.1, 5.1.2 and 19.15): a frame is accepted where its number is one of the eight from the
 -- active one or from its retire-prior-to on, and repeats what was given under it. Once it retires the active id, the
 -- least one left is active, and so it is after a move to the next id.
-use Rattle.std.specs.Prelude.{◌≡◌, ℕ, ◌+◌, ◌^◌, max, min, ◌==◌, nat_lt, nat_le, ◌&&◌, not, Bool, true, List, ◌∷◌, Option, None, Some, Ok, Err, bytes_eq, if◌then◌else◌}
+use Rattle.std.specs.Prelude.{◌≡◌, ℕ, ◌+◌, max, min, ◌==◌, nat_lt, nat_le, ◌&&◌, not, Bool, true, List, ◌∷◌, Option, None, Some, Ok, Err, bytes_eq, if◌then◌else◌}
 use Rattle.recovery_base.specs.declared.below.ids.NewConnectionId.{NewConnectionId}
+use Rattle.recovery_base.specs.Units.{number_limit}
 use Rattle.recovery_ids.specs.RemoteIds.{HeldId, active_connection_id_limit}
 use Rattle.recovery_events.specs.declared.event.Event.{Event}
 use Rattle.recovery_events.specs.declared.event.Event.TheVariants.{NewId, NextId, InitialId}
@@ -32,7 +33,7 @@ module _ {Q S M P : Type 0} (initial : List ℕ) where
   -- a frame is refused by the first of these causes that holds, and else accepted
   abbrev pub frame_reply : NewConnectionId → ℕ → History Q S M P → Reply Q
   frame_reply frame active history =
-      if nat_le (2 ^ 62) frame.sequence then Err NumberTooLarge
+      if nat_le number_limit frame.sequence then Err NumberTooLarge
       else if nat_lt frame.sequence frame.retire_prior_to then Err BadRetirePriorTo
       else if nat_lt frame.sequence active then Err Retired
       else if nat_le (max active frame.retire_prior_to + active_connection_id_limit) frame.sequence

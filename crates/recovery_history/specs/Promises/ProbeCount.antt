@@ -7,6 +7,7 @@ use Rattle.recovery_events.specs.declared.event.Event.TheVariants.{PollMtu, Acke
 use Rattle.recovery_events.specs.declared.event.Answer.TheVariants as answer
 use Rattle.recovery_history.specs.History.{Beginning, History, Reply}
 use Rattle.recovery_history.specs.Search.{WhereSearched}
+use Rattle.recovery_mtud.specs.Search.{probe_budget, size_budget}
 
 module _ {Q S M P : Type 0} where
   -- all begins anew: by a report of a black hole, by a reset, on a fresh path, or on one that is used again
@@ -37,4 +38,4 @@ module _ {F K Q S M P : Type 0} (beginning : Beginning F K Q S M P) where
   abbrev pub BoundsProbeCount : History Q S M P → Event Q S M P → Reply Q → Type 0
   BoundsProbeCount history event reply =
       let sizes = sizes_probed ((event, reply) ∷ history) in
-      WhereSearched beginning (λ settings. (length sizes ≤ 48) × (distinct_count nat_eq sizes ≤ 16))
+      WhereSearched beginning (λ settings. (length sizes ≤ probe_budget) × (distinct_count nat_eq sizes ≤ size_budget))

@@ -6,6 +6,7 @@ use Rattle.recovery_history.specs.History.{Beginning, History, Reply}
 use Rattle.recovery_history.specs.Promises.Fates.{more_if}
 use Rattle.recovery_history.specs.Promises.ProbeCount.{sizes_probed}
 use Rattle.recovery_history.specs.Search.{WhereSearched}
+use Rattle.recovery_mtud.specs.Search.{max_probes}
 
 -- how often a size is among these
 abbrev pub tries : ℕ → List ℕ → ℕ
@@ -16,4 +17,5 @@ module _ {F K Q S M P : Type 0} (beginning : Beginning F K Q S M P) where
   -- after an event, of the search that runs, where the least change is at least 3
   abbrev pub ProbesSizeAtMostThrice : History Q S M P → Event Q S M P → Reply Q → Type 0
   ProbesSizeAtMostThrice history event reply =
-      WhereSearched beginning (λ settings. (size : ℕ) → tries size (sizes_probed ((event, reply) ∷ history)) ≤ 3)
+      WhereSearched beginning (λ settings.
+      (size : ℕ) → tries size (sizes_probed ((event, reply) ∷ history)) ≤ max_probes)

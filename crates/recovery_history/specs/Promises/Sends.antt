@@ -1,9 +1,10 @@
 -- Whether a packet goes out (RFC 9000, 12.3; RFC 9002, B.2): it is refused exactly where it carries an ACK of a number
 -- that is none, where no number is left for it, and where the bytes in flight on the path in use, or the packets there
 -- that elicit an ACK, would pass their counters.
-use Rattle.std.specs.Prelude.{ℕ, ◌+◌, ◌≤◌, ◌^◌, ◌⊎◌, Bool, false, Ok, Err, if◌then◌else◌}
+use Rattle.std.specs.Prelude.{ℕ, ◌+◌, ◌≤◌, ◌⊎◌, Bool, false, Ok, Err, if◌then◌else◌}
 use Rattle.recovery_base.specs.declared.below.SpaceId.{SpaceId}
 use Rattle.recovery_base.specs.declared.below.SpaceId.TheVariants.{Data}
+use Rattle.recovery_base.specs.Units.{number_limit, u64_limit}
 use Rattle.recovery_spaces.specs.Packets.{IsTooLarge}
 use Rattle.recovery_events.specs.declared.event.Event.{Event}
 use Rattle.recovery_events.specs.declared.event.Event.TheVariants.{Send, PollMtu}
@@ -21,12 +22,12 @@ module _ {Q S M P : Type 0} (history : History Q S M P) where
 
   -- with one packet more a counter would come to 2^64
   abbrev pub OverflowsInFlight : ℕ → Bool → Type 0
-  OverflowsInFlight size eliciting = (2 ^ 64 ≤ sum_now (λ bytes elicits. bytes) + size)
-      ⊎ (2 ^ 64 ≤ sum_now (λ bytes elicits. if elicits then 1 else 0) + (if eliciting then 1 else 0))
+  OverflowsInFlight size eliciting = (u64_limit ≤ sum_now (λ bytes elicits. bytes) + size)
+      ⊎ (u64_limit ≤ sum_now (λ bytes elicits. if elicits then 1 else 0) + (if eliciting then 1 else 0))
 
   -- the next number would be 2^62 or more
   abbrev pub HasNoNumber : SpaceId → Type 0
-  HasNoNumber space = (n : ℕ) × IsNextNumber space n history × (2 ^ 62 ≤ n)
+  HasNoNumber space = (n : ℕ) × IsNextNumber space n history × (number_limit ≤ n)
 
   -- where the space was discarded is said by `refused`
   abbrev pub SendsOrRejects : Event Q S M P → Reply Q → Type 0

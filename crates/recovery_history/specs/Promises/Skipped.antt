@@ -1,9 +1,10 @@
 -- Skipped numbers (RFC 9000, 12.3 and 21.4): a packet goes out under the first number above all that were given out in
 -- its space, or, of 1-RTT packets, under the one behind it, which leaves one out; and the ACK of a range is refused
 -- exactly where it holds the last number that was left out, or is no range of numbers below 2^62.
-use Rattle.std.specs.Prelude.{◌≡◌, ℕ, ◌+◌, ◌<◌, ◌≤◌, ◌^◌, true, Ok, Err}
+use Rattle.std.specs.Prelude.{◌≡◌, ℕ, ◌+◌, ◌<◌, ◌≤◌, true, Ok, Err}
 use Rattle.recovery_base.specs.declared.below.SpaceId.{SpaceId}
 use Rattle.recovery_base.specs.declared.below.SpaceId.TheVariants.{Data}
+use Rattle.recovery_base.specs.Units.{number_limit}
 use Rattle.recovery_events.specs.declared.event.Event.{Event}
 use Rattle.recovery_events.specs.declared.event.Event.TheVariants.{CheckAck}
 use Rattle.recovery_events.specs.declared.event.Answer.TheVariants.{Done}
@@ -40,11 +41,11 @@ module _ {Q S M P : Type 0} where
   -- where the space was discarded is said by `refused`
   abbrev pub RejectsSkippedAcks : History Q S M P → Event Q S M P → Reply Q → Type 0
   RejectsSkippedAcks history (CheckAck space low high) (Ok given) =
-      (given ≡ Done) × (high < 2 ^ 62) × (low ≤ high) × ¬ ContainsSkipped space low high history
+      (given ≡ Done) × (high < number_limit) × (low ≤ high) × ¬ ContainsSkipped space low high history
   RejectsSkippedAcks history (CheckAck space low high) (Err SpaceDiscarded) = Unit {0}
-  RejectsSkippedAcks history (CheckAck space low high) (Err NumberTooLarge) = 2 ^ 62 ≤ high
-  RejectsSkippedAcks history (CheckAck space low high) (Err BadRange) = (high < 2 ^ 62) × (high < low)
-  RejectsSkippedAcks history (CheckAck space low high) (Err SkippedAcked) = (high < 2 ^ 62)
+  RejectsSkippedAcks history (CheckAck space low high) (Err NumberTooLarge) = number_limit ≤ high
+  RejectsSkippedAcks history (CheckAck space low high) (Err BadRange) = (high < number_limit) × (high < low)
+  RejectsSkippedAcks history (CheckAck space low high) (Err SkippedAcked) = (high < number_limit)
       × ContainsSkipped space low high history
   RejectsSkippedAcks history (CheckAck space low high) (Err other) = ⊥
   RejectsSkippedAcks history event reply = Unit {0}

@@ -1,5 +1,6 @@
 //! Which packet numbers are new: the worked rows, and the window beside the plain program over a set.
-ghost use Rattle.std.specs.Prelude.{◌<◌, ◌^◌, ◌≤◌};
+ghost use Rattle.std.specs.Prelude.{◌<◌, ◌≤◌};
+ghost use Rattle.recovery_base.specs.Units.{number_limit};
 
 use crate::rows::{finds, holds};
 use recovery_base::below::NoMemory;
@@ -79,7 +80,7 @@ fn walk(rt: &impl Abort, rows: &[(u64, bool)]) -> Dedup {
 
 /// The least missing number of an interval, once a new number at its end or behind came.
 fn missing_after(mut dedup: Dedup, greatest: u64, low: u64, high: u64) -> Option<u64>
-    requires number { greatest < 2 ^ 62 }
+    requires number { greatest < number_limit }
     requires ordered { low ≤ high }
     requires reached { high ≤ greatest }
 {

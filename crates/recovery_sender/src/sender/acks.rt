@@ -1,5 +1,6 @@
 //! An ACK frame comes in (RFC 9002, A.7; RFC 9000, 13.1 and 13.4.2).
-ghost use Rattle.std.specs.Prelude.{◌≡◌, ◌≢◌, ◌∷◌, [], None, ◌+◌, ◌^◌, ◌≤◌, ◌<◌, true, false, Decides, MatchOption, IfSome, IfOk, IfErr, OnOk, ℕ, Err, length, get_or, option_copied};
+ghost use Rattle.std.specs.Prelude.{◌≡◌, ◌≢◌, ◌∷◌, [], None, ◌+◌, ◌≤◌, ◌<◌, true, false, Decides, MatchOption, IfSome, IfOk, IfErr, OnOk, ℕ, Err, length, get_or, option_copied};
+ghost use Rattle.recovery_base.specs.Units.{u64_limit};
 ghost use Rattle.recovery_events.specs.declared.event.Event.TheVariants.{CheckAck, EndAcks};
 ghost use Rattle.recovery_losses.specs.Losses.{AreIncreasing, IsOneOf};
 ghost use Rattle.recovery_losses.specs.Variables.{heard_in};
@@ -176,7 +177,7 @@ where
     /// where a number was never sent, or by `SkippedAcked`, in this order.
     fn check_ack(&self, space: SpaceId, ranges: &[(u64, u64)]) -> Result<(), SenderError>
         ensures small { OnOk result (IfSome (largest_of ranges.now)
-            (λ largest. largest + 1 < 2 ^ 64)) }
+            (λ largest. largest + 1 < u64_limit)) }
         ensures checked { AckChecked space ranges.now self.now.recovery.recovery result }
     {
         let Some(here) = self.space(space) else {
@@ -236,7 +237,7 @@ where
         newly: &mut NewlyAcked,
     ) -> Result<(), SenderError>
         requires whole { first ≤ last }
-        requires small { last + 1 < 2 ^ 64 }
+        requires small { last + 1 < u64_limit }
         requires rising { AreIncreasing 0 newly.old.numbers.items first }
         requires elicits { Decides newly.old.elicits
             (HasAckEliciting (packets_in (state_in self.now) space) newly.old.numbers.items) }
@@ -266,7 +267,7 @@ where
     ) -> Result<NewlyAcked, SenderError>
         requires there { is_discarded space (state_in self.now).discarded ≡ false }
         requires whole { are_ranges ranges.now ≡ true }
-        requires small { IfSome (largest_of ranges.now) (λ largest. largest + 1 < 2 ^ 64) }
+        requires small { IfSome (largest_of ranges.now) (λ largest. largest + 1 < u64_limit) }
         ensures memory { IfErr result (λ refused. refused ≡ SenderError.Event Refusal.NoMemory) }
         ensures newly { IfOk result (λ newly. AreNewlyAcked (packets_in (state_in self.now) space)
             ranges.now 0 newly.numbers.items newly.elicits) }

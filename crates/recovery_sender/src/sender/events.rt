@@ -1,5 +1,6 @@
 //! How a sender begins, and the events that pass through it.
-ghost use Rattle.std.specs.Prelude.{◌≡◌, true, ◌<◌, ◌≤◌, ◌+◌, ◌^◌, ◌∷◌, [], Ok, IfOk, OnOk, OnErr, Decides};
+ghost use Rattle.std.specs.Prelude.{◌≡◌, true, ◌<◌, ◌≤◌, ◌+◌, ◌∷◌, [], Ok, IfOk, OnOk, OnErr, Decides};
+ghost use Rattle.recovery_base.specs.Units.{number_limit, u64_limit};
 ghost use Rattle.recovery_packet_numbers.specs.Skips.{IsSkips};
 ghost use Rattle.recovery_sender.specs.Calls.{challenged, config_of, datagram_reply, to_send, IsNewSender, IsPassedThrough, EventResult};
 ghost use Rattle.recovery_sender.specs.TimerUnchanged.{leaves_timer};
@@ -110,7 +111,7 @@ where
         rng: R,
         now: Instant,
     ) -> Result<Self, NoMemory>
-        requires issued { config.issued ≤ 2 ^ 62 }
+        requires issued { config.issued ≤ number_limit }
         requires skips { IsSkips config.skips }
         ensures begins { IfOk result (λ sender. IsNewSender side config now (R.stream rng) sender) }
         ensures memory { OnErr result (0 < config.issued) }
@@ -225,7 +226,7 @@ where
 
     /// A datagram came in of which the total has room.
     fn receive(&mut self, bytes: u64)
-        requires { (state_in self.old).paths.current.state.total_recvd + bytes < 2 ^ 64 }
+        requires { (state_in self.old).paths.current.state.total_recvd + bytes < u64_limit }
         ensures { TakesSteps (told (Event.DatagramIn PathName.Current bytes) (Ok Answer.Done) ∷ [])
             self.old self.new }
     {

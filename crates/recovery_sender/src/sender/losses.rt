@@ -1,6 +1,7 @@
 //! Which packets are lost (RFC 9002, 6.1, 7.6 and A.10).
-ghost use Rattle.std.specs.Prelude.{◌≡◌, ◌≢◌, ℕ, ◌+◌, ◌-◌, ◌^◌, ◌<◌, ◌≤◌, ◌++◌, ◌∷◌, [], true, false, None, Some, Decides, MatchOption, IfSome, IfNone, ◌⊎◌, option_map};
+ghost use Rattle.std.specs.Prelude.{◌≡◌, ◌≢◌, ℕ, ◌+◌, ◌-◌, ◌<◌, ◌≤◌, ◌++◌, ◌∷◌, [], true, false, None, Some, Decides, MatchOption, IfSome, IfNone, ◌⊎◌, option_map};
 ghost use Rattle.std.specs.Option.{ForSome};
+ghost use Rattle.recovery_base.specs.Units.{u64_limit};
 ghost use Rattle.recovery_events.specs.declared.event.Event.TheVariants.{Lost};
 ghost use Rattle.recovery_spaces.specs.Packets.{packet_at};
 ghost use Rattle.recovery_losses.specs.Losses.{waiting, IsNextLossCandidate, NoneFrom};
@@ -103,7 +104,7 @@ where
 
     /// The first tracked packet from a number on that lies below the largest acknowledged.
     fn candidate(&self, look: &LossPass, from: u64) -> Option<Candidate>
-        ensures fits { IfSome result (λ found. found.number + 1 < 2 ^ 64) }
+        ensures fits { IfSome result (λ found. found.number + 1 < u64_limit) }
         ensures next { MatchOption result
             (NoneFrom look.now (packets_in (state_in self.now) look.now.space) from)
             (λ found. IsNextLossCandidate look.now (packets_in (state_in self.now) look.now.space)

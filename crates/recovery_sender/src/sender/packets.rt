@@ -1,5 +1,6 @@
 //! What goes out (RFC 9002, 7; RFC 9000, 8.1).
-ghost use Rattle.std.specs.Prelude.{◌≡◌, ◌<◌, ◌≤◌, ◌+◌, ◌^◌, ◌∷◌, [], true, false, None, Some, if◌then◌else◌, nat_lt, Ok, IfOk, OnOk, OnErr};
+ghost use Rattle.std.specs.Prelude.{◌≡◌, ◌<◌, ◌≤◌, ◌+◌, ◌∷◌, [], true, false, None, Some, if◌then◌else◌, nat_lt, Ok, IfOk, OnOk, OnErr};
+ghost use Rattle.recovery_base.specs.Units.{u64_limit};
 ghost use Rattle.recovery_spaces.specs.Discarded.{is_discarded};
 ghost use Rattle.recovery_spaces.specs.Spaces.{space_of};
 ghost use Rattle.recovery_paths.specs.PathStates.{is_blocked};
@@ -156,7 +157,7 @@ where
 
     /// The datagram goes out, where limit, window and pacer let it.
     fn transmit_where_it_may(&mut self, now: Instant, bytes: u16, is_checked: bool) -> Transmission
-        requires total { (state_in self.old).paths.current.state.total_sent + bytes < 2 ^ 64 }
+        requires total { (state_in self.old).paths.current.state.total_sent + bytes < u64_limit }
         ensures value { result
             ≡ transmission F.Controller.words (state_in self.old) now bytes is_checked }
         ensures steps { TakesSteps (transmit_steps now bytes is_checked result) self.old self.new }
@@ -181,7 +182,7 @@ where
 
     /// The datagram goes out, where the pacer lets it.
     fn transmit_now(&mut self, now: Instant, bytes: u16, is_checked: bool) -> Transmission
-        requires total { (state_in self.old).paths.current.state.total_sent + bytes < 2 ^ 64 }
+        requires total { (state_in self.old).paths.current.state.total_sent + bytes < u64_limit }
         requires limit { is_blocked (state_in self.old).paths.current.state bytes ≡ false }
         requires window { is_checked ≡ true
             → is_full F.Controller.words (state_in self.old) bytes ≡ false }
