@@ -56,7 +56,7 @@ module _ {F K Q S M P : Type 0} (beginning : Beginning F K Q S M P) where
       let now = (event, reply) ∷ before in
       let one = have_one_fate beginning now all in
       record {
-        reply = all.0;
+        reply_after = all.0;
         new = numbers_told beginning before event reply all.0;
         timers = timers_told beginning before event reply all.0;
         peer_ids = (accepts_ids beginning now all).0;

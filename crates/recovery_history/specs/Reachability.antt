@@ -59,7 +59,7 @@ module _ {F K Q S M P : Type 0} (beginning : Beginning F K Q S M P) where
   -- all that is promised of an event and its reply, by the history before it
   pub record StepGuarantees (before : History Q S M P) (event : Event Q S M P) (reply : Reply Q) : Type 0 where
     -- The reply is what the history before the event says.
-    pub reply : RepliesAfter beginning before event reply
+    pub reply_after : RepliesAfter beginning before event reply
     -- A packet is new exactly where its number exceeds all that came in its space, or is none of them and at most 128
     -- below each (RFC 9000, 12.3).
     pub new : DetectsDuplicates before event reply
