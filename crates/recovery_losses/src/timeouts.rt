@@ -19,8 +19,9 @@ fn scaled_by(fraction: (u64, u64), nanos: u128) -> u128
     nanos.saturating_mul(u128::from(numerator)) / u128::from(denominator)
 }
 
-/// How long after its sending a packet is lost, if a later one is acknowledged: the larger RTT times the time threshold,
-/// a fraction, but at least that RTT and at least a millisecond (RFC 9002, 6.1.2). It stops at `Duration::MAX`.
+/// How long after its sending a packet is lost, if a later one is acknowledged: the larger RTT times the time
+/// threshold, a fraction, but at least that RTT and at least a millisecond (RFC 9002, 6.1.2). It stops at
+/// `Duration::MAX`.
 pub fn loss_delay(threshold: (u64, u64), smoothed: Duration, latest: Duration) -> Duration
     ensures { result ≡ loss_delay_of threshold smoothed latest }
 {

@@ -128,6 +128,13 @@ impl PacketNumberFilter {
         }
     }
 
+    /// The number that was skipped last, if any.
+    pub fn skipped(&self) -> Option<u64>
+        ensures { result ≡ self.now.last }
+    {
+        self.prev_skipped_packet_number
+    }
+
     /// The skip is passed, and the one behind it drawn.
     #[tactic(auto, using(crate::proofs::DrawRangeLaws::powers))]
     fn pass<R: Rng>(&mut self, rng: &mut R, skip: u64)

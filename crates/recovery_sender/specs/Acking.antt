@@ -1,5 +1,5 @@
 -- What an ACK frame comes to (RFC 9002, 5.1, 5.3, 6.2.1, A.7 and B.7; RFC 9000, 13.4.2.1), step after step.
-use Rattle.std.specs.Prelude.{◌≡◌, ℕ, ◌-◌, ◌||◌, ◌==◌, min, nat_lt, ◌⊎◌, Bool, true, false, List, [], ◌∷◌, length, map, Option, None, Some, option_map, is_some, Result, Ok, Err, if◌then◌else◌}
+use Rattle.std.specs.Prelude.{◌≡◌, ℕ, ◌-◌, ◌||◌, ◌&&◌, ◌==◌, not, min, nat_lt, ◌⊎◌, Bool, true, false, List, [], ◌∷◌, length, map, Option, None, Some, option_map, is_some, Result, Ok, Err, if◌then◌else◌}
 use Rattle.std.specs.Option.{option_and_then}
 use Rattle.recovery_base.specs.declared.below.SpaceId.{SpaceId}
 use Rattle.recovery_base.specs.declared.below.frames.EcnCounts.{EcnCounts}
@@ -14,7 +14,7 @@ use Rattle.recovery_paths.specs.PathStates.{PathMarks}
 use Rattle.recovery_history.specs.RecoveryState.{RecoveryState}
 use Rattle.recovery_losses.specs.declared.frames.Ack.{Ack}
 use Rattle.recovery_losses.specs.Frames.{largest_of}
-use Rattle.recovery_losses.specs.Variables.{ack_delay_in, heard_in}
+use Rattle.recovery_losses.specs.Variables.{ack_delay_in, heard_in, sampled_first}
 use Rattle.recovery_sender.specs.declared.sender.acks.Acknowledged.{Acknowledged}
 use Rattle.recovery_sender.specs.declared.sender.acks.EcnOutcome.{EcnOutcome}
 use Rattle.recovery_sender.specs.declared.sender.acks.NewlyAcked.{NewlyAcked}
@@ -127,6 +127,10 @@ rtt_of recovery space now ranges elicits = if elicits then
     option_map (λ sent. now - sent) (option_and_then (λ largest. sent_on recovery space largest) (largest_of ranges))
     else None
 
+-- it is the first sample of the path in use (RFC 9002, 7.6.2)
+abbrev pub is_first_sample : {K P M : Type 0} → RecoveryState K P M → Option ℕ → Bool
+is_first_sample recovery rtt = is_some rtt && not (is_some (marks_now recovery).first_after_sample)
+
 pub record Acknowledges {F Q R C K S M P : Type 0} {f : _} {c : _} {q : _} {m : _} {r : _} (space : SpaceId) (now : ℕ)
     (ranges : List (ℕ × ℕ)) (ack : Ack) (elicits : Bool) (old : Sender F Q R C K S M P f c q m r) (acked : Acknowledged)
     (new : Sender F Q R C K S M P f c q m r) : Type 0 where
@@ -146,7 +150,8 @@ pub record Acknowledges {F Q R C K S M P : Type 0} {f : _} {c : _} {q : _} {m : 
       (marks_now (state_in looked)).sending_ecn ack.ecn
       (is_raised (largest_in (state_in old) space) (largest_in (state_in looked) space)) acked.ecn
   -- probe timeouts are counted anew, and the timer is set
-  pub does : CompletesCall [] (heard_in space now old.variables) heard new
+  pub does : CompletesCall [] (heard_in space now (sampled_first (is_first_sample (state_in old)
+      (rtt_of (state_in old) space now ranges elicits)) now old.variables)) heard new
 
 -- ---- a frame
 

@@ -1,5 +1,5 @@
 -- What the calls beside ACK frames and losses come to, by the state before them (RFC 9002, A.5, A.9 and A.11).
-use Rattle.std.specs.Prelude.{◌≡◌, ℕ, ◌+◌, ◌||◌, ◌&&◌, ◌==◌, not, nat_lt, nat_le, Bool, true, false, Option, None, Some, Result, Ok, Err, List, [], ◌∷◌, if◌then◌else◌}
+use Rattle.std.specs.Prelude.{◌≡◌, ℕ, ◌+◌, ◌-◌, ◌||◌, ◌&&◌, ◌==◌, not, nat_lt, nat_le, Bool, true, false, Option, None, Some, Result, Ok, Err, List, [], ◌∷◌, if◌then◌else◌}
 use Rattle.std.specs.Option.{option_and_then}
 use Rattle.recovery_base.specs.declared.below.SpaceId.{SpaceId}
 use Rattle.recovery_base.specs.declared.timer.Timer.TheVariants.{LossDetection}
@@ -30,7 +30,8 @@ use Rattle.recovery_losses.specs.declared.variables.Side.{Side}
 use Rattle.recovery_losses.specs.declared.due.Due.{Due}
 use Rattle.recovery_losses.specs.declared.due.Due.TheVariants.{Losses, Probes, AntiDeadlock}
 use Rattle.recovery_losses.specs.declared.variables.Variables.{Variables}
-use Rattle.recovery_losses.specs.Variables.{based, fresh, is_server, timed_out}
+use Rattle.recovery_losses.specs.Variables.{based, fresh, is_server, thresholds_of, timed_out}
+use Rattle.recovery_losses.specs.declared.thresholds.Thresholds.{Thresholds}
 use Rattle.recovery_sender.specs.Senders.{state_in}
 use Rattle.recovery_sender.specs.Steps.{SenderStep, told, TakesSteps, CompletesCall}
 use Rattle.recovery_sender.specs.Timer.{due_of}
@@ -90,6 +91,13 @@ transmit_steps now bytes checked other = []
 
 -- ---- calls that are one event
 
+-- a path begins a nanosecond before the event that makes it, so that what is sent at its very time counts as sent after
+-- the start of the controller's recovery (RFC 9002, 7.3)
+abbrev pub backdated : {Q S M P : Type 0} → Event Q S M P → Event Q S M P
+backdated (events.NewPath now remote is_fresh) = events.NewPath (now - 1) remote is_fresh
+backdated (events.ResetPath now) = events.ResetPath (now - 1)
+backdated event = event
+
 -- when an event is to send what counts in flight
 abbrev pub to_send : {Q S M P : Type 0} → Event Q S M P → Option ℕ
 to_send (events.Send space now size eliciting largest queue frames) = if nat_lt 0 size then Some now else None
@@ -114,9 +122,9 @@ module _ {F Q R C K S M P : Type 0} {f : _} {c : _} {q : _} {m : _} {r : _} (eve
     (old new : Sender F Q R C K S M P f c q m r) where
   -- the event is answered so, and the timer set; or it is refused so, and all else stays
   abbrev pub EventResult : Result (Answer Q) SenderError → Type 0
-  EventResult (Ok answer) = CompletesCall (told event (Ok answer) ∷ [])
-      (based (sent_at (to_send event) answer) old.variables) old new
-  EventResult (Err (refused.Event refusal)) = TakesSteps (told event (Err refusal) ∷ []) old new
+  EventResult (Ok answer) = CompletesCall (told (backdated event) (Ok answer) ∷ [])
+      (based (sent_at (to_send (backdated event)) answer) old.variables) old new
+  EventResult (Err (refused.Event refusal)) = TakesSteps (told (backdated event) (Err refusal) ∷ []) old new
   EventResult (Err refused.Unsent) = ⊥
 
 -- ---- events that pass
@@ -197,14 +205,19 @@ module _ {F Q R C K S M P : Type 0} {f : _} {c : _} {q : _} {m : _} {r : _} (spa
 abbrev pub config_of : {F : Type 0} → Side → RecoveryConfig F → RecoveryConfig F
 config_of side config = record config { validated = config.validated || not (is_server side) }
 
+-- the thresholds of loss detection that settings give (RFC 9002, 6.1 and 7.6.1)
+abbrev pub thresholds_in : {F : Type 0} → RecoveryConfig F → Thresholds
+thresholds_in config = let transport = config.transport in
+    thresholds_of transport.packet_threshold transport.time_threshold transport.persistent_congestion_threshold
+
 module _ {F Q R C K S M P : Type 0} {f : _} {c : _} {q : _} {m : _} {r : _} where
-  -- its recovery is made by these settings, nothing happened to it, and nothing is kept of paths and of losses; then
-  -- the timer is set
+  -- its recovery is made by these settings, a nanosecond earlier (RFC 9002, 7.3); nothing happened to it, and nothing is
+  -- kept of paths and of losses; then the timer is set
   pub record IsNewSender (side : Side) (config : RecoveryConfig F) (start : ℕ) (random : Stream)
       (new : Sender F Q R C K S M P f c q m r) : Type 0 where
     pub made : Sender F Q R C K S M P f c q m r
-    pub came : ReachedBy (begins f.built c.words (queue_model q.contents q.words q.blank) (config_of side config) start
-        random) [] (state_in made)
+    pub came : ReachedBy (begins f.built c.words (queue_model q.contents q.words q.blank) (config_of side config)
+        (start - 1) random) [] (state_in made)
     pub marks : AreMarksFresh (paths_marks (state_in made).paths)
     pub loss_times : HasNoLossTime (state_in made).spaces
-    pub does : CompletesCall [] (fresh side start) made new
+    pub does : CompletesCall [] (fresh side (thresholds_in config) start) made new

@@ -1,8 +1,8 @@
 -- What becomes of the packets that a look for losses goes over, one after another.
-use Rattle.std.specs.Prelude.{◌≡◌, ◌≢◌, ℕ, ◌<◌, ◌⊎◌, Decides, min, List, [], ◌∷◌, ◌++◌, Bool, false, Option, None, Some, option_map, map, Ok}
+use Rattle.std.specs.Prelude.{◌≡◌, ◌≢◌, ℕ, ◌-◌, ◌<◌, ◌⊎◌, Decides, min, List, [], ◌∷◌, ◌++◌, Bool, false, Option, None, Some, option_map, map, Ok, if◌then◌else◌}
 use Rattle.std.specs.Option.{ForSome}
 use Rattle.recovery_base.specs.declared.below.SpaceId.{SpaceId}
-use Rattle.recovery_base.specs.Units.{largest_u64}
+use Rattle.recovery_base.specs.Units.{largest_u64, last_time}
 use Rattle.recovery_events.specs.declared.event.Answer.{Answer}
 use Rattle.recovery_events.specs.declared.event.Answer.TheVariants.{BlackHole}
 use Rattle.recovery_events.specs.declared.event.Event.TheVariants.{Lost, LossesDone, Congestion}
@@ -77,10 +77,16 @@ abbrev pub ended : {Q S M P : Type 0} → ℕ → Bool → List ℕ → List (Se
 ended now reported [] = []
 ended now reported (number ∷ numbers) = told (LossesDone now) (Ok (BlackHole reported)) ∷ []
 
--- there is congestion, where one that counts was sent last at this moment
+-- no recovery starts later, so that the clock's end is later than each start
+abbrev pub latest_start : ℕ
+latest_start = last_time - 1
+
+-- congestion is reported, if a packet that counts was sent last at this time (RFC 9002, 7.3.2); if it is persistent, as of
+-- a packet that was sent later than every recovery began: the window falls to its least (7.6.2)
 abbrev pub congested : {Q S M P : Type 0} → ℕ → Bool → ℕ → Option ℕ → List (SenderStep Q S M P)
 congested now persistent bytes None = []
-congested now persistent bytes (Some sent) = occurs (Congestion now sent persistent bytes) ∷ []
+congested now persistent bytes (Some sent) =
+    occurs (Congestion (min now latest_start) (if persistent then last_time else sent) persistent bytes) ∷ []
 
 abbrev pub one_of : Option ℕ → List ℕ
 one_of None = []

@@ -8,7 +8,8 @@ use Rattle.recovery_congestion.specs.Rtt.{rtt_get, pto_base_of}
 use Rattle.recovery_losses.specs.Timeouts.{loss_delay_of}
 use Rattle.recovery_mtud.specs.Discovery.{probe_of}
 use Rattle.recovery_losses.specs.declared.looks.LossPass.{LossPass}
-use Rattle.recovery_losses.specs.Losses.{first_of}
+use Rattle.recovery_losses.specs.Losses.{first_sample_in}
+use Rattle.recovery_losses.specs.declared.looks.FirstSample.TheVariants.{Missing}
 use Rattle.recovery_history.specs.RecoveryState.{RecoveryState}
 use Rattle.recovery_sender.specs.declared.sender.losses.Losses.{Losses}
 use Rattle.recovery_losses.specs.declared.variables.Variables.{Variables}
@@ -26,10 +27,6 @@ pub record IsEmptyLosses (losses : Losses) : Type 0 where
 abbrev pub largest_in : {K P M : Type 0} → RecoveryState K P M → SpaceId → Option ℕ
 largest_in recovery space = option_and_then (λ here. here.largest_acked_packet) (space_in recovery space)
 
--- kPersistentCongestionThreshold (RFC 9002, 7.6.1)
-abbrev pub persistence_threshold : ℕ
-persistence_threshold = 3
-
 -- what a look goes by, at a space whose largest acknowledged number is this; only one that is due to an ACK finds
 -- persistent congestion
 abbrev pub look_of : {K P M : Type 0} → RecoveryState K P M → Variables → SpaceId → ℕ → Bool → ℕ → LossPass
@@ -37,9 +34,12 @@ look_of recovery variables space now due_to_ack largest = let path = recovery.pa
   space = space;
   at = now;
   largest = largest;
-  delay = loss_delay_of (rtt_get path.state.rtt) path.state.rtt.latest;
+  packet_threshold = variables.thresholds.packets;
+  delay = loss_delay_of variables.thresholds.time (rtt_get path.state.rtt) path.state.rtt.latest;
   probe = (if same_space space Data then probe_of path.state.discovery else None);
   generation = path.ledger.generation;
-  first_of_run = (if due_to_ack then first_of path.marks.first_after_sample space else None);
-  period = persistence_threshold * (pto_base_of path.state.rtt + variables.max_ack_delay);
+  first_sample = (if due_to_ack then first_sample_in path.marks.first_after_sample variables.sampled space
+      else Missing);
+  skipped = (if same_space space Data then recovery.skipping.filter.last else None);
+  period = variables.thresholds.persistent * (pto_base_of path.state.rtt + variables.max_ack_delay);
 }

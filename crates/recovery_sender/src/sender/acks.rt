@@ -3,7 +3,7 @@ ghost use Rattle.std.specs.Prelude.{◌≡◌, ◌≢◌, ◌∷◌, [], None, �
 ghost use Rattle.recovery_base.specs.Units.{u64_limit};
 ghost use Rattle.recovery_events.specs.declared.event.Event.TheVariants.{CheckAck, EndAcks};
 ghost use Rattle.recovery_losses.specs.Losses.{AreIncreasing, IsOneOf};
-ghost use Rattle.recovery_losses.specs.Variables.{heard_in};
+ghost use Rattle.recovery_losses.specs.Variables.{heard_in, sampled_first};
 ghost use Rattle.quic_recovery.specs.State.{ReadOnlyTransition};
 ghost use Rattle.recovery_losses.specs.Frames.{are_ranges, is_unsent, largest_of};
 ghost use Rattle.recovery_sender.specs.Acks.{AckChecked, AreNotSkipped, AreNewlyAcked, IsFirstIn, HasNoneTracked, HasAckEliciting, TrackedInRange};
@@ -12,7 +12,7 @@ ghost use Rattle.recovery_sender.specs.Promises.Acked.{AcksTracked};
 ghost use Rattle.recovery_sender.specs.Promises.Pasts.{ForEveryPast};
 ghost use Rattle.recovery_sender.specs.Senders.{state_in};
 ghost use Rattle.recovery_sender.specs.Spaces.{packets_in, space_in};
-ghost use Rattle.recovery_sender.specs.Acking.{IsNewly, AckResult, ProcessesNewlyAcked, acking, first_marked, is_limited, is_marked, is_raised, largest_sent, marks_now, rtt_of, sent_on, unmarked, with_marks_now, Acknowledges, EcnCompared, EcnResult, SamplesRtt};
+ghost use Rattle.recovery_sender.specs.Acking.{IsNewly, AckResult, ProcessesNewlyAcked, acking, first_marked, is_first_sample, is_limited, is_marked, is_raised, largest_sent, marks_now, rtt_of, sent_on, unmarked, with_marks_now, Acknowledges, EcnCompared, EcnResult, SamplesRtt};
 ghost use Rattle.recovery_sender.specs.Steps.{marked, occurs, CompletesCall, TakesSteps};
 ghost use Rattle.recovery_spaces.specs.Discarded.{is_discarded};
 ghost use Rattle.recovery_spaces.specs.Packets.{packet_at};
@@ -484,6 +484,13 @@ where
         app_limited || self.path().challenge.is_some()
     }
 
+    /// Whether a sample is the first one of the path in use (RFC 9002, 7.6.2).
+    fn is_first_sample(&self, rtt: Option<Duration>) -> bool
+        ensures { result ≡ is_first_sample (state_in self.now) rtt }
+    {
+        rtt.is_some() && self.path().first_packet_after_rtt_sample.is_none()
+    }
+
     /// The acknowledged numbers were all (RFC 9002, 7).
     fn end_acks(&mut self, space: SpaceId, now: Instant, app_limited: bool)
         ensures { TakesSteps (occurs (EndAcks now app_limited
@@ -514,6 +521,7 @@ where
     {
         let before = self.largest_acked(space);
         let rtt = self.rtt_of(space, now, ranges, newly.elicits);
+        let is_first = self.is_first_sample(rtt);
         let is_limited = self.is_limited(ack.app_limited);
         let numbers: &[u64] = &newly.numbers;
         let count = numbers.len() as u64;
@@ -523,7 +531,7 @@ where
         let losses = self.detect_and_remove_lost_packets(space, now, true);
         let is_raised = is_raised(before, self.largest_acked(space));
         let ecn = self.process_ecn(space, now, count, ack.ecn, is_raised);
-        self.hear(space, now);
+        self.hear(space, now, is_first);
         Acknowledged {
             numbers: newly.numbers,
             losses,
@@ -531,12 +539,16 @@ where
         }
     }
 
-    /// The peer was heard so far. The timer is set.
-    fn hear(&mut self, space: SpaceId, now: Instant)
-        ensures { CompletesCall [] (heard_in space now self.old.variables) self.old self.new }
+    /// The peer was heard at this time, perhaps with the first RTT sample of the path. The timer is set.
+    fn hear(&mut self, space: SpaceId, now: Instant, is_first: bool)
+        ensures { CompletesCall [] (heard_in space now (sampled_first is_first now self.old.variables))
+            self.old self.new }
     {
         self.is_timer_current = false;
-        self.variables = self.variables.heard(space, now);
+        self.variables = self
+            .variables
+            .sampled_first(is_first, now)
+            .heard(space, now);
         self.set_loss_detection_timer();
     }
 }

@@ -1,8 +1,8 @@
 //! How a sender begins, and the events that pass through it.
-ghost use Rattle.std.specs.Prelude.{◌≡◌, true, ◌<◌, ◌≤◌, ◌+◌, ◌∷◌, [], Ok, IfOk, OnOk, OnErr, Decides};
+ghost use Rattle.std.specs.Prelude.{◌≡◌, true, ◌<◌, ◌≤◌, ◌+◌, ◌-◌, ◌∷◌, [], Ok, IfOk, OnOk, OnErr, Decides};
 ghost use Rattle.recovery_base.specs.Units.{number_limit, u64_limit};
 ghost use Rattle.recovery_packet_numbers.specs.Skips.{IsSkips};
-ghost use Rattle.recovery_sender.specs.Calls.{challenged, config_of, datagram_reply, to_send, IsNewSender, IsPassedThrough, EventResult};
+ghost use Rattle.recovery_sender.specs.Calls.{backdated, challenged, config_of, datagram_reply, thresholds_in, to_send, IsNewSender, IsPassedThrough, EventResult};
 ghost use Rattle.recovery_sender.specs.TimerUnchanged.{leaves_timer};
 ghost use Rattle.recovery_sender.specs.Senders.{state_in};
 ghost use Rattle.recovery_sender.specs.Steps.{marked, told, TakesSteps, CompletesCall};
@@ -19,7 +19,7 @@ use quic_recovery::time::Instant;
 use quic_recovery::timer::Timer;
 use quic_recovery::{Answer, Event, LiveRecovery, RecoveryConfig, Refusal};
 use rand_core::Rng;
-use recovery_losses::{Side, Variables};
+use recovery_losses::{Side, Thresholds, Variables};
 use std::alloc::Global;
 
 /// The settings of the recovery of a side's sender.
@@ -29,6 +29,37 @@ fn config_of<F>(side: Side, config: RecoveryConfig<F>) -> RecoveryConfig<F>
     let mut config = config;
     config.validated = config.validated || side == Side::Client;
     config
+}
+
+/// The thresholds of loss detection that the settings give.
+fn thresholds_of<F>(config: &RecoveryConfig<F>) -> Thresholds
+    ensures { result ≡ thresholds_in config.now }
+{
+    let transport = &config.transport;
+    Thresholds::new(
+        transport.packet_threshold,
+        transport.get_time_threshold(),
+        transport.persistent_congestion_threshold,
+    )
+}
+
+/// A nanosecond earlier; the epoch has nothing before it.
+fn before(now: Instant) -> Instant
+    ensures { result ≡ now - 1 }
+{
+    Instant::from_nanos(now.as_nanos().saturating_sub(1))
+}
+
+/// A path begins a nanosecond before an event that makes one, so that what is sent at its very time counts as sent
+/// after the start of the controller's recovery (RFC 9002, 7.3).
+#[inline(always)]
+fn backdate<Q: RetransmitQueue>(event: &mut Event<Q>)
+    ensures { event.new ≡ backdated event.old }
+{
+    match event {
+        Event::NewPath { now, .. } | Event::ResetPath { now } => *now = before(*now),
+        _ => {}
+    }
 }
 
 /// When an event is to send what counts in flight.
@@ -102,8 +133,9 @@ where
     Q::Streams: Drop,
     R: Rng + Drop,
 {
-    /// A sender to which nothing has happened yet, made at the moment `now`. The first path of a client is validated,
-    /// whatever the settings say (RFC 9000, 8.1). `NoMemory` as of [`LiveRecovery::new`].
+    /// A new sender, made at the time `now`. The first path of a client is validated, whatever the settings say (RFC
+    /// 9000, 8.1). Its recovery begins a nanosecond earlier, so that what is sent at `now` counts as sent after that
+    /// (RFC 9002, 7.3). `NoMemory` as of [`LiveRecovery::new`].
     pub fn new(
         alloc: Global,
         side: Side,
@@ -116,11 +148,12 @@ where
         ensures begins { IfOk result (λ sender. IsNewSender side config now (R.stream rng) sender) }
         ensures memory { OnErr result (0 < config.issued) }
     {
-        let recovery = LiveRecovery::new(alloc, config_of(side, config), rng, now)?;
+        let thresholds = thresholds_of(&config);
+        let recovery = LiveRecovery::new(alloc, config_of(side, config), rng, before(now))?;
         let mut sender = Sender {
             alloc,
             recovery,
-            variables: Variables::new(side, now),
+            variables: Variables::new(side, thresholds, now),
             is_timer_current: false,
         };
         sender.set_loss_detection_timer();
@@ -128,12 +161,15 @@ where
     }
 
     /// An event that passes, [`Event::Send`] and [`Event::PollMtu`] among them, as [`LiveRecovery::apply`] does it; and
-    /// it is refused as there.
+    /// it is refused as there. [`Event::NewPath`] and [`Event::ResetPath`] take effect a nanosecond earlier, as
+    /// [`Sender::new`] does.
     #[inline(always)]
     pub fn on_event(&mut self, event: Event<Q>) -> Result<Answer<Q>, SenderError>
         requires passes { IsPassedThrough event }
         ensures { EventResult event self.old self.new result }
     {
+        let mut event = event;
+        backdate(&mut event);
         let was_timed = self.is_left_by(&event);
         let time = to_send(&event);
         self.is_timer_current = false;

@@ -1,7 +1,7 @@
 //! Which packets are lost (RFC 9002, 6.1, 7.6 and A.10).
-ghost use Rattle.std.specs.Prelude.{◌≡◌, ◌≢◌, ℕ, ◌+◌, ◌-◌, ◌<◌, ◌≤◌, ◌++◌, ◌∷◌, [], true, false, None, Some, Decides, MatchOption, IfSome, IfNone, ◌⊎◌, option_map};
+ghost use Rattle.std.specs.Prelude.{◌≡◌, ◌≢◌, ℕ, ◌+◌, ◌-◌, ◌<◌, ◌≤◌, ◌++◌, ◌∷◌, [], true, false, None, Some, Decides, MatchOption, IfSome, IfNone, ◌⊎◌, option_map, if◌then◌else◌};
 ghost use Rattle.std.specs.Option.{ForSome};
-ghost use Rattle.recovery_base.specs.Units.{u64_limit};
+ghost use Rattle.recovery_base.specs.Units.{last_time, u64_limit};
 ghost use Rattle.recovery_events.specs.declared.event.Event.TheVariants.{Lost};
 ghost use Rattle.recovery_spaces.specs.Packets.{packet_at};
 ghost use Rattle.recovery_losses.specs.Losses.{waiting, IsNextLossCandidate, NoneFrom};
@@ -18,11 +18,22 @@ use quic_recovery::queue::RetransmitQueue;
 use quic_recovery::time::Instant;
 use quic_recovery::{Answer, Event};
 use rand_core::Rng;
-use recovery_losses::{Candidate, LossPass, Tally, first_of, loss_delay};
+use recovery_losses::{Candidate, FirstSample, LossPass, Tally, Variables, loss_delay};
 use std::alloc::Global;
 
-/// How many probe timeouts make congestion persistent (RFC 9002, 7.6.1: kPersistentCongestionThreshold).
-const PERSISTENT_CONGESTION_THRESHOLD: u128 = 3;
+/// The latest start of a recovery, in nanoseconds: so that the clock's end is later than each.
+const LATEST_START: u64 = u64::MAX - 1;
+
+/// When the packet was sent by which congestion is reported: if it is persistent, later than every recovery began.
+fn sent_for(persistent: bool, sent: Instant) -> Instant
+    ensures { result ≡ (if persistent then last_time else sent) }
+{
+    if persistent {
+        Instant::from_nanos(u64::MAX)
+    } else {
+        sent
+    }
+}
 
 /// What a look for losses found.
 #[derive(Drop)]
@@ -79,26 +90,36 @@ where
             ≡ look_of (state_in self.now) self.now.variables space now due_to_ack largest }
     {
         let path = self.path();
-        let first_of_run = if due_to_ack {
-            first_of(path.first_packet_after_rtt_sample, space)
+        let Variables {
+            thresholds,
+            sampled,
+            ..
+        } = self.variables;
+        let first_sample = if due_to_ack {
+            FirstSample::of(path.first_packet_after_rtt_sample, sampled, space)
         } else {
-            None
+            FirstSample::Missing
         };
         let once = path.rtt.pto_base().as_nanos() + self.variables.max_ack_delay.as_nanos();
-        let probe = if space == SpaceId::Data {
-            path.mtud.in_flight_mtu_probe()
+        let (probe, skipped) = if space == SpaceId::Data {
+            (
+                path.mtud.in_flight_mtu_probe(),
+                self.recovery.recovery().skipped_number(),
+            )
         } else {
-            None
+            (None, None)
         };
         LossPass {
             space,
             at: now,
             largest,
-            delay: loss_delay(path.rtt.get(), path.rtt.latest()),
+            packet_threshold: thresholds.packets,
+            delay: loss_delay(thresholds.time, path.rtt.get(), path.rtt.latest()),
             probe,
             generation: path.generation(),
-            first_of_run,
-            period: PERSISTENT_CONGESTION_THRESHOLD * once,
+            first_sample,
+            skipped,
+            period: u128::from(thresholds.persistent) * once,
         }
     }
 
@@ -206,7 +227,9 @@ where
         is_reported(&answer)
     }
 
-    /// There is congestion, where a packet that counts was sent last at this moment (RFC 9002, 7.3.2).
+    /// Reports congestion, if a packet that counts was sent last at this time (RFC 9002, 7.3.2). If it is persistent,
+    /// it is reported as of a packet sent later than every recovery began, so that the window falls to its least also
+    /// within a recovery (7.6.2).
     pub(super) fn congested(
         &mut self,
         now: Instant,
@@ -218,8 +241,8 @@ where
     {
         if let Some(sent) = sent {
             self.tell(Event::Congestion {
-                now,
-                sent,
+                now: now.min(Instant::from_nanos(LATEST_START)),
+                sent: sent_for(persistent, sent),
                 persistent,
                 bytes,
             });
