@@ -8,5 +8,6 @@ pub mod PaidLogLaws
 mod PaidLogRows
 pub mod ProgressLaws
 pub mod RenoCounts
+pub mod RenoRounds
 pub mod RoundLaws
 pub mod RttLaws

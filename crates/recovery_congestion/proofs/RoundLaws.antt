@@ -1,109 +1,107 @@
--- NewReno's window falls once a round trip.
-use Rattle.std.proofs.Common.{◌≡◌, ℕ, ◌+◌, ◌-◌, ◌<◌, ◌≤◌, arith, Bool, true, false, nat_le, nat_lt, List, [], ◌∷◌, refl, subst, sym}
-use Rattle.std.proofs.lemmas.Bool.Decides.{nat_tests}
-use Rattle.std.specs.Prelude.{if◌then◌else◌}
-use Rattle.recovery_base.specs.Units.{largest_u64}
-use Rattle.recovery_congestion.specs.declared.congestion.new_reno.NewReno.{NewReno}
+-- A controller that reduces its window only as it begins a recovery does so once a round trip.
+use Rattle.std.proofs.Common.{◌≡◌, ℕ, ◌+◌, ◌<◌, ◌≤◌, ◌⊎◌, inl, inr, arith, Bool, List, [], ◌∷◌}
 use Rattle.recovery_congestion.specs.Calls.{ControllerCall, acks, congests, ends_acks, sends, takes_mtu}
-use Rattle.recovery_congestion.specs.NewReno.{sum_to_most, is_ignored, slow_started, avoided, reno_acked, reno_grown, reno_recovering}
-use Rattle.recovery_congestion.specs.Rounds.{AreInOrder, RenoReducesOncePerRound, RenoReducedBefore, IsBehind, reno_by}
+use Rattle.recovery_congestion.specs.Controllers.{ControllerSemantics}
+use Rattle.recovery_base.specs.Units.{largest_u64}
+use Rattle.recovery_congestion.specs.Rounds.{AreInOrder, IsBehind, content_by, LowersWindow, ReducedBefore, ReducesOncePerRound}
 
--- ---- an acknowledgement: recovery begins at no other moment, and the window does not fall
+-- all calls but those of congestion
+abbrev pub IsNoCongestion : ControllerCall → Type 0
+IsNoCongestion (congests now sent persistent lost) = ⊥
+IsNoCongestion call = Unit {0}
 
-record Grows (old new : NewReno) : Type 0 where
-  start : new.recovery_start_time ≡ old.recovery_start_time
-  window : old.window ≤ largest_u64 → old.window ≤ new.window
+module _ {K : Type 0} (words : ControllerSemantics K) (start : K → ℕ) where
+  -- a call begins no recovery and reduces no window of 64 bits
+  pub record KeepsRecovery (old new : K) : Type 0 where
+    pub start_is : start new ≡ start old
+    pub window : words.window old ≤ largest_u64 → words.window old ≤ words.window new
 
-stays : (reno : NewReno) → Grows reno reno
-stays reno = record { start = refl; window = λ within. omega arith }
+  -- a call begins a recovery, for a packet that was sent after the start of the recovery before
+  pub record BeginsRecovery (now sent : ℕ) (old new : K) : Type 0 where
+    pub later : start old < sent
+    pub start_is : start new ≡ now
 
-grows_avoiding : (counted : ℕ) (reno : NewReno) → Grows reno (avoided counted reno)
-grows_avoiding counted reno =
-    elim (nat_le reno.window counted) as (λ b. Grows reno (if b
-    then record reno { window = sum_to_most reno.window reno.current_mtu; bytes_acked = counted - reno.window }
-    else record reno { bytes_acked = counted })) [
-      | true ↦ record { start = refl; window = λ within. omega (arith, within) }
-      | false ↦ record { start = refl; window = λ within. omega arith }
-    ]
+  -- what a controller proves: congestion alone begins a recovery, and the window falls by nothing else
+  pub record ReducesInRecovery : Type 0 where
+    pub other : (call : ControllerCall) (k : K) → IsNoCongestion call → KeepsRecovery k (words.after call k)
+    pub congested : (now sent : ℕ) (persistent : Bool) (lost : ℕ) (k : K)
+        → let new = words.after (congests now sent persistent lost) k in
+        ((start new ≡ start k) × (words.window k ≤ words.window new)) ⊎ BeginsRecovery now sent k new
 
-grows : (bytes : ℕ) (reno : NewReno) → Grows reno (reno_grown bytes reno)
-grows bytes reno =
-    elim (nat_lt reno.window reno.ssthresh) as
-    (λ b. Grows reno (if b then slow_started bytes reno else avoided (sum_to_most reno.bytes_acked bytes) reno)) [
-      | true ↦ record { start = refl; window = λ within. omega (arith, within) }
-      | false ↦ grows_avoiding (sum_to_most reno.bytes_acked bytes) reno
-    ]
+  module _ (reduces : ReducesInRecovery) (built : K) where
+    before_later : (time later : ℕ) (calls : List ControllerCall) → time ≤ later
+        → ReducedBefore words built time calls → ReducedBefore words built later calls
+    before_later time later [] less fell = tt
+    before_later time later (congests now sent persistent lost ∷ earlier) less fell =
+        (λ lowers. let here = fell.0 lowers in omega (arith, here, less), before_later time later earlier less fell.1)
+    before_later time later (sends now bytes number ∷ earlier) less fell = before_later time later earlier less fell
+    before_later time later (acks now sent bytes limited rtt ∷ earlier) less fell =
+        before_later time later earlier less fell
+    before_later time later (ends_acks now bytes limited largest ∷ earlier) less fell =
+        before_later time later earlier less fell
+    before_later time later (takes_mtu mtu ∷ earlier) less fell = before_later time later earlier less fell
 
-grows_acked : (sent bytes : ℕ) (limited : Bool) (reno : NewReno) → Grows reno (reno_acked sent bytes limited reno)
-grows_acked sent bytes limited reno =
-    elim (is_ignored sent limited reno) as (λ b. Grows reno (if b then reno else reno_grown bytes reno))
-    [ true ↦ stays reno | false ↦ grows bytes reno ]
+    -- in the order of time
+    behind_all : (now : ℕ) (calls : List ControllerCall) → IsBehind now calls
+        → ReducedBefore words built (now + 1) calls
+    behind_all now [] behind = tt
+    behind_all now (congests before sent persistent lost ∷ earlier) behind =
+        (λ lowers. let here = behind.0 in omega (arith, here), behind_all now earlier behind.1)
+    behind_all now (sends at bytes number ∷ earlier) behind = behind_all now earlier behind
+    behind_all now (acks at sent bytes limited rtt ∷ earlier) behind = behind_all now earlier behind
+    behind_all now (ends_acks at bytes limited largest ∷ earlier) behind = behind_all now earlier behind
+    behind_all now (takes_mtu mtu ∷ earlier) behind = behind_all now earlier behind
 
--- ---- lists of calls
+    abbrev start_by : List ControllerCall → ℕ
+    start_by calls = start (content_by words built calls)
 
-module _ (made : NewReno) where
-  before_later : (moment later : ℕ) (calls : List ControllerCall) → moment ≤ later → RenoReducedBefore made moment calls
-      → RenoReducedBefore made later calls
-  before_later moment later [] less fell = tt
-  before_later moment later (congests now sent persistent lost ∷ earlier) less fell =
-      (λ lowers. let here = fell.0 lowers in omega (arith, here, less), before_later moment later earlier less fell.1)
-  before_later moment later (sends now bytes number ∷ earlier) less fell = before_later moment later earlier less fell
-  before_later moment later (acks now sent bytes limited rtt ∷ earlier) less fell =
-      before_later moment later earlier less fell
-  before_later moment later (ends_acks now bytes limited largest ∷ earlier) less fell =
-      before_later moment later earlier less fell
-  before_later moment later (takes_mtu mtu ∷ earlier) less fell = before_later moment later earlier less fell
+    by_start : (new old : ℕ) (calls : List ControllerCall) → new ≡ old → ReducedBefore words built (old + 1) calls
+        → ReducedBefore words built (new + 1) calls
+    by_start new old calls is fell = rw is fell
 
-  -- in the order of time
-  behind_all : (now : ℕ) (calls : List ControllerCall) → IsBehind now calls → RenoReducedBefore made (now + 1) calls
-  behind_all now [] behind = tt
-  behind_all now (congests before sent persistent lost ∷ earlier) behind =
-      (λ lowers. let here = behind.0 in omega (arith, here), behind_all now earlier behind.1)
-  behind_all now (sends at bytes number ∷ earlier) behind = behind_all now earlier behind
-  behind_all now (acks at sent bytes limited rtt ∷ earlier) behind = behind_all now earlier behind
-  behind_all now (ends_acks at bytes limited largest ∷ earlier) behind = behind_all now earlier behind
-  behind_all now (takes_mtu mtu ∷ earlier) behind = behind_all now earlier behind
+    kept : (call : ControllerCall) (earlier : List ControllerCall) → IsNoCongestion call
+        → ReducedBefore words built (start_by earlier + 1) earlier
+        → ReducedBefore words built (start_by (call ∷ earlier) + 1) earlier
+    kept call earlier other fell =
+        by_start _ _ earlier (reduces.other call (content_by words built earlier) other).start_is fell
 
-  -- each fall came up to the beginning of the recovery
-  fell_by : (calls : List ControllerCall) → AreInOrder calls
-      → RenoReducedBefore made ((reno_by made calls).recovery_start_time + 1) calls
-  fell_by [] order = tt
-  fell_by (congests now sent persistent lost ∷ earlier) order =
-      go (fell_by earlier order.1) (nat_le sent (reno_by made earlier).recovery_start_time)
-    where
-      old : NewReno
-      old = reno_by made earlier
+    -- each reduction happened up to the start of the recovery
+    fell_by : (calls : List ControllerCall) → AreInOrder calls → ReducedBefore words built (start_by calls + 1) calls
+    fell_by [] order = tt
+    fell_by (congests now sent persistent lost ∷ earlier) order =
+        elim (reduces.congested now sent persistent lost (content_by words built earlier)) [
+          | inl same ↦ (
+            λ lowers. absurd (omega (arith, lowers, same.1)),
+            by_start _ _ earlier same.0 (fell_by earlier order.1),
+          )
+          | inr begins ↦ (
+            λ lowers. omega (arith, begins.start_is),
+            by_start _ _ earlier begins.start_is (behind_all now earlier order.0),
+          )
+        ]
+    fell_by (sends now bytes number ∷ earlier) order =
+        kept (sends now bytes number) earlier tt (fell_by earlier order)
+    fell_by (acks now sent bytes limited rtt ∷ earlier) order =
+        kept (acks now sent bytes limited rtt) earlier tt (fell_by earlier order)
+    fell_by (ends_acks now bytes limited largest ∷ earlier) order =
+        kept (ends_acks now bytes limited largest) earlier tt (fell_by earlier order)
+    fell_by (takes_mtu mtu ∷ earlier) order = kept (takes_mtu mtu) earlier tt (fell_by earlier order)
 
-      go : RenoReducedBefore made (old.recovery_start_time + 1) earlier → (test : Bool)
-          → let new = (if test then old else reno_recovering now persistent old) in
-          (new.window < old.window → now < new.recovery_start_time + 1)
-          × RenoReducedBefore made (new.recovery_start_time + 1) earlier
-      go fell true = (λ lowers. absurd (omega (arith, lowers)), fell)
-      go fell false = (λ lowers. omega arith, behind_all now earlier order.0)
-  fell_by (sends now bytes number ∷ earlier) order = fell_by earlier order
-  fell_by (acks now sent bytes limited rtt ∷ earlier) order =
-      subst (λ (start : ℕ). RenoReducedBefore made (start + 1) earlier)
-      (sym (grows_acked sent bytes limited (reno_by made earlier)).start) (fell_by earlier order)
-  fell_by (ends_acks now bytes limited largest ∷ earlier) order = fell_by earlier order
-  fell_by (takes_mtu mtu ∷ earlier) order = fell_by earlier order
+    never_lowers : (call : ControllerCall) (calls : List ControllerCall) → IsNoCongestion call
+        → words.window (content_by words built calls) ≤ largest_u64 → LowersWindow words built call calls → ⊥
+    never_lowers call calls other within lowers =
+        let up = (reduces.other call (content_by words built calls) other).window within in omega (arith, up, lowers)
 
-  pub falls_once : (call : ControllerCall) (calls : List ControllerCall) → AreInOrder calls
-      → RenoReducesOncePerRound made call calls
-  falls_once (congests now sent persistent lost) calls order =
-      go (nat_le sent (reno_by made calls).recovery_start_time) refl
-    where
-      old : NewReno
-      old = reno_by made calls
-
-      go : (test : Bool) → nat_le sent old.recovery_start_time ≡ test
-          → (if test then old else reno_recovering now persistent old).window < old.window
-          → RenoReducedBefore made sent calls
-      go true is lowers = absurd (omega (arith, lowers))
-      go false is lowers =
-          let behind : old.recovery_start_time + 1 ≤ sent = grind (arith, nat_tests) in
-          before_later (old.recovery_start_time + 1) sent calls behind (fell_by calls order)
-  falls_once (acks now sent bytes limited rtt) calls order = λ within lowers.
-      let up = (grows_acked sent bytes limited (reno_by made calls)).window within in absurd (omega (arith, up, lowers))
-  falls_once (sends now bytes number) calls order = λ within lowers. absurd (omega (arith, lowers))
-  falls_once (ends_acks now bytes limited largest) calls order = λ within lowers. absurd (omega (arith, lowers))
-  falls_once (takes_mtu mtu) calls order = λ within lowers. absurd (omega (arith, lowers))
+    pub falls_once : (call : ControllerCall) (calls : List ControllerCall) → AreInOrder calls
+        → ReducesOncePerRound words built call calls
+    falls_once (congests now sent persistent lost) calls order = λ lowers.
+        elim (reduces.congested now sent persistent lost (content_by words built calls)) [
+          | inl same ↦ absurd (omega (arith, lowers, same.1))
+          | inr begins ↦
+              before_later (start_by calls + 1) sent calls (omega (arith, begins.later)) (fell_by calls order)
+        ]
+    falls_once (acks now sent bytes limited rtt) calls order = never_lowers (acks now sent bytes limited rtt) calls tt
+    falls_once (sends now bytes number) calls order = never_lowers (sends now bytes number) calls tt
+    falls_once (ends_acks now bytes limited largest) calls order =
+        never_lowers (ends_acks now bytes limited largest) calls tt
+    falls_once (takes_mtu mtu) calls order = never_lowers (takes_mtu mtu) calls tt

@@ -1,9 +1,8 @@
--- NewReno's window falls once for all that was in flight as it fell (RFC 9002, 7.3.2). Lists are newest first.
+-- A controller's window falls once for all that was in flight as it fell (RFC 9002, 7.3.2). Lists are newest first.
 use Rattle.std.specs.Prelude.{ℕ, ◌<◌, ◌≤◌, List, [], ◌∷◌}
-use Rattle.recovery_base.specs.Units.{largest_u64}
-use Rattle.recovery_congestion.specs.declared.congestion.new_reno.NewReno.{NewReno}
 use Rattle.recovery_congestion.specs.Calls.{ControllerCall, congests}
-use Rattle.recovery_congestion.specs.NewReno.{reno_after}
+use Rattle.recovery_congestion.specs.Controllers.{ControllerSemantics}
+use Rattle.recovery_base.specs.Units.{largest_u64}
 
 -- congestion is told in the order of time
 abbrev pub IsBehind : ℕ → List ControllerCall → Type 0
@@ -16,25 +15,26 @@ AreInOrder [] = Unit {0}
 AreInOrder (congests now sent persistent lost ∷ earlier) = IsBehind now earlier × AreInOrder earlier
 AreInOrder (call ∷ earlier) = AreInOrder earlier
 
-module _ (made : NewReno) where
-  -- what it is after calls
-  abbrev pub reno_by : List ControllerCall → NewReno
-  reno_by [] = made
-  reno_by (call ∷ earlier) = reno_after call (reno_by earlier)
+-- a controller is built with a content
+module _ {K : Type 0} (words : ControllerSemantics K) (built : K) where
+  -- the content after calls
+  abbrev pub content_by : List ControllerCall → K
+  content_by [] = built
+  content_by (call ∷ earlier) = words.after call (content_by earlier)
 
-  -- the window falls by a call
-  abbrev pub LowersRenoWindow : ControllerCall → List ControllerCall → Type 0
-  LowersRenoWindow call earlier = (reno_by (call ∷ earlier)).window < (reno_by earlier).window
+  -- a call reduces the window
+  abbrev pub LowersWindow : ControllerCall → List ControllerCall → Type 0
+  LowersWindow call earlier = words.window (content_by (call ∷ earlier)) < words.window (content_by earlier)
 
-  -- each congestion by which it fell came before this moment
-  abbrev pub RenoReducedBefore : ℕ → List ControllerCall → Type 0
-  RenoReducedBefore moment [] = Unit {0}
-  RenoReducedBefore moment (congests now sent persistent lost ∷ earlier) =
-      (LowersRenoWindow (congests now sent persistent lost) earlier → now < moment) × RenoReducedBefore moment earlier
-  RenoReducedBefore moment (call ∷ earlier) = RenoReducedBefore moment earlier
+  -- each congestion event that reduced the window happened before this time
+  abbrev pub ReducedBefore : ℕ → List ControllerCall → Type 0
+  ReducedBefore time [] = Unit {0}
+  ReducedBefore time (congests now sent persistent lost ∷ earlier) =
+      (LowersWindow (congests now sent persistent lost) earlier → now < time) × ReducedBefore time earlier
+  ReducedBefore time (call ∷ earlier) = ReducedBefore time earlier
 
-  -- it falls by congestion alone, and for a packet that was sent behind each moment at which it fell before
-  abbrev pub RenoReducesOncePerRound : ControllerCall → List ControllerCall → Type 0
-  RenoReducesOncePerRound (congests now sent persistent lost) earlier =
-      LowersRenoWindow (congests now sent persistent lost) earlier → RenoReducedBefore sent earlier
-  RenoReducesOncePerRound call earlier = (reno_by earlier).window ≤ largest_u64 → LowersRenoWindow call earlier → ⊥
+  -- congestion alone reduces the window, and for a packet that was sent after each time at which it did so before
+  abbrev pub ReducesOncePerRound : ControllerCall → List ControllerCall → Type 0
+  ReducesOncePerRound (congests now sent persistent lost) earlier =
+      LowersWindow (congests now sent persistent lost) earlier → ReducedBefore sent earlier
+  ReducesOncePerRound call earlier = words.window (content_by earlier) ≤ largest_u64 → LowersWindow call earlier → ⊥

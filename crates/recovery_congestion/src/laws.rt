@@ -1,13 +1,13 @@
 //! Laws of congestion control that no call states.
 ghost use Rattle.std.specs.Prelude.{◌≤◌, ℕ, List};
 ghost use Rattle.recovery_congestion.specs.Calls.{ControllerCall};
-ghost use Rattle.recovery_congestion.specs.Rounds.{AreInOrder, RenoReducesOncePerRound};
+ghost use Rattle.recovery_congestion.specs.NewReno.{reno_words};
+ghost use Rattle.recovery_congestion.specs.Rounds.{AreInOrder, ReducesOncePerRound};
 ghost use Rattle.recovery_congestion.specs.declared.congestion.new_reno.NewReno.{NewReno};
 
-/// Whatever a NewReno is told, congestion in the order of time: its window falls by congestion alone, and for a packet
-/// that was sent behind each moment at which it fell before, so that it falls once a round trip (RFC 9002, 7.3.2).
-#[tactic(auto, using(crate::proofs::RoundLaws::falls_once))]
+/// If congestion is reported in the order of time, congestion alone reduces the window, and only for a packet that was
+/// sent after each earlier reduction: once a round trip (RFC 9002, 7.3.2).
 pub fn new_reno_falls_once()
-    ensures { (made : NewReno) (call : ControllerCall) (calls : List ControllerCall)
-        → AreInOrder calls → RenoReducesOncePerRound made call calls }
+    ensures { (built : NewReno) (call : ControllerCall) (calls : List ControllerCall)
+        → AreInOrder calls → ReducesOncePerRound reno_words built call calls }
 {}

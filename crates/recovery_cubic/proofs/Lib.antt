@@ -1,6 +1,6 @@
+pub mod CubicRounds
 mod CubicRows
 pub mod CurveLaws
-pub mod FallLaws
 pub mod FollowingLaws
 pub mod GrowthLaws
 pub mod RealLaws

@@ -1,8 +1,9 @@
 -- What the calls of a CUBIC are to it (RFC 9438), and what it is after all of them. Lists are newest first.
-use Rattle.std.specs.Prelude.{ℕ, nat_le, nat_lt, if◌then◌else◌, List, [], ◌∷◌}
+use Rattle.std.specs.Prelude.{ℕ, nat_le, nat_lt, if◌then◌else◌, List}
 use Rattle.recovery_congestion.specs.Calls.{ControllerCall, acks, congests, takes_mtu}
+use Rattle.recovery_congestion.specs.Rounds.{content_by}
 use Rattle.recovery_cubic.specs.declared.cubic.Cubic.{Cubic}
-use Rattle.recovery_cubic.specs.Cubic.{cubic_after, cubic_made}
+use Rattle.recovery_cubic.specs.Cubic.{cubic_made, cubic_words}
 
 pub data CubicEntry : Type 0 where
   -- an acknowledgement in congestion avoidance, while the application does not limit: the window may grow
@@ -33,8 +34,7 @@ turn_of call cubic = passes
 module _ (window now mtu : ℕ) where
   -- what it is after calls
   abbrev pub cubic_by : List ControllerCall → Cubic
-  cubic_by [] = cubic_made window now mtu
-  cubic_by (call ∷ earlier) = cubic_after call (cubic_by earlier)
+  cubic_by = content_by cubic_words (cubic_made window now mtu)
 
   abbrev pub window_by : List ControllerCall → ℕ
   window_by calls = (cubic_by calls).window

@@ -2,7 +2,6 @@ pub mod ConfigView
 pub mod Cubic
 pub mod CubicLaws
 pub mod Curve
-pub mod Reductions
 pub mod Epochs
 pub mod Fractions
 pub mod Growth

@@ -2,19 +2,19 @@
 //! newest first.
 ghost use Rattle.std.specs.Prelude.{◌≡◌, ℕ, List, ◌∷◌, ◌++◌};
 ghost use Rattle.recovery_congestion.specs.Calls.{ControllerCall};
-ghost use Rattle.recovery_congestion.specs.Rounds.{AreInOrder};
-ghost use Rattle.recovery_cubic.specs.Reductions.{CubicReducesOncePerRound};
+ghost use Rattle.recovery_congestion.specs.Rounds.{AreInOrder, ReducesOncePerRound};
+ghost use Rattle.recovery_cubic.specs.Cubic.{cubic_made, cubic_words};
 ghost use Rattle.recovery_cubic.specs.Epochs.{BeginsEpoch, IsBelowCurve, IsReal, MovesTowardCurve, IsReachedAtK};
 ghost use Rattle.recovery_cubic.specs.Growth.{ContinuesEpochThrough, GrowsByHalf};
 ghost use Rattle.recovery_cubic.specs.History.{grows, turn_at};
 ghost use Rattle.recovery_cubic.specs.Reno.{NeverBelowReno};
 
-/// Where congestion is told in the order of time: the window falls by congestion alone, and for a packet that was sent
-/// behind each moment at which it fell before, so that it falls once a round trip (RFC 9002, 7.3.2; RFC 9438, 4.6).
-#[tactic(auto, using(crate::proofs::FallLaws::falls_once))]
+/// If congestion is reported in the order of time, congestion alone reduces the window, and only for a packet that was
+/// sent after each earlier reduction: once a round trip (RFC 9002, 7.3.2; RFC 9438, 4.6).
 pub fn cubic_falls_once()
     ensures { (window made mtu : ℕ) (call : ControllerCall) (calls : List ControllerCall)
-        → AreInOrder calls → CubicReducesOncePerRound window made mtu call calls }
+        → AreInOrder calls
+        → ReducesOncePerRound cubic_words (cubic_made window made mtu) call calls }
 {}
 
 /// As long as congestion avoidance goes on, the window is at most half of the bytes acknowledged above what it was, so
