@@ -1,5 +1,6 @@
 -- What a sender keeps beside its recovery, and how it changes (RFC 9002, A.3).
-use Rattle.std.specs.Prelude.{ℕ, ◌+◌, ◌||◌, min, max, Bool, true, false, Option, None, Some, if◌then◌else◌}
+use Rattle.std.specs.Prelude.{ℕ, ◌+◌, ◌||◌, min, max, Bool, true, false, Option, None, Some, if◌then◌else◌, ◌-◌, nat_le}
+use Rattle.std.specs.Option.{option_and_then, option_map_or}
 use Rattle.recovery_base.specs.declared.below.SpaceId.{SpaceId}
 use Rattle.recovery_base.specs.declared.below.SpaceId.TheVariants.{Handshake, Data}
 use Rattle.recovery_base.specs.Spaces.{same_space}
@@ -8,6 +9,7 @@ use Rattle.recovery_losses.specs.Timeouts.{probe_timeout_of}
 use Rattle.recovery_losses.specs.declared.variables.Side.{Side}
 use Rattle.recovery_losses.specs.declared.variables.Side.TheVariants.{Client, Server}
 use Rattle.recovery_losses.specs.declared.thresholds.Thresholds.{Thresholds}
+use Rattle.recovery_losses.specs.declared.variables.DueProbes.{DueProbes}
 use Rattle.recovery_losses.specs.declared.variables.Variables.{Variables}
 
 -- nothing was said of the connection, and no probe timeout expired; the peer's max_ack_delay is 25 ms until it is told
@@ -23,6 +25,7 @@ fresh side thresholds now = record {
   base = now;
   thresholds = thresholds;
   sampled = now;
+  due_probes = None;
 }
 
 -- the thresholds that settings give: with a packet threshold of 0 a packet would be lost with its own ACK, with a
@@ -75,10 +78,39 @@ abbrev pub based : Option ℕ → Variables → Variables
 based None variables = variables
 based (Some now) variables = record variables { base = now }
 
--- probe timeouts are counted anew (RFC 9002, 6.2.2 and A.11)
-abbrev pub begun_anew : ℕ → Variables → Variables
-begun_anew now variables = record variables { pto_count = 0; base = now }
+-- ---- the probes that the last probe timeout asked for and that were not sent yet (RFC 9002, 6.2.4)
 
--- a probe timeout expired
-abbrev pub timed_out : ℕ → Variables → Variables
-timed_out now variables = record variables { pto_count = min (variables.pto_count + 1) largest_u32; base = now }
+-- an ack-eliciting packet of their space takes one off
+abbrev pub due_after_packet : SpaceId → DueProbes → Option DueProbes
+due_after_packet space due = if same_space due.space space then
+    (if nat_le due.count 1 then None else Some (record due { count = due.count - 1 })) else Some due
+
+-- the end of their space takes all off
+abbrev pub due_after_end : SpaceId → DueProbes → Option DueProbes
+due_after_end space due = if same_space due.space space then None else Some due
+
+-- an ack-eliciting packet of a space was sent, if one was
+abbrev pub probed : Option SpaceId → Variables → Variables
+probed None variables = variables
+probed (Some space) variables =
+    record variables { due_probes = option_and_then (due_after_packet space) variables.due_probes }
+
+-- one is due in a space
+abbrev pub is_probe_due : Variables → SpaceId → Bool
+is_probe_due variables space = option_map_or (λ due. same_space due.space space) variables.due_probes false
+
+-- a space ended: probe timeouts are counted from zero, and none is due there (RFC 9002, 6.2.2 and A.11)
+abbrev pub begun_anew : SpaceId → ℕ → Variables → Variables
+begun_anew space now variables = record variables {
+  pto_count = 0;
+  base = now;
+  due_probes = option_and_then (due_after_end space) variables.due_probes;
+}
+
+-- a probe timeout expired: so many probes are due in a space, in place of those that were (RFC 9002, 6.2.1 and 6.2.4)
+abbrev pub timed_out : SpaceId → ℕ → ℕ → Variables → Variables
+timed_out space count now variables = record variables {
+  pto_count = min (variables.pto_count + 1) largest_u32;
+  base = now;
+  due_probes = Some (record { space = space; count = count });
+}

@@ -18,4 +18,4 @@ pub use looks::{Candidate, FirstSample, LossPass};
 pub use tally::{Run, Tally};
 pub use thresholds::Thresholds;
 pub use timeouts::{loss_delay, probe_timeout};
-pub use variables::{Side, Variables};
+pub use variables::{DueProbes, Side, Variables};

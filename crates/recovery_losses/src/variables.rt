@@ -1,6 +1,6 @@
 //! What a sender keeps beside the packets that its recovery tracks, and what follows of that alone (RFC 9002, A.3).
 ghost use Rattle.std.specs.Prelude.{◌≡◌, min};
-ghost use Rattle.recovery_losses.specs.Variables.{ack_delay_in, based, begun_anew, fresh, heard_in, is_address_validated, pto_by, sampled_first, timed_out};
+ghost use Rattle.recovery_losses.specs.Variables.{ack_delay_in, based, begun_anew, due_after_end, due_after_packet, fresh, heard_in, is_address_validated, is_probe_due, probed, pto_by, sampled_first, timed_out};
 
 use crate::thresholds::Thresholds;
 use crate::timeouts::probe_timeout;
@@ -20,6 +20,44 @@ pub enum Side {
     Client,
     /// The other end.
     Server,
+}
+
+/// The probes that the last probe timeout asked for and that were not sent yet (RFC 9002, 6.2.4).
+#[derive(Clone, Copy)]
+pub struct DueProbes {
+    /// The space of their packets.
+    pub space: SpaceId,
+    /// How many: 1 or 2.
+    pub count: u8,
+}
+
+impl DueProbes {
+    /// Those that are left after an ack-eliciting packet of a space was sent: one less, if it is theirs.
+    fn after_packet(self, space: SpaceId) -> Option<Self>
+        ensures { result ≡ due_after_packet space self }
+    {
+        if self.space != space {
+            return Some(self);
+        }
+        if self.count <= 1 {
+            return None;
+        }
+        Some(DueProbes {
+            space: self.space,
+            count: self.count - 1,
+        })
+    }
+
+    /// Those that are left after a space ended.
+    fn after_end(self, space: SpaceId) -> Option<Self>
+        ensures { result ≡ due_after_end space self }
+    {
+        if self.space == space {
+            None
+        } else {
+            Some(self)
+        }
+    }
 }
 
 /// What a sender keeps beside its recovery (RFC 9002, A.3).
@@ -44,6 +82,8 @@ pub struct Variables {
     /// When a path was given its first RTT sample last; at first the start (RFC 9002, 7.6.2 and B.8:
     /// first_rtt_sample).
     pub sampled: Instant,
+    /// The probes that are due, if any (RFC 9002, 6.2.4).
+    pub due_probes: Option<DueProbes>,
 }
 
 impl Variables {
@@ -61,6 +101,7 @@ impl Variables {
             base: now,
             thresholds,
             sampled: now,
+            due_probes: None,
         }
     }
 
@@ -136,25 +177,56 @@ impl Variables {
         }
     }
 
-    /// Probe timeouts are counted anew (RFC 9002, 6.2.2 and A.11).
-    pub fn begun_anew(self, now: Instant) -> Self
-        ensures { result ≡ begun_anew now self }
+    /// A space ended, or all that it tracked was declared lost: probe timeouts are counted from zero, and no probe is
+    /// due there (RFC 9002, 6.2.2 and A.11).
+    pub fn begun_anew(self, space: SpaceId, now: Instant) -> Self
+        ensures { result ≡ begun_anew space now self }
     {
+        let due_probes = match self.due_probes {
+            Some(due) => due.after_end(space),
+            None => None,
+        };
         Variables {
             pto_count: 0,
             base: now,
+            due_probes,
             ..self
         }
     }
 
-    /// A probe timeout expired (RFC 9002, 6.2.1).
-    pub fn timed_out(self, now: Instant) -> Self
-        ensures { result ≡ timed_out now self }
+    /// A probe timeout expired, which asks for so many probes in a space, in place of those that were due (RFC 9002,
+    /// 6.2.1 and 6.2.4).
+    pub fn timed_out(self, space: SpaceId, count: u8, now: Instant) -> Self
+        ensures { result ≡ timed_out space count now self }
     {
         Variables {
             pto_count: self.pto_count.saturating_add(1),
             base: now,
+            due_probes: Some(DueProbes { space, count }),
             ..self
+        }
+    }
+
+    /// An ack-eliciting packet of a space was sent, if one was: if a probe is due there, one less is (RFC 9002, 6.2.4).
+    pub fn probed(self, space: Option<SpaceId>) -> Self
+        ensures { result ≡ probed space self }
+    {
+        match (space, self.due_probes) {
+            (Some(space), Some(due)) => Variables {
+                due_probes: due.after_packet(space),
+                ..self
+            },
+            _ => self,
+        }
+    }
+
+    /// Whether a probe is due in a space (RFC 9002, 6.2.4).
+    pub fn is_probe_due(&self, space: SpaceId) -> bool
+        ensures { result ≡ is_probe_due self.now space }
+    {
+        match self.due_probes {
+            Some(due) => due.space == space,
+            None => false,
         }
     }
 }

@@ -5,12 +5,13 @@ use Rattle.recovery_base.specs.declared.below.SpaceId.{SpaceId}
 use Rattle.recovery_congestion.specs.Controllers.{ControllerSemantics}
 use Rattle.recovery_events.specs.declared.event.Answer.{Answer}
 use Rattle.recovery_events.specs.declared.event.Answer.TheVariants as answers
-use Rattle.recovery_events.specs.declared.event.Event.TheVariants.{QueueProbe}
+use Rattle.recovery_events.specs.declared.event.Event.TheVariants.{QueueProbe, TakePending}
 use Rattle.recovery_events.specs.declared.event.Refusal.{Refusal}
 use Rattle.recovery_events.specs.declared.event.Refusal.TheVariants.{NoMemory, SpaceDiscarded}
 use Rattle.recovery_spaces.specs.Acks.{AckState}
 use Rattle.recovery_spaces.specs.Discarded.{is_discarded}
-use Rattle.recovery_spaces.specs.Spaces.{space_of}
+use Rattle.recovery_losses.specs.declared.variables.Variables.{Variables}
+use Rattle.recovery_losses.specs.Variables.{is_probe_due}
 use Rattle.recovery_paths.specs.PathStates.{PathState, is_blocked, path_delay}
 use Rattle.recovery_history.specs.History.{QueueModel, Reply, queue_model}
 use Rattle.recovery_history.specs.ReplyInputs.{ReplyInputs}
@@ -43,21 +44,22 @@ within true full delay window wanted is goes = absurd cc
 within false true delay window wanted is goes = absurd cc
 within false false delay window wanted is goes = grind (arith, is)
 
-module _ {K P M : Type 0} (words : ControllerSemantics K) (recovery : RecoveryState K P M) (now bytes : ℕ) where
+module _ {K P M : Type 0} (words : ControllerSemantics K) (recovery : RecoveryState K P M) (variables : Variables)
+    (now bytes : ℕ) where
   pub transmit_answered : (space : SpaceId) (in_flight checked : Bool) (sent : Transmission)
-      → (if is_discarded space recovery.discarded then None else Some (is_checked recovery space in_flight))
+      → (if is_discarded space recovery.discarded then None else Some (is_checked variables space in_flight))
       ≡ Some checked → recovery.paths.current.state.total_sent + bytes < 2 ^ 64
       → sent ≡ transmission words recovery now bytes checked
-      → Ok sent ≡ transmit_reply words recovery now bytes space in_flight
+      → Ok sent ≡ transmit_reply words recovery variables now bytes space in_flight
   transmit_answered space in_flight checked sent is fits sends =
       let known = known_from _ _ _ is in
       grind (arith, known.0, known.1, fits, sends)
 
   pub window_kept : (space : SpaceId) (in_flight checked : Bool) (sent : Transmission)
-      → (if is_discarded space recovery.discarded then None else Some (is_checked recovery space in_flight))
+      → (if is_discarded space recovery.discarded then None else Some (is_checked variables space in_flight))
       ≡ Some checked → sent ≡ transmission words recovery now bytes checked
       → ◌≡◌ {A = Result Transmission SenderError} (Ok sent) (Ok Transmitted) → in_flight ≡ true
-      → (space_of space recovery.spaces).loss_probes ≡ 0
+      → is_probe_due variables space ≡ false
       → bytes_in_flight recovery + bytes ≤ window_of words recovery
   window_kept space in_flight checked sent is sends goes counts none =
       let known = known_from _ _ _ is in
@@ -105,6 +107,13 @@ module _ {F Q R C K S M P : Type 0} {f : _} {c : _} {q : _} {m : _} {r : _} (spa
       let recovery = state_in old in
       refused_so refusal (memory_alone (queue_model q.contents q.words q.blank) recovery.settings.words
       (acks_to recovery) (inputs_of recovery) space immediate streams refusal kept goes.leads.1.told) goes
+
+  -- in a space that is not discarded what waits is never refused
+  pub pending_given : is_discarded space (state_in old).discarded ≡ false → (refusal : Refusal)
+      → ReplyTable (queue_model q.contents q.words q.blank) (state_in old).settings.words (acks_to (state_in old))
+      (inputs_of (state_in old)) (TakePending space) (Err refusal) → ⊥
+  pending_given kept SpaceDiscarded said = absurd cc
+  pending_given kept refusal said = said.1
 
   -- a probe discards no space
   pub kept_by : (answer : Answer Q) → is_discarded space (state_in old).discarded ≡ false

@@ -1,6 +1,6 @@
 -- What is due is due in a space that is not discarded.
 use Rattle.std.proofs.Common.{◌≡◌, ℕ, true, false, Bool, ◌||◌, Option, None, Some, option_map, refl}
-use Rattle.std.specs.Prelude.{if◌then◌else◌, nat_lt}
+use Rattle.std.specs.Prelude.{if◌then◌else◌, nat_lt, not}
 use Rattle.std.specs.Option.{option_and_then, option_or}
 use Rattle.recovery_base.specs.declared.below.SpaceId.{SpaceId}
 use Rattle.recovery_base.specs.declared.below.SpaceId.TheVariants.{Initial, Handshake, Data}
@@ -14,8 +14,7 @@ use Rattle.recovery_losses.specs.declared.due.Due.TheVariants.{Losses, Probes, A
 use Rattle.recovery_losses.specs.Due.{sooner}
 use Rattle.recovery_losses.specs.declared.variables.Variables.{Variables}
 use Rattle.recovery_sender.specs.Calls.{space_due}
-use Rattle.recovery_losses.specs.Variables.{is_address_validated}
-use Rattle.recovery_sender.specs.Timer.{soonest, loss_due, probe_in, probe_due, waits, deadlock_space, due_of, behind, pto_of}
+use Rattle.recovery_sender.specs.Timer.{soonest, loss_due, probe_in, probe_due, waits, deadlock_space, may_deadlock, due_of, behind, pto_of}
 
 module _ (discarded : DiscardedSpaces) where
   -- in a space that is not discarded, where something is due
@@ -92,7 +91,7 @@ module _ {K P M : Type 0} (recovery : RecoveryState K P M) (variables : Variable
       (λ space. lost gone space (is_discarded space gone) (space_of space recovery.spaces) refl))
       (waiting gone (is_blocked recovery.paths.current.state 1) _
       (or_there gone _ _ (soonest_there gone (probe_due recovery variables) probe_there)
-      (ended gone last (is_address_validated variables) (is_discarded last gone) _ refl)))
+      (ended gone last (not (may_deadlock recovery variables)) (is_discarded last gone) _ refl)))
 
   pub due_there : (due : ℕ × Due) → due_of recovery variables ≡ Some due
       → is_discarded (space_due due.1) recovery.discarded ≡ false

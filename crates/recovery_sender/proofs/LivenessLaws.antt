@@ -27,8 +27,7 @@ use Rattle.recovery_sender.specs.Promises.Liveness.{IsAckOwed, IsSetFor, NeverSt
 use Rattle.recovery_sender.specs.Promises.Pasts.{ForEveryPast}
 use Rattle.recovery_sender.specs.Senders.{state_in}
 use Rattle.recovery_sender.specs.Spaces.{space_in}
-use Rattle.recovery_losses.specs.Variables.{is_address_validated}
-use Rattle.recovery_sender.specs.Timer.{TimerIsSet, behind, deadlock_due, deadlock_space, due_of, has_eliciting, loss_due, probe_due, probes_due, pto_of, soonest}
+use Rattle.recovery_sender.specs.Timer.{TimerIsSet, behind, deadlock_due, deadlock_space, due_of, has_eliciting, loss_due, may_deadlock, probe_due, probes_due, pto_of, soonest}
 
 -- ---- where something that elicits an ACK is tracked, one was sent
 
@@ -221,7 +220,7 @@ module _ {K P M : Type 0} (recovery : RecoveryState K P M) (variables : Variable
                   ap (λ n. Some n) (ap (λ (due : ℕ × Due). due.0) (same_Some _ due is))
 
     -- a client's timer against a deadlock
-    deadlock_set : is_address_validated variables ≡ false
+    deadlock_set : may_deadlock recovery variables ≡ true
         → is_discarded (deadlock_space recovery variables) recovery.discarded ≡ false
         → moment LossDetection recovery.timers ≢ None
     deadlock_set unknown kept = by (soonest (loss_due recovery)) refl

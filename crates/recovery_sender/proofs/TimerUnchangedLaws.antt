@@ -1,7 +1,7 @@
 -- The timer is due as it was where nothing changes that it is found by.
 use Rattle.std.proofs.Common.{◌≡◌, ℕ, true, false, Bool, Option, None, Some, option_map, Ok, ◌⊎◌, refl, ap, sym, inl, inr, true≢false, ◌∙◌}
-use Rattle.std.specs.Prelude.{if◌then◌else◌, min}
-use Rattle.std.specs.Option.{option_and_then, option_or}
+use Rattle.std.specs.Prelude.{if◌then◌else◌, min, not, ◌&&◌, ◌||◌}
+use Rattle.std.specs.Option.{option_and_then, option_map_or, option_or}
 use Rattle.recovery_base.specs.declared.below.SpaceId.{SpaceId}
 use Rattle.recovery_base.specs.declared.below.SpaceId.TheVariants.{Initial, Handshake, Data}
 use Rattle.recovery_base.specs.declared.timer.Timer.TheVariants.{LossDetection}
@@ -38,8 +38,8 @@ use Rattle.recovery_sender.specs.declared.sender.packets.Transmission.TheVariant
 use Rattle.recovery_sender.specs.Calls.{transmit_steps}
 use Rattle.recovery_sender.specs.TimerUnchanged.{leaves_timer}
 use Rattle.recovery_sender.specs.Steps.{StepsLeadTo}
-use Rattle.recovery_losses.specs.Variables.{ack_delay_in}
-use Rattle.recovery_sender.specs.Timer.{behind, deadlock_due, due_of, has_eliciting, loss_due, probe_due, probe_in, pto_of, soonest, waits, TimerIsSet}
+use Rattle.recovery_losses.specs.Variables.{ack_delay_in, is_address_validated}
+use Rattle.recovery_sender.specs.Timer.{behind, deadlock_by, deadlock_due, due_of, has_eliciting, loss_due, may_deadlock, probe_due, probe_in, pto_of, soonest, tracks_eliciting, waits, TimerIsSet}
 
 -- ---- what is read of a space
 
@@ -137,10 +137,23 @@ module _ {K P M : Type 0} (variables : Variables) (old new : RecoveryState K P M
     };
   }
 
+  tracks_same : (space : SpaceId) → tracks_eliciting new variables space ≡ tracks_eliciting old variables space
+  tracks_same space = rw discarded (go (is_discarded space old.discarded))
+    where
+      go : (gone : Bool)
+          → option_map_or (λ (here : Space P M). has_eliciting (packets_of here))
+          (if gone then None else Some (space_of space new.spaces)) false
+          ≡ option_map_or (λ (here : Space P M). has_eliciting (packets_of here))
+          (if gone then None else Some (space_of space old.spaces)) false
+      go true = refl
+      go false = ap (λ (read : Read P M). has_eliciting read.0) (spaces space)
+
   deadlock_same : deadlock_due new variables ≡ deadlock_due old variables
   deadlock_same =
       let same : (new.discarded, new.paths.current.state.rtt) ≡ (old.discarded, old.paths.current.state.rtt) = cc in
-      ap (λ (seen : DiscardedSpaces × Rtt). deadlock_due (with_seen seen) variables) same
+      ap (λ tracks. deadlock_by new variables (not (is_address_validated variables)
+      || (not variables.is_handshake_confirmed && tracks))) (tracks_same Data)
+      ∙ ap (λ (seen : DiscardedSpaces × Rtt). deadlock_by (with_seen seen) variables (may_deadlock old variables)) same
 
   pub due_kept : due_of new variables ≡ due_of old variables
   due_kept =

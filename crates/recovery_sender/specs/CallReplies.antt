@@ -1,17 +1,16 @@
 -- What each call of a sender comes to (RFC 9002, Appendices A and B), in one place. What is promised by the events
 -- before it, and that it never stalls, is part of it (`ProcessesAck`, `DetectsLosses`, `DeclaresAllLost`,
 -- `CompletesCall`).
-use Rattle.std.specs.Prelude.{◌≡◌, ℕ, ◌+◌, ◌≤◌, Bool, true, Result, Ok, Err, IfOk, OnOk, OnErr, [], ◌∷◌}
+use Rattle.std.specs.Prelude.{◌≡◌, ℕ, ◌+◌, ◌≤◌, Bool, true, false, Result, Ok, Err, IfOk, OnOk, OnErr, [], ◌∷◌}
 use Rattle.recovery_base.specs.declared.below.SpaceId.{SpaceId}
 use Rattle.recovery_events.specs.declared.event.Answer.TheVariants as answers
 use Rattle.recovery_events.specs.declared.event.Event.{Event}
 use Rattle.recovery_events.specs.declared.event.Event.TheVariants.{DatagramIn, DiscardSpace, Validated}
-use Rattle.recovery_spaces.specs.Spaces.{space_of}
 use Rattle.recovery_paths.specs.declared.path_pair.PathName.TheVariants.{Current}
 use Rattle.recovery_sender.specs.RetransmitAll.{DeclaresAllLost}
 use Rattle.recovery_sender.specs.Acking.{AckResult}
-use Rattle.recovery_losses.specs.Variables.{begun_anew}
-use Rattle.recovery_sender.specs.Calls.{bytes_in_flight, datagram_reply, discard_reply, is_checked, transmit_reply, transmit_steps, window_of, IsPassedThrough, EventResult}
+use Rattle.recovery_losses.specs.Variables.{begun_anew, is_probe_due}
+use Rattle.recovery_sender.specs.Calls.{bytes_in_flight, datagram_reply, discard_reply, is_checked, transmit_reply, transmit_steps, window_of, IsPassedThrough, EventResult, ProbeResult}
 use Rattle.recovery_sender.specs.Senders.{state_in}
 use Rattle.recovery_sender.specs.Steps.{told, CompletesCall}
 use Rattle.recovery_sender.specs.Timeouts.{TimeoutResult}
@@ -37,12 +36,12 @@ module _ {F Q R C K S M P : Type 0} {f : _} {c : _} {q : _} {m : _} {r : _} (old
     -- 9002, 7; RFC 9000, 8.1)
     pub record TransmitCall (datagram : Datagram) (reply : Result Transmission SenderError) : Type 0 where
       pub is : reply
-          ≡ transmit_reply c.words (state_in old) datagram.now datagram.bytes datagram.space datagram.in_flight
+          ≡ transmit_reply c.words (state_in old) old.variables datagram.now datagram.bytes datagram.space datagram.in_flight
       pub window : reply ≡ Ok Transmitted → datagram.in_flight ≡ true
-          → (space_of datagram.space (state_in old).spaces).loss_probes ≡ 0
+          → is_probe_due old.variables datagram.space ≡ false
           → bytes_in_flight (state_in old) + datagram.bytes ≤ window_of c.words (state_in old)
       pub steps : IfOk reply (λ sent. CompletesCall (transmit_steps datagram.now datagram.bytes
-          (is_checked (state_in old) datagram.space datagram.in_flight) sent) old.variables old new)
+          (is_checked old.variables datagram.space datagram.in_flight) sent) old.variables old new)
       pub stays : OnErr reply (new ≡ old)
 
     -- one event is done, and leaves these variables; or it is refused so, and nothing changes
@@ -58,7 +57,7 @@ module _ {F Q R C K S M P : Type 0} {f : _} {c : _} {q : _} {m : _} {r : _} (old
 
     abbrev pub DiscardCall : SpaceId → ℕ → Result (Unit {0}) SenderError → Type 0
     DiscardCall space now reply =
-        IsOneEvent (DiscardSpace space) (begun_anew now old.variables) reply (discard_reply (state_in old) space)
+        IsOneEvent (DiscardSpace space) (begun_anew space now old.variables) reply (discard_reply (state_in old) space)
 
 -- a call is replied so
 abbrev pub CallReply : {F Q R C K S M P : Type 0} {f : _} {c : _} {q : _} {m : _} {r : _} → Call Q S M P
@@ -70,10 +69,11 @@ CallReply (calls.Ack frame) old new (Ok (replies.Acknowledged acked)) =
     AckResult frame.space frame.now frame.ranges.items frame.ack old new (Ok acked)
 CallReply (calls.Ack frame) old new (Err refusal) =
     AckResult frame.space frame.now frame.ranges.items frame.ack old new (Err refusal)
-CallReply (calls.Timeout expiry) old new (Ok (replies.Timeout timeout)) =
-    TimeoutResult expiry.now expiry.immediate_ack expiry.first expiry.second old new (Ok timeout)
-CallReply (calls.Timeout expiry) old new (Err refusal) =
-    TimeoutResult expiry.now expiry.immediate_ack expiry.first expiry.second old new (Err refusal)
+CallReply (calls.Timeout now) old new (Ok (replies.Timeout timeout)) = TimeoutResult now old new timeout
+CallReply (calls.Probe asking) old new (Ok (replies.Probe queue)) =
+    ProbeResult asking.space asking.immediate_ack asking.streams old new (Ok queue)
+CallReply (calls.Probe asking) old new (Err refusal) =
+    ProbeResult asking.space asking.immediate_ack asking.streams old new (Err refusal)
 CallReply (calls.Datagram bytes) old new (Ok replies.Done) = DatagramCall old new bytes (Ok (tt {0}))
 CallReply (calls.Datagram bytes) old new (Err refusal) = DatagramCall old new bytes (Err refusal)
 CallReply calls.HandshakeKeys old new (Ok replies.Done) =

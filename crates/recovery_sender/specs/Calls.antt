@@ -30,11 +30,15 @@ use Rattle.recovery_losses.specs.declared.variables.Side.{Side}
 use Rattle.recovery_losses.specs.declared.due.Due.{Due}
 use Rattle.recovery_losses.specs.declared.due.Due.TheVariants.{Losses, Probes, AntiDeadlock}
 use Rattle.recovery_losses.specs.declared.variables.Variables.{Variables}
-use Rattle.recovery_losses.specs.Variables.{based, fresh, is_server, thresholds_of, timed_out}
+use Rattle.recovery_losses.specs.Variables.{based, fresh, is_server, is_probe_due, probed, thresholds_of}
 use Rattle.recovery_losses.specs.declared.thresholds.Thresholds.{Thresholds}
 use Rattle.recovery_sender.specs.Senders.{state_in}
 use Rattle.recovery_sender.specs.Steps.{SenderStep, told, TakesSteps, CompletesCall}
 use Rattle.recovery_sender.specs.Timer.{due_of}
+
+-- window and pacer are asked for what counts in flight, if no probe is due in the space (RFC 9002, 7.5 and 7.7)
+abbrev pub is_checked : Variables → SpaceId → Bool → Bool
+is_checked variables space in_flight = in_flight && not (is_probe_due variables space)
 
 -- the path in use, with this challenge open or none, and with one that is to be sent or none (RFC 9000, 8.2.1)
 abbrev pub challenged : {K P M : Type 0} → RecoveryState K P M → Option ℕ → Bool → PathMarks
@@ -52,10 +56,6 @@ module _ {K P M : Type 0} (recovery : RecoveryState K P M) where
   -- the bytes in flight on the path in use (RFC 9002, B.2)
   abbrev pub bytes_in_flight : ℕ
   bytes_in_flight = (counters_of recovery.paths.current.ledger).bytes
-
-  -- window and pacer are asked for what counts in flight, where no probe is due in the space (RFC 9002, 7.5 and 7.7)
-  abbrev pub is_checked : SpaceId → Bool → Bool
-  is_checked space in_flight = in_flight && (space_of space recovery.spaces).loss_probes == 0
 
 module _ {K P M : Type 0} (words : ControllerSemantics K) (recovery : RecoveryState K P M) where
   -- how many bytes may be in flight on the path in use (RFC 9002, 7)
@@ -75,11 +75,11 @@ module _ {K P M : Type 0} (words : ControllerSemantics K) (recovery : RecoverySt
       else Transmitted
 
   -- a discarded space is refused, and then bytes that the total of the path cannot take
-  abbrev pub transmit_reply : ℕ → ℕ → SpaceId → Bool → Result Transmission SenderError
-  transmit_reply now bytes space in_flight =
+  abbrev pub transmit_reply : Variables → ℕ → ℕ → SpaceId → Bool → Result Transmission SenderError
+  transmit_reply variables now bytes space in_flight =
       if is_discarded space recovery.discarded then Err (refused.Event SpaceDiscarded)
       else if nat_lt (recovery.paths.current.state.total_sent + bytes) u64_limit
-      then Ok (transmission now bytes (is_checked recovery space in_flight))
+      then Ok (transmission now bytes (is_checked variables space in_flight))
       else Err (refused.Event Overflow)
 
 -- the recovery is asked for what limit and window let pass
@@ -113,6 +113,21 @@ goes_out answer = false
 abbrev pub sent_at : {Q : Type 0} → Option ℕ → Answer Q → Option ℕ
 sent_at time answer = if goes_out answer then time else None
 
+-- the space of a packet that elicits an ACK, if the event is to send one
+abbrev pub elicits_in : {Q S M P : Type 0} → Event Q S M P → Option SpaceId
+elicits_in (events.Send space now size true largest queue frames) = Some space
+elicits_in event = None
+
+-- and if it went out
+abbrev pub sent_in : {Q : Type 0} → Option SpaceId → Answer Q → Option SpaceId
+sent_in space answer = if goes_out answer then space else None
+
+-- the variables after an event that is answered so: what counts in flight moves the base of the timer against a deadlock
+-- (RFC 9002, 6.2.2.1), and an ack-eliciting packet takes one off the probes that are due in its space (6.2.4)
+abbrev pub after_event : {Q S M P : Type 0} → Event Q S M P → Answer Q → Variables → Variables
+after_event event answer variables =
+    probed (sent_in (elicits_in event) answer) (based (sent_at (to_send event) answer) variables)
+
 -- a discarded space is refused (RFC 9002, 6.4)
 abbrev pub discard_reply : {K P M : Type 0} → RecoveryState K P M → SpaceId → Result (Unit {0}) SenderError
 discard_reply recovery space =
@@ -123,7 +138,7 @@ module _ {F Q R C K S M P : Type 0} {f : _} {c : _} {q : _} {m : _} {r : _} (eve
   -- the event is answered so, and the timer set; or it is refused so, and all else stays
   abbrev pub EventResult : Result (Answer Q) SenderError → Type 0
   EventResult (Ok answer) = CompletesCall (told (backdated event) (Ok answer) ∷ [])
-      (based (sent_at (to_send (backdated event)) answer) old.variables) old new
+      (after_event (backdated event) answer old.variables) old new
   EventResult (Err (refused.Event refusal)) = TakesSteps (told (backdated event) (Err refusal) ∷ []) old new
   EventResult (Err refused.Unsent) = ⊥
 
@@ -170,34 +185,27 @@ abbrev pub due_now : {K P M : Type 0} → ℕ → RecoveryState K P M → Variab
 due_now now recovery variables =
     option_and_then (λ due. if nat_le due.0 now then Some due.1 else None) (due_of recovery variables)
 
--- how many probes are to be sent, where the second was replied so: one suffices (RFC 9002, 6.2.4)
-abbrev pub probes_with : {Q : Type 0} → Reply Q → ℕ
-probes_with (Ok answer) = 2
-probes_with (Err refusal) = 1
-
 module _ {F Q R C K S M P : Type 0} {f : _} {c : _} {q : _} {m : _} {r : _} (space : SpaceId) (immediate : Bool)
-    (first : S) (old new : Sender F Q R C K S M P f c q m r) where
-  -- one is asked for, or no memory is found for it
+    (streams : S) (old new : Sender F Q R C K S M P f c q m r) where
+  -- contents for a probe are found, or no memory for them
   abbrev pub QueuesProbe : Result (Unit {0}) SenderError → Type 0
   QueuesProbe (Ok done) =
-      (answer : Answer Q) × TakesSteps (told (events.QueueProbe space immediate first) (Ok answer) ∷ []) old new
+      (answer : Answer Q) × TakesSteps (told (events.QueueProbe space immediate streams) (Ok answer) ∷ []) old new
   QueuesProbe (Err (refused.Event NoMemory)) =
-      TakesSteps (told (events.QueueProbe space immediate first) (Err NoMemory) ∷ []) old new
+      TakesSteps (told (events.QueueProbe space immediate streams) (Err NoMemory) ∷ []) old new
   QueuesProbe (Err other) = ⊥
 
-  -- a timeout asks for one, and is refused where no memory is found for it
-  abbrev pub ProbesOnce : ℕ → Result ℕ SenderError → Type 0
-  ProbesOnce now (Ok count) = (count ≡ 1) × (answer : Answer Q)
-      × CompletesCall (told (events.QueueProbe space immediate first) (Ok answer) ∷ [])
-      (timed_out now old.variables) old new
-  ProbesOnce now (Err refusal) = QueuesProbe (Err refusal)
-
-  -- it asks for two
-  abbrev pub ProbesTwice : S → ℕ → Result ℕ SenderError → Type 0
-  ProbesTwice second now (Ok count) = (answer : Answer Q) × (again : Reply Q) × (count ≡ probes_with again)
-      × CompletesCall (told (events.QueueProbe space immediate first) (Ok answer)
-      ∷ told (events.QueueProbe space immediate second) again ∷ []) (timed_out now old.variables) old new
-  ProbesTwice second now (Err refusal) = QueuesProbe (Err refusal)
+  -- what a probe carries: what waits in the space, or else the contents of the first packet that has any; or it is
+  -- refused, for a discarded space or for want of memory, and nothing changes
+  abbrev pub ProbeResult : Result Q SenderError → Type 0
+  ProbeResult (Ok queue) = (is_discarded space (state_in old).discarded ≡ false) × (answer : Answer Q)
+      × CompletesCall (told (events.QueueProbe space immediate streams) (Ok answer)
+      ∷ told (events.TakePending space) (Ok (answers.Queue queue)) ∷ []) old.variables old new
+  ProbeResult (Err (refused.Event SpaceDiscarded)) =
+      (is_discarded space (state_in old).discarded ≡ true) × (new ≡ old)
+  ProbeResult (Err (refused.Event NoMemory)) = (is_discarded space (state_in old).discarded ≡ false)
+      × TakesSteps (told (events.QueueProbe space immediate streams) (Err NoMemory) ∷ []) old new
+  ProbeResult (Err other) = ⊥
 
 -- ---- how a sender begins
 

@@ -45,7 +45,7 @@ module _ {F Q R C K S M P : Type 0} {f : _} {c : _} {q : _} {m : _} {r : _} (spa
   DeclaresAllLost now new (Ok numbers) = (is_discarded space (state_in old).discarded ≡ false)
       × (between : Sender F Q R C K S M P f c q m r) × DeclaresFirstLost numbers.items between
       × (packets_in (state_in between) space ≡ []) × ForEveryPast old (LosesWholeSpace space numbers.items)
-      × CompletesCall (loss_time space None ∷ []) (begun_anew now old.variables) between new
+      × CompletesCall (loss_time space None ∷ []) (begun_anew space now old.variables) between new
   DeclaresAllLost now new (Err refusal) = (new ≡ old) × (refusal ≡ refused.Event SpaceDiscarded)
       × (is_discarded space (state_in old).discarded ≡ true)
       ⊎ (refusal ≡ refused.Event NoMemory) × (numbers : List ℕ) × (between : Sender F Q R C K S M P f c q m r)

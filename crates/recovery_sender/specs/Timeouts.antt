@@ -1,13 +1,13 @@
 -- What comes of the timer for losses (RFC 9002, 6.2 and A.9).
-use Rattle.std.specs.Prelude.{◌≡◌, ℕ, Bool, false, ◌⊎◌, [], None, Some, Result, Ok, Err}
+use Rattle.std.specs.Prelude.{◌≡◌, ℕ, false, ◌⊎◌, [], None, Some}
 use Rattle.recovery_base.specs.declared.below.SpaceId.{SpaceId}
 use Rattle.recovery_sender.specs.declared.sender.losses.Losses.{Losses}
 use Rattle.recovery_sender.specs.declared.sender.probes.Timeout.{Timeout}
 use Rattle.recovery_sender.specs.declared.sender.probes.Timeout.TheVariants.{Nothing, Lost, Probe}
-use Rattle.recovery_sender.specs.declared.sender.SenderError.{SenderError}
 use Rattle.recovery_sender.specs.declared.sender.Sender.{Sender}
 use Rattle.recovery_losses.specs.declared.due.Due.TheVariants.{Losses as losses_due, Probes, AntiDeadlock}
-use Rattle.recovery_sender.specs.Calls.{due_now, ProbesOnce, ProbesTwice}
+use Rattle.recovery_losses.specs.Variables.{timed_out}
+use Rattle.recovery_sender.specs.Calls.{due_now}
 use Rattle.recovery_sender.specs.Detection.{DetectsLosses}
 use Rattle.recovery_sender.specs.Senders.{state_in}
 use Rattle.recovery_sender.specs.Steps.{CompletesCall}
@@ -20,20 +20,15 @@ module _ {F Q R C K S M P : Type 0} {f : _} {c : _} {q : _} {m : _} {r : _} wher
     pub detects : DetectsLosses space now false old losses behind
     pub does : CompletesCall [] (record old.variables { base = now }) behind new
 
-module _ {F Q R C K S M P : Type 0} {f : _} {c : _} {q : _} {m : _} {r : _} (now : ℕ) (immediate : Bool)
-    (first second : S) (old new : Sender F Q R C K S M P f c q m r) where
-  -- what is due now happens: losses first, then two probes, or one against a deadlock
-  abbrev pub TimeoutResult : Result Timeout SenderError → Type 0
-  TimeoutResult (Ok Nothing) = (due_now now (state_in old) old.variables ≡ None) × (new ≡ old)
-  TimeoutResult (Ok (Lost losses)) = (space : SpaceId)
-      × (due_now now (state_in old) old.variables ≡ Some (losses_due space)) × DetectsByTime space now old losses new
-  TimeoutResult (Ok (Probe space count)) =
-      (due_now now (state_in old) old.variables ≡ Some (Probes space))
-      × ProbesTwice space immediate first old new second now (Ok count)
-      ⊎ (due_now now (state_in old) old.variables ≡ Some (AntiDeadlock space))
-      × ProbesOnce space immediate first old new now (Ok count)
-  TimeoutResult (Err refused) = (space : SpaceId)
-      × ((due_now now (state_in old) old.variables ≡ Some (Probes space))
-      × ProbesTwice space immediate first old new second now (Err refused)
-      ⊎ (due_now now (state_in old) old.variables ≡ Some (AntiDeadlock space))
-      × ProbesOnce space immediate first old new now (Err refused))
+module _ {F Q R C K S M P : Type 0} {f : _} {c : _} {q : _} {m : _} {r : _} (now : ℕ)
+    (old new : Sender F Q R C K S M P f c q m r) where
+  -- what is due now happens: a space is searched for losses, or probes are due, two of them, or one against a deadlock
+  -- (RFC 9002, 6.2.4 and A.9); before its time the timer does nothing
+  abbrev pub TimeoutResult : Timeout → Type 0
+  TimeoutResult Nothing = (due_now now (state_in old) old.variables ≡ None) × (new ≡ old)
+  TimeoutResult (Lost space losses) =
+      (due_now now (state_in old) old.variables ≡ Some (losses_due space)) × DetectsByTime space now old losses new
+  TimeoutResult (Probe space count) =
+      ((due_now now (state_in old) old.variables ≡ Some (Probes space)) × (count ≡ 2)
+      ⊎ (due_now now (state_in old) old.variables ≡ Some (AntiDeadlock space)) × (count ≡ 1))
+      × CompletesCall [] (timed_out space count now old.variables) old new

@@ -1,7 +1,7 @@
 -- When the timer for losses is due, and what for (RFC 9002, 6.2 and A.8), by what can be read of a sender.
-use Rattle.std.specs.Prelude.{◌≡◌, ℕ, ◌+◌, ◌||◌, ◌&&◌, not, min, Bool, Option, None, Some, option_map, if◌then◌else◌}
+use Rattle.std.specs.Prelude.{◌≡◌, ℕ, ◌+◌, ◌||◌, ◌&&◌, not, min, Bool, false, Option, None, Some, option_map, if◌then◌else◌}
 use Rattle.std.specs.List.{list_any}
-use Rattle.std.specs.Option.{option_and_then, option_or}
+use Rattle.std.specs.Option.{option_and_then, option_map_or, option_or}
 use Rattle.recovery_base.specs.declared.below.SpaceId.{SpaceId}
 use Rattle.recovery_base.specs.declared.below.SpaceId.TheVariants.{Initial, Handshake, Data}
 use Rattle.recovery_base.specs.declared.timer.Timer.TheVariants.{LossDetection}
@@ -64,16 +64,30 @@ module _ {K P M : Type 0} (recovery : RecoveryState K P M) (variables : Variable
   abbrev pub probe_due : SpaceId → Option (ℕ × Due)
   probe_due space = if waits space then None else option_and_then (probe_in space) (space_in recovery space)
 
-  -- the space in which a client ends what may be a deadlock: that of Handshake packets, where it has keys for it and it
+  -- the space in which what may be a deadlock is ended: that of Handshake packets, where it has keys for it and it
   -- was not discarded (RFC 9002, 6.2.2.1)
   abbrev pub deadlock_space : SpaceId
   deadlock_space = if variables.has_handshake_keys && not (is_discarded Handshake recovery.discarded)
       then Handshake else Initial
 
+  -- a space tracks a packet that elicits an ACK
+  abbrev pub tracks_eliciting : SpaceId → Bool
+  tracks_eliciting space =
+      option_map_or (λ here. has_eliciting (packets_of here)) (space_in recovery space) false
+
+  -- a client may wait for a server that may not send (RFC 9002, 6.2.2.1); or, until the handshake is confirmed, packets of
+  -- 1-RTT keys fill the window that nobody probes for, while what the handshake needs waits
+  abbrev pub may_deadlock : Bool
+  may_deadlock = not (is_address_validated variables)
+      || (not variables.is_handshake_confirmed && tracks_eliciting Data)
+
   -- a probe timeout behind its base
-  abbrev pub deadlock_due : Option (ℕ × Due)
-  deadlock_due = if is_address_validated variables || is_discarded deadlock_space recovery.discarded then None
+  abbrev pub deadlock_by : Bool → Option (ℕ × Due)
+  deadlock_by may = if not may || is_discarded deadlock_space recovery.discarded then None
       else Some (behind variables.base (pto_of recovery variables deadlock_space), AntiDeadlock deadlock_space)
+
+  abbrev pub deadlock_due : Option (ℕ × Due)
+  deadlock_due = deadlock_by may_deadlock
 
   -- while the path in use may send a byte, probes are due, and a deadlock is to be ended (RFC 9000, 8.1)
   abbrev pub probes_due : Option (ℕ × Due)

@@ -2,7 +2,7 @@
 ghost use Rattle.std.specs.Prelude.{◌≡◌};
 ghost use Rattle.recovery_sender.specs.CallReplies.{is_done, CallReply};
 
-use crate::calls::{Call, CallReplyValue, Datagram, Expiry, Frame};
+use crate::calls::{Asking, Call, CallReplyValue, Datagram, Frame};
 use crate::sender::{Sender, SenderError, passes};
 use quic_recovery::Event;
 use quic_recovery::below::SpaceId;
@@ -43,7 +43,8 @@ where
         match call {
             Call::Transmit(datagram) => self.transmit(datagram),
             Call::Ack(frame) => self.take_ack(frame),
-            Call::Timeout(expiry) => self.expire(expiry),
+            Call::Timeout(now) => self.expire(now),
+            Call::Probe(asking) => self.probe(asking),
             Call::Datagram(bytes) => self.receive(bytes),
             Call::HandshakeKeys => self.handshake_keys(),
             Call::HandshakeConfirmed => self.handshake_confirmed(),
@@ -82,17 +83,22 @@ where
         }
     }
 
-    fn expire(&mut self, expiry: Expiry<Q>) -> Result<CallReplyValue<Q>, SenderError>
-        ensures { CallReply (Call.Timeout expiry) self.old.sender self.new.sender result }
+    fn expire(&mut self, now: Instant) -> Result<CallReplyValue<Q>, SenderError>
+        ensures { CallReply (Call.Timeout now) self.old.sender self.new.sender result }
     {
-        let Expiry {
-            now,
+        Ok(CallReplyValue::Timeout(self.sender.on_timeout(now)))
+    }
+
+    fn probe(&mut self, asking: Asking<Q>) -> Result<CallReplyValue<Q>, SenderError>
+        ensures { CallReply (Call.Probe asking) self.old.sender self.new.sender result }
+    {
+        let Asking {
+            space,
             immediate_ack,
-            first,
-            second,
-        } = expiry;
-        match self.sender.on_timeout(now, immediate_ack, first, second) {
-            Ok(timeout) => Ok(CallReplyValue::Timeout(timeout)),
+            streams,
+        } = asking;
+        match self.sender.probe(space, immediate_ack, streams) {
+            Ok(queue) => Ok(CallReplyValue::Probe(queue)),
             Err(refused) => Err(refused),
         }
     }

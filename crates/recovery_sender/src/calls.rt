@@ -32,17 +32,15 @@ pub struct Frame {
     pub ack: Ack,
 }
 
-/// The timer for losses may be due.
+/// A probe is to be sent.
 #[derive(Drop)]
-pub struct Expiry<Q: RetransmitQueue> {
-    /// When it is looked at.
-    pub now: Instant,
-    /// Whether probes ask for an ACK at once.
+pub struct Asking<Q: RetransmitQueue> {
+    /// The space of its packet.
+    pub space: SpaceId,
+    /// Whether it asks for an ACK at once.
     pub immediate_ack: bool,
-    /// What queues are asked with for the first of two probes.
-    pub first: Q::Streams,
-    /// What they are asked with for the second.
-    pub second: Q::Streams,
+    /// What queues are asked with.
+    pub streams: Q::Streams,
 }
 
 /// A call of a sender.
@@ -53,7 +51,9 @@ pub enum Call<Q: RetransmitQueue> {
     /// An ACK frame came in.
     Ack(Frame),
     /// The timer for losses may be due.
-    Timeout(Expiry<Q>),
+    Timeout(Instant),
+    /// A probe is to be sent: what it carries.
+    Probe(Asking<Q>),
     /// A datagram of so many bytes came in.
     Datagram(u64),
     /// There are keys of Handshake packets.
@@ -81,6 +81,8 @@ pub enum CallReplyValue<Q> {
     Acknowledged(Acknowledged),
     /// What a timeout comes to.
     Timeout(Timeout),
+    /// What a probe carries.
+    Probe(Q),
     /// The numbers that are lost with a space.
     Abandoned(Vec<u64>),
     /// What an event is answered.

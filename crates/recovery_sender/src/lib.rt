@@ -9,7 +9,7 @@ mod runs;
 pub mod sender;
 
 pub use caller::Caller;
-pub use calls::{Call, CallRecord, CallReplyValue, Datagram, Expiry, Frame};
+pub use calls::{Asking, Call, CallRecord, CallReplyValue, Datagram, Frame};
 pub use recovery_losses::{Ack, Due, Side, Variables};
 pub use runs::{run, run_over};
 pub use sender::{

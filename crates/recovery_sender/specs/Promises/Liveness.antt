@@ -10,8 +10,7 @@ use Rattle.recovery_paths.specs.PathStates.{is_blocked}
 use Rattle.recovery_history.specs.RecoveryState.{RecoveryState}
 use Rattle.recovery_losses.specs.declared.variables.Variables.{Variables}
 use Rattle.recovery_sender.specs.Spaces.{space_in}
-use Rattle.recovery_losses.specs.Variables.{is_address_validated}
-use Rattle.recovery_sender.specs.Timer.{behind, deadlock_space, has_eliciting, pto_of, waits}
+use Rattle.recovery_sender.specs.Timer.{behind, deadlock_space, has_eliciting, may_deadlock, pto_of, waits}
 
 module _ {K P M : Type 0} (recovery : RecoveryState K P M) (variables : Variables) where
   -- the space lives, and something tracked there elicits an ACK; it does not wait for the handshake
@@ -34,7 +33,9 @@ module _ {K P M : Type 0} (recovery : RecoveryState K P M) (variables : Variable
   pub record NeverStalls : Type 0 where
     pub probes : is_blocked recovery.paths.current.state 1 ≡ false → (space : SpaceId) → IsAckOwed space
         → IsSetFor space
-    -- a client that does not know its address validated has the timer set, whatever it tracks (RFC 9002, 6.2.2.1)
-    pub deadlock : is_blocked recovery.paths.current.state 1 ≡ false → is_address_validated variables ≡ false
+    -- what may be a deadlock is ended: a client that does not know its address validated has the timer set, whatever it
+    -- tracks (RFC 9002, 6.2.2.1), and so has each end while packets of 1-RTT keys are in flight before the handshake is
+    -- confirmed
+    pub deadlock : is_blocked recovery.paths.current.state 1 ≡ false → may_deadlock recovery variables ≡ true
         → is_discarded (deadlock_space recovery variables) recovery.discarded ≡ false
         → moment LossDetection recovery.timers ≢ None

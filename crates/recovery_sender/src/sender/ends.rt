@@ -31,14 +31,14 @@ where
         ensures reply { result ≡ discard_reply (state_in self.old) space }
         ensures steps { OnOk result
             (CompletesCall (told (Event.DiscardSpace space) (Ok Answer.Done) ∷ [])
-            (begun_anew now self.old.variables) self.old self.new) }
+            (begun_anew space now self.old.variables) self.old self.new) }
         ensures refused { OnErr result (self.new ≡ self.old) }
     {
         if self.is_discarded(space) {
             return Err(SenderError::Event(Refusal::SpaceDiscarded));
         }
         self.drop_keys(space);
-        self.begin_anew(now);
+        self.begin_anew(space, now);
         Ok(())
     }
 
@@ -58,12 +58,12 @@ where
         self.tell(Event::DiscardSpace { space });
     }
 
-    /// Probe timeouts are counted anew (RFC 9002, 6.2.2).
-    pub(super) fn begin_anew(&mut self, now: Instant)
-        ensures { CompletesCall [] (begun_anew now self.old.variables) self.old self.new }
+    /// Probe timeouts are counted from zero, and no probe is due in a space that ended (RFC 9002, 6.2.2).
+    pub(super) fn begin_anew(&mut self, space: SpaceId, now: Instant)
+        ensures { CompletesCall [] (begun_anew space now self.old.variables) self.old self.new }
     {
         self.is_timer_current = false;
-        self.variables = self.variables.begun_anew(now);
+        self.variables = self.variables.begun_anew(space, now);
         self.set_loss_detection_timer();
     }
 
@@ -85,7 +85,7 @@ where
         }
         self.is_timer_current = false;
         self.recovery.set_loss_time(space, None);
-        self.begin_anew(now);
+        self.begin_anew(space, now);
         Ok(numbers)
     }
 

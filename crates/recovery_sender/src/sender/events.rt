@@ -2,15 +2,15 @@
 ghost use Rattle.std.specs.Prelude.{◌≡◌, true, ◌<◌, ◌≤◌, ◌+◌, ◌-◌, ◌∷◌, [], Ok, IfOk, OnOk, OnErr, Decides};
 ghost use Rattle.recovery_base.specs.Units.{number_limit, u64_limit};
 ghost use Rattle.recovery_packet_numbers.specs.Skips.{IsSkips};
-ghost use Rattle.recovery_sender.specs.Calls.{backdated, challenged, config_of, datagram_reply, thresholds_in, to_send, IsNewSender, IsPassedThrough, EventResult};
+ghost use Rattle.recovery_sender.specs.Calls.{backdated, challenged, config_of, datagram_reply, elicits_in, thresholds_in, to_send, IsNewSender, IsPassedThrough, EventResult};
 ghost use Rattle.recovery_sender.specs.TimerUnchanged.{leaves_timer};
 ghost use Rattle.recovery_sender.specs.Senders.{state_in};
 ghost use Rattle.recovery_sender.specs.Steps.{marked, told, TakesSteps, CompletesCall};
 ghost use Rattle.recovery_sender.specs.Timer.{TimerIsSet};
 
-use super::packets::counted_at;
+use super::packets::{counted_at, eliciting_in};
 use super::{Sender, SenderError};
-use quic_recovery::below::NoMemory;
+use quic_recovery::below::{NoMemory, SpaceId};
 use quic_recovery::congestion::ControllerFactory;
 use quic_recovery::event::PathName;
 use quic_recovery::paths::{PathMarks, PathResponses};
@@ -70,6 +70,21 @@ fn to_send<Q: RetransmitQueue>(event: &Event<Q>) -> Option<Instant>
     match event {
         Event::Send { now, size, .. } => counted_at(*now, *size),
         Event::PollMtu { now } => Some(*now),
+        _ => None,
+    }
+}
+
+/// The space of a packet that elicits an ACK, if an event is to send one.
+#[inline(always)]
+fn elicits_in<Q: RetransmitQueue>(event: &Event<Q>) -> Option<SpaceId>
+    ensures { result ≡ elicits_in event.now }
+{
+    match event {
+        Event::Send {
+            space,
+            ack_eliciting,
+            ..
+        } => eliciting_in(*space, *ack_eliciting),
         _ => None,
     }
 }
@@ -172,10 +187,11 @@ where
         backdate(&mut event);
         let was_timed = self.is_left_by(&event);
         let time = to_send(&event);
+        let elicits = elicits_in(&event);
         self.is_timer_current = false;
         match self.recovery.apply(event) {
             Ok(answer) => {
-                self.goes_on(time, &answer, was_timed);
+                self.goes_on(time, elicits, &answer, was_timed);
                 Ok(answer)
             }
             Err(refusal) => Err(SenderError::Event(refusal)),

@@ -2,11 +2,10 @@
 ghost use Rattle.std.specs.Prelude.{◌≡◌, ◌<◌, ◌≤◌, ◌+◌, ◌∷◌, [], true, false, None, Some, if◌then◌else◌, nat_lt, Ok, IfOk, OnOk, OnErr};
 ghost use Rattle.recovery_base.specs.Units.{u64_limit};
 ghost use Rattle.recovery_spaces.specs.Discarded.{is_discarded};
-ghost use Rattle.recovery_spaces.specs.Spaces.{space_of};
 ghost use Rattle.recovery_paths.specs.PathStates.{is_blocked};
-ghost use Rattle.recovery_losses.specs.Variables.{based};
+ghost use Rattle.recovery_losses.specs.Variables.{based, is_probe_due, probed};
 ghost use Rattle.recovery_sender.specs.Senders.{state_in};
-ghost use Rattle.recovery_sender.specs.Calls.{bytes_in_flight, is_checked, is_full, sent_at, transmission, transmit_reply, transmit_steps, window_of, EventResult};
+ghost use Rattle.recovery_sender.specs.Calls.{bytes_in_flight, is_checked, is_full, sent_at, sent_in, transmission, transmit_reply, transmit_steps, window_of, EventResult};
 ghost use Rattle.recovery_sender.specs.Steps.{told, TakesSteps, CompletesCall};
 ghost use Rattle.recovery_sender.specs.Timer.{TimerIsSet};
 
@@ -36,6 +35,23 @@ pub(super) fn counted_at(now: Instant, size: u16) -> Option<Instant>
     ensures { result ≡ (if nat_lt 0 size then Some now else None) }
 {
     if size > 0 { Some(now) } else { None }
+}
+
+/// The space of a packet that is sent now, if it elicits an ACK.
+pub(super) fn eliciting_in(space: SpaceId, ack_eliciting: bool) -> Option<SpaceId>
+    ensures { result ≡ (if ack_eliciting then Some space else None) }
+{
+    if ack_eliciting { Some(space) } else { None }
+}
+
+/// The space of a packet that elicits an ACK, if the answer says that it went out.
+fn sent_in<Q>(space: Option<SpaceId>, answer: &Answer<Q>) -> Option<SpaceId>
+    ensures { result ≡ sent_in space answer.now }
+{
+    match answer {
+        Answer::Sent { .. } | Answer::Probe { .. } => space,
+        _ => None,
+    }
 }
 
 /// When a packet went out, where the answer says so.
@@ -70,17 +86,18 @@ where
     ) -> Result<Transmission, SenderError>
         // By the state before it,
         ensures reply { result
-            ≡ transmit_reply F.Controller.words (state_in self.old) now bytes space in_flight }
+            ≡ transmit_reply F.Controller.words (state_in self.old) self.old.variables now bytes space
+            in_flight }
 
         // so that what counts in flight finds room in the window, where no probe is due (RFC 9002, 7).
         ensures window { result ≡ Ok Transmission.Transmitted → in_flight ≡ true
-            → (space_of space (state_in self.old).spaces).loss_probes ≡ 0
+            → is_probe_due self.old.variables space ≡ false
             → bytes_in_flight (state_in self.old) + bytes
             ≤ window_of F.Controller.words (state_in self.old) }
 
         // The recovery is asked for what limit and window let pass.
         ensures steps { IfOk result (λ sent. let old = state_in self.old in
-            CompletesCall (transmit_steps now bytes (is_checked old space in_flight) sent)
+            CompletesCall (transmit_steps now bytes (is_checked self.old.variables space in_flight) sent)
             self.old.variables self.old self.new) }
         ensures refused { OnErr result (self.new ≡ self.old) }
     {
@@ -124,35 +141,47 @@ where
         });
         match sent {
             Ok(answer) => {
-                self.goes_on(counted_at(now, size), &answer, false);
+                self.goes_on(
+                    counted_at(now, size),
+                    eliciting_in(space, ack_eliciting),
+                    &answer,
+                    false,
+                );
                 Ok(answer)
             }
             Err(refusal) => Err(SenderError::Event(refusal)),
         }
     }
 
-    /// What was answered went out at this moment, where it counts in flight (RFC 9002, A.5); the timer is set, where it
-    /// is not known to be.
+    /// What was answered was sent at this time, if it counts in flight, and in this space, if it elicits an ACK (RFC
+    /// 9002, 6.2.4 and A.5); the timer is set, if it is not known to be.
     #[inline(always)]
-    pub(super) fn goes_on(&mut self, time: Option<Instant>, answer: &Answer<Q>, was_timed: bool)
+    pub(super) fn goes_on(
+        &mut self,
+        time: Option<Instant>,
+        elicits: Option<SpaceId>,
+        answer: &Answer<Q>,
+        was_timed: bool,
+    )
         requires { was_timed ≡ true → TimerIsSet (state_in self.old)
-            (based (sent_at time answer.now) self.old.variables) }
-        ensures { CompletesCall [] (based (sent_at time answer.now) self.old.variables) self.old
-            self.new }
+            (probed (sent_in elicits answer.now) (based (sent_at time answer.now)
+            self.old.variables)) }
+        ensures { CompletesCall [] (probed (sent_in elicits answer.now)
+            (based (sent_at time answer.now) self.old.variables)) self.old self.new }
     {
         self.is_timer_current = false;
-        self.variables = self.variables.based(sent_at(time, answer));
+        let based = self.variables.based(sent_at(time, answer));
+        self.variables = based.probed(sent_in(elicits, answer));
         self.time_on(was_timed);
     }
 
     /// Whether window and pacer are asked for a datagram with packets of a space that is not discarded.
     fn is_checked(&self, space: SpaceId, in_flight: bool) -> Option<bool>
-        ensures { let recovery = state_in self.now in result
-            ≡ (if is_discarded space recovery.discarded then None
-            else Some (is_checked recovery space in_flight)) }
+        ensures { result ≡ (if is_discarded space (state_in self.now).discarded then None
+            else Some (is_checked self.now.variables space in_flight)) }
     {
-        let here = self.space(space)?;
-        Some(in_flight && here.loss_probes == 0)
+        self.space(space)?;
+        Some(in_flight && !self.variables.is_probe_due(space))
     }
 
     /// The datagram goes out, where limit, window and pacer let it.

@@ -1,8 +1,9 @@
-//! The timer for losses expires (RFC 9002, 6.2 and A.9).
-ghost use Rattle.std.specs.Prelude.{◌≡◌, ◌∷◌, [], false, IfSome};
+//! The timer for losses expires, and what probes carry (RFC 9002, 6.2 and A.9).
+ghost use Rattle.std.specs.Prelude.{◌≡◌, ◌∷◌, [], false, IfSome, Ok};
+ghost use Rattle.recovery_events.specs.declared.event.Answer.{Answer};
+ghost use Rattle.recovery_events.specs.declared.event.Event.TheVariants.{TakePending};
 ghost use Rattle.recovery_spaces.specs.Discarded.{is_discarded};
-ghost use Rattle.recovery_history.specs.History.{Reply};
-ghost use Rattle.recovery_sender.specs.Calls.{done_of, due_now, probes_with, space_due, ProbesOnce, ProbesTwice, QueuesProbe};
+ghost use Rattle.recovery_sender.specs.Calls.{done_of, due_now, space_due, ProbeResult, QueuesProbe};
 ghost use Rattle.recovery_losses.specs.Variables.{timed_out};
 ghost use Rattle.recovery_sender.specs.Senders.{state_in};
 ghost use Rattle.recovery_sender.specs.Steps.{told, TakesSteps, CompletesCall};
@@ -17,18 +18,23 @@ use quic_recovery::{Answer, Event, Refusal};
 use rand_core::Rng;
 use recovery_losses::Due;
 
-/// What a timeout comes to.
+/// What a timeout results in.
 #[derive(Drop)]
 pub enum Timeout {
     /// The timer is not due.
     Nothing,
-    /// These packets were found lost.
-    Lost(Losses),
-    /// So many probes are to be sent in a space, 1 or 2.
+    /// A space was searched for losses.
+    Lost {
+        /// The space.
+        space: SpaceId,
+        /// What was found lost.
+        losses: Losses,
+    },
+    /// Probes are due in a space (RFC 9002, 6.2.4).
     Probe {
         /// The space.
         space: SpaceId,
-        /// How many.
+        /// How many: 2, or 1 against a deadlock.
         count: u8,
     },
 }
@@ -52,37 +58,55 @@ where
     Q::Streams: Drop,
     R: Rng + Drop,
 {
-    /// The timer for losses may be due (RFC 9002, A.9: OnLossDetectionTimeout). `first` and `second` are what queues
-    /// are asked with for each of two probes. Nothing, where the timer is not due. Refused by `NoMemory` where the
-    /// first probe finds no memory: then nothing changed.
-    pub fn on_timeout(
-        &mut self,
-        now: Instant,
-        immediate_ack: bool,
-        first: Q::Streams,
-        second: Q::Streams,
-    ) -> Result<Timeout, SenderError>
-        ensures { TimeoutResult now immediate_ack first second self.old self.new result }
+    /// The timer for losses may be due (RFC 9002, A.9: OnLossDetectionTimeout). Before its time nothing happens. If a
+    /// space may have lost packets, they are declared lost. Otherwise two probes are due in the space whose timer
+    /// expired, or one against a deadlock, in place of those that were due before; for each the caller asks
+    /// [`Sender::transmit`], takes its contents by [`Sender::probe`] and sends it by [`Sender::send`]. It is never
+    /// refused. It costs what is lost and what is tracked below the largest acknowledged, each with a logarithm.
+    pub fn on_timeout(&mut self, now: Instant) -> Timeout
+        ensures { TimeoutResult now self.old self.new result }
     {
         match self.due_now(now) {
-            None => Ok(Timeout::Nothing),
-            Some(Due::Losses(space)) => Ok(Timeout::Lost(self.find_losses(space, now))),
-            Some(Due::Probes(space)) => {
-                match self.probe_twice(space, now, immediate_ack, first, second) {
-                    Ok(count) => Ok(Timeout::Probe { space, count }),
-                    Err(refused) => Err(refused),
-                }
-            }
-            Some(Due::AntiDeadlock(space)) => match self.probe_once(
+            None => Timeout::Nothing,
+            Some(Due::Losses(space)) => Timeout::Lost {
                 space,
-                now,
-                immediate_ack,
-                first,
-            ) {
-                Ok(count) => Ok(Timeout::Probe { space, count }),
-                Err(refused) => Err(refused),
+                losses: self.find_losses(space, now),
             },
+            Some(Due::Probes(space)) => {
+                self.time_out(space, 2, now);
+                Timeout::Probe { space, count: 2 }
+            }
+            Some(Due::AntiDeadlock(space)) => {
+                self.time_out(space, 1, now);
+                Timeout::Probe { space, count: 1 }
+            }
         }
+    }
+
+    /// Hands out what a probe of a space carries (RFC 9002, 6.2.4): what waits there to be sent again, or else the
+    /// contents of the first packet in flight that has any. If both probes of a timeout ask so, each carries the
+    /// contents of another packet; an empty queue asks for a PING frame. `immediate_ack` asks the peer for an ACK at
+    /// once, and `streams` is what queues are asked with.
+    ///
+    /// # Errors
+    /// `SpaceDiscarded`, or `NoMemory` if the queues cannot be joined. Then nothing has changed.
+    pub fn probe(
+        &mut self,
+        space: SpaceId,
+        immediate_ack: bool,
+        streams: Q::Streams,
+    ) -> Result<Q, SenderError>
+        ensures { ProbeResult space immediate_ack streams self.old self.new result }
+    {
+        if self.is_discarded(space) {
+            return Err(SenderError::Event(Refusal::SpaceDiscarded));
+        }
+        if let Err(refused) = self.queue_probe(space, immediate_ack, streams) {
+            return Err(refused);
+        }
+        let queue = self.take_pending(space);
+        self.set_loss_detection_timer();
+        Ok(queue)
     }
 
     /// Packets of a space may be lost: they are looked for.
@@ -108,46 +132,7 @@ where
         }
     }
 
-    /// The timer expired that is to end a deadlock (RFC 9002, 6.2.2.1): one probe is asked for. Refused by `NoMemory`.
-    fn probe_once(
-        &mut self,
-        space: SpaceId,
-        now: Instant,
-        immediate_ack: bool,
-        streams: Q::Streams,
-    ) -> Result<u8, SenderError>
-        requires there { is_discarded space (state_in self.old).discarded ≡ false }
-        ensures { ProbesOnce space immediate_ack streams self.old self.new now result }
-    {
-        if let Err(refused) = self.queue_probe(space, immediate_ack, streams) {
-            return Err(refused);
-        }
-        self.time_out(now);
-        Ok(1)
-    }
-
-    /// The probe timeout of a space expired: two probes are asked for (RFC 9002, 6.2.4). Refused by `NoMemory`; where
-    /// the second finds none, one is to be sent.
-    fn probe_twice(
-        &mut self,
-        space: SpaceId,
-        now: Instant,
-        immediate_ack: bool,
-        first: Q::Streams,
-        second: Q::Streams,
-    ) -> Result<u8, SenderError>
-        requires there { is_discarded space (state_in self.old).discarded ≡ false }
-        ensures { ProbesTwice space immediate_ack first self.old self.new second now result }
-    {
-        if let Err(refused) = self.queue_probe(space, immediate_ack, first) {
-            return Err(refused);
-        }
-        let count = self.queue_second(space, immediate_ack, second);
-        self.time_out(now);
-        Ok(count)
-    }
-
-    /// A probe is asked for in a space that is not discarded. Refused by `NoMemory`.
+    /// Contents for a probe are put with what waits in a space that is not discarded. Refused by `NoMemory`.
     fn queue_probe(
         &mut self,
         space: SpaceId,
@@ -166,25 +151,24 @@ where
         done(self.recovery.apply(event))
     }
 
-    /// A second probe is asked for: how many there are then.
-    fn queue_second(&mut self, space: SpaceId, immediate_ack: bool, streams: Q::Streams) -> u8
+    /// Hands out what waits in a space that is not discarded.
+    fn take_pending(&mut self, space: SpaceId) -> Q
         requires there { is_discarded space (state_in self.old).discarded ≡ false }
-        ensures { (again : Reply Q) × (result ≡ probes_with again)
-            × TakesSteps (told (Event.QueueProbe space immediate_ack streams) again ∷ [])
-            self.old self.new }
+        ensures { TakesSteps (told (TakePending space) (Ok (Answer.Queue result)) ∷ []) self.old
+            self.new }
     {
-        match self.queue_probe(space, immediate_ack, streams) {
-            Ok(()) => 2,
-            Err(_) => 1,
+        match self.tell(Event::TakePending { space }) {
+            Answer::Queue(queue) => queue,
+            _ => unreachable!(),
         }
     }
 
-    /// A probe timeout expired (RFC 9002, 6.2.1).
-    fn time_out(&mut self, now: Instant)
-        ensures { CompletesCall [] (timed_out now self.old.variables) self.old self.new }
+    /// A probe timeout expired, which asks for so many probes in a space (RFC 9002, 6.2.1 and 6.2.4).
+    fn time_out(&mut self, space: SpaceId, count: u8, now: Instant)
+        ensures { CompletesCall [] (timed_out space count now self.old.variables) self.old self.new }
     {
         self.is_timer_current = false;
-        self.variables = self.variables.timed_out(now);
+        self.variables = self.variables.timed_out(space, count, now);
         self.set_loss_detection_timer();
     }
 }

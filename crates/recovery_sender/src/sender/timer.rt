@@ -7,7 +7,7 @@ ghost use Rattle.recovery_spaces.specs.Spaces.{packets_of};
 ghost use Rattle.quic_recovery.specs.State.{ReadOnlyTransition};
 ghost use Rattle.recovery_sender.specs.Senders.{state_in};
 ghost use Rattle.recovery_sender.specs.Spaces.{space_in};
-ghost use Rattle.recovery_sender.specs.Timer.{TimerIsSet, due_of, has_eliciting, loss_due, probe_due, probe_in, deadlock_due, deadlock_space, pto_of};
+ghost use Rattle.recovery_sender.specs.Timer.{TimerIsSet, due_of, has_eliciting, loss_due, probe_due, probe_in, deadlock_due, deadlock_space, may_deadlock, pto_of, tracks_eliciting};
 ghost use Rattle.recovery_sender.specs.Steps.{told, timer_event, TakesSteps, CompletesCall};
 
 use super::Sender;
@@ -177,11 +177,31 @@ where
         Some((sent + self.pto(space), Due::Probes(space)))
     }
 
-    /// When a client sends, that else might wait for a server that may not (RFC 9002, 6.2.2.1).
+    /// Whether a space tracks a packet that elicits an ACK.
+    fn tracks_eliciting(&self, space: SpaceId) -> bool
+        ensures { result ≡ tracks_eliciting (state_in self.now) self.now.variables space }
+    {
+        match self.space(space) {
+            Some(here) => has_eliciting(here),
+            None => false,
+        }
+    }
+
+    /// Whether nothing may be probed for while a packet that ends the handshake waits: at a client that does not know its
+    /// address validated (RFC 9002, 6.2.2.1), and at both ends while packets of 1-RTT keys are in flight, which nobody
+    /// probes for before the handshake is confirmed.
+    fn may_deadlock(&self) -> bool
+        ensures { result ≡ may_deadlock (state_in self.now) self.now.variables }
+    {
+        !self.variables.is_address_validated()
+            || !self.variables.is_handshake_confirmed && self.tracks_eliciting(SpaceId::Data)
+    }
+
+    /// When a probe is sent that ends what may be a deadlock (RFC 9002, 6.2.2.1).
     fn deadlock_due(&self) -> Option<(Instant, Due)>
         ensures { result ≡ deadlock_due (state_in self.now) self.now.variables }
     {
-        if self.variables.is_address_validated() {
+        if !self.may_deadlock() {
             return None;
         }
         let space = self.deadlock_space();

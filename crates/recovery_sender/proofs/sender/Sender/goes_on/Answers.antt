@@ -5,5 +5,5 @@ use Rattle.recovery_sender.proofs.sender.Sender.goes_on.Goals as goal
 
 pub returns : goal.returns
 returns g c = does_as _ _ _ _ _ refl
-    (c.based-self.ensures ∙ ap (λ time. based time c.args.self.now.variables) c.sent_at.ensures)
+    (rw (c.based-based.ensures, c.sent_at.ensures, c.sent_in.ensures) at c.probed-self.ensures)
     c.time_on.ensures

@@ -29,8 +29,8 @@ returns g c =
       lost,
       all,
       loses_all c.args.space c.args.self.now kept _ lost.tracked (sym lost.left ∙ all),
-      subst (λ (kept : Variables). CompletesCall steps (begun_anew c.args.now kept) c.lose_all.new.self
+      subst (λ (kept : Variables). CompletesCall steps (begun_anew c.args.space c.args.now kept) c.lose_all.new.self
           c.begin_anew.new.self)
-          lost.goes.variables (does_behind_with (begun_anew c.args.now) steps c.lose_all.new.self _ _
+          lost.goes.variables (does_behind_with (begun_anew c.args.space c.args.now) steps c.lose_all.new.self _ _
           (record { leads = c.set_loss_time.ensures.after; variables = refl }) c.begin_anew.ensures),
     )
