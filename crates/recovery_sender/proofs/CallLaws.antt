@@ -91,6 +91,22 @@ memory_alone queue words heard known space immediate streams NoMemory kept said 
 memory_alone queue words heard known space immediate streams SpaceDiscarded kept said = absurd cc
 memory_alone queue words heard known space immediate streams refusal kept said = absurd said.1
 
+-- in a space that is not discarded what waits is handed out always
+pub pending_given : {K Q S M P : Type 0} (queue : QueueModel Q S M P) (words : ControllerSemantics K)
+    (heard : SpaceId → AckState) (known : ReplyInputs K P M) (space : SpaceId) (refusal : Refusal)
+    → (known.spaces space).discarded ≡ false
+    → ReplyTable queue words heard known (TakePending space) (Err refusal) → ⊥
+pending_given queue words heard known space SpaceDiscarded kept said = absurd cc
+pending_given queue words heard known space refusal kept said = said.1
+
+-- as a queue
+pub pending_queue : {K Q S M P : Type 0} (queue : QueueModel Q S M P) (words : ControllerSemantics K)
+    (heard : SpaceId → AckState) (known : ReplyInputs K P M) (space : SpaceId) (answer : Answer Q)
+    → ReplyTable queue words heard known (TakePending space) (Ok answer)
+    → ((given : Q) → answer ≡ answers.Queue given → ⊥) → ⊥
+pending_queue queue words heard known space (answers.Queue given) said none = none given refl
+pending_queue queue words heard known space answer said none = said.1
+
 module _ {F Q R C K S M P : Type 0} {f : _} {c : _} {q : _} {m : _} {r : _} (space : SpaceId) (immediate : Bool)
     (streams : S) (old new : Sender F Q R C K S M P f c q m r) where
   refused_so : (refusal : Refusal) → refusal ≡ NoMemory
@@ -107,13 +123,6 @@ module _ {F Q R C K S M P : Type 0} {f : _} {c : _} {q : _} {m : _} {r : _} (spa
       let recovery = state_in old in
       refused_so refusal (memory_alone (queue_model q.contents q.words q.blank) recovery.settings.words
       (acks_to recovery) (inputs_of recovery) space immediate streams refusal kept goes.leads.1.told) goes
-
-  -- in a space that is not discarded what waits is never refused
-  pub pending_given : is_discarded space (state_in old).discarded ≡ false → (refusal : Refusal)
-      → ReplyTable (queue_model q.contents q.words q.blank) (state_in old).settings.words (acks_to (state_in old))
-      (inputs_of (state_in old)) (TakePending space) (Err refusal) → ⊥
-  pending_given kept SpaceDiscarded said = absurd cc
-  pending_given kept refusal said = said.1
 
   -- a probe discards no space
   pub kept_by : (answer : Answer Q) → is_discarded space (state_in old).discarded ≡ false

@@ -12,8 +12,8 @@ use Rattle.recovery_history.specs.RecoveryState.{RecoveryState}
 use Rattle.recovery_sender.specs.declared.sender.Sender.{Sender}
 use Rattle.recovery_losses.specs.declared.variables.Variables.{Variables}
 use Rattle.recovery_sender.specs.declared.sender.packets.Transmission.{Transmission}
-use Rattle.recovery_losses.specs.Variables.{based}
-use Rattle.recovery_sender.specs.Calls.{goes_out, sent_at, to_send, transmit_steps}
+use Rattle.recovery_losses.specs.Variables.{based, probed}
+use Rattle.recovery_sender.specs.Calls.{after_event, elicits_in, goes_out, to_send, transmit_steps}
 use Rattle.recovery_sender.specs.TimerUnchanged.{leaves_timer}
 use Rattle.recovery_sender.specs.Senders.{state_in}
 use Rattle.recovery_sender.specs.Steps.{told, TakesSteps}
@@ -27,13 +27,19 @@ none_sent (Send space now size eliciting largest queue frames) is = absurd (true
 none_sent (PollMtu now) is = absurd (true≢false (sym is))
 none_sent event is = refl
 
+none_elicits : {Q S M P : Type 0} (event : Event Q S M P) → leaves_timer event ≡ true → elicits_in event ≡ None
+none_elicits (Send space now size eliciting largest queue frames) is = absurd (true≢false (sym is))
+none_elicits event is = refl
+
 module _ {K Q S M P : Type 0} (queue : QueueModel Q S M P) (variables : Variables) (old new : RecoveryState K P M) where
   pub event_left : (event : Event Q S M P) (answer : Answer Q) → leaves_timer event ≡ true
       → StateTransition queue old event (Ok answer) new → TimerIsSet old variables
-      → TimerIsSet new (based (sent_at (to_send event) answer) variables)
-  event_left event answer leaves changes set = rw (none_sent event leaves) (go (goes_out answer))
+      → TimerIsSet new (after_event event answer variables)
+  event_left event answer leaves changes set =
+      rw (none_sent event leaves, none_elicits event leaves) (go (goes_out answer))
     where
-      go : (out : Bool) → TimerIsSet new (based (if out then None else None) variables)
+      go : (out : Bool) → TimerIsSet new (probed (if out then None else None) (based (if out then None else None)
+          variables))
       go true = left_by queue variables old new event answer leaves changes set
       go false = left_by queue variables old new event answer leaves changes set
 

@@ -115,7 +115,7 @@ sent_at time answer = if goes_out answer then time else None
 
 -- the space of a packet that elicits an ACK, if the event is to send one
 abbrev pub elicits_in : {Q S M P : Type 0} → Event Q S M P → Option SpaceId
-elicits_in (events.Send space now size true largest queue frames) = Some space
+elicits_in (events.Send space now size eliciting largest queue frames) = if eliciting then Some space else None
 elicits_in event = None
 
 -- and if it went out
