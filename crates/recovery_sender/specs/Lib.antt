@@ -3,6 +3,7 @@ pub mod Acks
 pub mod CallReplies
 pub mod Calls
 pub mod Detection
+pub mod Established
 pub mod Losses
 pub mod Promises
 pub mod RetransmitAll

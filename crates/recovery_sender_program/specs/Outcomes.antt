@@ -29,4 +29,4 @@ error_text ReadFailed = codes "sender: read failed\n"
 error_text WriteFailed = codes "sender: write failed\n"
 error_text Closed = []
 error_text OutOfMemory = codes "sender: out of memory\n"
-error_text WrongArguments = codes "usage: recovery-sender client|server [SEED [WINDOW]]\n"
+error_text WrongArguments = codes "usage: recovery-sender client|server|established [SEED [WINDOW [PACKETS NUMERATOR DENOMINATOR PERIODS]]]\n"

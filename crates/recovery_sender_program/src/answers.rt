@@ -108,7 +108,7 @@ fn push_probes(text: &mut String, space: SpaceId, count: u8) -> Result<(), Alloc
 fn push_timeout(text: &mut String, timeout: &Timeout) -> Result<(), AllocError> {
     match timeout {
         Timeout::Nothing => text.push_str("nothing"),
-        Timeout::Lost(losses) => push_lost(text, losses),
+        Timeout::Lost { losses, .. } => push_lost(text, losses),
         Timeout::Probe { space, count } => push_probes(text, *space, *count),
     }
 }
@@ -141,6 +141,7 @@ fn push_reply(
         CallReplyValue::Transmission(transmission) => push_transmission(text, transmission),
         CallReplyValue::Acknowledged(acknowledged) => push_acknowledged(text, &acknowledged),
         CallReplyValue::Timeout(timeout) => push_timeout(text, &timeout),
+        CallReplyValue::Probe(queue) => push_answer(alloc, text, &Ok(Answer::Queue(queue))),
         CallReplyValue::Abandoned(numbers) => push_abandoned(text, &numbers),
         CallReplyValue::Answer(answer) => push_answer(alloc, text, &Ok(answer)),
         CallReplyValue::Done => text.push_str("done"),

@@ -1,4 +1,6 @@
 //! What the arguments choose.
+ghost use Rattle.std.specs.Prelude.{◌<◌};
+
 use recovery_replay::fixed_window::FixedWindowConfig;
 use recovery_script_syntax::number_in;
 use recovery_sender::Side;
@@ -14,21 +16,41 @@ pub enum Window {
     Fixed(FixedWindowConfig),
 }
 
+/// The settings of loss detection (RFC 9002, 6.1 and 7.6.1).
+#[derive(Clone, Copy)]
+pub struct Settings {
+    /// The packet threshold.
+    pub packets: u32,
+    /// The numerator of the time threshold.
+    pub numerator: u64,
+    /// Its denominator, above zero.
+    pub denominator: u64,
+    /// How many probe timeouts make congestion persistent.
+    pub periods: u32,
+    ghost positive: { 0 < denominator },
+}
+
 /// What the arguments choose.
 #[derive(Clone, Copy)]
 pub struct Choice {
     /// Which end of the connection sends.
     pub side: Side,
+    /// Whether the handshake is over at the start.
+    pub is_established: bool,
+    /// The settings of loss detection; without them the defaults hold.
+    pub settings: Option<Settings>,
     /// What skipped numbers are drawn by; without it none is skipped.
     pub seed: Option<u64>,
     /// Which window each controller has.
     pub window: Window,
 }
 
-fn side_in(word: &[u8]) -> Option<Side> {
+/// A side, and whether its handshake is over.
+fn side_in(word: &[u8]) -> Option<(Side, bool)> {
     match word {
-        b"client" => Some(Side::Client),
-        b"server" => Some(Side::Server),
+        b"client" => Some((Side::Client, false)),
+        b"server" => Some((Side::Server, false)),
+        b"established" => Some((Side::Client, true)),
         _ => None,
     }
 }
@@ -41,10 +63,12 @@ fn seed_in(word: &[u8]) -> Option<Option<u64>> {
     }
 }
 
-/// CUBIC's window, or one above zero.
+/// CUBIC's window, or one above zero; NewReno's where the word is `-`.
 fn window_in(word: &[u8]) -> Option<Window> {
-    if let b"cubic" = word {
-        return Some(Window::Cubic);
+    match word {
+        b"-" => return Some(Window::NewReno),
+        b"cubic" => return Some(Window::Cubic),
+        _ => {}
     }
     match number_in(word)? {
         0 => None,
@@ -52,26 +76,52 @@ fn window_in(word: &[u8]) -> Option<Window> {
     }
 }
 
-/// What the words behind the program's name choose: a side, then a seed, then a window.
+fn short_in(word: &String) -> Option<u32> {
+    u32::try_from(number_in(word.as_bytes())?).ok()
+}
+
+/// The settings of loss detection, by the last four words.
+fn settings_in(words: &[String]) -> Option<Settings> {
+    let [packets, numerator, denominator, periods] = words else {
+        return None;
+    };
+    let packets = short_in(packets)?;
+    let numerator = number_in(numerator.as_bytes())?;
+    let denominator = number_in(denominator.as_bytes())?;
+    let periods = short_in(periods)?;
+    if denominator == 0 {
+        return None;
+    }
+    Some(Settings {
+        packets,
+        numerator,
+        denominator,
+        periods,
+    })
+}
+
+/// What the words behind the program's name choose: a side, then a seed, then a window, then the settings of loss
+/// detection.
 pub fn choice_of(words: &[String]) -> Option<Choice> {
     let (side, rest) = words.split_first()?;
-    let side = side_in(side.as_bytes())?;
-    match rest {
-        [] => Some(Choice {
-            side,
-            seed: None,
-            window: Window::NewReno,
-        }),
-        [seed] => Some(Choice {
-            side,
-            seed: seed_in(seed.as_bytes())?,
-            window: Window::NewReno,
-        }),
-        [seed, window] => Some(Choice {
-            side,
-            seed: seed_in(seed.as_bytes())?,
-            window: window_in(window.as_bytes())?,
-        }),
-        _ => None,
+    let (side, is_established) = side_in(side.as_bytes())?;
+    let mut choice = Choice {
+        side,
+        is_established,
+        settings: None,
+        seed: None,
+        window: Window::NewReno,
+    };
+    let Some((seed, rest)) = rest.split_first() else {
+        return Some(choice);
+    };
+    choice.seed = seed_in(seed.as_bytes())?;
+    let Some((window, rest)) = rest.split_first() else {
+        return Some(choice);
+    };
+    choice.window = window_in(window.as_bytes())?;
+    if !rest.is_empty() {
+        choice.settings = Some(settings_in(rest)?);
     }
+    Some(choice)
 }

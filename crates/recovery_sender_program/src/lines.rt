@@ -4,7 +4,7 @@ use recovery_queue::items::ItemQueue;
 use recovery_script_syntax::lines::{LINE_LIMIT, push_event};
 use recovery_script_syntax::number_in;
 use recovery_script_syntax::words::{Words, is_name};
-use recovery_sender::{Ack, Call, Datagram, Expiry, Frame, passes};
+use recovery_sender::{Ack, Asking, Call, Datagram, Frame, passes};
 use std::alloc::Global;
 
 /// The call of a line, given without its line feed, if it spells one.
@@ -29,7 +29,8 @@ pub fn call_in(alloc: Global, line: &[u8]) -> Result<Option<Call<ItemQueue>>, No
 fn short_call(name: &[u8], words: &mut Words<'_>) -> Option<Call<ItemQueue>> {
     match name {
         name if is_name(name, "transmit") => transmit(words),
-        name if is_name(name, "timeout") => timeout(words),
+        name if is_name(name, "timeout") => Some(Call::Timeout(words.moment()?)),
+        name if is_name(name, "probe") => probe(words),
         name => said(name, words),
     }
 }
@@ -43,12 +44,11 @@ fn transmit(words: &mut Words<'_>) -> Option<Call<ItemQueue>> {
     }))
 }
 
-fn timeout(words: &mut Words<'_>) -> Option<Call<ItemQueue>> {
-    Some(Call::Timeout(Expiry {
-        now: words.moment()?,
+fn probe(words: &mut Words<'_>) -> Option<Call<ItemQueue>> {
+    Some(Call::Probe(Asking {
+        space: words.space()?,
         immediate_ack: false,
-        first: (),
-        second: (),
+        streams: (),
     }))
 }
 

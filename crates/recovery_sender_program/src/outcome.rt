@@ -50,7 +50,7 @@ impl Outcome {
     }
 
     /// What is wrong, with a line feed behind; empty where nothing is. It takes no memory.
-    pub fn text(self) -> ArrayString<96>
+    pub fn text(self) -> ArrayString<128>
         ensures { result.bytes ≡ error_text self }
     {
         let mut text = ArrayString::new();
@@ -65,7 +65,9 @@ impl Outcome {
             Outcome::WriteFailed => text.push_str("sender: write failed\n"),
             Outcome::OutOfMemory => text.push_str("sender: out of memory\n"),
             Outcome::WrongArguments => {
-                text.push_str("usage: recovery-sender client|server [SEED [WINDOW]]\n");
+                text.push_str(
+                    "usage: recovery-sender client|server|established [SEED [WINDOW [PACKETS NUMERATOR DENOMINATOR PERIODS]]]\n",
+                );
             }
         }
         text

@@ -2,10 +2,11 @@
 ghost use Rattle.recovery_sender_program.specs.Giving.{YieldsItems};
 
 use crate::answers::write_said;
-use crate::choice::{Choice, Window};
+use crate::choice::{Choice, Settings, Window};
 use crate::lines::call_in;
 use crate::outcome::Outcome;
 use quic_recovery::below::NoMemory;
+use quic_recovery::config::TransportConfig;
 use quic_recovery::congestion::{ControllerFactory, NewRenoConfig};
 use quic_recovery::time::Instant;
 use rand_core::SeedableRng;
@@ -101,6 +102,13 @@ impl<'a, W: Write> Sink<CallRecord<ItemQueue>> for Answers<'a, W> {
     }
 }
 
+/// Puts the settings of loss detection.
+fn set<F>(transport: &mut TransportConfig<F>, settings: &Settings) {
+    transport.packet_threshold(settings.packets);
+    transport.time_threshold(settings.numerator, settings.denominator);
+    transport.persistent_congestion_threshold(settings.periods);
+}
+
 /// The calls of an input, from a sender on to which nothing has happened.
 fn play_over<F, R, W>(
     alloc: Global,
@@ -115,9 +123,17 @@ where
     R: Read,
     W: Write,
 {
-    let config = config(factory, peer_at(FIRST_PORT), skips(choice.seed));
+    let mut config = config(factory, peer_at(FIRST_PORT), skips(choice.seed));
+    if let Some(settings) = &choice.settings {
+        set(&mut config.transport, settings);
+    }
     let rng = Pcg32::seed_from_u64(choice.seed.unwrap_or(0));
-    let sender = Sender::new(alloc, choice.side, config, rng, Instant::from_nanos(0))?;
+    let start = Instant::from_nanos(0);
+    let sender = if choice.is_established {
+        Sender::established(alloc, choice.side, config, rng, start)?
+    } else {
+        Sender::new(alloc, choice.side, config, rng, start)?
+    };
     let mut calls = Lines {
         alloc,
         input,

@@ -7,6 +7,7 @@ ghost use Rattle.recovery_sender.specs.TimerUnchanged.{leaves_timer};
 ghost use Rattle.recovery_sender.specs.Senders.{state_in};
 ghost use Rattle.recovery_sender.specs.Steps.{marked, told, TakesSteps, CompletesCall};
 ghost use Rattle.recovery_sender.specs.Timer.{TimerIsSet};
+ghost use Rattle.recovery_sender.specs.Established.{IsEstablishedSender};
 
 use super::packets::{counted_at, eliciting_in};
 use super::{Sender, SenderError};
@@ -172,6 +173,31 @@ where
             is_timer_current: false,
         };
         sender.set_loss_detection_timer();
+        Ok(sender)
+    }
+
+    /// The sender of a connection that is established, made at the time `now`: [`Sender::new`], then
+    /// [`Sender::on_address_validated`], [`Sender::on_handshake_confirmed`], and the Initial and Handshake spaces
+    /// discarded (RFC 9001, 4.1.2 and 4.9). 1-RTT packets alone are sent, and probed for. `NoMemory` as of
+    /// [`LiveRecovery::new`].
+    pub fn established(
+        alloc: Global,
+        side: Side,
+        config: RecoveryConfig<F>,
+        rng: R,
+        now: Instant,
+    ) -> Result<Self, NoMemory>
+        requires issued { config.issued ≤ number_limit }
+        requires skips { IsSkips config.skips }
+        ensures begins { IfOk result
+            (λ sender. IsEstablishedSender side config now (R.stream rng) sender) }
+        ensures memory { OnErr result (0 < config.issued) }
+    {
+        let mut sender = Sender::new(alloc, side, config, rng, now)?;
+        sender.on_address_validated();
+        sender.on_handshake_confirmed();
+        let _initial = sender.discard(SpaceId::Initial, now);
+        let _handshake = sender.discard(SpaceId::Handshake, now);
         Ok(sender)
     }
 
