@@ -250,7 +250,7 @@ pub extern "C" fn recovery_ffi_last_outcome(alloc: Global, handle: &mut Handle) 
     ensures { ReadsHandle handle.old.slot.held handle.new.slot.held (λ stack.
         result ≡ told_view stack.kept) (result ≡ no_told) }
 {
-    handle.told(alloc)
+    handle.last_outcome(alloc)
 }
 
 /// How many numbers were newly acknowledged as something was told last, or, with `lost`, how many were found lost,

@@ -158,7 +158,7 @@ impl Sender {
     }
 
     pub fn abandon(&mut self, space: qr::SpaceId, now: qr::Instant) -> Result<Vec<u64>, SenderError> {
-        let numbers = self.compare().abandon(space, now)?;
+        let numbers = self.compare().retransmit_all(space, now)?;
         self.own.abandoned(space, &numbers);
         self.own.begin_anew(now);
         Ok(numbers)

@@ -375,7 +375,7 @@ impl Proved {
     /// What is tracked in the space was sent in vain
     pub fn abandon(&mut self, space: SpaceId, now: Instant) {
         let now = self.at(now);
-        let _ = self.sender.abandon(space_of(space), now);
+        let _ = self.sender.retransmit_all(space_of(space), now);
         self.take_pending(space);
     }
 
