@@ -2,6 +2,7 @@
 use crate::connection::Connection;
 use quic_recovery::below::{EcnCounts, SpaceId};
 use quic_recovery::time::{Duration, Instant};
+use recovery_queue::items::ItemQueue;
 use recovery_sender::{Ack, Acknowledged, SenderError, Timeout};
 
 impl Connection {
@@ -26,15 +27,16 @@ impl Connection {
 
     /// The timer for losses expired: the space in which probes are to go out, and how many. If none, packets were
     /// found lost, and wait to be sent again.
-    pub fn loss_timer_expired(
-        &mut self,
-        now: Instant,
-    ) -> Result<Option<(SpaceId, u8)>, SenderError> {
-        match self.sender.on_timeout(now, false, (), ()) {
-            Ok(Timeout::Probe { space, count }) => Ok(Some((space, count))),
-            Ok(_) => Ok(None),
-            Err(refused) => Err(refused),
+    pub fn loss_timer_expired(&mut self, now: Instant) -> Option<(SpaceId, u8)> {
+        match self.sender.on_timeout(now) {
+            Timeout::Probe { space, count } => Some((space, count)),
+            _ => None,
         }
+    }
+
+    /// What a probe in a space carries: what waits there, or the contents of the first packet in flight that has any.
+    pub fn probe(&mut self, space: SpaceId) -> Result<ItemQueue, SenderError> {
+        self.sender.probe(space, false, ())
     }
 
     /// What went out in a space was sent in vain, as a Retry came, or the server refuses 0-RTT (RFC 9002, 6.3 and 6.4):

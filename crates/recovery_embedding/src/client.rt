@@ -303,7 +303,7 @@ fn probe(report: &mut Report, client: &mut Connection) -> Result<(), SenderError
     report.wake(client)?;
     let is_over = client.has_expired(Timer::LossDetection, at(12_000));
     report.value("the timer expired", &is_over);
-    if let Some((space, count)) = client.loss_timer_expired(at(12_000))? {
+    if let Some((space, count)) = client.loss_timer_expired(at(12_000)) {
         send_probes(report, client, space, count)?;
     }
     report.window(client, "the probes arrive, and the other packet is lost");
@@ -337,7 +337,7 @@ fn send_probe(
     space: SpaceId,
 ) -> Result<u64, SenderError> {
     client.transmit(at(12_000), 600, space)?;
-    let items = client.pending(space)?;
+    let items = client.probe(space)?;
     report.between("a probe goes out with the items ", &items.items(), "");
     client.send(space, at(12_000), 600, items)
 }
@@ -410,7 +410,7 @@ fn send_both(
     let arrived = client.send(SpaceId::Data, at(millis), 1200, small)?;
     let back = millis.saturating_add(40);
     ack(client, SpaceId::Data, back, (arrived, arrived), None)?;
-    client.loss_timer_expired(at(millis.saturating_add(46)))?;
+    client.loss_timer_expired(at(millis.saturating_add(46)));
     Ok(())
 }
 

@@ -214,15 +214,14 @@ where
     pub fn expire(&mut self, now: u64) -> Result<bool, Ending> {
         self.teller.expires(now)?;
         let at = Instant::from_nanos(now);
-        match self.sender.on_timeout(at, false, (), ()) {
-            Ok(Timeout::Lost(losses)) => self.look(now, &losses),
-            Ok(Timeout::Probe { count, .. }) => {
+        match self.sender.on_timeout(at) {
+            Timeout::Lost { losses, .. } => self.look(now, &losses),
+            Timeout::Probe { count, .. } => {
                 self.figures.probes = self.figures.probes.saturating_add(u64::from(count));
                 self.tell_state(now)?;
                 Ok(true)
             }
-            Ok(Timeout::Nothing) => Ok(false),
-            Err(refused) => Err(Ending::from(refused)),
+            Timeout::Nothing => Ok(false),
         }
     }
 

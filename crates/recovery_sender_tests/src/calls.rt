@@ -117,12 +117,11 @@ fn abandoned(reply: &Result<Vec<u64>, SenderError>) -> Said {
     }
 }
 
-fn timed_out(reply: &Result<Timeout, SenderError>) -> Said {
-    match reply {
-        Ok(Timeout::Nothing) => Said::Nothing,
-        Ok(Timeout::Lost(losses)) => lost(losses),
-        Ok(Timeout::Probe { count, .. }) => Said::ProbesDue(*count),
-        Err(given) => refused(given),
+fn timed_out(timeout: &Timeout) -> Said {
+    match timeout {
+        Timeout::Nothing => Said::Nothing,
+        Timeout::Lost { losses, .. } => lost(losses),
+        Timeout::Probe { count, .. } => Said::ProbesDue(*count),
     }
 }
 
@@ -168,7 +167,7 @@ fn play(sender: &mut Reno, given: Call) -> Said {
         }
         Call::Ack(now, number) => on_ack(sender, now, number),
         Call::Timeout(now) => {
-            let reply = sender.on_timeout(at(now), false, true, true);
+            let reply = sender.on_timeout(at(now));
             timed_out(&reply)
         }
         other => tell(sender, other),
