@@ -124,10 +124,7 @@ where
 
     /// Whether a probe is due.
     pub fn is_probing(&self) -> bool {
-        match self.sender.recovery().space(SpaceId::Data) {
-            Some(here) => here.loss_probes > 0,
-            None => false,
-        }
+        self.sender.variables().is_probe_due(SpaceId::Data)
     }
 
     /// When the timer for losses expires, if at all.
@@ -219,7 +216,7 @@ where
             Timeout::Probe { count, .. } => {
                 self.figures.probes = self.figures.probes.saturating_add(u64::from(count));
                 self.tell_state(now)?;
-                Ok(true)
+                Ok(false)
             }
             Timeout::Nothing => Ok(false),
         }
@@ -237,6 +234,19 @@ where
         self.teller.lost(now, losses, largest)?;
         self.tell_state(now)?;
         Ok(count > 0)
+    }
+
+    /// What a probe carries is handed out, behind the items that are to be sent again already.
+    pub fn probe(&mut self, now: u64, again: &mut VecDeque<u64>) -> Result<(), Ending> {
+        self.teller.probes()?;
+        let items = match self.sender.probe(SpaceId::Data, false, ()) {
+            Ok(items) => items,
+            Err(refused) => return Err(Ending::from(refused)),
+        };
+        for item in items.items() {
+            again.push_back(*item)?;
+        }
+        self.teller.taken(now, items.items())
     }
 
     /// What waits to be sent again is handed out, behind the items that are to be sent again already.

@@ -320,6 +320,14 @@ impl<'a, W: Write> Teller<'a, W> {
         self.tape.write(&[Text("take-pending data\n")])
     }
 
+    /// What a probe carries is asked for.
+    pub fn probes(&mut self) -> Result<(), Ending> {
+        if !self.is_script() {
+            return Ok(());
+        }
+        self.tape.write(&[Text("probe data\n")])
+    }
+
     /// These items were taken.
     pub fn taken(&mut self, now: u64, items: &[u64]) -> Result<(), Ending> {
         if !self.is_qlog() {

@@ -105,6 +105,9 @@ where
                 self.wake = Some(until.max(now.saturating_add(1)));
                 break;
             }
+            if self.sending.is_probing() {
+                self.sending.probe(now, &mut self.again)?;
+            }
             let item = self.take_item();
             let number = self.sending.send(now, item)?;
             self.link.enter(now, number)?;
