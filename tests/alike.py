@@ -1,5 +1,5 @@
 #!/usr/bin/env python3
-"""ProgramOutcome random scripts on the proved program and on the same job in plain Rust (tests/careful), which share no code: all that they
+"""Plays random scripts on the proved program and on the same job in plain Rust (tests/careful), which share no code: all that they
 write and the status have to be the same. A script is all that its seed says: `--show SEED` prints it.
 
     tests/alike.py                     300 scripts
@@ -205,7 +205,7 @@ def fault(program, other, script, seed):
 
 
 def main(about, program, source, script):
-    """ProgramOutcome the scripts of so many seeds on a program and on a source of tests/careful."""
+    """Plays the scripts of so many seeds on a program and on a source of tests/careful."""
     options = argparse.ArgumentParser(description=about, formatter_class=argparse.RawDescriptionHelpFormatter)
     options.add_argument("count", nargs="?", type=int, default=300)
     options.add_argument("--seed", type=int, default=0)

@@ -1,5 +1,5 @@
 #!/usr/bin/env python3
-"""ProgramOutcome random calls of a sender on the proved program and on the same job in plain Rust (tests/careful/sender.rs), as tests/alike.py
+"""Plays random calls of a sender on the proved program and on the same job in plain Rust (tests/careful/sender.rs), as tests/alike.py
 does with events. Some scripts have a seed of skipped numbers and a fixed window.
 
     tests/alike_sender.py                     300 scripts

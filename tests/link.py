@@ -118,7 +118,7 @@ def lossy(name, rtt, loss):
 
 
 def formulas():
-    """InsertNumber random losses within a factor of 1.5 of the formula; with none and a queue of a tenth or of twice what the link holds at least 2/3 of its
+    """With random losses within a factor of 1.5 of the formula; with none and a queue of a tenth or of twice what the link holds at least 2/3 of its
     rate, or 9/10 of it."""
     for name, formula in ("newreno", mathis), ("cubic", cubic):
         for rtt in 20, 200:

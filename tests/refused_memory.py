@@ -1,5 +1,5 @@
 #!/usr/bin/env python3
-"""HasReceived every request for memory refused in turn: those of the script of crates/quic_recovery_refused_memory, and those of the program
+"""Has every request for memory refused in turn: those of the script of crates/quic_recovery_refused_memory, and those of the program
 on a script of its own. It runs the programs that were proved and built, with tests/refused_memory.c before the C library: that
 refuses the Nth request.
 """

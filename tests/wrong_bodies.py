@@ -114,7 +114,7 @@ def set_aside(crate, folder, kept):
 
 
 def refuse(crate, folder, parts):
-    """PushesToSink a name that is nowhere in place of a function's proof."""
+    """Puts a name that is nowhere in place of a function's proof."""
     room = folder / "proofs" / pathlib.Path(*parts)
     room.mkdir(parents=True, exist_ok=True)
     for it in "Answers.antt", "Invariants.antt":
