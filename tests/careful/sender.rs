@@ -9,13 +9,13 @@ mod skips;
 
 use bytes::{Bytes, Cursor};
 use layer::{EcnCounts, Moment, PathName, Refusal, Space, Span};
-use lines::{Event, Text, Words, read, write};
-use sending::{Ack, Acked, Ecn, Losses, Permit, Sender, Timeout};
+use lines::{Answer, Event, Text, Words, read, write};
+use sending::{Ack, Acked, Ecn, Losses, Permit, Sender, Settings, Timeout};
 use skips::Skips;
 use std::io::{BufRead, ErrorKind, Write};
 use std::process::ExitCode;
 
-const USAGE: &str = "usage: recovery-sender client|server [SEED [WINDOW]]";
+const USAGE: &str = "usage: recovery-sender client|server|established [SEED [WINDOW [PACKETS NUMERATOR DENOMINATOR PERIODS]]]";
 const HELP: &str = include_str!("../../crates/recovery_sender_program/help.txt");
 const VERSION: &str = concat!("recovery-sender ", include_str!("../../VERSION"));
 
@@ -24,6 +24,7 @@ enum Call {
     Transmit { space: Space, now: Moment, bytes: u16, in_flight: bool },
     Ack { space: Space, now: Moment, ack: Ack },
     Timeout(Moment),
+    Probe(Space),
     HandshakeKeys,
     HandshakeConfirmed,
     PeerDelay(Span),
@@ -43,6 +44,7 @@ fn read_call(line: &mut Cursor) -> Option<Call> {
         },
         b"ack" => read_ack(line)?,
         b"timeout" => Call::Timeout(line.number()?),
+        b"probe" => Call::Probe(line.space()?),
         b"datagram" => Call::Pass(Event::DatagramIn { path: PathName::Current, bytes: line.number()? }),
         b"keys" => Call::HandshakeKeys,
         b"confirmed" => Call::HandshakeConfirmed,
@@ -103,6 +105,11 @@ fn answer(sender: &mut Sender, call: Call, out: &mut Bytes) -> Result<(), Refusa
                 out.with(" ", u64::from(count));
             }
         },
+        Call::Probe(space) => {
+            let items = sender.probe(space)?;
+            write(Ok(Answer::Queue(items)), out);
+            out.0.pop();
+        }
         Call::HandshakeKeys => done(sender.on_handshake_keys(), out),
         Call::HandshakeConfirmed => done(sender.on_handshake_confirmed(), out),
         Call::PeerDelay(span) => done(sender.set_peer_delay(span), out),
@@ -172,23 +179,37 @@ fn number(word: &str) -> Option<u64> {
     word.parse().ok().filter(|_| is_plain)
 }
 
+/// The last four arguments.
+fn settings(words: &[String]) -> Option<Settings> {
+    let numbers: Vec<u64> = words.iter().map(|word| number(word)).collect::<Option<_>>()?;
+    let [packets, numerator, denominator, periods] = numbers[..] else {
+        return None;
+    };
+    let is_short = packets.max(periods) <= u64::from(u32::MAX);
+    (is_short && denominator > 0).then_some(Settings { packets, time: (numerator, denominator), periods })
+}
+
 /// The sender that the arguments ask for.
 fn begun(words: &[String]) -> Option<Sender> {
     let (side, rest) = words.split_first()?;
-    let is_client = match side.as_str() {
-        "client" => true,
-        "server" => false,
-        _ => return None,
-    };
     let skips = match rest.first().map(String::as_str) {
         None | Some("-") => None,
         Some(seed) => Some(Skips::new(number(seed)?)),
     };
-    let window = match rest.get(1) {
-        None => None,
+    let window = match rest.get(1).map(String::as_str) {
+        None | Some("-") => None,
         Some(word) => Some(number(word).filter(|window| *window > 0)?),
     };
-    (rest.len() <= 2).then(|| Sender::new(is_client, skips, window))
+    let settings = match rest.get(2..) {
+        None | Some([]) => Settings::default(),
+        Some(words) => settings(words)?,
+    };
+    match side.as_str() {
+        "client" => Some(Sender::new(true, skips, window, settings)),
+        "server" => Some(Sender::new(false, skips, window, settings)),
+        "established" => Some(Sender::established(skips, window, settings)),
+        _ => None,
+    }
 }
 
 fn fails(status: u8, why: &str) -> ExitCode {

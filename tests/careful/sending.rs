@@ -10,8 +10,9 @@ pub const UNSENT: Refusal = "refused 21 Unsent\n";
 pub const SKIPPED_ACKED: Refusal = "refused 16 SkippedAcked\n";
 
 const SPACES: [Space; 3] = [Space::Initial, Space::Handshake, Space::Data];
+/// No recovery starts later.
+const LATEST_START: Moment = Moment::MAX - 1;
 const GRANULARITY: Span = 1_000_000;
-const PACKET_THRESHOLD: u64 = 3;
 const MOST_DOUBLINGS: u32 = 16;
 const LOSS_DETECTION: usize = 0;
 
@@ -77,8 +78,23 @@ struct Lost {
     probe: bool,
 }
 
+/// The settings of loss detection (6.1.1, 6.1.2, 7.6.1).
+#[derive(Clone, Copy)]
+pub struct Settings {
+    pub packets: u64,
+    pub time: (u64, u64),
+    pub periods: u64,
+}
+
+impl Default for Settings {
+    fn default() -> Self {
+        Settings { packets: 3, time: (9, 8), periods: 3 }
+    }
+}
+
 pub struct Sender {
     recovery: Recovery,
+    settings: Settings,
     skips: Option<Skips>,
     /// A window that nothing changes.
     window: Option<u64>,
@@ -92,6 +108,10 @@ pub struct Sender {
     loss_times: [Option<Moment>; 3],
     /// Of the current path.
     first_behind_sample: Option<(Space, u64)>,
+    /// When a path got that mark last.
+    sampled: Moment,
+    /// The probes that the last timeout asked for and that were not sent yet (6.2.4).
+    probes: Option<(Space, u8)>,
     sending_ecn: bool,
     /// The same of the previous one.
     previous: (Option<(Space, u64)>, bool),
@@ -102,9 +122,10 @@ fn later(moment: Moment, span: Span) -> Moment {
 }
 
 /// RFC 9002, 6.1.2.
-fn loss_delay(rtt: &Rtt) -> Span {
+fn loss_delay(rtt: &Rtt, (numerator, denominator): (u64, u64)) -> Span {
     let longer = rtt.get().max(rtt.latest);
-    (longer + longer / 8).max(GRANULARITY)
+    let scaled = longer.saturating_mul(u128::from(numerator)) / u128::from(denominator);
+    scaled.max(longer).max(GRANULARITY)
 }
 
 /// RFC 9002, 6.2.1, but for max_ack_delay.
@@ -113,11 +134,12 @@ fn probe_timeout(rtt: &Rtt) -> Span {
 }
 
 impl Sender {
-    pub fn new(is_client: bool, skips: Option<Skips>, window: Option<u64>) -> Self {
+    pub fn new(is_client: bool, skips: Option<Skips>, window: Option<u64>, settings: Settings) -> Self {
         let mut recovery = Recovery::new();
         recovery.current.validated = is_client;
         let mut sender = Sender {
             recovery,
+            settings,
             skips,
             window,
             peer_delay: 25_000_000,
@@ -128,11 +150,23 @@ impl Sender {
             base: 0,
             loss_times: [None; 3],
             first_behind_sample: None,
+            sampled: 0,
+            probes: None,
             sending_ecn: true,
             previous: (None, true),
         };
         sender.begin_window();
         sender.set_timer();
+        sender
+    }
+
+    /// Of a connection whose handshake is over.
+    pub fn established(skips: Option<Skips>, window: Option<u64>, settings: Settings) -> Self {
+        let mut sender = Sender::new(true, skips, window, settings);
+        sender.on_handshake_confirmed();
+        for space in [Space::Initial, Space::Handshake] {
+            let _ = sender.discard(space, 0);
+        }
         sender
     }
 
@@ -167,7 +201,7 @@ impl Sender {
         if !self.may_send(bytes) {
             return Ok(Permit::Blocked);
         }
-        let asks = in_flight && here.loss_probes == 0;
+        let asks = in_flight && self.probes.is_none_or(|(probed, _)| probed != space);
         if asks && u128::from(path.bytes) + u128::from(bytes) > u128::from(path.congestion.window) {
             return Ok(Permit::Full);
         }
@@ -186,6 +220,15 @@ impl Sender {
 
     /// An event that passes through.
     pub fn pass(&mut self, event: Event) -> Reply {
+        let event = match event {
+            Event::NewPath { now, fresh } => Event::NewPath { now: now.saturating_sub(1), fresh },
+            Event::ResetPath { now } => Event::ResetPath { now: now.saturating_sub(1) },
+            event => event,
+        };
+        let elicits = match event {
+            Event::Send { space, eliciting: true, .. } => Some(space),
+            _ => None,
+        };
         let sent = match event {
             Event::Send { now, size, .. } if size > 0 => Some(now),
             Event::PollMtu { now } => Some(now),
@@ -211,6 +254,9 @@ impl Sender {
         let answer = reply?;
         if goes_out && let Some(now) = sent {
             self.base = now;
+        }
+        if goes_out && let Some((space, count)) = self.probes.filter(|(space, _)| elicits == Some(*space)) {
+            self.probes = Some((space, count - 1)).filter(|(_, count)| *count > 0);
         }
         if fresh {
             self.begin_window();
@@ -266,7 +312,10 @@ impl Sender {
         if let Some((delay, rtt)) = sample {
             self.recovery.sample(delay, rtt);
             let next = self.recovery.spaces[space as usize].next_number;
-            self.first_behind_sample.get_or_insert((space, next));
+            if self.first_behind_sample.is_none() {
+                self.first_behind_sample = Some((space, next));
+                self.sampled = now;
+            }
         }
         let losses = self.look(space, now, true)?;
         self.knows_validated |= space == Space::Handshake;
@@ -347,7 +396,7 @@ impl Sender {
             Ok(false) => Ecn::Same,
             Ok(true) => {
                 let sent = self.recovery.spaces[space as usize].largest_acked_sent;
-                self.recovery.congestion(now, sent, false);
+                self.recovery.congestion(now.min(LATEST_START), sent, false);
                 Ecn::Congestion
             }
             Err(_) => {
@@ -373,7 +422,9 @@ impl Sender {
         let counted = || lost.iter().filter(|packet| packet.counts);
         if let Some(latest) = counted().map(|packet| packet.sent).max() {
             let persists = by_ack && self.persists(space, &lost);
-            self.recovery.congestion(now, latest, persists);
+            // later than every recovery began, so that the window falls to its least (7.6.2)
+            let sent = if persists { Moment::MAX } else { latest };
+            self.recovery.congestion(now.min(LATEST_START), sent, persists);
             found.congestion = Some((counted().map(|packet| u64::from(packet.size)).sum(), persists));
         }
         for packet in lost.iter().filter(|packet| packet.probe) {
@@ -387,7 +438,7 @@ impl Sender {
     fn find_lost(&mut self, space: Space, now: Moment) -> Vec<Lost> {
         let here = &self.recovery.spaces[space as usize];
         let path = &self.recovery.current;
-        let delay = loss_delay(&path.rtt);
+        let delay = loss_delay(&path.rtt, self.settings.time);
         let probe = match path.mtud.phase {
             Phase::Searching(probing) if space == Space::Data => probing.in_flight,
             _ => None,
@@ -398,7 +449,7 @@ impl Sender {
         for (number, slot) in (here.packets.first..largest).zip(&here.packets.slots) {
             let Some(packet) = slot else { continue };
             let due = later(packet.time_sent, delay);
-            if number + PACKET_THRESHOLD > largest && due > now {
+            if number.saturating_add(self.settings.packets.max(1)) > largest && due > now {
                 next = Some(next.map_or(due, |least| least.min(due)));
                 continue;
             }
@@ -421,11 +472,14 @@ impl Sender {
         let Some(first) = self.first_behind_sample else {
             return false;
         };
-        let period = 3 * (probe_timeout(&self.recovery.current.rtt) + self.peer_delay);
+        let period = u128::from(self.settings.periods.max(1)) * (probe_timeout(&self.recovery.current.rtt) + self.peer_delay);
+        let skipped = self.skips.as_ref().and_then(|skips| skips.last).filter(|_| space == Space::Data);
         let mut run: Option<(u64, Option<Moment>)> = None;
         for packet in lost {
-            let mut earliest = run.filter(|(last, _)| last + 1 == packet.number).and_then(|(_, earliest)| earliest);
-            if packet.counts && packet.eliciting && (space, packet.number) >= first {
+            let follows = |last: u64| (last + 1..packet.number).all(|number| skipped == Some(number));
+            let mut earliest = run.filter(|(last, _)| follows(*last)).and_then(|(_, earliest)| earliest);
+            let is_later = if first.0 == space { packet.number >= first.1 } else { packet.sent > self.sampled };
+            if packet.counts && packet.eliciting && is_later {
                 if earliest.is_some_and(|earliest| u128::from(packet.sent.saturating_sub(earliest)) > period) {
                     return true;
                 }
@@ -451,7 +505,9 @@ impl Sender {
         if let Some((moment, space)) = probes.min_by_key(|(moment, _)| *moment) {
             return Some((moment, Due::Probes(space)));
         }
-        if self.knows_validated {
+        let in_data = &self.recovery.spaces[Space::Data as usize];
+        let fills = !in_data.discarded && in_data.packets.slots.iter().flatten().any(|packet| packet.ack_eliciting);
+        if self.knows_validated && (self.confirmed || !fills) {
             return None;
         }
         let lives = |space: Space| !self.recovery.spaces[space as usize].discarded;
@@ -485,11 +541,15 @@ impl Sender {
             Due::Probes(space) => (space, 2),
             Due::Probe(space) => (space, 1),
         };
-        for _ in 0..probes {
-            self.recovery.queue_probe(space, false)?;
-        }
+        self.probes = Some((space, probes));
         self.pto_count = self.pto_count.saturating_add(1);
         Ok(Timeout::Probe(space, probes))
+    }
+
+    /// What a probe carries: what waits, or the contents of the first packet that has any (6.2.4).
+    pub fn probe(&mut self, space: Space) -> Result<Vec<u64>, Refusal> {
+        self.recovery.queue_probe(space, false)?;
+        self.recovery.take_pending(space)
     }
 
     // ---- what is said of the connection
@@ -530,5 +590,6 @@ impl Sender {
         self.loss_times[space as usize] = None;
         self.pto_count = 0;
         self.base = now;
+        self.probes = self.probes.filter(|(probed, _)| *probed != space);
     }
 }

@@ -97,7 +97,7 @@ kept_where recovery space largest is = by (is_discarded space recovery.discarded
 
 -- where nothing is lost, no congestion persists
 no_persistence : {P M : Type 0} (look : LossPass) (packets : Packets P M)
-    → Decides false (IsPersistentCongestion (IsDeclaredLost [] None) (IsEndAt look packets []) look.period)
+    → Decides false (IsPersistentCongestion (IsDeclaredLost [] None) (IsEndAt look packets []) look.skipped look.period)
 no_persistence look packets = ((λ never. absurd (true≢false (sym never))), λ persists. absurd persists.begins.told)
 
 -- ---- the look, by the state before and after

@@ -107,7 +107,7 @@ pub record PassResult {P M : Type 0} (look : LossPass) (packets : Packets P M) (
     pub earliest : IsEarliest look packets look.largest (IsDeclaredLost losses.numbers.items losses.probe) time
     -- whether congestion is persistent (RFC 9002, 7.6)
     pub persistent : Decides losses.is_persistent (IsPersistentCongestion (IsDeclaredLost losses.numbers.items found)
-        (IsEndAt look packets losses.numbers.items) look.period)
+        (IsEndAt look packets losses.numbers.items) look.skipped look.period)
     -- the bytes of those that count, where there is one
     pub congestion : losses.congestion
         ≡ option_map (λ sent. min (bytes_counted look packets losses.numbers.items) largest_u64)

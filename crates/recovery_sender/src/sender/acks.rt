@@ -485,8 +485,8 @@ where
     }
 
     /// Whether a sample is the first one of the path in use (RFC 9002, 7.6.2).
-    fn is_first_sample(&self, rtt: Option<Duration>) -> bool
-        ensures { result ≡ is_first_sample (state_in self.now) rtt }
+    fn is_first_sample(&self, rtt: &Option<Duration>) -> bool
+        ensures { result ≡ is_first_sample (state_in self.now) rtt.now }
     {
         rtt.is_some() && self.path().first_packet_after_rtt_sample.is_none()
     }
@@ -521,7 +521,7 @@ where
     {
         let before = self.largest_acked(space);
         let rtt = self.rtt_of(space, now, ranges, newly.elicits);
-        let is_first = self.is_first_sample(rtt);
+        let is_first = self.is_first_sample(&rtt);
         let is_limited = self.is_limited(ack.app_limited);
         let numbers: &[u64] = &newly.numbers;
         let count = numbers.len() as u64;
