@@ -1,5 +1,5 @@
 //! Which packets are lost (RFC 9002, 6.1, 7.6 and A.10).
-ghost use Rattle.std.specs.Prelude.{◌≡◌, ◌≢◌, ℕ, ◌+◌, ◌-◌, ◌<◌, ◌≤◌, ◌++◌, ◌∷◌, [], true, false, None, Some, Decides, MatchOption, IfSome, IfNone, ◌⊎◌, option_map, if◌then◌else◌};
+ghost use Rattle.std.specs.Prelude.{◌≡◌, ◌≢◌, ℕ, ◌+◌, ◌-◌, min, ◌<◌, ◌≤◌, ◌++◌, ◌∷◌, [], true, false, None, Some, Decides, MatchOption, IfSome, IfNone, ◌⊎◌, option_map, if◌then◌else◌};
 ghost use Rattle.std.specs.Option.{ForSome};
 ghost use Rattle.recovery_base.specs.Units.{last_time, u64_limit};
 ghost use Rattle.recovery_events.specs.declared.event.Event.TheVariants.{Lost};
@@ -9,7 +9,7 @@ ghost use Rattle.recovery_sender.specs.Senders.{state_in};
 ghost use Rattle.recovery_sender.specs.Spaces.{packets_in};
 ghost use Rattle.recovery_sender.specs.Steps.{occurs, TakesSteps};
 ghost use Rattle.recovery_sender.specs.Losses.{look_of, largest_in, IsEmptyLosses};
-ghost use Rattle.recovery_sender.specs.Detection.{ClassifiesPacket, HasScanned, DetectsLosses, HasNoGap, congested, ended, is_reported, losing, one_of};
+ghost use Rattle.recovery_sender.specs.Detection.{latest_start, ClassifiesPacket, HasScanned, DetectsLosses, HasNoGap, congested, ended, is_reported, losing, one_of};
 
 use super::Sender;
 use quic_recovery::below::SpaceId;
@@ -23,6 +23,13 @@ use std::alloc::Global;
 
 /// The latest start of a recovery, in nanoseconds: so that the clock's end is later than each.
 const LATEST_START: u64 = u64::MAX - 1;
+
+/// When a recovery begins that congestion at this time begins: before the clock's end.
+fn start_at(now: Instant) -> Instant
+    ensures { result ≡ min now latest_start }
+{
+    now.min(Instant::from_nanos(LATEST_START))
+}
 
 /// When the packet was sent by which congestion is reported: if it is persistent, later than every recovery began.
 fn sent_for(persistent: bool, sent: Instant) -> Instant
@@ -241,7 +248,7 @@ where
     {
         if let Some(sent) = sent {
             self.tell(Event::Congestion {
-                now: now.min(Instant::from_nanos(LATEST_START)),
+                now: start_at(now),
                 sent: sent_for(persistent, sent),
                 persistent,
                 bytes,
