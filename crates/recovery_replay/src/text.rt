@@ -6,7 +6,7 @@ use quic_recovery::event::{Answer, Refusal};
 use recovery_base::below::NoMemory;
 use recovery_events::feeding::Sink;
 use recovery_queue::items::ItemQueue;
-use recovery_reply_text::answers::write_reply;
+use recovery_script_syntax::answers::write_reply;
 use std::alloc::Global;
 
 /// The lines of the replies so far. Once memory was refused for one it asks for no other.

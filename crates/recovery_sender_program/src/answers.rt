@@ -4,7 +4,7 @@ use quic_recovery::below::SpaceId;
 use quic_recovery::time::Instant;
 use quic_recovery::{Answer, Refusal};
 use recovery_queue::items::ItemQueue;
-use recovery_reply_text::answers::write_reply;
+use recovery_script_syntax::answers::write_reply;
 use recovery_sender::{Acknowledged, EcnOutcome, Losses, SenderError, Timeout, Transmission};
 use recovery_sender_calls::{CallRecord, CallReplyValue};
 use std::alloc::{AllocError, Global};

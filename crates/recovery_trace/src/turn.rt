@@ -18,7 +18,7 @@ use quic_recovery::{Answer, LiveRecovery, Recovery, Refusal};
 use rand_pcg::Pcg32;
 use recovery_queue::items::ItemQueue;
 use recovery_replay::writing::deliver;
-use recovery_reply_text::answers::write_reply;
+use recovery_script_syntax::answers::write_reply;
 use recovery_script_syntax::lines::push_event;
 use std::alloc::{AllocError, Global};
 use std::io::{ErrorKind, Write};
