@@ -4,7 +4,7 @@ use crate::peer::{Frame, Peer};
 use crate::settings::{SIZE, Settings};
 use crate::way::Way;
 use crate::weather::Weather;
-use quic_recovery::below::NoMemory;
+use recovery_base::below::NoMemory;
 use std::alloc::Global;
 
 /// The link. Moments are nanoseconds.

@@ -9,5 +9,3 @@ mod forms;
 pub mod laws;
 pub mod lines;
 pub mod words;
-
-pub use words::number_in;

@@ -5,8 +5,10 @@
 
 pub mod sender;
 
-pub use recovery_losses::{Ack, Due, Side, Variables};
 pub use sender::{
     Acknowledged, EcnOutcome, Losses, NewlyAcked, Sender, SenderError, Timeout, Transmission,
     passes,
 };
+
+// For users outside this repository, as `recovery_embedding` shows: the types of another crate that its calls take.
+pub use recovery_losses::{Ack, Side};

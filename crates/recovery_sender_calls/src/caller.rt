@@ -3,12 +3,12 @@ ghost use Rattle.std.specs.Prelude.{◌≡◌};
 ghost use Rattle.recovery_sender_calls.specs.Calls.{is_done, CallReply};
 
 use crate::calls::{Call, CallReplyValue, Datagram, Expiry, Frame};
-use quic_recovery::Event;
-use quic_recovery::below::SpaceId;
-use quic_recovery::congestion::ControllerFactory;
-use quic_recovery::queue::RetransmitQueue;
-use quic_recovery::time::{Duration, Instant};
 use rand_core::Rng;
+use recovery_base::below::SpaceId;
+use recovery_base::time::{Duration, Instant};
+use recovery_congestion::congestion::ControllerFactory;
+use recovery_events::event::Event;
+use recovery_queue::queue::RetransmitQueue;
 use recovery_sender::{Sender, SenderError, passes};
 
 /// A sender that takes calls as values.

@@ -1,10 +1,10 @@
 //! The call that a line spells.
-use quic_recovery::below::{EcnCounts, NoMemory};
+use recovery_base::below::{EcnCounts, NoMemory};
+use recovery_losses::Ack;
 use recovery_queue::items::ItemQueue;
 use recovery_script_syntax::lines::{LINE_LIMIT, push_event};
-use recovery_script_syntax::number_in;
-use recovery_script_syntax::words::{Words, is_name};
-use recovery_sender::{Ack, passes};
+use recovery_script_syntax::words::{Words, is_name, number_in};
+use recovery_sender::passes;
 use recovery_sender_calls::{Call, Datagram, Expiry, Frame};
 use std::alloc::Global;
 

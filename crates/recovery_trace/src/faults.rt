@@ -2,7 +2,7 @@
 ghost use Rattle.std.specs.Prelude.{◌≤◌, IfOk, IsTrue, length};
 ghost use Rattle.recovery_trace.specs.Faults.{IsEventPrefix, EndsWord, NamesWordOf};
 
-use quic_recovery::below::NoMemory;
+use recovery_base::below::NoMemory;
 use recovery_script_syntax::lines::{LINE_LIMIT, push_event};
 use std::alloc::Global;
 
