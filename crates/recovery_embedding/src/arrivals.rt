@@ -40,7 +40,7 @@ impl Connection {
     /// What went out in a space was sent in vain, as a Retry came, or the server refuses 0-RTT (RFC 9002, 6.3 and 6.4):
     /// how many packets. What was in them waits to be sent again.
     pub fn sent_in_vain(&mut self, space: SpaceId, now: Instant) -> Result<usize, SenderError> {
-        match self.sender.abandon(space, now) {
+        match self.sender.retransmit_all(space, now) {
             Ok(numbers) => Ok(numbers.len()),
             Err(refused) => Err(refused),
         }

@@ -58,7 +58,7 @@ where
         ++ turn_text F.Controller.words shows time note reply.now (state_of recovery.now)) }
 {
     match shows {
-        Shown::TurnOutcome => write_reply(text, reply),
+        Shown::Answers => write_reply(text, reply),
         Shown::States => {
             write_reply(text, reply)?;
             write_state(text, time, recovery.current())
