@@ -5,7 +5,7 @@ use Rattle.std.specs.List.{AllByRecursion}
 use Rattle.recovery_base.specs.declared.below.SpaceId.{SpaceId}
 use Rattle.recovery_base.specs.declared.timer.Timer.{Timer}
 use Rattle.recovery_base.specs.Timers.{timer_name}
-use Rattle.recovery_events.specs.declared.event.PathName.{PathName}
+use Rattle.recovery_paths.specs.declared.path_pair.PathName.{PathName}
 use Rattle.recovery_script_syntax.specs.Words.{flag_word, space_word, path_word, largest_word}
 
 pub data Field : Type 0 where
