@@ -3,10 +3,10 @@
 ghost use Rattle.std.specs.Prelude.{◌≡◌, refl};
 ghost use Rattle.recovery_parts_tests.specs.Halving.{halving_made, halving_words, IsHalvingSound, halving_laws};
 
-use quic_recovery::below::NoMemory;
-use quic_recovery::congestion::{Controller, ControllerFactory, ControllerMetrics};
-use quic_recovery::rtt::RttEstimator;
-use quic_recovery::time::Instant;
+use recovery_base::below::NoMemory;
+use recovery_base::time::Instant;
+use recovery_congestion::congestion::{Controller, ControllerFactory, ControllerMetrics};
+use recovery_congestion::rtt::RttEstimator;
 use recovery_parts_tests::halving::{Halving, HalvingConfig};
 use recovery_queue::items::ItemQueue;
 use recovery_queue::queue::RetransmitQueue;

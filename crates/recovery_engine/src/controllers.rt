@@ -2,12 +2,12 @@
 ghost use Rattle.std.specs.Prelude.{◌≡◌, ◌<◌};
 ghost use Rattle.recovery_engine.specs.Controllers.{chosen_made, chosen_words, chosen_laws, chosen_starts, IsChosenSound};
 
-use quic_recovery::congestion::{
-    Controller, ControllerFactory, ControllerMetrics, NewReno, NewRenoConfig,
-};
-use quic_recovery::rtt::RttEstimator;
 use recovery_base::below::NoMemory;
 use recovery_base::time::Instant;
+use recovery_congestion::congestion::{
+    Controller, ControllerFactory, ControllerMetrics, NewReno, NewRenoConfig,
+};
+use recovery_congestion::rtt::RttEstimator;
 use recovery_cubic::{Cubic, CubicConfig};
 use std::marker::Model;
 

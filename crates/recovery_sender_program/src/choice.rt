@@ -1,7 +1,7 @@
 //! What the arguments choose.
+use recovery_losses::Side;
 use recovery_replay::fixed_window::FixedWindowConfig;
-use recovery_script_syntax::number_in;
-use recovery_sender::Side;
+use recovery_script_syntax::words::number_in;
 
 /// Which congestion window each controller has.
 #[derive(Clone, Copy)]

@@ -10,16 +10,19 @@ ghost use Rattle.recovery_sender.specs.Timer.{TimerIsSet};
 
 use super::packets::counted_at;
 use super::{Sender, SenderError};
-use quic_recovery::below::NoMemory;
-use quic_recovery::congestion::ControllerFactory;
-use quic_recovery::event::PathName;
-use quic_recovery::paths::{PathMarks, PathResponses};
-use quic_recovery::queue::RetransmitQueue;
-use quic_recovery::time::Instant;
-use quic_recovery::timer::Timer;
-use quic_recovery::{Answer, Event, LiveRecovery, RecoveryConfig, Refusal};
+use quic_recovery::LiveRecovery;
 use rand_core::Rng;
+use recovery_base::below::NoMemory;
+use recovery_base::time::Instant;
+use recovery_base::timer::Timer;
+use recovery_congestion::congestion::ControllerFactory;
+use recovery_events::event::{Answer, Event, Refusal};
+use recovery_history::RecoveryConfig;
 use recovery_losses::{Side, Variables};
+use recovery_paths::path_pair::PathName;
+use recovery_paths::paths::PathMarks;
+use recovery_paths::responses::PathResponses;
+use recovery_queue::queue::RetransmitQueue;
 use std::alloc::Global;
 
 /// The settings of the recovery of a side's sender.
