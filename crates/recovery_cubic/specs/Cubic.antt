@@ -142,6 +142,8 @@ abbrev pub cubic_words : ControllerSemantics Cubic
 cubic_words = record {
   after = cubic_after;
   window = λ cubic. cubic.window;
+  least = least_window;
+  recovery_start = λ cubic. cubic.recovery_start_time;
   metrics = cubic_metrics;
   initial = λ cubic. cubic.initial_window;
 }

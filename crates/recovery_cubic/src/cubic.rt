@@ -1,5 +1,6 @@
 //! CUBIC as a controller (RFC 9438), and what makes it.
 ghost use Rattle.std.specs.Prelude.{◌≡◌, ◌<◌, ◌≤◌, ◌^◌, true, nat_le, Ok, refl};
+ghost use Rattle.std.proofs.Math.Nat.{le_refl};
 ghost use Rattle.recovery_cubic.specs.ConfigView.{default_window};
 ghost use Rattle.recovery_cubic.specs.Cubic.{datagram_of, least_window, cubic_made, cubic_sent, cubic_found, slow_started, friendly_step, avoided, cubic_acked, reduced_window, next_w_max, next_stage, cubic_recovering, cubic_congested, cubic_with_mtu, cubic_metrics, IsCubicSound, cubic_words};
 ghost use Rattle.recovery_cubic.specs.CubicLaws.{cubic_laws};
@@ -85,6 +86,8 @@ impl ControllerFactory for CubicConfig {
     }
 
     ghost starts_at_initial = { λ factory now mtu. refl };
+
+    ghost starts_by_now = { λ factory now mtu. le_refl now };
 }
 
 /// A window that falls to 7/10 at a loss, once in a recovery, and then goes by the time: fast towards the window
