@@ -1,6 +1,6 @@
 //! The congestion controllers that a setting chooses between.
 ghost use Rattle.std.specs.Prelude.{◌≡◌, ◌<◌};
-ghost use Rattle.recovery_engine.specs.Controllers.{chosen_made, chosen_words, chosen_laws, chosen_starts, IsChosenSound};
+ghost use Rattle.recovery_engine.specs.Controllers.{chosen_made, chosen_words, chosen_laws, chosen_starts, chosen_starts_by_now, IsChosenSound};
 
 use recovery_base::below::NoMemory;
 use recovery_base::time::Instant;
@@ -82,6 +82,8 @@ impl ControllerFactory for ChosenConfig {
     }
 
     ghost starts_at_initial = { chosen_starts };
+
+    ghost starts_by_now = { chosen_starts_by_now };
 }
 
 impl Controller for Chosen {
