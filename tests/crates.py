@@ -1,8 +1,8 @@
 #!/usr/bin/env python3
 """Reads crates.txt beside the crates: each crate stands there once, and below the crates that it names; each is named in docs/ARCHITECTURE.md; they are
 few for their code, since each costs the gate a reading of all that is below it; no line of their code but an import is longer than 120 columns, and none of
-a clause longer than 100; and what a wrong body turns stands once in its file, which else shows only where the gate tries it. With --table it prints what each
-crate has."""
+a clause longer than 100; what a wrong body turns stands once in its file, which else shows only where the gate tries it; each type is imported by one path, of
+the crate that declares it; and each name is declared once, but for those of homonyms.txt. With --table it prints what each crate has."""
 import argparse
 import re
 import sys
@@ -15,6 +15,17 @@ COLUMNS = 120
 CLAUSE_COLUMNS = 100  # which rt fmt does not wrap
 CLAUSE = re.compile(r"\s*(requires|ensures)\b")
 IMPORT = re.compile(r"\s*(ghost )?(pub )?use ")  # which has a line of its own, however long
+USE = re.compile(r"^ *(?:pub(?:\(\w+\))? )?use ([^;]+);", re.M)
+TYPE = re.compile(r"\b(?:struct|enum|trait|type) ([A-Z]\w*)")
+DEFINED = re.compile(r"^ *(?:(?:abbrev|unfoldable) )*pub (?:(?:abbrev|unfoldable|record|data) )*([A-Z]\w*)", re.M)  # in specs
+PUBLIC = re.compile(r"^ *pub (?:struct|enum|trait) (\w+)", re.M)  # in src
+HOMONYMS = ROOT / "tests" / "homonyms.txt"
+# What a crate imports from others than those that declare it. This list may only get shorter. The example imports as a user does, from the crates whose
+# calls take these types.
+HANDED_ON = {
+    "recovery_embedding": "AckFrequency Ack Answer ConnectionId Controller Duration EcnCounts Event Instant IssuedCid NewConnectionId NewRenoConfig NoMemory "
+                          "PathName RecoveryConfig Refusal ResetToken Side SpaceId Timer TransportConfig VarInt",
+}
 
 
 def lines(name, rooms, kind):
@@ -95,6 +106,56 @@ def missed_edits(name):
                 text = text.replace(turned, rest)
 
 
+def leaves(tree):
+    """The paths that an import names."""
+    before, brace, inside = tree.strip().partition("{")
+    if not brace:
+        return [before.partition(" as ")[0]]
+    parts, depth = [""], 0
+    for letter in inside.rstrip()[:-1]:
+        depth += (letter == "{") - (letter == "}")
+        parts = parts + [""] if letter == "," and not depth else [*parts[:-1], parts[-1] + letter]
+    return [before + leaf for part in parts if part.strip() for leaf in leaves(part)]
+
+
+def import_paths(names):
+    """Types that one crate imports from another by a second path, or from a crate that does not declare them."""
+    code = {it: "\n".join(lines(it, ["src"], "rt")) for it in names}
+    declared = {it: set(TYPE.findall(code[it])) for it in names}
+    paths, left = {}, {(importer, name) for importer, known in HANDED_ON.items() for name in known.split()}
+    seen = set()
+    for importer in names:
+        for path in sorted({leaf for tree in USE.findall(code[importer]) for leaf in leaves(tree)}):
+            crate, name = path.split("::")[0], path.split("::")[-1]
+            if crate in (importer, "crate") or crate not in code or not re.match(r"[A-Z]\w*[a-z]", name):
+                continue
+            if name in declared[crate]:
+                paths.setdefault((crate, name), {}).setdefault(path, importer)
+            elif (importer, name) in left:
+                seen.add((importer, name))
+            else:
+                yield f"{importer} imports {path}, which {crate} only hands on: import it from the crate that declares {name}"
+    for (_, name), found in paths.items():
+        if len(found) > 1:
+            yield f"{name} is imported by more than one path: {', '.join(f'{path} in {it}' for path, it in found.items())}: use one"
+    yield from (f"HANDED_ON: {importer} does not import {name} from another crate than the one that declares it: drop {name}" for importer, name in sorted(left - seen))
+
+
+def homonyms(names):
+    """Names that more than one module declares, but for a type's model in specs of its own crate."""
+    places = {}
+    for crate in names:
+        for room, kind, pattern in (("specs", "antt", DEFINED), ("src", "rt", PUBLIC)):
+            for file in sorted((CRATES / crate / room).rglob(f"*.{kind}")):
+                for name in set(pattern.findall(file.read_text())):
+                    places.setdefault(name, []).append((crate, room, str(file.relative_to(ROOT))))
+    mirrors = lambda found: len(found) == 2 and found[0][0] == found[1][0] and found[0][1] != found[1][1]
+    twice = {name: found for name, found in places.items() if len(found) > 1 and not mirrors(found)}
+    known = {line.partition(":")[0] for line in HOMONYMS.read_text().splitlines() if line and not line.startswith("#")}
+    yield from (f"{name} is declared in {' and '.join(it[2] for it in twice[name])}: choose another name for one" for name in sorted(set(twice) - known))
+    yield from (f"tests/homonyms.txt: {name} is declared once: drop its line" for name in sorted(known - set(twice)))
+
+
 def main():
     parser = argparse.ArgumentParser(description=__doc__)
     parser.add_argument("--table", action="store_true", help="what each crate has, as a table")
@@ -114,6 +175,8 @@ def main():
         [fault for it in names for fault in too_long(it)],
         [fault for it in names for fault in long_clauses(it)],
         [fault for it in names for fault in missed_edits(it)],
+        list(import_paths(names)),
+        list(homonyms(names)),
     ]
     for fault in [it for check in checks for it in check]:
         print(f"crates: {fault}", file=sys.stderr)

@@ -1,8 +1,8 @@
 #!/usr/bin/env python3
-"""CUBIC beside the formulas of RFC 9438 in fractions: random losses and acknowledgements from fixed seeds, told to recovery-trace, and the
-window at each of 1,000 acknowledgements in congestion avoidance. By the whole numbers that the library says (K in whole microseconds, what
-is apart from the plateau rounded down) it is the same to the byte; and the curve is within one datagram of that with K to the millionth
-part of a nanosecond.
+"""Compares CUBIC with the formulas of RFC 9438 in fractions. recovery-trace reads random losses, acknowledgements and idle periods from fixed
+seeds, and the windows at 1,000 acknowledgements in congestion avoidance are compared. With the whole numbers that the library documents (K in
+whole microseconds, the distance from the plateau rounded down) they are the same to the byte. The curve is within one datagram of that with K
+to the millionth part of a nanosecond. A few rows worked by hand show what an idle period leaves.
 
 An argument is another program to try in place of the proved one."""
 import json
@@ -49,6 +49,7 @@ class Cubic:
 
     def __init__(self, window):
         self.window, self.threshold, self.recovery, self.prior = window, None, 0, window
+        self.flight, self.idle_since, self.idle = 0, None, []
         self.begin(window, window, 0)
 
     def begin(self, plateau, window, now):
@@ -73,7 +74,23 @@ class Cubic:
         parts = 10**15
         return self.plateau + self.way(self.time * 10**6, self.k_in(parts), parts)
 
+    def sent(self, now, size):
+        self.flight += size
+        if size and self.idle_since is not None:
+            self.idle.append((self.idle_since, now))
+            self.idle_since = None
+
+    def ended(self, now):
+        """An ACK was processed. If it left nothing in flight, an idle period runs until a packet is sent."""
+        if self.flight == 0 and self.idle_since is None:
+            self.idle_since = now
+
+    def passed(self, now):
+        """The time since the acknowledgement before, or the beginning of the stage, without the idle periods (5.8)."""
+        return now - self.last - sum(max(0, end - max(begin, self.last)) for begin, end in self.idle)
+
     def acked(self, now, sent, size, limited):
+        self.flight -= size
         if sent <= self.recovery:
             return
         if limited:
@@ -85,7 +102,7 @@ class Cubic:
             alpha = ALPHA if self.estimate < self.prior else Fraction(1)
             grown = alpha * MTU * size / max(self.window, 2 * MTU)
             self.estimate += Fraction(up(grown * PART), PART)
-            self.time += now - self.last
+            self.time += self.passed(now)
             self.last = now
             self.window = max(self.window, min(self.curve(), self.window + size // 2), up(self.estimate))
 
@@ -100,27 +117,57 @@ class Cubic:
 
 
 class Script:
-    """Lines for the program, and beside each what it must say; the model is told the same."""
+    """Lines for the program, each with the window that must follow. The model gets the same calls."""
 
     def __init__(self, seed):
         self.draw, self.cubic, self.lines, self.windows, self.number, self.now = random.Random(seed), Cubic(12000), [], [], 0, 0
-        self.points, self.near = 0, True
+        self.points, self.near, self.kept = 0, True, None
 
     def say(self, line, window=None):
         self.lines.append(line)
         self.windows.append(window)
 
-    def ack(self, size, round_trip, limited=False):
-        self.now += round_trip
-        sent = self.now - min(round_trip, 10**6)
-        self.say(f"send data {sent} {size} 1 -")
+    def send(self, sent, size, eliciting=True):
+        """Sends a packet, and returns its number, time and size."""
+        self.cubic.sent(sent, size)
+        self.say(f"send data {sent} {size} {int(eliciting)} -", self.cubic.window)
+        self.number += 1
+        return self.number - 1, sent, size
+
+    def acked(self, packet, limited=False):
+        number, sent, size = packet
         avoids = sent > self.cubic.recovery and self.cubic.threshold is not None and self.cubic.window >= self.cubic.threshold
         self.cubic.acked(self.now, sent, size, limited)
-        self.say(f"acked data {self.now} {self.number} {int(limited)}", self.cubic.window)
-        self.number += 1
+        self.say(f"acked data {self.now} {number} {int(limited)}", self.cubic.window)
         if avoids and not limited:
             self.points += 1
             self.near &= abs(self.cubic.real() - self.cubic.curve()) <= MTU
+
+    def end_acks(self):
+        self.cubic.ended(self.now)
+        self.say(f"end-acks {self.now} 0 {self.number - 1}", self.cubic.window)
+
+    def ack(self, size, round_trip, limited=False):
+        sent = self.now + round_trip - min(round_trip, self.draw.choice((10**6, round_trip // 2 + 1, round_trip)))
+        if self.cubic.idle_since is not None:
+            if self.draw.random() < 0.3:
+                self.send(self.draw.randrange(self.now, sent + 1), 0, eliciting=False)
+            size = max(size, 1)  # only what counts in flight elicits an ACK
+        packet = self.send(sent, size)
+        self.now += round_trip
+        self.acked(packet, limited)
+        if self.draw.random() < 0.5:
+            self.end_acks()
+
+    def keep(self):
+        """Leaves a packet in flight, or acknowledges the one that was left."""
+        if self.kept is None:
+            self.kept = self.send(self.now, MTU)
+            return
+        packet, self.kept = self.kept, None
+        self.now += 10**6
+        self.acked(packet)
+        self.end_acks()
 
     def lose(self, persistent=False):
         self.now += 10**6
@@ -136,22 +183,59 @@ class Script:
             chance = draw.random()
             if chance < 0.03:
                 self.lose(persistent=chance < 0.003)
+            elif chance < 0.08:
+                self.keep()
             else:
                 trip = draw.choice((10**7, 10**8, 10**8, SECOND // 2, draw.randrange(1, 2 * SECOND)))
                 self.ack(draw.choice((draw.randrange(3), 1200, 65535, 65535, 65535, draw.randrange(65536))), trip, draw.random() < 0.1)
         return self
 
 
+def windows_of(program, name, lines):
+    """The window after each line."""
+    words = [program, "--controller", "cubic", "--state", "--strict"]
+    status, text, errors = tree.ran(words, "".join(f"{line}\n" for line in lines), text=True)
+    tests.expect(f"{name}: status", (status, errors), (0, ""))
+    return [json.loads(line)["congestion_window"] for line in text.splitlines()[1::2]]
+
+
+# RFC 9438, 4.2 and 5.8, worked by hand: the window at the end of each script. In `ROUND`, 13,000 bytes fall to 9,100 at 101 ms, so K is
+# 2.010362 s; then `LAST` acknowledges the last of five packets.
+ROUND = ["send data 1000000 1000 1 -"] * 5 + [
+    "acked data 101000000 3 0", "lost data 0", "congestion 101000000 1000000 0 1000", "end-acks 101000000 0 3",
+    "acked data 102000000 4 0", "lost data 1", "end-acks 102000000 0 4"]
+LAST = ["acked data 103000000 2 0", "end-acks 103000000 0 4"]
+
+
+def later(first, count):
+    """So many packets of 1,000 bytes 100 s later, acknowledged after 100 ms."""
+    numbers = range(first, first + count)
+    return ["send data 100103000000 1000 1 -"] * count + [f"acked data 100203000000 {it} 0" for it in numbers]
+
+
+ROWS = (
+    # t = 2 + 100 ms: 13,000 - 480 (2.010362 - 0.102)^3
+    ("an idle period does not count", ROUND + LAST + later(5, 3), 9665),
+    ("a packet of size 0 does not end it", ROUND + LAST + ["send data 50000000000 0 0 -", "end-acks 50100000000 0 5"] + later(6, 3), 9665),
+    # t is 100 s, far above K: half of 1,000 for each acknowledgement
+    ("time counts with a packet in flight", ROUND + later(5, 3), 9100 + 3 * 500),
+    ("time counts until an ACK finds nothing in flight", ROUND + ["lost data 2"] + later(5, 2), 9100 + 2 * 500),
+    # 12,000 fall to 8,400 at 2 ns, so K is 1.957433 s, and t = 50 ms: 12,000 - 480 (1.957433 - 0.05)^3
+    ("an idle period after an acknowledgement that is application-limited",
+     ["send data 1 1200 1 -", "congestion 2 1 0 1200", "send data 3 1200 1 -", "acked data 50000000 0 0", "acked data 50000000 1 1",
+      "end-acks 50000000 1 1", "send data 100000000000 1200 1 -", "acked data 100050000000 2 0"], 8669),
+)
+
+
 def main():
     program = sys.argv[1] if len(sys.argv) > 1 else PROGRAM
+    for name, lines, window in ROWS:
+        tests.expect(name, windows_of(program, name, lines)[-1:], [window])
     points = 0
     for seed in range(SEEDS):
         script = Script(seed).write(POINTS // SEEDS)
         points += script.points
-        words = [program, "--controller", "cubic", "--state", "--strict"]
-        status, text, errors = tree.ran(words, "".join(f"{line}\n" for line in script.lines), text=True)
-        tests.expect(f"seed {seed}: status", (status, errors), (0, ""))
-        states = [json.loads(line)["congestion_window"] for line in text.splitlines()[1::2]]
+        states = windows_of(program, f"seed {seed}", script.lines)
         wrong = [(line, found, wanted) for line, found, wanted in zip(script.lines, states, script.windows) if wanted not in (None, found)]
         tests.expect(f"seed {seed}: the first window that differs, of {len(script.lines)}", (len(states), wrong[:1]), (len(script.lines), []))
         tests.holds(f"seed {seed}: within one datagram", script.near)

@@ -2,15 +2,15 @@
 //! chance of one in 2^100. Nothing here asks for memory.
 use crate::scarce::{ScarceHalving, ScarceQueue};
 use crate::script::Scarce;
-use quic_recovery::acks::PendingAcks;
-use quic_recovery::below::{ConnectionId, EcnCounts, SpaceId};
-use quic_recovery::congestion::Controller;
-use quic_recovery::dedup::Dedup;
-use quic_recovery::paths::PathData;
-use quic_recovery::rtt::RttEstimator;
-use quic_recovery::spaces::PacketSpace;
-use quic_recovery::time::{Duration, Instant};
-use quic_recovery::timer::Timer;
+use recovery_acks::PendingAcks;
+use recovery_base::below::{ConnectionId, EcnCounts, SpaceId};
+use recovery_base::dedup::Dedup;
+use recovery_base::time::{Duration, Instant};
+use recovery_base::timer::Timer;
+use recovery_congestion::congestion::Controller;
+use recovery_congestion::rtt::RttEstimator;
+use recovery_paths::paths::PathData;
+use recovery_spaces::spaces::PacketSpace;
 use std::net::{IpAddr, SocketAddr};
 
 /// What was read so far.

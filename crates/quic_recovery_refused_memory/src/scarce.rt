@@ -1,12 +1,13 @@
 //! A queue and a controller that ask for memory in each call that may be refused it, where those of the program seldom
 //! do or never.
 ghost use Rattle.std.specs.Prelude.{◌≡◌, refl};
+ghost use Rattle.std.proofs.Common.{zero-le};
 ghost use Rattle.recovery_parts_tests.specs.Halving.{halving_made, halving_words, IsHalvingSound, halving_laws};
 
-use quic_recovery::below::NoMemory;
-use quic_recovery::congestion::{Controller, ControllerFactory, ControllerMetrics};
-use quic_recovery::rtt::RttEstimator;
-use quic_recovery::time::Instant;
+use recovery_base::below::NoMemory;
+use recovery_base::time::Instant;
+use recovery_congestion::congestion::{Controller, ControllerFactory, ControllerMetrics};
+use recovery_congestion::rtt::RttEstimator;
 use recovery_parts_tests::halving::{Halving, HalvingConfig};
 use recovery_queue::items::ItemQueue;
 use recovery_queue::queue::RetransmitQueue;
@@ -127,6 +128,8 @@ impl ControllerFactory for ScarceConfig {
     }
 
     ghost starts_at_initial = { λ factory now mtu. refl };
+
+    ghost starts_by_now = { λ factory now mtu. zero-le };
 }
 
 /// A window that congestion events halve, and whose clones ask for memory.

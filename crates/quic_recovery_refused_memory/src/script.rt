@@ -1,16 +1,16 @@
 //! The script: each event that may ask for memory, at a point where it does, and what it is answered.
 use crate::scarce::{ScarceConfig, ScarceQueue};
-use quic_recovery::below::{ConnectionId, IssuedCid, NoMemory, ResetToken, SpaceId};
-use quic_recovery::driver::Recovery;
-use quic_recovery::event::Refusal;
-use quic_recovery::time::Instant;
+use quic_recovery::Recovery;
 use rand_pcg::Pcg32;
+use recovery_base::below::{ConnectionId, IssuedCid, NoMemory, ResetToken, SpaceId};
+use recovery_base::time::Instant;
+use recovery_events::event::Refusal;
 use std::alloc::Global;
 use std::net::{IpAddr, Ipv4Addr, SocketAddr};
 
-pub type Event = quic_recovery::event::Event<ScarceQueue>;
+pub type Event = recovery_events::event::Event<ScarceQueue>;
 
-type Answer = quic_recovery::event::Answer<ScarceQueue>;
+type Answer = recovery_events::event::Answer<ScarceQueue>;
 
 pub type Reply = Result<Answer, Refusal>;
 

@@ -2,12 +2,12 @@
 ghost use Rattle.std.specs.Prelude.{◌≡◌};
 ghost use Rattle.recovery_packet_numbers.specs.Skips.{IsSkips};
 
-use quic_recovery::RecoveryConfig;
-use quic_recovery::config::TransportConfig;
-use quic_recovery::congestion::NewRenoConfig;
 use rand_core::SeedableRng;
 use rand_pcg::Pcg32;
 use recovery_base::below::ConnectionId;
+use recovery_config::config::TransportConfig;
+use recovery_congestion::congestion::NewRenoConfig;
+use recovery_history::RecoveryConfig;
 use recovery_packet_numbers::Skips;
 use std::net::{IpAddr, Ipv4Addr, SocketAddr};
 

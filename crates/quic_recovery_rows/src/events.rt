@@ -1,25 +1,25 @@
 //! Events and replies of rows, by short names.
 use crate::refusals::Refusal;
 use crate::tally::Tally;
-use quic_recovery::congestion::NewRenoConfig;
-use quic_recovery::driver::Recovery;
-use quic_recovery::event::PathName;
+use quic_recovery::Recovery;
 use rand_pcg::Pcg32;
 use recovery_base::below::SpaceId;
 use recovery_base::time::Instant;
 use recovery_base::timer::Timer;
+use recovery_congestion::congestion::NewRenoConfig;
+use recovery_paths::path_pair::PathName;
 
 /// What happens, where packets carry tallies.
-pub type Event = quic_recovery::event::Event<Tally>;
+pub type Event = recovery_events::event::Event<Tally>;
 
 /// What an event is answered, where packets carry tallies.
-pub type Answer = quic_recovery::event::Answer<Tally>;
+pub type Answer = recovery_events::event::Answer<Tally>;
 
 /// A recovery whose controllers are NewReno, and whose skips are drawn from the words of `Pcg32`.
 pub type Reno = Recovery<NewRenoConfig, Tally, Pcg32>;
 
 /// What an event is replied.
-pub type Given = Result<Answer, quic_recovery::event::Refusal>;
+pub type Given = Result<Answer, recovery_events::event::Refusal>;
 
 /// What a row wants.
 pub type Reply = Result<Answer, Refusal>;

@@ -1,6 +1,6 @@
 //! The refusals that rows want, by their numbers: rows are handed on by value, and hold no references.
 use crate::events::{Given, Reply};
-use quic_recovery::event::Refusal as Cause;
+use recovery_events::event::Refusal as Cause;
 
 /// A refusal, in the order of the library's numbers.
 #[derive(Clone, Copy, PartialEq, Eq)]

@@ -6,9 +6,10 @@ use crate::events::{Event, Given, Reply, at};
 use crate::refusals::is;
 use crate::shown::{Shown, given, wanted};
 use crate::tally::Tally;
-use quic_recovery::congestion::ControllerFactory;
-use quic_recovery::{Recovery, RecoveryConfig};
+use quic_recovery::Recovery;
 use rand_core::Rng;
+use recovery_congestion::congestion::ControllerFactory;
+use recovery_history::RecoveryConfig;
 use std::alloc::Global;
 use thiserror::Error;
 

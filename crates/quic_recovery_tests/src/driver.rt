@@ -3,10 +3,7 @@
 ghost use Rattle.std.specs.Prelude.{◌≡◌, ◌<◌};
 ghost use Rattle.recovery_packet_numbers.specs.Skips.{IsSkips};
 
-use quic_recovery::config::TransportConfig;
-use quic_recovery::congestion::{ControllerFactory, NewRenoConfig};
-use quic_recovery::spaces::PacketSpace;
-use quic_recovery::{Recovery, RecoveryConfig};
+use quic_recovery::Recovery;
 use quic_recovery_rows::config::{settings, settings_with, words};
 use quic_recovery_rows::events::*;
 use quic_recovery_rows::refusals::Refusal;
@@ -16,7 +13,11 @@ use rand_core::Rng;
 use recovery_base::below::{AckFrequency, EcnCounts, SpaceId, VarInt};
 use recovery_base::time::Duration;
 use recovery_base::timer::Timer;
+use recovery_config::config::TransportConfig;
+use recovery_congestion::congestion::{ControllerFactory, NewRenoConfig};
+use recovery_history::RecoveryConfig;
 use recovery_packet_numbers::Skips;
+use recovery_spaces::spaces::PacketSpace;
 use std::alloc::Global;
 use std::process::Abort;
 

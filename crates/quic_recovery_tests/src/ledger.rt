@@ -3,15 +3,16 @@
 ghost use Rattle.std.specs.Prelude.{◌≡◌, IfSome, true};
 
 use crate::driver::holds;
-use quic_recovery::congestion::{NewReno, NewRenoConfig};
-use quic_recovery::driver::Recovery;
-use quic_recovery::event::{Answer, Event, Refusal};
-use quic_recovery::paths::{LedgerError, PathData};
-use quic_recovery::spaces::{NUMBER_LIMIT, PacketSpace, SentPacket};
+use quic_recovery::Recovery;
 use quic_recovery_rows::tally::Tally;
 use rand_pcg::Pcg32;
 use recovery_base::below::{EcnCounts, IssuedCid};
 use recovery_base::time::Instant;
+use recovery_congestion::congestion::{NewReno, NewRenoConfig};
+use recovery_events::event::{Answer, Event, Refusal};
+use recovery_paths::paths::PathData;
+use recovery_spaces::paths::LedgerError;
+use recovery_spaces::spaces::{NUMBER_LIMIT, PacketSpace, SentPacket};
 use std::alloc::Global;
 
 fn at(nanos: u64) -> Instant

@@ -3,12 +3,13 @@
 ghost use Rattle.std.specs.Prelude.{◌<◌};
 
 use crate::driver::{fresh, holds, told};
-use quic_recovery::congestion::NewReno;
-use quic_recovery::event::PathName;
-use quic_recovery::paths::{PathData, PathMarks, PathResponses};
 use quic_recovery_rows::events::*;
 use recovery_base::below::SpaceId;
 use recovery_base::time::Duration;
+use recovery_congestion::congestion::NewReno;
+use recovery_paths::path_pair::PathName;
+use recovery_paths::paths::{PathData, PathMarks};
+use recovery_paths::responses::PathResponses;
 use std::alloc::Global;
 use std::net::{IpAddr, Ipv4Addr, SocketAddr};
 use std::process::Abort;

@@ -6,10 +6,10 @@ ghost use Rattle.recovery_congestion.specs.RenoSettings.{default_reno};
 ghost use Rattle.recovery_config.specs.Settings.{settings_with, initial_mtu_of};
 
 use recovery_base::below::VarInt;
-pub use recovery_base::config::AckFrequencyConfig;
+use recovery_base::config::AckFrequencyConfig;
 use recovery_base::time::Duration;
 use recovery_congestion::congestion::NewRenoConfig;
-pub use recovery_mtud::config::MtuDiscoveryConfig;
+use recovery_mtud::config::MtuDiscoveryConfig;
 use std::marker::Model;
 
 mod idle;

@@ -23,9 +23,13 @@ reno_made config now mtu = record {
   bytes_acked = 0;
 }
 
--- the least window (RFC 9002, 7.2)
+-- two datagrams (RFC 9002, 7.2)
 abbrev pub minimum_window : NewReno → ℕ
 minimum_window reno = 2 * reno.current_mtu
+
+-- a reduction factor above 1 reduces no window, so that each is the least one
+abbrev pub least_window : NewReno → ℕ
+least_window reno = if nat_le reno.config.numerator reno.config.denominator then minimum_window reno else reno.window
 
 -- an acknowledgement is ignored where the application limited what was sent (RFC 9002, 7.8), and where the packet was
 -- sent before recovery began, or at that moment (RFC 9002, 7.3.2)
@@ -60,8 +64,8 @@ reno_acked sent bytes limited reno = if is_ignored sent limited reno then reno e
 
 -- the window after a loss (RFC 9002, 7.3.2)
 abbrev pub reduced_window : NewReno → ℕ
-reduced_window reno = min (max (reno.window * reno.config.numerator / reno.config.denominator) (minimum_window reno))
-    largest_u64
+reduced_window reno = max (min (reno.window * reno.config.numerator / reno.config.denominator) largest_u64)
+    (minimum_window reno)
 
 -- a recovery begins; persistent congestion leaves the least window (RFC 9002, 7.3.2 and 7.6.2)
 abbrev pub reno_recovering : ℕ → Bool → NewReno → NewReno
@@ -95,6 +99,8 @@ abbrev pub reno_words : ControllerSemantics NewReno
 reno_words = record {
   after = reno_after;
   window = λ reno. reno.window;
+  least = least_window;
+  recovery_start = λ reno. reno.recovery_start_time;
   metrics = reno_metrics;
   initial = λ reno. reno.config.initial_window;
 }

@@ -1,5 +1,5 @@
 //! Congestion controllers and their factories, with their laws (RFC 9002, 7).
-ghost use Rattle.std.specs.Prelude.{◌≡◌, ℕ, ◌<◌, IfOk};
+ghost use Rattle.std.specs.Prelude.{◌≡◌, ℕ, ◌<◌, ◌≤◌, IfOk};
 ghost use Rattle.recovery_congestion.specs.Calls.{sends, acks, ends_acks, congests, takes_mtu};
 ghost use Rattle.recovery_congestion.specs.Controllers.{ControllerSemantics, ControllerLaws};
 
@@ -25,8 +25,9 @@ pub struct ControllerMetrics {
 /// How much may be in flight on a path (RFC 9002, 7).
 ///
 /// An implementation says by functions of its own (`words`) what each call does to what contracts see of it
-/// (`content`), and keeps the laws: a sound content stays sound as long as MTUs are above zero, and its window is above
-/// zero.
+/// (`content`), and keeps the laws (`ControllerLaws`). A sound content stays sound as long as MTUs are above zero, and
+/// its window is above zero. No call moves the start of the recovery past its own time. Persistent congestion after
+/// that start leaves the least window, and congestion leaves a least window least (RFC 9002, 7.6.2).
 pub trait Controller: Sized {
     /// What contracts see of a controller. No code makes a value of it.
     type Content;
@@ -103,7 +104,7 @@ pub trait Controller: Sized {
     fn try_clone(&self) -> Result<Self, NoMemory>
         ensures { IfOk result (λ clone. content clone ≡ content self.now) };
 
-    /// Sound contents stay sound, and their windows are above zero.
+    /// Sound contents, the start of the recovery, and the least window.
     ghost laws: { ControllerLaws words is_sound };
 }
 
@@ -124,4 +125,8 @@ pub trait ControllerFactory {
     ghost starts_at_initial: { (factory : Self) (now mtu : ℕ) →
         let built_content = built factory now mtu in
         Self.Controller.words.window built_content ≡ Self.Controller.words.initial built_content };
+
+    /// No recovery starts after the controller is made.
+    ghost starts_by_now: { (factory : Self) (now mtu : ℕ) →
+        Self.Controller.words.recovery_start (built factory now mtu) ≤ now };
 }

@@ -1,5 +1,5 @@
 -- CUBIC's window falls once a round trip.
-use Rattle.std.proofs.Common.{◌≡◌, ℕ, ◌≤◌, ◌⊎◌, inl, inr, arith, Bool, true, false, nat_le, nat_lt, List, refl}
+use Rattle.std.proofs.Common.{◌≡◌, ℕ, ◌≤◌, ◌⊎◌, inl, inr, arith, Bool, true, false, nat_eq, nat_le, nat_lt, List, refl}
 use Rattle.std.proofs.lemmas.Bool.Decides.{nat_tests}
 use Rattle.std.specs.Prelude.{if◌then◌else◌}
 use Rattle.recovery_congestion.specs.Calls.{ControllerCall, acks, congests, ends_acks, sends, takes_mtu}
@@ -7,7 +7,7 @@ use Rattle.recovery_congestion.specs.Rounds.{AreInOrder, ReducesOncePerRound}
 use Rattle.recovery_congestion.proofs.RoundLaws.{IsNoCongestion, KeepsRecovery, BeginsRecovery, ReducesInRecovery, falls_once}
 use Rattle.recovery_cubic.specs.declared.cubic.Cubic.{Cubic}
 use Rattle.recovery_cubic.specs.Stage.{uncounted}
-use Rattle.recovery_cubic.specs.Cubic.{slow_started, avoided, cubic_after, cubic_made, cubic_recovering, cubic_words}
+use Rattle.recovery_cubic.specs.Cubic.{cubic_resumed, slow_started, avoided, cubic_after, cubic_made, cubic_recovering, cubic_words}
 
 abbrev start : Cubic → ℕ
 start cubic = cubic.recovery_start_time
@@ -34,8 +34,11 @@ keeps (acks now sent bytes limited rtt) cubic other =
       | false ↦ keeps_open now bytes limited (nat_lt cubic.window cubic.ssthresh) cubic
     ]
 keeps (congests now sent persistent lost) cubic other = absurd other
-keeps (sends now bytes number) cubic other = stays cubic
-keeps (ends_acks now bytes limited largest) cubic other = stays cubic
+keeps (sends now bytes number) cubic other =
+    elim (nat_eq bytes 0) as (λ b. Keeps cubic (if b then cubic else cubic_resumed now cubic))
+    [ true ↦ stays cubic | false ↦ record { start_is = refl; window = λ within. omega arith } ]
+keeps (ends_acks now in_flight limited largest) cubic other =
+    record { start_is = refl; window = λ within. omega arith }
 keeps (takes_mtu mtu) cubic other = record { start_is = refl; window = λ within. omega arith }
 
 congested : (now sent : ℕ) (persistent : Bool) (cubic : Cubic) (test : Bool)

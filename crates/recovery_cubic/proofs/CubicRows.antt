@@ -1,7 +1,7 @@
 -- Worked rows: a loss at a window of 120,000 bytes with datagrams of 1,200, and what is acknowledged behind it. Nothing
 -- rests on them.
-use Rattle.std.proofs.Common.{◌≡◌, true, false, [], ◌∷◌, None, refl, lit<, lit≤, arith}
-use Rattle.recovery_congestion.specs.Calls.{ControllerCall, acks, congests}
+use Rattle.std.proofs.Common.{◌≡◌, true, false, [], ◌∷◌, None, Some, refl, lit<, lit≤, arith}
+use Rattle.recovery_congestion.specs.Calls.{ControllerCall, acks, congests, ends_acks, sends}
 use Rattle.recovery_congestion.specs.Rtt.{Rtt}
 use Rattle.recovery_cubic.specs.Curve.{micros, IsGreatestK}
 use Rattle.recovery_cubic.specs.History.{window_by}
@@ -47,6 +47,29 @@ second_counts = refl
 
 limited_does_not : time_by 120_000 0 1_200 (limited ∷ acked ∷ loss ∷ []) ≡ 1_000_000_000
 limited_does_not = refl
+
+-- 100 seconds from an ACK that leaves nothing in flight to the next packet do not count, although a packet of size 0
+-- was sent in between: 1 second and 100 ms are left. With a packet in flight they count
+abbrev empties : ControllerCall
+empties = ends_acks 2_000_000_000 0 false (Some 1)
+
+abbrev leaves_one : ControllerCall
+leaves_one = ends_acks 2_000_000_000 1_200 false (Some 1)
+
+abbrev void : ControllerCall
+void = sends 50_000_000_000 0 2
+
+abbrev sent : ControllerCall
+sent = sends 102_000_000_000 1_200 3
+
+abbrev acked_later : ControllerCall
+acked_later = acks 102_100_000_000 102_000_000_000 1_200 false rtt
+
+idle_does_not : time_by 120_000 0 1_200 (acked_later ∷ sent ∷ void ∷ empties ∷ loss ∷ []) ≡ 1_100_000_000
+idle_does_not = refl
+
+in_flight_does : time_by 120_000 0 1_200 (acked_later ∷ sent ∷ void ∷ leaves_one ∷ loss ∷ []) ≡ 101_100_000_000
+in_flight_does = refl
 
 -- 120,000 - 480 (4.217163 - 1)^3 bytes
 curve_is : curve_then 120_000 0 1_200 (acked ∷ []) loss [] 4_217_163 ≡ 104_017

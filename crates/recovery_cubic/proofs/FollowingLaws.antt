@@ -1,5 +1,5 @@
 -- CUBIC's window goes by the curve from a reduction until the next.
-use Rattle.std.proofs.Common.{◌≡◌, ℕ, ◌+◌, ◌-◌, ◌*◌, ◌/◌, ◌<◌, ◌≤◌, min, max, Bool, true, false, nat_le, List, [], ◌∷◌, ◌++◌, refl, ap, ◌∙◌, subst, sym, arith}
+use Rattle.std.proofs.Common.{◌≡◌, ℕ, ◌+◌, ◌-◌, ◌*◌, ◌/◌, ◌<◌, ◌≤◌, min, max, Bool, true, false, nat_le, List, [], ◌∷◌, ◌++◌, Option, None, Some, refl, ap, ◌∙◌, subst, sym, arith}
 use Rattle.std.specs.Prelude.{if◌then◌else◌}
 use Rattle.std.proofs.lemmas.Bool.Decides.{nat_tests}
 use Rattle.std.proofs.Math.Nat.{mul-le-mul_right}
@@ -9,12 +9,12 @@ use Rattle.recovery_congestion.specs.NewReno.{sum_to_most}
 use Rattle.recovery_cubic.specs.declared.cubic.Cubic.{Cubic}
 use Rattle.recovery_cubic.specs.declared.curve.Curve.{Curve}
 use Rattle.recovery_cubic.specs.Curve.{micros, rise, curve_from, curve_at, k_of, IsGreatestK}
-use Rattle.recovery_cubic.specs.Stage.{parts, quotient_up, curve_window}
-use Rattle.recovery_cubic.specs.Cubic.{avoided, cubic_after, cubic_recovering, datagram_of, reduced_window, next_w_max}
-use Rattle.recovery_cubic.specs.History.{CubicEntry, grows, reduces, turn_of, turn_at, cubic_by, window_by}
+use Rattle.recovery_cubic.specs.Stage.{parts, quotient_up, past_idle, curve_window}
+use Rattle.recovery_cubic.specs.Cubic.{idle_found, avoided, cubic_after, cubic_recovering, datagram_of, reduced_window, next_w_max}
+use Rattle.recovery_cubic.specs.History.{CubicEntry, resumes, finds, grows, reduces, turn_of, turn_at, cubic_by, window_by}
 use Rattle.recovery_cubic.specs.Growth.{ContinuesEpoch, ContinuesEpochThrough, bytes_of}
 use Rattle.recovery_cubic.specs.Reno.{mtu_by}
-use Rattle.recovery_cubic.specs.Epochs.{last_next, time_next, plateau_next, last_by, time_by, plateau_by, BeginsEpoch, curve_of, curve_then, IsBelowCurve, IsReal, MovesTowardCurve, halves_in, HasReturnedToWmax, IsReachedAtK}
+use Rattle.recovery_cubic.specs.Epochs.{idle_next, last_next, time_next, plateau_next, idle_by, last_by, time_by, plateau_by, BeginsEpoch, curve_of, curve_then, IsBelowCurve, IsReal, MovesTowardCurve, halves_in, HasReturnedToWmax, IsReachedAtK}
 use Rattle.recovery_cubic.proofs.CurveLaws.{cube-le, greatest_k, one_k}
 use Rattle.recovery_cubic.proofs.GrowthLaws.{holds}
 use Rattle.recovery_cubic.proofs.RealLaws.{near_real}
@@ -63,7 +63,18 @@ to_k curve t before = grind (arith, nat_tests)
 
 -- ---- what the state holds of time and plateau is what the history says
 
+-- an idle period that was found, or ends
+found_is : (now in_flight : ℕ) (idle : Option ℕ)
+    → idle_found now in_flight idle ≡ idle_next (finds now in_flight) idle
+found_is now in_flight None = refl
+found_is now in_flight (Some since) = refl
+
+past_is : (now last : ℕ) (idle : Option ℕ) → past_idle now idle last ≡ last_next (resumes now) idle last
+past_is now last None = refl
+past_is now last (Some since) = refl
+
 record Times (window now mtu : ℕ) (calls : List ControllerCall) (cubic : Cubic) : Type 0 where
+  idle : cubic.idle_since ≡ idle_by window now mtu calls
   last : cubic.stage.last ≡ last_by window now mtu calls
   time : cubic.stage.elapsed ≡ time_by window now mtu calls
   plateau : cubic.stage.curve.w_max ≡ plateau_by window now mtu calls
@@ -71,7 +82,8 @@ record Times (window now mtu : ℕ) (calls : List ControllerCall) (cubic : Cubic
 
 module _ (window now mtu : ℕ) where
   record NextTimes (earlier : List ControllerCall) (turn : CubicEntry) (new : Cubic) : Type 0 where
-    last : new.stage.last ≡ last_next turn (last_by window now mtu earlier)
+    idle : new.idle_since ≡ idle_next turn (idle_by window now mtu earlier)
+    last : new.stage.last ≡ last_next turn (idle_by window now mtu earlier) (last_by window now mtu earlier)
     time : new.stage.elapsed ≡ time_next turn (last_by window now mtu earlier) (time_by window now mtu earlier)
     plateau : new.stage.curve.w_max
         ≡ plateau_next turn (window_by window now mtu earlier) new.window (plateau_by window now mtu earlier)
@@ -80,30 +92,58 @@ module _ (window now mtu : ℕ) where
   next_times : (earlier : List ControllerCall) → Times window now mtu earlier (cubic_by window now mtu earlier)
       → Turns (cubic_by window now mtu earlier) (NextTimes earlier)
   next_times earlier h = record {
+    resuming = λ at. record {
+      idle = refl;
+      last = rw (h.idle, h.last) (past_is at (last_by window now mtu earlier) (idle_by window now mtu earlier));
+      time = h.time;
+      plateau = h.plateau;
+      within = h.within;
+    };
+    finding = λ at bytes. record {
+      idle = rw h.idle (found_is at bytes (idle_by window now mtu earlier));
+      last = h.last;
+      time = h.time;
+      plateau = h.plateau;
+      within = h.within;
+    };
     growing = λ at bytes. record {
+      idle = h.idle;
       last = ap (λ n. max n at) h.last;
       time = rw (h.last, h.time) refl;
       plateau = h.plateau;
       within = omega arith;
     };
     waiting = λ at. record {
+      idle = h.idle;
       last = ap (λ n. max n at) h.last;
       time = h.time;
       plateau = h.plateau;
       within = h.within;
     };
-    reducing = λ at. record { last = refl; time = refl; plateau = rw h.plateau refl; within = omega arith };
-    starting = λ at bytes. record { last = refl; time = refl; plateau = refl; within = omega arith };
-    persisting = λ at. record { last = refl; time = refl; plateau = refl; within = omega arith };
-    resizing = λ to. record { last = h.last; time = h.time; plateau = h.plateau; within = h.within };
-    passing = record { last = h.last; time = h.time; plateau = h.plateau; within = h.within };
+    reducing = λ at. record {
+      idle = h.idle;
+      last = refl;
+      time = refl;
+      plateau = rw h.plateau refl;
+      within = omega arith;
+    };
+    starting = λ at bytes. record { idle = h.idle; last = refl; time = refl; plateau = refl; within = omega arith };
+    persisting = λ at. record { idle = h.idle; last = refl; time = refl; plateau = refl; within = omega arith };
+    resizing = λ to. record { idle = h.idle; last = h.last; time = h.time; plateau = h.plateau; within = h.within };
+    passing = record { idle = h.idle; last = h.last; time = h.time; plateau = h.plateau; within = h.within };
   }
 
   times : (calls : List ControllerCall) → Times window now mtu calls (cubic_by window now mtu calls)
-  times [] = record { last = refl; time = refl; plateau = refl; within = omega arith }
+  times [] = record { idle = refl; last = refl; time = refl; plateau = refl; within = omega arith }
   times (call ∷ earlier) =
       let here = by_turn (cubic_by window now mtu earlier) (NextTimes earlier) (next_times earlier (times earlier)) call
-      in record { last = here.last; time = here.time; plateau = here.plateau; within = here.within }
+      in record {
+        idle = here.idle;
+        last = here.last;
+        time = here.time;
+        plateau = here.plateau;
+        within = here.within;
+      }
 
   -- ---- a reduction
 
@@ -112,6 +152,8 @@ module _ (window now mtu : ℕ) where
       → cubic_after call cubic ≡ cubic_recovering m false cubic
   reducing_leaves cubic call m =
       by_turn cubic (λ turn new. turn ≡ reduces m → new ≡ cubic_recovering m false cubic) (record {
+        resuming = λ at is. absurd (cc);
+        finding = λ at bytes is. absurd (cc);
         growing = λ at bytes is. absurd (cc);
         waiting = λ at is. absurd (cc);
         reducing = λ at is. let same : at ≡ m = cc in ap (λ n. cubic_recovering n false cubic) same;
@@ -174,6 +216,20 @@ module _ (window now mtu : ℕ) where
   below_next : (curve : Curve) (reduced : ℕ) → curve.w_max ≤ largest_u64 → (cubic : Cubic) → Below curve reduced cubic
       → Turns cubic (λ turn new. ContinuesEpoch turn → Below curve reduced new)
   below_next curve reduced fits cubic h = record {
+    resuming = λ at goes. record {
+      curve_is = h.curve_is;
+      window_is = h.window_is;
+      kept = h.kept;
+      time = h.time;
+      estimate = h.estimate;
+    };
+    finding = λ at bytes goes. record {
+      curve_is = h.curve_is;
+      window_is = h.window_is;
+      kept = h.kept;
+      time = h.time;
+      estimate = h.estimate;
+    };
     growing = λ at bytes goes.
         let new = avoided at bytes cubic in
         let later : cubic.stage.elapsed / 1000 ≤ new.stage.elapsed / 1000 = omega (arith, h.time) in
@@ -264,6 +320,8 @@ module _ (window now mtu : ℕ) where
     makes cubic call at bytes =
         by_turn cubic (λ turn new. turn ≡ grows at bytes
         → min (curve_window new.stage) (sum_to_most cubic.window (bytes / 2)) ≤ new.window) (record {
+          resuming = λ now_at is. absurd (cc);
+          finding = λ now_at some is. absurd (cc);
           growing = λ now_at some is. let same : bytes ≡ some = cc in rw same (omega arith);
           waiting = λ now_at is. absurd (cc);
           reducing = λ now_at is. absurd (cc);
@@ -308,6 +366,18 @@ module _ (window now mtu : ℕ) where
   back_next : (curve : Curve) (goal : ℕ) → curve.w_max ≤ largest_u64 → (cubic : Cubic) → Back curve goal cubic
       → Turns cubic (λ turn new. ContinuesEpoch turn → Back curve (bytes_of turn / 2 + goal) new)
   back_next curve goal fits cubic h = record {
+    resuming = λ at goes. record {
+      curve_is = h.curve_is;
+      window_is = omega (arith, h.window_is);
+      time = h.time;
+      past = h.past;
+    };
+    finding = λ at bytes goes. record {
+      curve_is = h.curve_is;
+      window_is = omega (arith, h.window_is);
+      time = h.time;
+      past = h.past;
+    };
     growing = λ at bytes goes.
         let new = avoided at bytes cubic in
         let past : curve.k ≤ new.stage.elapsed / 1000 = omega (arith, h.past, h.time) in

@@ -60,6 +60,8 @@ module _ (window now mtu : ℕ) where
   next : (earlier : List ControllerCall) → Holds window now mtu earlier (cubic_by window now mtu earlier)
       → Turns (cubic_by window now mtu earlier) (Next earlier)
   next earlier h = record {
+    resuming = λ at. record { estimate = h.estimate; prior = h.prior; mtu_is = h.mtu_is; below = h.below };
+    finding = λ at bytes. record { estimate = h.estimate; prior = h.prior; mtu_is = h.mtu_is; below = h.below };
     growing = λ at bytes. record {
       estimate = rw (h.estimate, h.prior, h.mtu_is) refl;
       prior = h.prior;
@@ -97,6 +99,8 @@ module _ (window now mtu : ℕ) where
   within : (cubic : Cubic) (acked before : ℕ) → Within acked before cubic
       → Turns cubic (λ turn new. ContinuesEpoch turn → Within (bytes_of turn + acked) before new)
   within cubic acked before w = record {
+    resuming = λ at goes. record { window_is = omega (arith, w.window_is); estimate = omega (arith, w.estimate) };
+    finding = λ at bytes goes. record { window_is = omega (arith, w.window_is); estimate = omega (arith, w.estimate) };
     growing = λ at bytes goes.
         let half = growth_half bytes cubic.window (datagram_of cubic.current_mtu) cubic.prior_window
         cubic.stage.estimate (omega arith) in

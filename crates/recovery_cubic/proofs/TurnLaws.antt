@@ -1,14 +1,16 @@
 -- What holds by the turns of calls: each law over calls is a case for each turn.
-use Rattle.std.proofs.Common.{ℕ, Bool, true, false, nat_le, nat_lt}
+use Rattle.std.proofs.Common.{ℕ, Bool, true, false, nat_eq, nat_le, nat_lt}
 use Rattle.std.specs.Prelude.{if◌then◌else◌}
 use Rattle.recovery_congestion.specs.Calls.{ControllerCall, acks, congests, ends_acks, sends, takes_mtu}
 use Rattle.recovery_cubic.specs.declared.cubic.Cubic.{Cubic}
 use Rattle.recovery_cubic.specs.Stage.{uncounted}
-use Rattle.recovery_cubic.specs.Cubic.{slow_started, avoided, cubic_after, cubic_recovering, cubic_with_mtu}
-use Rattle.recovery_cubic.specs.History.{CubicEntry, grows, waits, reduces, persists, starts, resizes, passes, turn_of}
+use Rattle.recovery_cubic.specs.Cubic.{cubic_resumed, cubic_found, slow_started, avoided, cubic_after, cubic_recovering, cubic_with_mtu}
+use Rattle.recovery_cubic.specs.History.{CubicEntry, resumes, finds, grows, waits, reduces, persists, starts, resizes, passes, turn_of}
 
 -- what a property of a turn and of what it leaves needs, over a CUBIC
 pub record Turns (cubic : Cubic) (P : CubicEntry → Cubic → Type 0) : Type 0 where
+  pub resuming : (now : ℕ) → P (resumes now) (cubic_resumed now cubic)
+  pub finding : (now in_flight : ℕ) → P (finds now in_flight) (cubic_found now in_flight cubic)
   pub growing : (now bytes : ℕ) → P (grows now bytes) (avoided now bytes cubic)
   pub waiting : (now : ℕ) → P (waits now) (record cubic { stage = uncounted now cubic.stage })
   pub reducing : (now : ℕ) → P (reduces now) (cubic_recovering now false cubic)
@@ -18,6 +20,11 @@ pub record Turns (cubic : Cubic) (P : CubicEntry → Cubic → Type 0) : Type 0 
   pub passing : P passes cubic
 
 module _ (cubic : Cubic) (P : CubicEntry → Cubic → Type 0) (turns : Turns cubic P) where
+  sent : (now : ℕ) (none : Bool)
+      → P (if none then passes else resumes now) (if none then cubic else cubic_resumed now cubic)
+  sent now true = turns.passing
+  sent now false = turns.resuming now
+
   acked-open : (now bytes : ℕ) (limited slow : Bool)
       → P (if limited then waits now else if slow then starts now bytes else grows now bytes)
       (if limited then record cubic { stage = uncounted now cubic.stage } else if slow then slow_started now bytes cubic
@@ -45,5 +52,5 @@ module _ (cubic : Cubic) (P : CubicEntry → Cubic → Type 0) (turns : Turns cu
       acked now bytes (nat_le sent cubic.recovery_start_time) limited (nat_lt cubic.window cubic.ssthresh)
   by_turn (congests now sent persistent lost) = congested now (nat_le sent cubic.recovery_start_time) persistent
   by_turn (takes_mtu mtu) = turns.resizing mtu
-  by_turn (sends now bytes number) = turns.passing
-  by_turn (ends_acks now bytes limited largest) = turns.passing
+  by_turn (sends now bytes number) = sent now (nat_eq bytes 0)
+  by_turn (ends_acks now in_flight limited largest) = turns.finding now in_flight

@@ -1,14 +1,14 @@
 -- CUBIC (RFC 9438), with whole numbers: what each call does. Each division says how it is rounded.
-use Rattle.std.specs.Prelude.{ℕ, ◌*◌, ◌/◌, ◌<◌, min, max, Bool, Some, None, nat_le, nat_lt, if◌then◌else◌}
+use Rattle.std.specs.Prelude.{ℕ, ◌*◌, ◌/◌, ◌<◌, min, max, Bool, Some, None, nat_le, nat_lt, if◌then◌else◌, Option, unwrap_or, nat_eq}
 use Rattle.recovery_base.specs.Units.{largest_u64}
 use Rattle.recovery_congestion.specs.declared.congestion.ControllerMetrics.{ControllerMetrics}
-use Rattle.recovery_congestion.specs.Calls.{ControllerCall, acks, congests, takes_mtu}
+use Rattle.recovery_congestion.specs.Calls.{ControllerCall, acks, congests, ends_acks, sends, takes_mtu}
 use Rattle.recovery_congestion.specs.Controllers.{ControllerSemantics}
 use Rattle.recovery_congestion.specs.NewReno.{sum_to_most}
 use Rattle.recovery_cubic.specs.declared.cubic.Cubic.{Cubic}
 use Rattle.recovery_cubic.specs.declared.stage.Stage.{Stage}
 use Rattle.recovery_cubic.specs.Curve.{curve_from}
-use Rattle.recovery_cubic.specs.Stage.{parts, quotient_up, stage_from, flat_stage, counted, uncounted, raised, curve_window}
+use Rattle.recovery_cubic.specs.Stage.{parts, quotient_up, stage_from, flat_stage, counted, uncounted, raised, curve_window, resumed}
 use Rattle.recovery_cubic.specs.Fractions.{alpha_denominator, alpha_numerator, beta_denominator, beta_numerator, convergence_denominator, convergence_numerator}
 
 -- an MTU of zero counts as one byte
@@ -29,7 +29,24 @@ cubic_made window now mtu = record {
   recovery_start_time = now;
   prior_window = window;
   stage = flat_stage window (datagram_of mtu) now;
+  idle_since = None;
 }
+
+-- ---- idle periods: nothing is in flight (RFC 9438, 5.8)
+
+-- a packet that counts in flight ends one
+abbrev pub cubic_resumed : ℕ → Cubic → Cubic
+cubic_resumed now cubic = record cubic { stage = resumed now cubic.idle_since cubic.stage; idle_since = None }
+
+abbrev pub cubic_sent : ℕ → ℕ → Cubic → Cubic
+cubic_sent now bytes cubic = if nat_eq bytes 0 then cubic else cubic_resumed now cubic
+
+-- an ACK that leaves nothing in flight begins one
+abbrev pub idle_found : ℕ → ℕ → Option ℕ → Option ℕ
+idle_found now in_flight idle = if nat_eq in_flight 0 then Some (unwrap_or idle now) else None
+
+abbrev pub cubic_found : ℕ → ℕ → Cubic → Cubic
+cubic_found now in_flight cubic = record cubic { idle_since = idle_found now in_flight cubic.idle_since }
 
 -- ---- acknowledgements
 
@@ -121,15 +138,18 @@ abbrev pub IsCubicSound : Cubic → Type 0
 IsCubicSound cubic = 0 < cubic.window
 
 abbrev pub cubic_after : ControllerCall → Cubic → Cubic
+cubic_after (sends now bytes number) cubic = cubic_sent now bytes cubic
 cubic_after (acks now sent bytes limited rtt) cubic = cubic_acked now sent bytes limited cubic
+cubic_after (ends_acks now in_flight limited largest) cubic = cubic_found now in_flight cubic
 cubic_after (congests now sent persistent lost) cubic = cubic_congested now sent persistent cubic
 cubic_after (takes_mtu mtu) cubic = cubic_with_mtu mtu cubic
-cubic_after call cubic = cubic
 
 abbrev pub cubic_words : ControllerSemantics Cubic
 cubic_words = record {
   after = cubic_after;
   window = λ cubic. cubic.window;
+  least = least_window;
+  recovery_start = λ cubic. cubic.recovery_start_time;
   metrics = cubic_metrics;
   initial = λ cubic. cubic.initial_window;
 }

@@ -1,5 +1,5 @@
 -- CUBIC's window goes by the curve from a reduction until the next (RFC 9438, 4.2). Lists are newest first.
-use Rattle.std.specs.Prelude.{ℕ, ◌≡◌, ◌+◌, ◌-◌, ◌*◌, ◌/◌, ◌<◌, ◌≤◌, min, max, nat_lt, if◌then◌else◌, List, [], ◌∷◌, ◌++◌}
+use Rattle.std.specs.Prelude.{ℕ, ◌≡◌, ◌+◌, ◌-◌, ◌*◌, ◌/◌, ◌<◌, ◌≤◌, min, max, nat_lt, if◌then◌else◌, List, [], ◌∷◌, ◌++◌, nat_eq, Option, None, Some}
 use Rattle.recovery_base.specs.Units.{largest_u64, microseconds}
 use Rattle.recovery_congestion.specs.Calls.{ControllerCall}
 use Rattle.recovery_congestion.specs.NewReno.{sum_to_most}
@@ -7,7 +7,7 @@ use Rattle.recovery_cubic.specs.declared.curve.Curve.{Curve}
 use Rattle.recovery_cubic.specs.Stage.{parts, quotient_up}
 use Rattle.recovery_cubic.specs.Curve.{curve_at, micros, IsGreatestK}
 use Rattle.recovery_cubic.specs.Cubic.{datagram_of}
-use Rattle.recovery_cubic.specs.History.{CubicEntry, grows, waits, reduces, persists, starts, turn_at, window_by}
+use Rattle.recovery_cubic.specs.History.{CubicEntry, resumes, finds, grows, waits, reduces, persists, starts, turn_at, window_by}
 use Rattle.recovery_cubic.specs.Growth.{bytes_of}
 use Rattle.recovery_cubic.specs.RealCurve.{IsSteady, IsNearReal}
 use Rattle.recovery_cubic.specs.Reno.{mtu_by, reno_by}
@@ -15,14 +15,23 @@ use Rattle.recovery_cubic.specs.Fractions.{beta_denominator, beta_numerator, con
 
 -- ---- the time that counts, in nanoseconds (RFC 9438, 4.2 and 5.8)
 
--- up to where time has passed: from where a stage begins, to each acknowledgement
-abbrev pub last_next : CubicEntry → ℕ → ℕ
-last_next (grows now bytes) last = max last now
-last_next (waits now) last = max last now
-last_next (reduces now) last = now
-last_next (persists now) last = now
-last_next (starts now bytes) last = now
-last_next turn last = last
+-- an idle period: from the first ACK that leaves nothing in flight to the next packet that counts in flight
+abbrev pub idle_next : CubicEntry → Option ℕ → Option ℕ
+idle_next (finds now in_flight) (Some since) = if nat_eq in_flight 0 then Some since else None
+idle_next (finds now in_flight) None = if nat_eq in_flight 0 then Some now else None
+idle_next (resumes now) idle = None
+idle_next turn idle = idle
+
+-- up to where time has passed: from the beginning of a stage to each acknowledgement, and by the length of each idle
+-- period in between, at most to its end
+abbrev pub last_next : CubicEntry → Option ℕ → ℕ → ℕ
+last_next (resumes now) (Some since) last = max last (min now (last + (now - since)))
+last_next (grows now bytes) idle last = max last now
+last_next (waits now) idle last = max last now
+last_next (reduces now) idle last = now
+last_next (persists now) idle last = now
+last_next (starts now bytes) idle last = now
+last_next turn idle last = last
 
 -- what passes up to an acknowledgement counts, unless the application limits then
 abbrev pub time_next : CubicEntry → ℕ → ℕ → ℕ
@@ -42,9 +51,13 @@ plateau_next (starts now bytes) before after plateau = after
 plateau_next turn before after plateau = plateau
 
 module _ (window now mtu : ℕ) where
+  abbrev pub idle_by : List ControllerCall → Option ℕ
+  idle_by [] = None
+  idle_by (call ∷ earlier) = idle_next (turn_at window now mtu call earlier) (idle_by earlier)
+
   abbrev pub last_by : List ControllerCall → ℕ
   last_by [] = now
-  last_by (call ∷ earlier) = last_next (turn_at window now mtu call earlier) (last_by earlier)
+  last_by (call ∷ earlier) = last_next (turn_at window now mtu call earlier) (idle_by earlier) (last_by earlier)
 
   abbrev pub time_by : List ControllerCall → ℕ
   time_by [] = 0

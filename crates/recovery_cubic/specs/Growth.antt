@@ -2,10 +2,12 @@
 -- newest first.
 use Rattle.std.specs.Prelude.{ℕ, ◌+◌, ◌*◌, ◌≤◌, List, [], ◌∷◌, ◌++◌}
 use Rattle.recovery_congestion.specs.Calls.{ControllerCall}
-use Rattle.recovery_cubic.specs.History.{CubicEntry, grows, waits, passes, turn_at, window_by}
+use Rattle.recovery_cubic.specs.History.{CubicEntry, resumes, finds, grows, waits, passes, turn_at, window_by}
 
 -- congestion avoidance goes on: no slow start, no reduction, no other MTU
 abbrev pub ContinuesEpoch : CubicEntry → Type 0
+ContinuesEpoch (resumes now) = Unit {0}
+ContinuesEpoch (finds now in_flight) = Unit {0}
 ContinuesEpoch (grows now bytes) = Unit {0}
 ContinuesEpoch (waits now) = Unit {0}
 ContinuesEpoch passes = Unit {0}

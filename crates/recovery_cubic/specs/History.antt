@@ -1,11 +1,15 @@
 -- What the calls of a CUBIC are to it (RFC 9438), and what it is after all of them. Lists are newest first.
-use Rattle.std.specs.Prelude.{ℕ, nat_le, nat_lt, if◌then◌else◌, List}
-use Rattle.recovery_congestion.specs.Calls.{ControllerCall, acks, congests, takes_mtu}
+use Rattle.std.specs.Prelude.{ℕ, nat_eq, nat_le, nat_lt, if◌then◌else◌, List}
+use Rattle.recovery_congestion.specs.Calls.{ControllerCall, acks, congests, ends_acks, sends, takes_mtu}
 use Rattle.recovery_congestion.specs.Rounds.{content_by}
 use Rattle.recovery_cubic.specs.declared.cubic.Cubic.{Cubic}
 use Rattle.recovery_cubic.specs.Cubic.{cubic_made, cubic_words}
 
 pub data CubicEntry : Type 0 where
+  -- a packet that counts in flight is sent, which ends an idle period (RFC 9438, 5.8)
+  resumes : (now : ℕ) → CubicEntry
+  -- the end of an ACK, with so many bytes in flight: with none an idle period begins, or goes on
+  finds : (now in_flight : ℕ) → CubicEntry
   -- an acknowledgement in congestion avoidance, while the application does not limit: the window may grow
   grows : (now bytes : ℕ) → CubicEntry
   -- an acknowledgement while the application limits (RFC 9438, 5.8)
@@ -22,13 +26,14 @@ pub data CubicEntry : Type 0 where
   passes : CubicEntry
 
 abbrev pub turn_of : ControllerCall → Cubic → CubicEntry
+turn_of (sends now bytes number) cubic = if nat_eq bytes 0 then passes else resumes now
 turn_of (acks now sent bytes limited rtt) cubic =
     if nat_le sent cubic.recovery_start_time then passes else if limited then waits now
     else if nat_lt cubic.window cubic.ssthresh then starts now bytes else grows now bytes
+turn_of (ends_acks now in_flight limited largest) cubic = finds now in_flight
 turn_of (congests now sent persistent lost) cubic =
     if nat_le sent cubic.recovery_start_time then passes else if persistent then persists now else reduces now
 turn_of (takes_mtu mtu) cubic = resizes mtu
-turn_of call cubic = passes
 
 -- where one is made with this window, at this moment, with this MTU
 module _ (window now mtu : ℕ) where

@@ -1,5 +1,5 @@
 -- A stage of congestion avoidance: its curve, its time, and the Reno-friendly estimate (RFC 9438, 4.2, 4.3 and 5.8).
-use Rattle.std.specs.Prelude.{ℕ, ◌+◌, ◌-◌, ◌*◌, ◌/◌, ◌^◌, min, max}
+use Rattle.std.specs.Prelude.{ℕ, ◌+◌, ◌-◌, ◌*◌, ◌/◌, ◌^◌, min, max, Option, None, Some}
 use Rattle.recovery_base.specs.Units.{largest_u64, microseconds}
 use Rattle.recovery_congestion.specs.NewReno.{sum_to_most}
 use Rattle.recovery_cubic.specs.declared.curve.Curve.{Curve}
@@ -32,6 +32,14 @@ counted now stage = record stage {
 -- it does not count: the application limited (RFC 9438, 5.8)
 abbrev pub uncounted : ℕ → Stage → Stage
 uncounted now stage = record stage { last = max stage.last now }
+
+-- an idle period ended now, if there was one: time has passed up to as much later, but not past its end (RFC 9438, 5.8)
+abbrev pub past_idle : ℕ → Option ℕ → ℕ → ℕ
+past_idle now None last = last
+past_idle now (Some since) last = max last (min now (last + (now - since)))
+
+abbrev pub resumed : ℕ → Option ℕ → Stage → Stage
+resumed now idle stage = record stage { last = past_idle now idle stage.last }
 
 -- Reno's window grows
 abbrev pub raised : ℕ → Stage → Stage

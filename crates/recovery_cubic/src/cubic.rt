@@ -1,8 +1,9 @@
 //! CUBIC as a controller (RFC 9438), and what makes it.
-ghost use Rattle.std.specs.Prelude.{◌≡◌, ◌<◌, ◌≤◌, true, nat_le, Ok, refl};
+ghost use Rattle.std.specs.Prelude.{◌≡◌, ◌<◌, ◌≤◌, true, nat_le, Ok, refl, ◌^◌};
 ghost use Rattle.recovery_base.specs.Units.{u16_limit};
+ghost use Rattle.std.proofs.Math.Nat.{le_refl};
 ghost use Rattle.recovery_cubic.specs.ConfigView.{default_window};
-ghost use Rattle.recovery_cubic.specs.Cubic.{datagram_of, least_window, cubic_made, slow_started, friendly_step, avoided, cubic_acked, reduced_window, next_w_max, next_stage, cubic_recovering, cubic_congested, cubic_with_mtu, cubic_metrics, IsCubicSound, cubic_words};
+ghost use Rattle.recovery_cubic.specs.Cubic.{datagram_of, least_window, cubic_made, cubic_sent, cubic_found, slow_started, friendly_step, avoided, cubic_acked, reduced_window, next_w_max, next_stage, cubic_recovering, cubic_congested, cubic_with_mtu, cubic_metrics, IsCubicSound, cubic_words};
 ghost use Rattle.recovery_cubic.specs.CubicLaws.{cubic_laws};
 
 use crate::curve::Curve;
@@ -86,6 +87,8 @@ impl ControllerFactory for CubicConfig {
     }
 
     ghost starts_at_initial = { λ factory now mtu. refl };
+
+    ghost starts_by_now = { λ factory now mtu. le_refl now };
 }
 
 /// A window that falls to 7/10 at a loss, once in a recovery, and then goes by the time: fast towards the window
@@ -93,8 +96,10 @@ impl ControllerFactory for CubicConfig {
 ///
 /// RFC 9438, 4.2, goes up to the curve of a round trip later in steps, one for each acknowledgement. Here each sets the
 /// window to the curve's at its own time, by at most half of its bytes: as in 4.2 half a window in a round trip. The
-/// window is never below what Reno's would be (4.3). An MTU of zero counts as one byte. Not here: a way back from a
-/// reduction for losses that were none (4.9), and another slow start (4.10).
+/// window is never below what Reno's would be (4.3). Idle time does not count (5.8): it runs from an ACK that leaves
+/// nothing in flight to the next packet that counts in flight. If losses alone empty the flight, time counts until an
+/// ACK. An MTU of zero counts as one byte. Not here: a way back from a reduction for losses that were none (4.9), and
+/// another slow start (4.10).
 #[derive(Clone, Drop)]
 pub struct Cubic {
     initial_window: u64,
@@ -105,6 +110,8 @@ pub struct Cubic {
     /// The window before the last reduction (`cwnd_prior`).
     prior_window: u64,
     stage: Stage,
+    /// When an ACK found nothing in flight, if no packet was sent since.
+    idle_since: Option<Instant>,
 }
 
 impl Cubic {
@@ -123,6 +130,7 @@ impl Cubic {
             recovery_start_time: now,
             prior_window: window,
             stage: Stage::flat(window, u64::from(current_mtu).max(1), now),
+            idle_since: None,
         }
     }
 
@@ -223,10 +231,18 @@ impl Controller for Cubic {
 
     ghost is_sound = { IsCubicSound };
 
-    /// Changes nothing.
-    fn on_sent(&mut self, _now: Instant, _bytes: u64, _last_packet_number: u64)
-        ensures { self.new ≡ self.old }
-    {}
+    /// Ends an idle period, whose time does not count (RFC 9438, 5.8). A packet of size 0 changes nothing.
+    fn on_sent(&mut self, now: Instant, bytes: u64, _last_packet_number: u64)
+        ensures { self.new ≡ cubic_sent now bytes self.old }
+    {
+        if bytes == 0 {
+            return;
+        }
+        if let Some(since) = self.idle_since {
+            self.stage.leave_idle_out(since, now);
+        }
+        self.idle_since = None;
+    }
 
     /// The window never falls. Where the application limits, it stays, and the time since what was acknowledged before
     /// does not count (RFC 9438, 5.8).
@@ -254,16 +270,22 @@ impl Controller for Cubic {
         }
     }
 
-    /// Changes nothing.
+    /// Begins an idle period if nothing is in flight. One that has begun goes on.
     fn on_end_acks(
         &mut self,
-        _now: Instant,
-        _in_flight: u64,
+        now: Instant,
+        in_flight: u64,
         _app_limited: bool,
         _largest_packet_num_acked: Option<u64>,
     )
-        ensures { self.new ≡ self.old }
-    {}
+        ensures { self.new ≡ cubic_found now in_flight self.old }
+    {
+        self.idle_since = if in_flight == 0 {
+            Some(self.idle_since.unwrap_or(now))
+        } else {
+            None
+        };
+    }
 
     /// Does nothing for packets sent before the recovery began. Nothing else lets the window fall.
     fn on_congestion_event(
@@ -341,6 +363,7 @@ impl Controller for Cubic {
             recovery_start_time: self.recovery_start_time,
             prior_window: self.prior_window,
             stage: self.stage,
+            idle_since: self.idle_since,
         })
     }
 

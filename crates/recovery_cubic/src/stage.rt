@@ -1,6 +1,6 @@
 //! A stage of congestion avoidance (RFC 9438, 4.2 and 4.3): its curve, its time, and what Reno would have.
-ghost use Rattle.std.specs.Prelude.{◌≡◌, ◌*◌, nat_le};
-ghost use Rattle.recovery_cubic.specs.Stage.{parts, quotient_up, stage_from, flat_stage, counted, uncounted, raised, curve_window};
+ghost use Rattle.std.specs.Prelude.{◌≡◌, ◌*◌, nat_le, Some};
+ghost use Rattle.recovery_cubic.specs.Stage.{parts, quotient_up, stage_from, flat_stage, counted, uncounted, resumed, raised, curve_window};
 
 use crate::curve::Curve;
 use recovery_base::time::Instant;
@@ -71,6 +71,14 @@ impl Stage {
         ensures { self.new ≡ uncounted now self.old }
     {
         self.last = self.last.max(now);
+    }
+
+    /// An idle period since this time ends now and does not count (RFC 9438, 5.8).
+    pub fn leave_idle_out(&mut self, since: Instant, now: Instant)
+        ensures { self.new ≡ resumed now (Some since) self.old }
+    {
+        let later = self.last + now.saturating_duration_since(since);
+        self.last = self.last.max(now.min(later));
     }
 
     /// Whether Reno's window is back at this one, in bytes (RFC 9438, 4.3).

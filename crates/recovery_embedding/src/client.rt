@@ -4,13 +4,12 @@ use crate::at;
 use crate::connection::Connection;
 use crate::paths::Departure;
 use crate::report::Report;
-use quic_recovery::Refusal;
 use quic_recovery::below::{
     AckFrequency, ConnectionId, EcnCounts, NewConnectionId, ResetToken, SpaceId, VarInt,
 };
-use quic_recovery::event::PathName;
 use quic_recovery::time::Duration;
 use quic_recovery::timer::Timer;
+use quic_recovery::{PathName, Refusal};
 use recovery_queue::items::ItemQueue;
 use recovery_sender::{Acknowledged, EcnOutcome, SenderError};
 use std::alloc::Global;

@@ -1,10 +1,9 @@
 //! Datagrams, and the paths that they go by (RFC 9000, 8 and 9; RFC 9002, 7 and 7.7).
 use crate::connection::Connection;
 use quic_recovery::below::SpaceId;
-use quic_recovery::event::PathName;
 use quic_recovery::time::Instant;
 use quic_recovery::timer::Timer;
-use quic_recovery::{Answer, Event};
+use quic_recovery::{Answer, Event, PathName};
 use recovery_queue::items::ItemQueue;
 use recovery_sender::{SenderError, Transmission};
 use std::net::SocketAddr;

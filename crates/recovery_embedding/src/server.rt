@@ -2,8 +2,8 @@
 use crate::connection::Connection;
 use crate::report::Report;
 use crate::{address, at};
+use quic_recovery::PathName;
 use quic_recovery::below::SpaceId;
-use quic_recovery::event::PathName;
 use quic_recovery::time::Duration;
 use recovery_queue::items::ItemQueue;
 use recovery_sender::SenderError;

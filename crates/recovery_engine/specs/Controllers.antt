@@ -1,7 +1,9 @@
 -- The congestion controllers that a setting chooses between: each call is that of the chosen one.
-use Rattle.std.specs.Prelude.{◌≡◌, ℕ, ◌<◌, None, refl}
-use Rattle.recovery_congestion.specs.Calls.{ControllerCall, IsPositive}
-use Rattle.recovery_congestion.specs.Controllers.{ControllerSemantics, ControllerLaws}
+use Rattle.std.specs.Prelude.{◌≡◌, ℕ, ◌<◌, ◌≤◌, max, Bool, true, None, refl}
+use Rattle.std.proofs.Common.{zero-le}
+use Rattle.std.proofs.Math.Nat.{le_refl}
+use Rattle.recovery_congestion.specs.Calls.{ControllerCall, congests, IsPositive, call_time}
+use Rattle.recovery_congestion.specs.Controllers.{ControllerSemantics, ControllerLaws, HasLeastWindow}
 use Rattle.recovery_congestion.specs.NewReno.{reno_made, reno_words, IsRenoSound}
 use Rattle.recovery_congestion.specs.RenoLaws.{reno_laws}
 use Rattle.recovery_congestion.specs.declared.congestion.ControllerMetrics.{ControllerMetrics}
@@ -28,6 +30,16 @@ window_of (Reno reno) = reno_words.window reno
 window_of (Fixed window) = window
 window_of (Cubic cubic) = cubic_words.window cubic
 
+abbrev pub least_window_of : Chosen → ℕ
+least_window_of (Reno reno) = reno_words.least reno
+least_window_of (Fixed window) = window
+least_window_of (Cubic cubic) = cubic_words.least cubic
+
+abbrev pub recovery_start_of : Chosen → ℕ
+recovery_start_of (Reno reno) = reno_words.recovery_start reno
+recovery_start_of (Fixed window) = 0
+recovery_start_of (Cubic cubic) = cubic_words.recovery_start cubic
+
 abbrev pub metrics_of : Chosen → ControllerMetrics
 metrics_of (Reno reno) = reno_words.metrics reno
 metrics_of (Fixed window) = record { congestion_window = window; ssthresh = None; pacing_rate = None }
@@ -42,6 +54,8 @@ abbrev pub chosen_words : ControllerSemantics Chosen
 chosen_words = record {
   after = chosen_after;
   window = window_of;
+  least = least_window_of;
+  recovery_start = recovery_start_of;
   metrics = metrics_of;
   initial = initial_of;
 }
@@ -62,8 +76,32 @@ positive (Reno reno) sound = reno_laws.window reno sound
 positive (Fixed window) sound = sound
 positive (Cubic cubic) sound = cubic_laws.window cubic sound
 
+start : (call : ControllerCall) (chosen : Chosen)
+    → recovery_start_of (chosen_after call chosen) ≤ max (recovery_start_of chosen) (call_time call)
+start call (Reno reno) = reno_laws.start call reno
+start call (Fixed window) = zero-le
+start call (Cubic cubic) = cubic_laws.start call cubic
+
+persists : (now sent lost : ℕ) (chosen : Chosen) → recovery_start_of chosen < sent
+    → HasLeastWindow chosen_words (chosen_after (congests now sent true lost) chosen)
+persists now sent lost (Reno reno) later = reno_laws.persistent now sent lost reno later
+persists now sent lost (Fixed window) later = refl
+persists now sent lost (Cubic cubic) later = cubic_laws.persistent now sent lost cubic later
+
+least-kept : (now sent : ℕ) (persistent : Bool) (lost : ℕ) (chosen : Chosen) → HasLeastWindow chosen_words chosen
+    → HasLeastWindow chosen_words (chosen_after (congests now sent persistent lost) chosen)
+least-kept now sent persistent lost (Reno reno) is = reno_laws.least now sent persistent lost reno is
+least-kept now sent persistent lost (Fixed window) is = refl
+least-kept now sent persistent lost (Cubic cubic) is = cubic_laws.least now sent persistent lost cubic is
+
 pub chosen_laws : ControllerLaws chosen_words IsChosenSound
-chosen_laws = record { after = kept; window = positive }
+chosen_laws = record { after = kept; window = positive; start = start; persistent = persists; least = least-kept }
+
+pub chosen_starts_by_now : (factory : ChosenConfig) (now mtu : ℕ)
+    → recovery_start_of (chosen_made factory now mtu) ≤ now
+chosen_starts_by_now (config.Reno settings) now mtu = le_refl now
+chosen_starts_by_now (config.Fixed window) now mtu = zero-le
+chosen_starts_by_now (config.Cubic window) now mtu = le_refl now
 
 pub chosen_starts : (factory : ChosenConfig) (now mtu : ℕ)
     → window_of (chosen_made factory now mtu) ≡ initial_of (chosen_made factory now mtu)

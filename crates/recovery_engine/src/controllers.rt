@@ -1,13 +1,13 @@
 //! The congestion controllers that a setting chooses between.
 ghost use Rattle.std.specs.Prelude.{◌≡◌, ◌<◌};
-ghost use Rattle.recovery_engine.specs.Controllers.{chosen_made, chosen_words, chosen_laws, chosen_starts, IsChosenSound};
+ghost use Rattle.recovery_engine.specs.Controllers.{chosen_made, chosen_words, chosen_laws, chosen_starts, chosen_starts_by_now, IsChosenSound};
 
-use quic_recovery::congestion::{
-    Controller, ControllerFactory, ControllerMetrics, NewReno, NewRenoConfig,
-};
-use quic_recovery::rtt::RttEstimator;
 use recovery_base::below::NoMemory;
 use recovery_base::time::Instant;
+use recovery_congestion::congestion::{
+    Controller, ControllerFactory, ControllerMetrics, NewReno, NewRenoConfig,
+};
+use recovery_congestion::rtt::RttEstimator;
 use recovery_cubic::{Cubic, CubicConfig};
 use std::marker::Model;
 
@@ -82,6 +82,8 @@ impl ControllerFactory for ChosenConfig {
     }
 
     ghost starts_at_initial = { chosen_starts };
+
+    ghost starts_by_now = { chosen_starts_by_now };
 }
 
 impl Controller for Chosen {

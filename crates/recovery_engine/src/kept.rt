@@ -13,14 +13,17 @@ ghost use Rattle.recovery_engine.specs.Replies.{IsWritten};
 use crate::controllers::ChosenConfig;
 use crate::sending::{AckRange, Call, OutcomeView, Sending, no_outcome};
 use crate::spelling::{EncodedReply, copy_numbers};
-use quic_recovery::below::NoMemory;
-use quic_recovery::event::PathName;
-use quic_recovery::paths::PathMarks;
-use quic_recovery::{Answer, Event, LiveRecovery, Recovery, RecoveryConfig, Refusal};
+use quic_recovery::{LiveRecovery, Recovery};
 use rand_pcg::Pcg32;
+use recovery_base::below::NoMemory;
 use recovery_base::time::Instant;
+use recovery_events::event::{Answer, Event, Refusal};
+use recovery_history::RecoveryConfig;
+use recovery_losses::Side;
+use recovery_paths::path_pair::PathName;
+use recovery_paths::paths::PathMarks;
 use recovery_queue::items::ItemQueue;
-use recovery_sender::{Sender, SenderError, Side, passes};
+use recovery_sender::{Sender, SenderError, passes};
 use std::alloc::Global;
 
 /// A recovery over a chosen controller, whose packets carry numbered items and whose skips are drawn by PCG32.

@@ -14,9 +14,10 @@ use crate::numbers::{
     ECN_QUIET, REFUSAL_UNSENT,
 };
 use crate::spelling::{EncodedReply, encode_number, encode_refusal, space_number};
-use quic_recovery::time::{Duration, Instant};
 use recovery_base::below::SpaceId;
-use recovery_sender::{Ack, Acknowledged, EcnOutcome, Losses, SenderError, Timeout, Transmission};
+use recovery_base::time::{Duration, Instant};
+use recovery_losses::Ack;
+use recovery_sender::{Acknowledged, EcnOutcome, Losses, SenderError, Timeout, Transmission};
 use std::alloc::Global;
 use std::mem;
 

@@ -10,10 +10,9 @@ use crate::numbers::{
     FAULT_ECT0_FALLS, FAULT_ECT1_FALLS, REFUSAL_BAD_ARGUMENT, REFUSAL_DECIDED, REFUSAL_NO_RECOVERY,
     REFUSAL_NO_SENDER,
 };
-use quic_recovery::below::ResetToken;
-use quic_recovery::{Answer, Refusal};
-use recovery_base::below::SpaceId;
+use recovery_base::below::{ResetToken, SpaceId};
 use recovery_base::time::Instant;
+use recovery_events::event::{Answer, Refusal};
 use recovery_queue::items::ItemQueue;
 use std::ops::Range;
 

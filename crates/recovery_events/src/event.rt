@@ -7,7 +7,7 @@ use recovery_base::below::{
 };
 use recovery_base::time::{Duration, Instant};
 use recovery_base::timer::Timer;
-pub use recovery_paths::path_pair::PathName;
+use recovery_paths::path_pair::PathName;
 use recovery_queue::queue::RetransmitQueue;
 use recovery_spaces::spaces::SendableFrames;
 use std::net::SocketAddr;

@@ -3,8 +3,8 @@ ghost use Rattle.recovery_stack.specs.Answers.{HandleAppliesTo};
 ghost use Rattle.recovery_stack.specs.Codes.{request, space_coded};
 ghost use Rattle.recovery_events.specs.declared.event.Event.TheVariants.{AckDelayTimeout, AckFrequencyIn, AcksSent};
 
-use quic_recovery::Event;
 use recovery_engine::spelling::EncodedReply;
+use recovery_events::event::Event;
 use recovery_stack::codes::{request, space_coded};
 use recovery_stack::handle::Handle;
 use std::alloc::Global;

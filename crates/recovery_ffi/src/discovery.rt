@@ -2,9 +2,9 @@
 ghost use Rattle.recovery_stack.specs.Answers.{HandleApplies};
 ghost use Rattle.recovery_events.specs.declared.event.Event.TheVariants.{LossesDone, PeerLimit, PollMtu};
 
-use quic_recovery::Event;
-use quic_recovery::time::Instant;
+use recovery_base::time::Instant;
 use recovery_engine::spelling::EncodedReply;
+use recovery_events::event::Event;
 use recovery_stack::handle::Handle;
 use std::alloc::Global;
 

@@ -6,10 +6,10 @@ ghost use Rattle.recovery_stack.specs.Answers.{HandleApplies, HandleAppliesTo, I
 ghost use Rattle.recovery_stack.specs.Codes.{cid, frame};
 ghost use Rattle.recovery_events.specs.declared.event.Event.TheVariants.{IdTimeout, InitialId, NewId, NextId, PeerRetired};
 
-use quic_recovery::Event;
-use quic_recovery::time::Instant;
 use recovery_base::below::{NewConnectionId, ResetToken};
+use recovery_base::time::Instant;
 use recovery_engine::spelling::EncodedReply;
+use recovery_events::event::Event;
 use recovery_stack::codes::{Id, are_ids, cid, ids_of};
 use recovery_stack::handle::Handle;
 use std::alloc::Global;

@@ -5,7 +5,7 @@ ghost use Rattle.recovery_stack.specs.Answers.{ReadsHandle};
 ghost use Rattle.recovery_stack.specs.Discoveries.{DiscoveryAnswers, NewDiscovery, mtu_shown, no_mtu};
 ghost use Rattle.recovery_stack.specs.declared.mtu_handle.Call.TheVariants.{Poll, Limit, Acked, ProbeLost, Lost, LossesDone, Reset};
 
-use quic_recovery::time::Instant;
+use recovery_base::time::Instant;
 use recovery_engine::spelling::EncodedReply;
 use recovery_stack::mtu::MtuView;
 use recovery_stack::mtu_handle::{Call, MtuHandle};

@@ -5,9 +5,9 @@ ghost use Rattle.recovery_stack.specs.Codes.{space_coded, maybe};
 ghost use Rattle.recovery_engine.specs.Replies.{IsWritten};
 ghost use Rattle.recovery_events.specs.declared.event.Event.TheVariants.{Acked, DiscardSpace, Lost, Received, Send};
 
-use quic_recovery::Event;
-use quic_recovery::time::Instant;
+use recovery_base::time::Instant;
 use recovery_engine::spelling::EncodedReply;
+use recovery_events::event::Event;
 use recovery_stack::codes::{copy_items, maybe, queue_of, space_coded};
 use recovery_stack::handle::Handle;
 use std::alloc::Global;

@@ -3,9 +3,9 @@ ghost use Rattle.recovery_stack.specs.Answers.{HandleApplies, HandleAppliesTo, M
 ghost use Rattle.recovery_stack.specs.Codes.{path_coded, maybe, spans};
 ghost use Rattle.recovery_events.specs.declared.event.Event.TheVariants.{Congestion, DatagramIn, DropPrevious, EndAcks, InFlight, PacerCheck, ResetPath, RevertPath, Sample, Transmit, Validated};
 
-use quic_recovery::Event;
-use quic_recovery::time::Instant;
+use recovery_base::time::Instant;
 use recovery_engine::spelling::EncodedReply;
+use recovery_events::event::Event;
 use recovery_stack::codes::{Address, maybe, path_coded, socket_of, spans};
 use recovery_stack::handle::Handle;
 use std::alloc::Global;

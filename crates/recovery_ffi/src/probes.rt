@@ -4,9 +4,9 @@ ghost use Rattle.recovery_stack.specs.Answers.{HandleAppliesTo};
 ghost use Rattle.recovery_stack.specs.Codes.{counts, space_coded};
 ghost use Rattle.recovery_events.specs.declared.event.Event.TheVariants.{CheckAck, Ecn, QueueProbe, TakePending};
 
-use quic_recovery::Event;
 use recovery_base::below::EcnCounts;
 use recovery_engine::spelling::EncodedReply;
+use recovery_events::event::Event;
 use recovery_stack::codes::space_coded;
 use recovery_stack::handle::Handle;
 use std::alloc::Global;

@@ -8,7 +8,7 @@ ghost use Rattle.recovery_stack.specs.Codes.{path_coded};
 ghost use Rattle.recovery_engine.specs.Kept.{parts_kept};
 ghost use Rattle.recovery_stack.specs.Views.{path_view, no_path, moment_shown, moment_named, ack_delay_named, ids_shown, no_ids, range_shown, ranges_in, no_space, space_named, IsSpaceShown};
 
-use quic_recovery::time::Instant;
+use recovery_base::time::Instant;
 use recovery_stack::handle::Handle;
 use recovery_stack::views::{IdsView, PathView, RangeView, SpaceView, TimeView};
 use std::alloc::Global;

@@ -10,7 +10,7 @@ ghost use Rattle.recovery_engine.specs.Sending.{no_told, told_view};
 ghost use Rattle.recovery_engine.specs.Replies.{IsWritten};
 ghost use Rattle.recovery_engine.specs.declared.sending.Call.TheVariants.{Transmit, Expire, Discard, Abandon, HandshakeKeys, HandshakeConfirmed, PeerDelay, Challenge};
 
-use quic_recovery::time::Instant;
+use recovery_base::time::Instant;
 use recovery_engine::sending::{AckRange, Call, OutcomeView};
 use recovery_engine::spelling::EncodedReply;
 use recovery_stack::codes::{Address, maybe, space_coded, span};

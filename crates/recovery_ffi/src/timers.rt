@@ -3,9 +3,9 @@ ghost use Rattle.recovery_stack.specs.Answers.{HandleApplies, HandleAppliesTo};
 ghost use Rattle.recovery_stack.specs.Codes.{timer_coded};
 ghost use Rattle.recovery_events.specs.declared.event.Event.TheVariants.{NextTimeout, SetTimer, StopTimer};
 
-use quic_recovery::Event;
-use quic_recovery::time::Instant;
+use recovery_base::time::Instant;
 use recovery_engine::spelling::EncodedReply;
+use recovery_events::event::Event;
 use recovery_stack::codes::timer_coded;
 use recovery_stack::handle::Handle;
 use std::alloc::Global;

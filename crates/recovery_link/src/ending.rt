@@ -1,6 +1,6 @@
 //! How the program ends.
-use quic_recovery::Refusal;
-use quic_recovery::below::NoMemory;
+use recovery_base::below::NoMemory;
+use recovery_events::event::Refusal;
 use recovery_sender::SenderError;
 use std::alloc::{AllocError, AllocFailed};
 

@@ -1,10 +1,10 @@
 //! The link: a queue, a way there on which packets are lost and late, the peer, and a way back.
+use crate::bottleneck::Bottleneck;
 use crate::peer::{Frame, Peer};
 use crate::settings::{SIZE, Settings};
 use crate::way::Way;
 use crate::weather::Weather;
-use quic_recovery::below::NoMemory;
-use recovery_bottleneck::Bottleneck;
+use recovery_base::below::NoMemory;
 use std::alloc::Global;
 
 /// The link. Moments are nanoseconds.

@@ -2,6 +2,7 @@
 //! `transfer.rt`; docs/EXPERIMENTS.md shows it.
 #![tactic(auto)]
 
+mod bottleneck;
 mod ending;
 mod figures;
 mod link;

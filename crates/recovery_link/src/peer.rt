@@ -1,5 +1,5 @@
 //! The peer: what came to it, and when it acknowledges that (RFC 9000, 13.2).
-use quic_recovery::below::{ArrayRangeSet, NoMemory};
+use recovery_base::below::{ArrayRangeSet, NoMemory};
 use std::alloc::Global;
 
 /// How many ranges an ACK has at most, the highest; numbers below them are forgotten.

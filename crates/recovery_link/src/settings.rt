@@ -1,5 +1,5 @@
 //! What the words behind the program's name choose.
-use recovery_script_syntax::number_in;
+use recovery_script_syntax::words::number_in;
 
 /// The bytes of each packet, all of them what is transferred.
 pub const SIZE: u16 = 1200;

@@ -5,7 +5,7 @@ use crate::link::{Link, sooner};
 use crate::sending::Sending;
 use crate::settings::{SIZE, Settings, Window};
 use crate::telling::Teller;
-use quic_recovery::congestion::{ControllerFactory, NewRenoConfig};
+use recovery_congestion::congestion::{ControllerFactory, NewRenoConfig};
 use recovery_cubic::CubicConfig;
 use recovery_replay::fixed_window::FixedWindowConfig;
 use std::alloc::Global;

@@ -1,5 +1,5 @@
 //! What is on its way, there or back: first what arrives first.
-use quic_recovery::below::NoMemory;
+use recovery_base::below::NoMemory;
 use std::alloc::Global;
 use std::collections::VecDeque;
 

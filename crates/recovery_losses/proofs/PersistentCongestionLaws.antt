@@ -336,7 +336,8 @@ module _ (IsLostNow : ℕ → Type 0) (IsEnd EndThen : ℕ → ℕ → Type 0) (
     ]
   ]
 
-  still_long : IsPersistentCongestion IsLostNow IsEnd look.skipped look.period → IsPersistentCongestion IsLostNow EndThen look.skipped look.period
+  still_long : IsPersistentCongestion IsLostNow IsEnd look.skipped look.period
+      → IsPersistentCongestion IsLostNow EndThen look.skipped look.period
   still_long there = persists_like IsLostNow IsLostNow IsEnd EndThen look.skipped look.period there
       (to there.first there.first_sent there.begins) (to there.last there.last_sent there.ends) (λ k up lost. lost)
 

@@ -3,11 +3,11 @@ ghost use Rattle.std.specs.Prelude.{◌≡◌, ◌<◌, ◌≤◌, None, unwrap_
 ghost use Rattle.recovery_base.specs.Units.{number_limit};
 
 use crate::rows::{finds, holds, same};
+use recovery_acks::{AckFrequencyState, PendingAcks};
 use recovery_base::below::{AckFrequency, NoMemory, TransportParameters, VarInt};
 use recovery_base::config::AckFrequencyConfig;
 use recovery_base::dedup::Dedup;
 use recovery_base::time::{Duration, Instant};
-use recovery_config::acks::{AckFrequencyState, PendingAcks};
 use std::process::Abort;
 
 /// An ACK_FREQUENCY frame with thresholds 3 and 2.

@@ -1,7 +1,7 @@
 //! Frames for a number of the peer's ids that is held, with ids and tokens that lines cannot spell.
 use crate::rows::holds;
 use recovery_base::below::{ConnectionId, NewConnectionId, ResetToken};
-use recovery_config::cids::{CidQueue, InsertError};
+use recovery_ids::{CidQueue, InsertError};
 use std::process::Abort;
 
 /// An id: how many bytes it has, and which all of them are.

@@ -221,12 +221,13 @@ fn reno_shows_its_threshold(rt: HostRuntime) {
 
 #[test]
 fn halving_halves(rt: HostRuntime) {
-    static ROWS: [(Call, u64); 8] = [
+    static ROWS: [(Call, u64); 9] = [
         (Call::Sent, 12000),
         (Call::Acked(1200, 1), 12000),
         (Call::EndAcks, 12000),
         (Call::Lost(2, 0), 6000),
-        (Call::LostForLong(0, 0), 3000),
+        (Call::Lost(0, 0), 3000),
+        (Call::LostForLong(0, 0), 2400),
         (Call::Lost(0, 0), 2400),
         (Call::Mtu(9000), 2400),
         (Call::Lost(0, 0), 18000),

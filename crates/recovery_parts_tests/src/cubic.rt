@@ -13,6 +13,10 @@ use std::process::Abort;
 /// there was a loss.
 #[derive(Clone, Copy)]
 enum Call {
+    /// So many bytes were sent.
+    Sent(u64, u64),
+    /// An ACK left so many bytes in flight.
+    EndAcks(u64, u64),
     /// So many bytes were acknowledged.
     Acked(u64, u64),
     /// The same, while the application limited.
@@ -37,6 +41,8 @@ fn at(millis: u64) -> Instant {
 fn tell(cubic: &mut Cubic, call: Call) {
     let rtt = RttEstimator::new(Duration::from_millis(333));
     match call {
+        Call::Sent(now, bytes) => cubic.on_sent(at(now), bytes, 7),
+        Call::EndAcks(now, in_flight) => cubic.on_end_acks(at(now), in_flight, false, Some(7)),
         Call::Acked(now, bytes) => cubic.on_ack(at(now), at(now), bytes, false, &rtt),
         Call::AckedLimited(now, bytes) => cubic.on_ack(at(now), at(now), bytes, true, &rtt),
         Call::AckedOld(now, bytes) => cubic.on_ack(at(now), at(0), bytes, false, &rtt),
@@ -109,6 +115,26 @@ fn cubic_leaves_out_limited_time(rt: HostRuntime) {
         (Call::AckedLimited(100_000, 84_000), 104_017),
         (Call::Acked(100_001, 84_000), 104_032),
         (Call::Acked(101_000, 84_000), 114_769),
+    ];
+    play(&rt, 120_000, &ROWS);
+}
+
+/// Nothing is in flight from 2 to 101 seconds: of the 101 seconds from the loss to 102 seconds 2 count.
+#[test]
+fn cubic_leaves_out_idle_time(rt: HostRuntime) {
+    static ROWS: [(Call, u64); 11] = [
+        (Call::Lost(1000), 84_000),
+        (Call::Acked(2000, 84_000), 104_017),
+        (Call::EndAcks(2000, 0), 104_017),
+        // No packet that counts in flight, and an ACK in the same idle period.
+        (Call::Sent(50_000, 0), 104_017),
+        (Call::EndAcks(51_000, 0), 104_017),
+        (Call::Sent(101_000, 1200), 104_017),
+        (Call::Acked(102_000, 84_000), 114_769),
+        (Call::EndAcks(102_000, 1200), 114_769),
+        (Call::Sent(103_000, 1200), 114_769),
+        (Call::Acked(103_000, 84_000), 119_135),
+        (Call::Acked(104_217, 84_000), 120_000),
     ];
     play(&rt, 120_000, &ROWS);
 }

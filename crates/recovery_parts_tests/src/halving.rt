@@ -1,6 +1,7 @@
 //! A congestion controller that is not NewReno: what is generic in the controller is seen at work on it.
 
 ghost use Rattle.std.specs.Prelude.{◌≡◌, ◌<◌, Ok, refl};
+ghost use Rattle.std.proofs.Common.{zero-le};
 ghost use Rattle.recovery_parts_tests.specs.Halving.{halving_made, halving_words, IsHalvingSound, halving_laws};
 
 use recovery_base::below::NoMemory;
@@ -39,9 +40,12 @@ impl ControllerFactory for HalvingConfig {
     }
 
     ghost starts_at_initial = { λ factory now mtu. refl };
+
+    ghost starts_by_now = { λ factory now mtu. zero-le };
 }
 
-/// A window that is halved at each congestion event, to two MTUs at least, and that nothing else changes.
+/// A window that each congestion event halves, to two MTUs at least, and that nothing else changes. Persistent
+/// congestion leaves two MTUs.
 #[derive(Drop)]
 pub struct Halving {
     initial: u64,
@@ -81,10 +85,15 @@ impl Controller for Halving {
         &mut self,
         _now: Instant,
         _sent: Instant,
-        _is_persistent_congestion: bool,
+        is_persistent_congestion: bool,
         _lost_bytes: u64,
     ) {
-        self.window = (self.window / 2).max(2 * u64::from(self.current_mtu));
+        let least = 2 * u64::from(self.current_mtu);
+        self.window = if is_persistent_congestion {
+            least
+        } else {
+            (self.window / 2).max(least)
+        };
     }
 
     fn on_mtu_update(&mut self, new_mtu: u16) {

@@ -6,7 +6,7 @@ use recovery_base::below::{
     ConnectionId, IssuedCid, NewConnectionId, NoMemory, ResetToken, TransportError,
 };
 use recovery_base::time::{Duration, Instant};
-use recovery_config::cids::{CidQueue, CidState, InsertError, RetireError};
+use recovery_ids::{CidQueue, CidState, InsertError, RetireError};
 use std::alloc::Global;
 use std::process::Abort;
 

@@ -13,12 +13,13 @@ ghost use Rattle.recovery_paths.specs.PathMaking.{path_settings, state_resumed};
 ghost use Rattle.recovery_paths.specs.declared.path_pair.PathName.TheVariants.{Current};
 ghost use Rattle.recovery_paths.specs.PathStates.{on_state, with_marks, after_receiving, after_telling, after_validation, is_path_probe};
 
-use crate::paths::{InFlight, LedgerError, PathData, PathMarks, TotalOverflow};
+use crate::paths::{PathData, PathMarks, TotalOverflow};
 use recovery_base::below::SpaceId;
 use recovery_base::time::Instant;
 use recovery_config::config::TransportConfig;
 use recovery_congestion::congestion::{Controller, ControllerFactory};
 use recovery_queue::queue::RetransmitQueue;
+use recovery_spaces::paths::{InFlight, LedgerError};
 use recovery_spaces::spaces::{PacketSpace, SentPacket};
 use std::marker::Model;
 use std::mem;

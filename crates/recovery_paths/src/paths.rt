@@ -14,7 +14,7 @@ ghost use Rattle.recovery_paths.specs.PathMaking.{marks_made, path_settings, sta
 ghost use Rattle.recovery_paths.specs.PathStates.{Path, on_state, with_discovery, with_marks, is_blocked, after_receiving, after_validation, after_sample, after_searching, after_transmitting, loss_call};
 ghost use Rattle.recovery_paths.specs.PathStates.{after_telling, after_search, path_acked, is_path_probe, path_lost, after_asking, path_delay};
 
-pub use crate::responses::PathResponses;
+use crate::responses::PathResponses;
 use recovery_base::below::{NoMemory, SpaceId};
 use recovery_base::time::{Duration, Instant};
 use recovery_config::config::TransportConfig;
@@ -23,7 +23,7 @@ use recovery_congestion::pacing::Pacer;
 use recovery_congestion::rtt::RttEstimator;
 use recovery_mtud::mtud::MtuDiscovery;
 use recovery_queue::queue::RetransmitQueue;
-pub use recovery_spaces::paths::{InFlight, LedgerError};
+use recovery_spaces::paths::{InFlight, LedgerError};
 use recovery_spaces::spaces::{PacketSpace, SentPacket};
 use std::marker::Model;
 use std::mem;

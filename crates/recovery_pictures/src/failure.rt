@@ -1,6 +1,6 @@
 //! Why no picture is written.
 
-use quic_recovery::below::NoMemory;
+use recovery_base::below::NoMemory;
 use recovery_replay::arguments::ArgumentsError;
 use std::alloc::AllocError;
 use std::io;

@@ -2,7 +2,7 @@
 
 use crate::plot::axis::{Axis, Panel, Point};
 use crate::plot::picture::Picture;
-use quic_recovery::time::Duration;
+use recovery_base::time::Duration;
 use std::alloc::Global;
 
 /// In nanoseconds.

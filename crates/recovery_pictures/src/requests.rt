@@ -1,7 +1,7 @@
 //! What the arguments ask for.
 
 use crate::start::Window;
-use recovery_script_syntax::number_in;
+use recovery_script_syntax::words::number_in;
 
 /// What `--version` writes.
 pub const VERSION: &str = "recovery-pictures 0.11.19\n";

@@ -2,9 +2,9 @@
 ghost use Rattle.std.specs.Prelude.{◌≡◌};
 ghost use Rattle.recovery_packet_numbers.specs.Skips.{IsSkips};
 
-use quic_recovery::RecoveryConfig;
-use quic_recovery::below::ConnectionId;
-use quic_recovery::config::TransportConfig;
+use recovery_base::below::ConnectionId;
+use recovery_config::config::TransportConfig;
+use recovery_history::RecoveryConfig;
 use recovery_replay::replay::skips;
 use std::net::{IpAddr, Ipv4Addr, SocketAddr};
 

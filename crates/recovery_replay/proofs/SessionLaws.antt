@@ -6,7 +6,7 @@ use Rattle.rand_core.specs.Pcg32Seed.{pcg32_seed}
 use Rattle.rand_core.specs.Steps.{stream_of, steps_u32}
 use Rattle.rand_core.specs.Stream.{Stream}
 use Rattle.rand_pcg.specs.Pcg.{pcg32, pcg32_of_seed}
-use Rattle.recovery_reply_text.specs.Answers.{ScriptReply, answer_line, answer_lines}
+use Rattle.recovery_script_syntax.specs.Answers.{ScriptReply, answer_line, answer_lines}
 use Rattle.recovery_congestion.specs.Controllers.{ControllerSemantics}
 use Rattle.recovery_script_syntax.specs.Lines.{ItemEvent, IsDocumentationAddress}
 use Rattle.recovery_queue.specs.Items.{item_words}

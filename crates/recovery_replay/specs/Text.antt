@@ -1,6 +1,6 @@
 -- What the text of the answers takes.
 use Rattle.std.specs.Prelude.{◌≡◌, Bool, true, ◌++◌, String, string_bytes}
-use Rattle.recovery_reply_text.specs.Answers.{ScriptReply, answer_line}
+use Rattle.recovery_script_syntax.specs.Answers.{ScriptReply, answer_line}
 
 -- where there was memory for this line, there was for all before it, and it stands behind them
 abbrev pub TakesLine : {Z : Type 0} → String Z → Bool → ScriptReply → String Z → Bool → Type 0

@@ -2,11 +2,11 @@
 ghost use Rattle.std.specs.Prelude.{◌≡◌, [], true, IfOk, string_bytes};
 ghost use Rattle.recovery_replay.specs.Text.{TakesLine};
 
-use quic_recovery::event::{Answer, Refusal};
 use recovery_base::below::NoMemory;
+use recovery_events::event::{Answer, Refusal};
 use recovery_events::feeding::Sink;
 use recovery_queue::items::ItemQueue;
-use recovery_reply_text::answers::write_reply;
+use recovery_script_syntax::answers::write_reply;
 use std::alloc::Global;
 
 /// The lines of the replies so far. Once memory was refused for one it asks for no other.

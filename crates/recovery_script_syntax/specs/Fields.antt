@@ -7,7 +7,7 @@ use Rattle.recovery_base.specs.declared.timer.Timer.{Timer}
 use Rattle.recovery_base.specs.Timers.{timer_name}
 use Rattle.recovery_base.specs.Times.{span_limit}
 use Rattle.recovery_base.specs.Units.{byte_limit, number_limit, u16_limit, u64_limit}
-use Rattle.recovery_events.specs.declared.event.PathName.{PathName}
+use Rattle.recovery_paths.specs.declared.path_pair.PathName.{PathName}
 use Rattle.recovery_script_syntax.specs.Words.{flag_word, space_word, path_word, largest_word, most_ids}
 
 pub data Field : Type 0 where

@@ -12,8 +12,8 @@ use Rattle.recovery_base.specs.declared.below.SpaceId.TheVariants.{Initial, Hand
 use Rattle.recovery_base.specs.Timers.{timer_named}
 use Rattle.recovery_base.specs.Times.{span_limit}
 use Rattle.recovery_base.specs.Units.{byte_limit, number_limit, u16_limit, u64_limit}
-use Rattle.recovery_events.specs.declared.event.PathName.{PathName}
-use Rattle.recovery_events.specs.declared.event.PathName.TheVariants.{Current, Previous}
+use Rattle.recovery_paths.specs.declared.path_pair.PathName.{PathName}
+use Rattle.recovery_paths.specs.declared.path_pair.PathName.TheVariants.{Current, Previous}
 use Rattle.recovery_script_syntax.specs.declared.forms.Line.{Line}
 use Rattle.recovery_script_syntax.specs.declared.forms.Line.TheVariants.{Said, Ids, Path}
 use Rattle.recovery_script_syntax.specs.declared.words.Words.{Words}

@@ -1,11 +1,11 @@
-//! The parser of a script: which event each line spells. Begin at `lines.rt`.
+//! The syntax of a script: which event each line encodes (begin at `lines.rt`), and the line of each reply
+//! (`answers.rt`).
 #![tactic(auto)]
 
+pub mod answers;
 mod blanks;
 mod digits;
 mod forms;
 pub mod laws;
 pub mod lines;
 pub mod words;
-
-pub use words::number_in;

@@ -14,7 +14,7 @@ use crate::digits::{half_at, leading_digits, word_at};
 use recovery_base::below::{NoMemory, SpaceId, VarInt};
 use recovery_base::time::{Duration, Instant};
 use recovery_base::timer::Timer;
-use recovery_events::event::PathName;
+use recovery_paths::path_pair::PathName;
 use std::alloc::Global;
 
 /// The most ids that a line issues.

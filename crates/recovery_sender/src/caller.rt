@@ -4,12 +4,12 @@ ghost use Rattle.recovery_sender.specs.CallReplies.{is_done, CallReply};
 
 use crate::calls::{Asking, Call, CallReplyValue, Datagram, Frame};
 use crate::sender::{Sender, SenderError, passes};
-use quic_recovery::Event;
-use quic_recovery::below::SpaceId;
-use quic_recovery::congestion::ControllerFactory;
-use quic_recovery::queue::RetransmitQueue;
-use quic_recovery::time::{Duration, Instant};
 use rand_core::Rng;
+use recovery_base::below::SpaceId;
+use recovery_base::time::{Duration, Instant};
+use recovery_congestion::congestion::ControllerFactory;
+use recovery_events::event::Event;
+use recovery_queue::queue::RetransmitQueue;
 
 /// A sender that takes calls as values.
 #[derive(Drop)]

@@ -1,10 +1,10 @@
 //! Calls, and what they come to.
 use crate::sender::{Acknowledged, SenderError, Timeout, Transmission};
-use quic_recovery::below::SpaceId;
-use quic_recovery::queue::RetransmitQueue;
-use quic_recovery::time::{Duration, Instant};
-use quic_recovery::{Answer, Event};
+use recovery_base::below::SpaceId;
+use recovery_base::time::{Duration, Instant};
+use recovery_events::event::{Answer, Event};
 use recovery_losses::Ack;
+use recovery_queue::queue::RetransmitQueue;
 
 /// A datagram that is to go out.
 #[derive(Clone, Copy)]

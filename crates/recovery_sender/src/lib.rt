@@ -10,9 +10,11 @@ pub mod sender;
 
 pub use caller::Caller;
 pub use calls::{Asking, Call, CallRecord, CallReplyValue, Datagram, Frame};
-pub use recovery_losses::{Ack, Due, Side, Variables};
 pub use runs::{run, run_over};
 pub use sender::{
     Acknowledged, EcnOutcome, Losses, NewlyAcked, Sender, SenderError, Timeout, Transmission,
     passes,
 };
+
+// For users outside this repository, as `recovery_embedding` shows: the types of another crate that its calls take.
+pub use recovery_losses::{Ack, Side};

@@ -9,14 +9,14 @@ ghost use Rattle.recovery_sender.specs.Runs.{IsRun, CallIntoSink, CallsOverSourc
 use crate::caller::Caller;
 use crate::calls::{Call, CallRecord};
 use crate::sender::Sender;
-use quic_recovery::RecoveryConfig;
-use quic_recovery::below::NoMemory;
-use quic_recovery::congestion::ControllerFactory;
-use quic_recovery::queue::RetransmitQueue;
-use quic_recovery::time::Instant;
 use rand_core::Rng;
+use recovery_base::below::NoMemory;
+use recovery_base::time::Instant;
+use recovery_congestion::congestion::ControllerFactory;
 use recovery_events::feeding::{Sink, Source};
+use recovery_history::RecoveryConfig;
 use recovery_losses::Side;
+use recovery_queue::queue::RetransmitQueue;
 use std::alloc::Global;
 
 /// A sender that takes calls, and the sink of what is said to them.

@@ -3,11 +3,12 @@ ghost use Rattle.std.specs.Prelude.{◌≡◌, true};
 ghost use Rattle.quic_recovery.specs.State.{state_of};
 ghost use Rattle.recovery_sender.specs.Timer.{TimerIsSet};
 
-use quic_recovery::congestion::ControllerFactory;
-use quic_recovery::queue::RetransmitQueue;
-use quic_recovery::{LiveRecovery, Recovery, Refusal};
+use quic_recovery::{LiveRecovery, Recovery};
 use rand_core::Rng;
+use recovery_congestion::congestion::ControllerFactory;
+use recovery_events::event::Refusal;
 use recovery_losses::Variables;
+use recovery_queue::queue::RetransmitQueue;
 use std::alloc::Global;
 
 mod acks;

@@ -1,10 +1,10 @@
 //! What is written for each call: one line.
 use itoa::Buffer;
-use quic_recovery::below::SpaceId;
-use quic_recovery::time::Instant;
-use quic_recovery::{Answer, Refusal};
+use recovery_base::below::SpaceId;
+use recovery_base::time::Instant;
+use recovery_events::event::{Answer, Refusal};
 use recovery_queue::items::ItemQueue;
-use recovery_reply_text::answers::write_reply;
+use recovery_script_syntax::answers::write_reply;
 use recovery_sender::{
     Acknowledged, CallRecord, CallReplyValue, EcnOutcome, Losses, SenderError, Timeout,
     Transmission,

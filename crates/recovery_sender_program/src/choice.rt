@@ -1,9 +1,9 @@
 //! What the arguments choose.
 ghost use Rattle.std.specs.Prelude.{◌<◌};
 
+use recovery_losses::Side;
 use recovery_replay::fixed_window::FixedWindowConfig;
-use recovery_script_syntax::number_in;
-use recovery_sender::Side;
+use recovery_script_syntax::words::number_in;
 
 /// Which congestion window each controller has.
 #[derive(Clone, Copy)]

@@ -1,10 +1,10 @@
 //! The call that a line spells.
-use quic_recovery::below::{EcnCounts, NoMemory};
+use recovery_base::below::{EcnCounts, NoMemory};
+use recovery_losses::Ack;
 use recovery_queue::items::ItemQueue;
 use recovery_script_syntax::lines::{LINE_LIMIT, push_event};
-use recovery_script_syntax::number_in;
-use recovery_script_syntax::words::{Words, is_name};
-use recovery_sender::{Ack, Asking, Call, Datagram, Frame, passes};
+use recovery_script_syntax::words::{Words, is_name, number_in};
+use recovery_sender::{Asking, Call, Datagram, Frame, passes};
 use std::alloc::Global;
 
 /// The call of a line, given without its line feed, if it spells one.

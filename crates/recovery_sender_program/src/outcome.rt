@@ -65,9 +65,8 @@ impl Outcome {
             Outcome::WriteFailed => text.push_str("sender: write failed\n"),
             Outcome::OutOfMemory => text.push_str("sender: out of memory\n"),
             Outcome::WrongArguments => {
-                text.push_str(
-                    "usage: recovery-sender client|server|established [SEED [WINDOW [PACKETS NUMERATOR DENOMINATOR PERIODS]]]\n",
-                );
+                text.push_str("usage: recovery-sender client|server|established ");
+                text.push_str("[SEED [WINDOW [PACKETS NUMERATOR DENOMINATOR PERIODS]]]\n");
             }
         }
         text

@@ -12,8 +12,8 @@ Answers the calls of a sender one at a time: reads a line, writes its answer wit
   SEED           skips packet numbers as this seed draws them (0 to 18446744073709551615); -, or none: skips none
   WINDOW         cubic, or a congestion window that never changes, in bytes, above 0; -, or none: NewReno
   PACKETS NUMERATOR DENOMINATOR PERIODS
-                 the thresholds of loss detection: packets, time (a fraction of an RTT), and the probe timeouts that make
-                 congestion persistent; none: 3 9 8 3
+                 the thresholds of loss detection: packets, time (a fraction of an RTT), and the probe timeouts
+                 that make congestion persistent; none: 3 9 8 3
   --help         writes this
   --version      writes which recovery this is
 

@@ -1,14 +1,13 @@
 //! What each call of a sender says, and the timer for losses that it leaves.
-use quic_recovery::congestion::NewRenoConfig;
 use quic_recovery_rows::config::{settings, words};
 use quic_recovery_rows::events::{Answer, Event, at, received};
 use quic_recovery_rows::tally::Tally;
 use rand_pcg::Pcg32;
 use recovery_base::below::SpaceId;
 use recovery_base::time::Duration;
-use recovery_sender::{
-    Ack, Acknowledged, Losses, Sender, SenderError, Side, Timeout, Transmission, passes,
-};
+use recovery_congestion::congestion::NewRenoConfig;
+use recovery_losses::{Ack, Side};
+use recovery_sender::{Acknowledged, Losses, Sender, SenderError, Timeout, Transmission, passes};
 use std::alloc::Global;
 use std::process::Abort;
 

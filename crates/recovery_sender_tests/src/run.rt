@@ -1,13 +1,14 @@
 //! A run of a sender over a list of calls.
-use quic_recovery::Event;
-use quic_recovery::congestion::NewRenoConfig;
 use quic_recovery_rows::config::{settings, words};
 use quic_recovery_rows::events::at;
 use quic_recovery_rows::tally::Tally;
 use rand_pcg::Pcg32;
 use recovery_base::below::SpaceId;
 use recovery_base::time::Duration;
-use recovery_sender::{Ack, Call, CallRecord, CallReplyValue, Frame, Sender, Side, run};
+use recovery_congestion::congestion::NewRenoConfig;
+use recovery_events::event::Event;
+use recovery_losses::{Ack, Side};
+use recovery_sender::{Call, CallRecord, CallReplyValue, Frame, Sender, run};
 use std::alloc::Global;
 
 /// A packet of 1-RTT keys goes out.

@@ -11,7 +11,7 @@ ghost use Rattle.recovery_spaces.specs.Queued.{IsSendable};
 ghost use Rattle.recovery_spaces.specs.SpaceLog.{loses, probes, takes_pending, feeds_back};
 ghost use Rattle.recovery_spaces.specs.Spaces.{space_of, tracking_of, with_tracking, packets_of, acks_of, queued_of, with_acks, next_number_of, IsMade, after_number, after_eliciting, after_acknowledging, space_takes, space_moves, space_probes, HasGreatestCome, SpaceStep, ReceiveReply, heard_of, arrives, SubtractsLargest};
 
-pub use crate::sent_packets::SentPackets;
+use crate::sent_packets::SentPackets;
 use recovery_acks::PendingAcks;
 use recovery_base::below::{EcnCounts, NoMemory, SpaceId};
 use recovery_base::dedup::Dedup;

@@ -5,13 +5,13 @@ ghost use Rattle.recovery_base.specs.Ids.{longest_cid};
 ghost use Rattle.recovery_engine.specs.Replies.{IsWritten};
 ghost use Rattle.recovery_stack.specs.Codes.{space_coded, timer_coded, path_coded, maybe, nanos_shown, issued_of, cid, request, span, spans, IsSocketAddress};
 
-use quic_recovery::event::PathName;
-use quic_recovery::time::Duration;
-use quic_recovery::timer::Timer;
 use recovery_base::below::{
     AckFrequency, ConnectionId, IssuedCid, NoMemory, ResetToken, SpaceId, VarInt,
 };
+use recovery_base::time::Duration;
+use recovery_base::timer::Timer;
 use recovery_engine::spelling::copy_numbers;
+use recovery_paths::path_pair::PathName;
 use recovery_queue::items::ItemQueue;
 use std::alloc::Global;
 use std::net::{Ipv4Addr, Ipv6Addr, SocketAddr, SocketAddrV4, SocketAddrV6};

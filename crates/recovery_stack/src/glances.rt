@@ -10,7 +10,7 @@ ghost use Rattle.recovery_stack.specs.Stats.{no_rtt, no_window, rtt_shown, windo
 use crate::codes::nanos_shown;
 use crate::handle::Handle;
 use crate::stack::Stack;
-use quic_recovery::congestion::Controller;
+use recovery_congestion::congestion::Controller;
 use std::alloc::Global;
 
 /// The congestion window of the path in use, in bytes.

@@ -9,10 +9,10 @@ ghost use Rattle.recovery_stack.specs.SenderCalls.{CallsSender, AsksWith};
 use crate::codes::{Id, are_ids, ids_of};
 use crate::slot::Slot;
 use crate::stack::Stack;
-use quic_recovery::Event;
-use quic_recovery::time::Instant;
+use recovery_base::time::Instant;
 use recovery_engine::sending::{AckRange, Call};
 use recovery_engine::spelling::EncodedReply;
+use recovery_events::event::Event;
 use recovery_queue::items::ItemQueue;
 use std::alloc::Global;
 

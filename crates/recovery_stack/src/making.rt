@@ -7,12 +7,12 @@ use crate::codes::{Address, cid, socket_of};
 use crate::handle::Handle;
 use crate::settings::{Settings, config, fault};
 use crate::stack::Stack;
-use quic_recovery::time::Instant;
 use rand_core::SeedableRng;
 use rand_pcg::Pcg32;
 use recovery_base::below::ConnectionId;
+use recovery_base::time::Instant;
 use recovery_engine::numbers::{NEW_CID_TOO_LONG, NEW_HELD, NEW_MADE, NEW_NO_MEMORY};
-use recovery_sender::Side;
+use recovery_losses::Side;
 use std::alloc::Global;
 
 /// A handle that holds none comes to hold a recovery: of a sender of this side, if there is one. `NEW_MADE`, or the

@@ -10,10 +10,11 @@ ghost use Rattle.recovery_stack.specs.Marks.{first_of, marks_given, marks_shown,
 use crate::codes::{maybe, path_coded, space_coded};
 use crate::handle::Handle;
 use crate::stack::{ItemPath, Stack};
-use quic_recovery::event::PathName;
-use quic_recovery::paths::{PathMarks, PathResponses};
 use recovery_base::below::SpaceId;
 use recovery_engine::spelling::space_number;
+use recovery_paths::path_pair::PathName;
+use recovery_paths::paths::PathMarks;
+use recovery_paths::responses::PathResponses;
 use std::alloc::Global;
 
 /// What the layer above keeps with a path, but for its PATH_RESPONSE frames.

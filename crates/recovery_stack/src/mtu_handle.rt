@@ -4,8 +4,8 @@ ghost use Rattle.recovery_stack.specs.Discoveries.{DiscoveryAnswers, discovery_t
 ghost use Rattle.recovery_stack.specs.Held.{HoldsIf};
 
 use crate::mtu_slot::MtuSlot;
-use quic_recovery::below::SpaceId;
-use quic_recovery::time::Instant;
+use recovery_base::below::SpaceId;
+use recovery_base::time::Instant;
 use recovery_engine::numbers::{
     ANSWER_ACKED, ANSWER_BLACK_HOLE, ANSWER_DONE, ANSWER_NO_PROBE, ANSWER_PROBE,
 };

@@ -4,7 +4,7 @@ ghost use Rattle.std.specs.Prelude.{◌≡◌, None, MatchOption};
 ghost use Rattle.recovery_congestion.specs.Pacing.{IsBucketSound};
 ghost use Rattle.recovery_stack.specs.Buckets.{Delays, PacerTransmits, bucket_first, bucket_in, bucket_shown};
 
-use quic_recovery::time::{Duration, Instant};
+use recovery_base::time::{Duration, Instant};
 use recovery_congestion::pacing::{Pacer, PacerState};
 use recovery_engine::numbers::{ANSWER_DELAYED, ANSWER_READY, ANSWER_TRANSMITTED};
 use recovery_engine::spelling::{EncodedReply, encode_number};

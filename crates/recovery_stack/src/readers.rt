@@ -13,7 +13,7 @@ ghost use Rattle.recovery_stack.specs.Views.{path_view, no_path, moment_shown, m
 use crate::codes::copy_items;
 use crate::handle::Handle;
 use crate::views::{IdsView, PathView, RangeView, SpaceView, TimeView};
-use quic_recovery::time::Instant;
+use recovery_base::time::Instant;
 use std::alloc::Global;
 
 impl Handle {

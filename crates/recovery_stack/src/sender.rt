@@ -9,11 +9,11 @@ ghost use Rattle.recovery_stack.specs.Codes.{side_coded};
 
 use crate::codes::{space_coded, span};
 use crate::handle::Handle;
-use quic_recovery::time::Instant;
 use recovery_base::below::{EcnCounts, SpaceId};
+use recovery_base::time::Instant;
 use recovery_engine::sending::{AckRange, Call, OutcomeView};
 use recovery_engine::spelling::EncodedReply;
-use recovery_sender::{Ack, Side};
+use recovery_losses::{Ack, Side};
 use std::alloc::Global;
 
 /// What an ACK frame says beside its ranges, and what the stack knows at its arrival.

@@ -5,11 +5,10 @@ ghost use Rattle.recovery_stack.specs.Codes.{maybe};
 ghost use Rattle.recovery_stack.specs.Settings.{config_of, controller_of, default_settings, discovery_of, settings_fault, transport_of, skips_of, AreSettingsSound};
 
 use crate::codes::maybe;
-use quic_recovery::RecoveryConfig;
-use quic_recovery::config::TransportConfig;
-use quic_recovery::congestion::NewRenoConfig;
-use quic_recovery::time::Duration;
 use recovery_base::below::ConnectionId;
+use recovery_base::time::Duration;
+use recovery_config::config::TransportConfig;
+use recovery_congestion::congestion::NewRenoConfig;
 use recovery_cubic::CubicConfig;
 use recovery_engine::controllers::{ChosenConfig, FixedConfig};
 use recovery_engine::numbers::{
@@ -17,6 +16,7 @@ use recovery_engine::numbers::{
     NEW_TOO_MANY_ISSUED, NEW_UNKNOWN_CONTROLLER, NEW_UNKNOWN_SKIPS, NEW_ZERO_DENOMINATOR,
     NEW_ZERO_MTU, NEW_ZERO_WINDOW, SKIPS_DISABLED, SKIPS_DRAWN, SKIPS_STARTING,
 };
+use recovery_history::RecoveryConfig;
 use recovery_mtud::config::MtuDiscoveryConfig;
 use recovery_packet_numbers::Skips;
 use std::net::SocketAddr;

@@ -11,18 +11,20 @@ ghost use Rattle.recovery_stack.specs.Made.{IsNewHandle};
 ghost use Rattle.recovery_stack.specs.Answers.{EventReply, AppliesOrRejects};
 ghost use Rattle.recovery_stack.specs.SenderCalls.{AsksStack};
 
-use quic_recovery::below::{NoMemory, ResetToken};
-use quic_recovery::paths::PathData;
-use quic_recovery::spaces::PacketSpace;
-use quic_recovery::{Answer, Event, Recovery, RecoveryConfig, Refusal};
+use quic_recovery::Recovery;
 use rand_pcg::Pcg32;
+use recovery_base::below::{NoMemory, ResetToken};
 use recovery_base::time::Instant;
 use recovery_engine::controllers::{Chosen, ChosenConfig};
 use recovery_engine::kept::Engine;
 use recovery_engine::sending::{AckRange, Call};
 use recovery_engine::spelling::{EncodedReply, encode_reply};
+use recovery_events::event::{Answer, Event, Refusal};
+use recovery_history::RecoveryConfig;
+use recovery_losses::Side;
+use recovery_paths::paths::PathData;
 use recovery_queue::items::ItemQueue;
-use recovery_sender::Side;
+use recovery_spaces::spaces::PacketSpace;
 use std::alloc::Global;
 
 /// One of a recovery's paths.

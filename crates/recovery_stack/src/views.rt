@@ -8,10 +8,10 @@ ghost use Rattle.recovery_stack.specs.Views.{path_shown, no_path, path_view, mom
 
 use crate::codes::{nanos_shown, path_coded, space_coded, timer_coded};
 use crate::stack::{ItemPath, ItemSpace, Stack};
-use quic_recovery::congestion::Controller;
-use quic_recovery::event::PathName;
-use quic_recovery::time::Instant;
 use recovery_base::below::ResetToken;
+use recovery_base::time::Instant;
+use recovery_congestion::congestion::Controller;
+use recovery_paths::path_pair::PathName;
 use std::ops::Range;
 
 /// What is kept for a path: times in nanoseconds, which stop at `u64::MAX`, and sizes in bytes.

@@ -11,7 +11,7 @@ use Rattle.quic_recovery.specs.declared.driver.Recovery.{Recovery}
 use Rattle.recovery_history.specs.declared.config.RecoveryConfig.{RecoveryConfig}
 use Rattle.recovery_history.specs.Reachability.{ReachedBy, StepFromPast}
 use Rattle.quic_recovery.specs.State.{state_of}
-use Rattle.recovery_reply_text.specs.Answers.{ScriptReply}
+use Rattle.recovery_script_syntax.specs.Answers.{ScriptReply}
 use Rattle.recovery_script_syntax.specs.Lines.{ItemEvent, EncodesEvent}
 use Rattle.recovery_replay.specs.declared.reading.Unread.{Unread}
 use Rattle.recovery_replay.specs.Reading.{BreaksOff, TruncatedLine}

@@ -10,7 +10,7 @@ use Rattle.recovery_events.specs.declared.event.Event.TheVariants as events
 use Rattle.recovery_events.specs.declared.event.Answer.TheVariants as answers
 use Rattle.recovery_spaces.specs.Paths.{counters_of}
 use Rattle.recovery_paths.specs.PathStates.{Path}
-use Rattle.recovery_reply_text.specs.Answers.{ScriptReply}
+use Rattle.recovery_script_syntax.specs.Answers.{ScriptReply}
 use Rattle.recovery_script_syntax.specs.Lines.{ItemEvent}
 use Rattle.recovery_trace.specs.declared.qlog.Note.{Note}
 use Rattle.recovery_trace.specs.declared.qlog.Note.TheVariants.{Sent, Probing, Received, Lost, Congestion, Set, Stopped, Nothing}

@@ -6,7 +6,7 @@ use Rattle.quic_recovery.specs.declared.driver.Recovery.{Recovery}
 use Rattle.recovery_history.specs.RecoveryState.{RecoveryState}
 use Rattle.quic_recovery.specs.Live.{LiveStep}
 use Rattle.quic_recovery.specs.State.{state_of}
-use Rattle.recovery_reply_text.specs.Answers.{ScriptReply, answer_line}
+use Rattle.recovery_script_syntax.specs.Answers.{ScriptReply, answer_line}
 use Rattle.recovery_script_syntax.specs.Lines.{ItemEvent, EncodesEvent}
 use Rattle.recovery_replay.specs.Writing.{AppendsFront}
 use Rattle.recovery_trace.specs.declared.outcome.Outcome.TheVariants.{WriteFailed, Closed, OutOfMemory}

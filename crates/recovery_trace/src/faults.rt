@@ -3,7 +3,7 @@ ghost use Rattle.std.specs.Prelude.{◌≤◌, IfOk, IsTrue, length};
 ghost use Rattle.recovery_trace.specs.Faults.{IsEventPrefix, EndsWord, NamesWordOf};
 ghost use Rattle.recovery_script_syntax.specs.Words.{longest_line};
 
-use quic_recovery::below::NoMemory;
+use recovery_base::below::NoMemory;
 use recovery_script_syntax::lines::{LINE_LIMIT, push_event};
 use std::alloc::Global;
 

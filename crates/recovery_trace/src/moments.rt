@@ -2,7 +2,7 @@
 ghost use Rattle.std.specs.Prelude.{◌≡◌};
 ghost use Rattle.recovery_trace.specs.EventTimes.{moment_of};
 
-use quic_recovery::event::Event;
+use recovery_events::event::Event;
 use recovery_queue::items::ItemQueue;
 
 /// The moment at which an event happens, in nanoseconds, or 0 where it tells none.

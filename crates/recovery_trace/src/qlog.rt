@@ -4,12 +4,11 @@ ghost use Rattle.recovery_trace.specs.Qlog.{note_of, type_text, frame_text, trig
 ghost use Rattle.recovery_trace.specs.Qlog.{congestion_text, set_text, stopped_text, note_text, metrics_named, metrics_text};
 
 use crate::states::{write_flight, write_rtt, write_window};
-use quic_recovery::below::SpaceId;
-use quic_recovery::congestion::Controller;
-use quic_recovery::event::Event;
-use quic_recovery::paths::PathData;
-use quic_recovery::timer::Timer;
-use quic_recovery::{Answer, Refusal};
+use recovery_base::below::SpaceId;
+use recovery_base::timer::Timer;
+use recovery_congestion::congestion::Controller;
+use recovery_events::event::{Answer, Event, Refusal};
+use recovery_paths::paths::PathData;
 use recovery_queue::items::ItemQueue;
 use std::alloc::AllocError;
 

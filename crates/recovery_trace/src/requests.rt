@@ -1,6 +1,6 @@
 //! What the arguments ask for.
 use recovery_replay::fixed_window::FixedWindowConfig;
-use recovery_script_syntax::number_in;
+use recovery_script_syntax::words::number_in;
 
 /// How the program is called.
 pub const USAGE: &str =

@@ -2,9 +2,10 @@
 ghost use Rattle.std.specs.Prelude.{◌≡◌, ◌++◌, OnOk, string_bytes};
 ghost use Rattle.recovery_trace.specs.States.{time_text, flight_text, window_text, spans_text, rtt_text, room_text, state_text};
 
-use quic_recovery::congestion::{Controller, ControllerMetrics};
-use quic_recovery::paths::{InFlight, PathData};
-use quic_recovery::rtt::RttEstimator;
+use recovery_congestion::congestion::{Controller, ControllerMetrics};
+use recovery_congestion::rtt::RttEstimator;
+use recovery_paths::paths::PathData;
+use recovery_spaces::paths::InFlight;
 use std::alloc::AllocError;
 
 /// The time, in milliseconds: the beginning of the line.

@@ -5,7 +5,7 @@ ghost use Rattle.std.specs.Str.{IsAscii};
 ghost use Rattle.recovery_trace.specs.FaultReports.{ReportsFault, TellsFault, quoted, most_shown};
 
 use crate::faults::{Fault, fault_in};
-use quic_recovery::below::NoMemory;
+use recovery_base::below::NoMemory;
 use std::alloc::{AllocError, Global};
 use std::str;
 

@@ -12,13 +12,14 @@ use crate::qlog::{Note, note_of, write_metrics, write_note};
 use crate::requests::Shown;
 use crate::states::write_state;
 use crate::telling::fault_line;
-use quic_recovery::below::NoMemory;
-use quic_recovery::congestion::ControllerFactory;
-use quic_recovery::{Answer, LiveRecovery, Recovery, Refusal};
+use quic_recovery::{LiveRecovery, Recovery};
 use rand_pcg::Pcg32;
+use recovery_base::below::NoMemory;
+use recovery_congestion::congestion::ControllerFactory;
+use recovery_events::event::{Answer, Refusal};
 use recovery_queue::items::ItemQueue;
 use recovery_replay::writing::deliver;
-use recovery_reply_text::answers::write_reply;
+use recovery_script_syntax::answers::write_reply;
 use recovery_script_syntax::lines::push_event;
 use std::alloc::{AllocError, Global};
 use std::io::{ErrorKind, Write};
@@ -57,7 +58,7 @@ where
         ++ turn_text F.Controller.words shows time note reply.now (state_of recovery.now)) }
 {
     match shows {
-        Shown::TurnOutcome => write_reply(text, reply),
+        Shown::Answers => write_reply(text, reply),
         Shown::States => {
             write_reply(text, reply)?;
             write_state(text, time, recovery.current())

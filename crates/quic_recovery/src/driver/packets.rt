@@ -12,8 +12,8 @@ use recovery_base::time::Instant;
 use recovery_congestion::congestion::ControllerFactory;
 use recovery_events::event::{Answer, Refusal};
 use recovery_packet_numbers::PacketNumberFilter;
-use recovery_paths::paths::LedgerError;
 use recovery_queue::queue::RetransmitQueue;
+use recovery_spaces::paths::LedgerError;
 use recovery_spaces::spaces::{NUMBER_LIMIT, Receipt, ReceiveError, SentPacket};
 
 impl<F, Q, R> Recovery<F, Q, R>

@@ -1,9 +1,10 @@
 //! The recovery of a connection that lives.
 use super::*;
 use quic_recovery::LiveRecovery;
-use quic_recovery::event::PathName;
-use quic_recovery::paths::{PathMarks, PathResponses};
 use rand_pcg::Pcg32;
+use recovery_paths::path_pair::PathName;
+use recovery_paths::paths::PathMarks;
+use recovery_paths::responses::PathResponses;
 
 type Live = LiveRecovery<NewRenoConfig, Tally, Pcg32>;
 

@@ -1,6 +1,6 @@
 //! The numbers, names and texts of refusals.
 use super::holds;
-use quic_recovery::event::Refusal;
+use recovery_events::event::Refusal;
 use std::alloc::Global;
 
 /// Refusals with their numbers, names and texts.

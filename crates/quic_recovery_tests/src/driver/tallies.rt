@@ -2,7 +2,7 @@
 ghost use Rattle.std.specs.Prelude.{◌<◌};
 
 use super::*;
-use quic_recovery::spaces::SendableFrames;
+use recovery_spaces::spaces::SendableFrames;
 
 const PING: Reply = Ok(Answer::Sendable(SendableFrames {
     acks: false,

@@ -1,5 +1,6 @@
 //! NewReno (RFC 9002, 7 and appendix B).
 ghost use Rattle.std.specs.Prelude.{◌≡◌, ◌<◌, ◌≤◌, nat_le, Ok, refl};
+ghost use Rattle.std.proofs.Math.Nat.{le_refl};
 ghost use Rattle.recovery_congestion.specs.RenoSettings.{default_reno};
 ghost use Rattle.recovery_congestion.specs.NewReno.{reno_made, reno_words, reno_acked, reno_congested, reno_with_mtu, reno_metrics, minimum_window, reduced_window, slow_started, avoided, sum_to_most, IsRenoSound, AvoidsBelowMost, CountsBytes};
 ghost use Rattle.recovery_congestion.specs.RenoLaws.{reno_laws};
@@ -83,6 +84,8 @@ impl ControllerFactory for NewRenoConfig {
     }
 
     ghost starts_at_initial = { λ factory now mtu. refl };
+
+    ghost starts_by_now = { λ factory now mtu. le_refl now };
 }
 
 /// A window that grows by the bytes acknowledged up to a threshold, above it by one MTU for each window of them, and

@@ -4,11 +4,11 @@ use crate::panels::nanos;
 use crate::plot::axis::Point;
 use crate::requests::Choice;
 use quic_recovery::LiveRecovery;
-use quic_recovery::below::NoMemory;
-use quic_recovery::congestion::{Controller, ControllerFactory};
-use quic_recovery::event::Event;
-use quic_recovery::time::Instant;
 use rand_pcg::Pcg32;
+use recovery_base::below::NoMemory;
+use recovery_base::time::Instant;
+use recovery_congestion::congestion::{Controller, ControllerFactory};
+use recovery_events::event::Event;
 use recovery_queue::items::ItemQueue;
 use std::alloc::Global;
 

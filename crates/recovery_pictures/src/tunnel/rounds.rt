@@ -2,11 +2,11 @@
 
 use super::link::Link;
 use crate::plot::axis::Point;
-use quic_recovery::below::{NoMemory, SpaceId};
-use quic_recovery::config::MtuDiscoveryConfig;
-use quic_recovery::mtud::MtuDiscovery;
-use quic_recovery::pacing::Pacer;
-use quic_recovery::time::{Duration, Instant};
+use recovery_base::below::{NoMemory, SpaceId};
+use recovery_base::time::{Duration, Instant};
+use recovery_congestion::pacing::Pacer;
+use recovery_mtud::config::MtuDiscoveryConfig;
+use recovery_mtud::mtud::MtuDiscovery;
 use std::alloc::Global;
 
 /// What every path carries, in bytes (RFC 9000, 14).

@@ -18,16 +18,17 @@ ghost use Rattle.recovery_spaces.specs.Discarded.{is_discarded};
 ghost use Rattle.recovery_spaces.specs.Packets.{packet_at};
 
 use super::{Losses, Sender, SenderError};
-use quic_recovery::below::{EcnCounts, SpaceId};
-use quic_recovery::congestion::ControllerFactory;
-use quic_recovery::event::PathName;
-use quic_recovery::paths::{PathMarks, PathResponses};
-use quic_recovery::queue::RetransmitQueue;
-use quic_recovery::spaces::SentPacket;
-use quic_recovery::time::{Duration, Instant};
-use quic_recovery::{Answer, Event, Refusal};
 use rand_core::Rng;
+use recovery_base::below::{EcnCounts, SpaceId};
+use recovery_base::time::{Duration, Instant};
+use recovery_congestion::congestion::ControllerFactory;
+use recovery_events::event::{Answer, Event, Refusal};
 use recovery_losses::{Ack, are_ranges, is_unsent, largest_of};
+use recovery_paths::path_pair::PathName;
+use recovery_paths::paths::PathMarks;
+use recovery_paths::responses::PathResponses;
+use recovery_queue::queue::RetransmitQueue;
+use recovery_spaces::spaces::SentPacket;
 
 /// What the counts of ECN of a frame come to (RFC 9000, 13.4.2.1).
 #[derive(Clone, Copy)]
@@ -541,8 +542,8 @@ where
 
     /// The peer was heard at this time, perhaps with the first RTT sample of the path. The timer is set.
     fn hear(&mut self, space: SpaceId, now: Instant, is_first: bool)
-        ensures { CompletesCall [] (heard_in space now (sampled_first is_first now self.old.variables))
-            self.old self.new }
+        ensures { CompletesCall []
+            (heard_in space now (sampled_first is_first now self.old.variables)) self.old self.new }
     {
         self.is_timer_current = false;
         self.variables = self

@@ -9,12 +9,12 @@ ghost use Rattle.recovery_sender.specs.Spaces.{packets_in};
 ghost use Rattle.recovery_sender.specs.Steps.{told, TakesSteps, CompletesCall};
 
 use super::{Sender, SenderError};
-use quic_recovery::below::SpaceId;
-use quic_recovery::congestion::ControllerFactory;
-use quic_recovery::queue::RetransmitQueue;
-use quic_recovery::time::Instant;
-use quic_recovery::{Answer, Event, Refusal};
 use rand_core::Rng;
+use recovery_base::below::SpaceId;
+use recovery_base::time::Instant;
+use recovery_congestion::congestion::ControllerFactory;
+use recovery_events::event::{Answer, Event, Refusal};
+use recovery_queue::queue::RetransmitQueue;
 
 impl<F, Q, R> Sender<F, Q, R>
 where

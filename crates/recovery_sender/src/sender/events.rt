@@ -11,16 +11,19 @@ ghost use Rattle.recovery_sender.specs.Established.{IsEstablishedSender};
 
 use super::packets::{counted_at, eliciting_in};
 use super::{Sender, SenderError};
-use quic_recovery::below::{NoMemory, SpaceId};
-use quic_recovery::congestion::ControllerFactory;
-use quic_recovery::event::PathName;
-use quic_recovery::paths::{PathMarks, PathResponses};
-use quic_recovery::queue::RetransmitQueue;
-use quic_recovery::time::Instant;
-use quic_recovery::timer::Timer;
-use quic_recovery::{Answer, Event, LiveRecovery, RecoveryConfig, Refusal};
+use quic_recovery::LiveRecovery;
 use rand_core::Rng;
+use recovery_base::below::{NoMemory, SpaceId};
+use recovery_base::time::Instant;
+use recovery_base::timer::Timer;
+use recovery_congestion::congestion::ControllerFactory;
+use recovery_events::event::{Answer, Event, Refusal};
+use recovery_history::RecoveryConfig;
 use recovery_losses::{Side, Thresholds, Variables};
+use recovery_paths::path_pair::PathName;
+use recovery_paths::paths::PathMarks;
+use recovery_paths::responses::PathResponses;
+use recovery_queue::queue::RetransmitQueue;
 use std::alloc::Global;
 
 /// The settings of the recovery of a side's sender.
@@ -45,7 +48,7 @@ fn thresholds_of<F>(config: &RecoveryConfig<F>) -> Thresholds
 }
 
 /// A nanosecond earlier; the epoch has nothing before it.
-fn before(now: Instant) -> Instant
+fn nanosecond_before(now: Instant) -> Instant
     ensures { result ≡ now - 1 }
 {
     Instant::from_nanos(now.as_nanos().saturating_sub(1))
@@ -58,7 +61,7 @@ fn backdate<Q: RetransmitQueue>(event: &mut Event<Q>)
     ensures { event.new ≡ backdated event.old }
 {
     match event {
-        Event::NewPath { now, .. } | Event::ResetPath { now } => *now = before(*now),
+        Event::NewPath { now, .. } | Event::ResetPath { now } => *now = nanosecond_before(*now),
         _ => {}
     }
 }
@@ -165,7 +168,12 @@ where
         ensures memory { OnErr result (0 < config.issued) }
     {
         let thresholds = thresholds_of(&config);
-        let recovery = LiveRecovery::new(alloc, config_of(side, config), rng, before(now))?;
+        let recovery = LiveRecovery::new(
+            alloc,
+            config_of(side, config),
+            rng,
+            nanosecond_before(now),
+        )?;
         let mut sender = Sender {
             alloc,
             recovery,

@@ -3,10 +3,10 @@ ghost use Rattle.std.specs.Prelude.{true, []};
 ghost use Rattle.recovery_sender.specs.Steps.{CompletesCall};
 
 use super::Sender;
-use quic_recovery::congestion::ControllerFactory;
-use quic_recovery::queue::RetransmitQueue;
-use quic_recovery::time::Duration;
 use rand_core::Rng;
+use recovery_base::time::Duration;
+use recovery_congestion::congestion::ControllerFactory;
+use recovery_queue::queue::RetransmitQueue;
 
 impl<F, Q, R> Sender<F, Q, R>
 where

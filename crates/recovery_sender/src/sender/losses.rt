@@ -12,13 +12,13 @@ ghost use Rattle.recovery_sender.specs.Losses.{look_of, largest_in, IsEmptyLosse
 ghost use Rattle.recovery_sender.specs.Detection.{latest_start, ClassifiesPacket, HasScanned, DetectsLosses, HasNoGap, congested, ended, is_reported, losing, one_of};
 
 use super::Sender;
-use quic_recovery::below::SpaceId;
-use quic_recovery::congestion::ControllerFactory;
-use quic_recovery::queue::RetransmitQueue;
-use quic_recovery::time::Instant;
-use quic_recovery::{Answer, Event};
 use rand_core::Rng;
+use recovery_base::below::SpaceId;
+use recovery_base::time::Instant;
+use recovery_congestion::congestion::ControllerFactory;
+use recovery_events::event::{Answer, Event};
 use recovery_losses::{Candidate, FirstSample, LossPass, Tally, Variables, loss_delay};
+use recovery_queue::queue::RetransmitQueue;
 use std::alloc::Global;
 
 /// The latest start of a recovery, in nanoseconds: so that the clock's end is later than each.

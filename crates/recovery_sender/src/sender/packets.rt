@@ -10,12 +10,12 @@ ghost use Rattle.recovery_sender.specs.Steps.{told, TakesSteps, CompletesCall};
 ghost use Rattle.recovery_sender.specs.Timer.{TimerIsSet};
 
 use super::{Sender, SenderError};
-use quic_recovery::below::SpaceId;
-use quic_recovery::congestion::{Controller, ControllerFactory};
-use quic_recovery::queue::RetransmitQueue;
-use quic_recovery::time::Instant;
-use quic_recovery::{Answer, Event, Refusal};
 use rand_core::Rng;
+use recovery_base::below::SpaceId;
+use recovery_base::time::Instant;
+use recovery_congestion::congestion::{Controller, ControllerFactory};
+use recovery_events::event::{Answer, Event, Refusal};
+use recovery_queue::queue::RetransmitQueue;
 
 /// Whether a datagram goes out.
 #[derive(Clone, Copy)]
@@ -86,8 +86,8 @@ where
     ) -> Result<Transmission, SenderError>
         // By the state before it,
         ensures reply { result
-            ≡ transmit_reply F.Controller.words (state_in self.old) self.old.variables now bytes space
-            in_flight }
+            ≡ transmit_reply F.Controller.words (state_in self.old) self.old.variables now bytes
+            space in_flight }
 
         // so that what counts in flight finds room in the window, where no probe is due (RFC 9002, 7).
         ensures window { result ≡ Ok Transmission.Transmitted → in_flight ≡ true
@@ -97,7 +97,8 @@ where
 
         // The recovery is asked for what limit and window let pass.
         ensures steps { IfOk result (λ sent. let old = state_in self.old in
-            CompletesCall (transmit_steps now bytes (is_checked self.old.variables space in_flight) sent)
+            CompletesCall (transmit_steps now bytes
+            (is_checked self.old.variables space in_flight) sent)
             self.old.variables self.old self.new) }
         ensures refused { OnErr result (self.new ≡ self.old) }
     {

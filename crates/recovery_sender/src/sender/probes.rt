@@ -10,13 +10,13 @@ ghost use Rattle.recovery_sender.specs.Steps.{told, TakesSteps, CompletesCall};
 ghost use Rattle.recovery_sender.specs.Timeouts.{DetectsByTime, TimeoutResult};
 
 use super::{Losses, Sender, SenderError};
-use quic_recovery::below::SpaceId;
-use quic_recovery::congestion::ControllerFactory;
-use quic_recovery::queue::RetransmitQueue;
-use quic_recovery::time::Instant;
-use quic_recovery::{Answer, Event, Refusal};
 use rand_core::Rng;
+use recovery_base::below::SpaceId;
+use recovery_base::time::Instant;
+use recovery_congestion::congestion::ControllerFactory;
+use recovery_events::event::{Answer, Event, Refusal};
 use recovery_losses::Due;
+use recovery_queue::queue::RetransmitQueue;
 
 /// What a timeout results in.
 #[derive(Drop)]
@@ -165,7 +165,8 @@ where
 
     /// A probe timeout expired, which asks for so many probes in a space (RFC 9002, 6.2.1 and 6.2.4).
     fn time_out(&mut self, space: SpaceId, count: u8, now: Instant)
-        ensures { CompletesCall [] (timed_out space count now self.old.variables) self.old self.new }
+        ensures { CompletesCall [] (timed_out space count now self.old.variables) self.old
+            self.new }
     {
         self.is_timer_current = false;
         self.variables = self.variables.timed_out(space, count, now);

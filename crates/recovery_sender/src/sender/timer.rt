@@ -11,16 +11,16 @@ ghost use Rattle.recovery_sender.specs.Timer.{TimerIsSet, due_of, has_eliciting,
 ghost use Rattle.recovery_sender.specs.Steps.{told, timer_event, TakesSteps, CompletesCall};
 
 use super::Sender;
-use quic_recovery::below::SpaceId;
-use quic_recovery::congestion::ControllerFactory;
-use quic_recovery::paths::PathData;
-use quic_recovery::queue::RetransmitQueue;
-use quic_recovery::spaces::PacketSpace;
-use quic_recovery::time::{Duration, Instant};
-use quic_recovery::timer::Timer;
-use quic_recovery::{Answer, Event};
 use rand_core::Rng;
+use recovery_base::below::SpaceId;
+use recovery_base::time::{Duration, Instant};
+use recovery_base::timer::Timer;
+use recovery_congestion::congestion::ControllerFactory;
+use recovery_events::event::{Answer, Event};
 use recovery_losses::{Due, sooner};
+use recovery_paths::paths::PathData;
+use recovery_queue::queue::RetransmitQueue;
+use recovery_spaces::spaces::PacketSpace;
 
 /// Whether some packet tracked in a space elicits an ACK (RFC 9002, 2).
 fn has_eliciting<Q>(here: &PacketSpace<Q>) -> bool
@@ -187,9 +187,9 @@ where
         }
     }
 
-    /// Whether nothing may be probed for while a packet that ends the handshake waits: at a client that does not know its
-    /// address validated (RFC 9002, 6.2.2.1), and at both ends while packets of 1-RTT keys are in flight, which nobody
-    /// probes for before the handshake is confirmed.
+    /// Whether nothing may be probed for while a packet that ends the handshake waits: at a client that does not know
+    /// its address validated (RFC 9002, 6.2.2.1), and at both ends while packets of 1-RTT keys are in flight, which
+    /// nobody probes for before the handshake is confirmed.
     fn may_deadlock(&self) -> bool
         ensures { result ≡ may_deadlock (state_in self.now) self.now.variables }
     {

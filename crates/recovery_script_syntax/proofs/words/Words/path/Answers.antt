@@ -1,6 +1,6 @@
 use Rattle.std.proofs.Common.{ℕ, List, refl}
 use lib.Chars.{codes}
-use Rattle.recovery_events.specs.declared.event.PathName.TheVariants.{Current, Previous}
+use Rattle.recovery_paths.specs.declared.path_pair.PathName.TheVariants.{Current, Previous}
 use Rattle.recovery_script_syntax.specs.Reading.{path_of}
 use Rattle.recovery_script_syntax.proofs.NameLaws.{OfTwo, of_two}
 use Rattle.recovery_script_syntax.proofs.words.Words.path.Goals as goal

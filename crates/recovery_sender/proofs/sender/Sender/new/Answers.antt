@@ -11,8 +11,9 @@ returns-clause-begins g c = record {
     is_timer_current = false;
     timed = λ is. absurd cc;
   };
-  came = rw (c.config_of.ensures, c.before.ensures) at c.in_ok-recovery.ensures.came;
+  came = rw (c.config_of.ensures, c.nanosecond_before.ensures) at c.in_ok-recovery.ensures.came;
   marks = c.in_ok-recovery.ensures.marks;
   loss_times = c.in_ok-recovery.ensures.loss_times;
-  does = does_as _ _ _ _ _ refl (rw c.thresholds_of-thresholds.ensures at c.new-2.ensures) c.set_loss_detection_timer.ensures;
+  does = does_as _ _ _ _ _ refl (rw c.thresholds_of-thresholds.ensures at c.new-2.ensures)
+      c.set_loss_detection_timer.ensures;
 }

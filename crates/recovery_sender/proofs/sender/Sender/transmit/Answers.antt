@@ -7,14 +7,15 @@ use Rattle.recovery_sender.proofs.sender.Sender.transmit.Goals as goal
 
 pub returns-clause-reply : goal.returns-clause-reply
 returns-clause-reply g c =
-    transmit_answered g.F.Controller.Controller.words (state_in c.args.self.now) c.args.self.now.variables c.args.now c.args.bytes c.args.space
-    c.args.in_flight _ _ (sym c.is_checked.ensures ∙ c.in-Some.is)
+    transmit_answered g.F.Controller.Controller.words (state_in c.args.self.now) c.args.self.now.variables c.args.now
+    c.args.bytes c.args.space c.args.in_flight _ _ (sym c.is_checked.ensures ∙ c.in-Some.is)
     (rw c.path.ensures at c.has_room.ensures.0 c.if-not-has_room.false) c.transmit_where_it_may-sent.ensures.value
 
 pub returns-clause-window : goal.returns-clause-window
 returns-clause-window g c =
-    window_kept g.F.Controller.Controller.words (state_in c.args.self.now) c.args.self.now.variables c.args.now c.args.bytes c.args.space
-    c.args.in_flight _ _ (sym c.is_checked.ensures ∙ c.in-Some.is) c.transmit_where_it_may-sent.ensures.value
+    window_kept g.F.Controller.Controller.words (state_in c.args.self.now) c.args.self.now.variables c.args.now
+    c.args.bytes c.args.space c.args.in_flight _ _ (sym c.is_checked.ensures ∙ c.in-Some.is)
+    c.transmit_where_it_may-sent.ensures.value
 
 pub returns-clause-steps : goal.returns-clause-steps
 returns-clause-steps g c =

@@ -4,4 +4,4 @@ use Rattle.recovery_stack.proofs.handle.Handle.last_outcome.Goals as goal
 pub returns : goal.returns
 returns c =
     let stands = ap Some (sym c.deref.ensures) in
-    rw (c.in-Some.ensures.taken ∙ stands) (c.put.ensures ∙ stands, c.told-view.ensures)
+    rw (c.in-Some.ensures.taken ∙ stands) (c.put.ensures ∙ stands, c.last_outcome-view.ensures)

@@ -1,7 +1,7 @@
 use Rattle.std.proofs.Common.{◌≡◌, ◌++◌, take, string_bytes}
 use lib.Chars.{codes}
-use Rattle.recovery_reply_text.specs.Answers.{items_text}
-use Rattle.recovery_reply_text.proofs.answers.write_queue.Given as goal
+use Rattle.recovery_script_syntax.specs.Answers.{items_text}
+use Rattle.recovery_script_syntax.proofs.answers.write_queue.Given as goal
 
 abbrev pub invariant-loop-item : goal.invariant-loop-item
 invariant-loop-item l =

@@ -1,7 +1,5 @@
 //! The queue before a simulated link: packets go out at a rate, one behind another, and one that finds no room is
 //! dropped. It knows nothing of QUIC.
-#![tactic(auto)]
-
 ghost use Rattle.std.specs.Prelude.{◌≤◌, ◌<◌, ◌≡◌, IfOk, IfSome};
 
 use std::alloc::{AllocError, Global};

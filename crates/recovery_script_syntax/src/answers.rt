@@ -1,11 +1,11 @@
 //! What is written for each reply: one line.
 ghost use Rattle.std.specs.Prelude.{◌≡◌, ◌+◌, ◌<◌, ◌≤◌, ◌++◌, ◌∷◌, [], ℕ, List, OnOk, length, string_bytes, decimal};
-ghost use Rattle.recovery_reply_text.specs.Answers.{Writes, new_text, sent_text, done_with_text};
-ghost use Rattle.recovery_reply_text.specs.Answers.{retire_text, flag_text, timeout_text};
-ghost use Rattle.recovery_reply_text.specs.Answers.{in_flight_text, delayed_text, probe_text};
-ghost use Rattle.recovery_reply_text.specs.Answers.{black_hole_text, sendable_text, queue_text};
-ghost use Rattle.recovery_reply_text.specs.Answers.{refusal_text};
-ghost use Rattle.recovery_reply_text.specs.Answers.{answer_text};
+ghost use Rattle.recovery_script_syntax.specs.Answers.{Writes, new_text, sent_text, done_with_text};
+ghost use Rattle.recovery_script_syntax.specs.Answers.{retire_text, flag_text, timeout_text};
+ghost use Rattle.recovery_script_syntax.specs.Answers.{in_flight_text, delayed_text, probe_text};
+ghost use Rattle.recovery_script_syntax.specs.Answers.{black_hole_text, sendable_text, queue_text};
+ghost use Rattle.recovery_script_syntax.specs.Answers.{refusal_text};
+ghost use Rattle.recovery_script_syntax.specs.Answers.{answer_text};
 ghost use lib.Chars.{codes};
 
 use arrayvec::ArrayString;
