@@ -94,7 +94,8 @@ run_like IsLostNow IsEnd skipped period end wider run within is = record {
 -- ---- the next number is lost
 
 module _ (IsLostNow LostThen : ℕ → Type 0) (IsEnd EndThen : ℕ → ℕ → Type 0) (look : LossPass)
-    (end number : ℕ) (run : Run) (is : IsLossRun IsLostNow IsEnd look.skipped look.period end run) (above : end ≤ number) (lost : LostThen number)
+    (end number : ℕ) (run : Run) (is : IsLossRun IsLostNow IsEnd look.skipped look.period end run)
+    (above : end ≤ number) (lost : LostThen number)
     (still : (other : ℕ) → IsLostNow other → LostThen other)
     (was : (other : ℕ) → LostThen other → IsLostNow other ⊎ (number ≡ other))
     (to : (other sent : ℕ) → IsEnd other sent → EndThen other sent)
