@@ -55,6 +55,7 @@ where
         self.sending.begin(settings.ack_delay)?;
         self.send(0)?;
         let mut now = 0;
+        // Bounded, here and in `send`, as `MAX_CALLS` of recovery_replay has it: no measure shows that the loop ends.
         for _ in 0..u64::MAX {
             now = match self.next(now) {
                 Some(next) if next <= settings.until => next,

@@ -8,6 +8,10 @@ ghost use Rattle.recovery_script_syntax.specs.Words.{longest_line};
 use recovery_script_syntax::lines::LINE_LIMIT;
 use std::io::{ErrorKind, Read};
 
+/// Bounds the loops that call a reader or a writer. The check requires that every loop ends, and these have no measure:
+/// a reader may return bytes without end, and both may report interruptions without end. No run reaches this number.
+pub const MAX_CALLS: u64 = u64::MAX;
+
 /// How a line that was read ended.
 #[derive(Clone, Copy)]
 pub enum Next {
@@ -33,7 +37,7 @@ fn next_byte<R: Read>(input: &mut R) -> Result<Option<u8>, Unread>
         × Keeps (R.remaining input.old) (R.remaining input.new)) }
 {
     let mut byte = [0u8; 1];
-    for _ in 0..u64::MAX {
+    for _ in 0..MAX_CALLS {
         match input.read(&mut byte) {
             Ok(0) => return Ok(None),
             Ok(_) => return Ok(Some(byte[0])),
@@ -72,7 +76,7 @@ pub fn next_line<R: Read>(input: &mut R, line: &mut Vec<u8>) -> Result<Option<Ne
         (BreaksOff (R.remaining input.old) (R.remaining input.new)) }
 {
     line.clear();
-    for _ in 0..u64::MAX {
+    for _ in 0..MAX_CALLS {
         match next_byte(input) {
             Ok(None) if line.is_empty() => return Ok(None),
             Ok(None) => return Ok(Some(Next::Last)),

@@ -2,17 +2,17 @@
 ghost use Rattle.std.specs.Prelude.{◌≡◌, ℕ, Option, IfOk, OnOk, OnErr, MatchOption, string_bytes};
 ghost use Rattle.std.specs.Io.KnownBytes.{Appends};
 ghost use Rattle.recovery_replay.specs.Script.{ReaderParses};
-ghost use Rattle.recovery_replay.specs.Replay.{status_of, error_text, settings, skips_with};
+ghost use Rattle.recovery_replay.specs.Replay.{error_text, settings, skips_with};
 ghost use Rattle.recovery_replay.specs.Replay.{AreArguments, AreRead, IsSeed, IsWindow};
 ghost use Rattle.recovery_replay.specs.Replay.{RunsProgram, RunsOver, Session, ProgramOutcomeOnBytes, ProgramOutcome};
 ghost use Rattle.recovery_replay.specs.Replay.{TellsOutcome, EndsSo};
 
 use crate::fixed_window::FixedWindowConfig;
-use crate::script::{Ending, ScriptBytes, ScriptReader};
+use crate::outcome::Outcome;
+use crate::script::{ScriptBytes, ScriptReader};
 use crate::text::AnswerText;
 use crate::writing::deliver;
 use arrayvec::ArrayString;
-use itoa::Buffer;
 use quic_recovery::Recovery;
 use rand_core::SeedableRng;
 use rand_pcg::Pcg32;
@@ -29,69 +29,17 @@ use recovery_script_syntax::lines::peer_at;
 use recovery_script_syntax::words::number_in;
 use std::alloc::Global;
 use std::io;
-use std::io::{ErrorKind, Read, Write};
+use std::io::{Read, Write};
 use std::net::SocketAddr;
 
 /// The port of the peer's first address, which `peer_at` names.
 pub const FIRST_PORT: u16 = 4433;
 
-/// How the program ends.
-#[derive(Clone, Copy)]
-pub enum Outcome {
-    /// The answers were written, and the input ended so.
-    Ended(Ending),
-    /// A write of the answers failed; a beginning of them was written.
-    WriteFailed,
-    /// Nobody reads the answers any more (a closed pipe); a beginning of them was written.
-    Closed,
-    /// Memory was refused before anything was written.
-    OutOfMemory,
-    /// The arguments are wrong; nothing was read or written.
-    WrongArguments,
-}
+/// The program's name in its error texts.
+const NAME: &str = "replay";
 
-impl Outcome {
-    /// The exit status: 0 where all went well, 2 where the arguments or a line are wrong, 1 where reading, writing or
-    /// memory failed. That nobody reads on is no failure.
-    pub fn status(self) -> u8
-        ensures { result ≡ status_of self }
-    {
-        match self {
-            Outcome::Ended(Ending::Whole) | Outcome::Closed => 0,
-            Outcome::Ended(Ending::BadLine(_)) | Outcome::WrongArguments => 2,
-            Outcome::Ended(Ending::ReadFailed) | Outcome::WriteFailed | Outcome::OutOfMemory => 1,
-        }
-    }
-
-    /// What is wrong, with a line feed behind; empty where nothing is. It takes no memory.
-    pub fn text(self) -> ArrayString<64>
-        ensures { result.bytes ≡ error_text self }
-    {
-        let mut text = ArrayString::new();
-        match self {
-            Outcome::Ended(Ending::Whole) | Outcome::Closed => {}
-            Outcome::Ended(Ending::BadLine(number)) => {
-                text.push_str("line ");
-                text.push_str(Buffer::new().format(number));
-                text.push_str(": cannot be read\n");
-            }
-            Outcome::Ended(Ending::ReadFailed) => text.push_str("replay: read failed\n"),
-            Outcome::WriteFailed => text.push_str("replay: write failed\n"),
-            Outcome::OutOfMemory => text.push_str("replay: out of memory\n"),
-            Outcome::WrongArguments => text.push_str("usage: recovery-replay [SEED [WINDOW]]\n"),
-        }
-        text
-    }
-
-    /// Writes the text. After a failure a beginning of it was written.
-    pub fn report<E: Write>(self, errors: &mut E) -> io::Result<()>
-        ensures whole { OnOk result
-            (Appends (E.contents errors.old) (E.contents errors.new) (error_text self)) }
-        ensures front { TellsOutcome self (E.contents errors.old) (E.contents errors.new) }
-    {
-        deliver(errors, self.text().as_str().as_bytes())
-    }
-}
+/// How the program is called.
+const USAGE: &str = "usage: recovery-replay [SEED [WINDOW]]\n";
 
 /// What the arguments choose.
 #[derive(Clone, Copy)]
@@ -250,9 +198,24 @@ fn play<R: Read, W: Write>(
     };
     match deliver(output, text.as_bytes()) {
         Ok(()) => Outcome::Ended(ending),
-        Err(error) if error.kind() == ErrorKind::BrokenPipe => Outcome::Closed,
-        Err(_) => Outcome::WriteFailed,
+        Err(error) => Outcome::of_failed_write(error),
     }
+}
+
+/// Returns what the program writes to standard error, with a line feed at the end; empty on success.
+pub fn message(outcome: Outcome) -> ArrayString<96>
+    ensures { result.bytes ≡ error_text outcome }
+{
+    outcome.text(NAME, USAGE)
+}
+
+/// Writes what is wrong. After a failure a beginning of it was written.
+pub fn report<E: Write>(outcome: Outcome, errors: &mut E) -> io::Result<()>
+    ensures whole { OnOk result
+        (Appends (E.contents errors.old) (E.contents errors.new) (error_text outcome)) }
+    ensures front { TellsOutcome outcome (E.contents errors.old) (E.contents errors.new) }
+{
+    outcome.report(NAME, USAGE, errors)
 }
 
 /// Reads events, writes their answers and then what is wrong: how it ended, and whether that could be told.
@@ -273,7 +236,7 @@ pub fn replay_and_tell<R: Read, W: Write, E: Write>(
     ensures front { TellsOutcome result.0 (E.contents errors.old) (E.contents errors.new) }
 {
     let outcome = play(alloc, words, input, output);
-    (outcome, outcome.report(errors))
+    (outcome, report(outcome, errors))
 }
 
 /// Reads events, writes their answers and then what is wrong; gives the exit status.

@@ -36,7 +36,8 @@ module _ {F Q R C K S M P : Type 0} {f : _} {c : _} {q : _} {m : _} {r : _} (old
     -- 9002, 7; RFC 9000, 8.1)
     pub record TransmitCall (datagram : Datagram) (reply : Result Transmission SenderError) : Type 0 where
       pub is : reply
-          ≡ transmit_reply c.words (state_in old) old.variables datagram.now datagram.bytes datagram.space datagram.in_flight
+          ≡ transmit_reply c.words (state_in old) old.variables datagram.now datagram.bytes datagram.space
+              datagram.in_flight
       pub window : reply ≡ Ok Transmitted → datagram.in_flight ≡ true
           → is_probe_due old.variables datagram.space ≡ false
           → bytes_in_flight (state_in old) + datagram.bytes ≤ window_of c.words (state_in old)

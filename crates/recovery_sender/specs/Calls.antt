@@ -122,8 +122,8 @@ elicits_in event = None
 abbrev pub sent_in : {Q : Type 0} → Option SpaceId → Answer Q → Option SpaceId
 sent_in space answer = if goes_out answer then space else None
 
--- the variables after an event that is answered so: what counts in flight moves the base of the timer against a deadlock
--- (RFC 9002, 6.2.2.1), and an ack-eliciting packet takes one off the probes that are due in its space (6.2.4)
+-- the variables after an event that is answered so: what counts in flight moves the base of the timer against a
+-- deadlock (RFC 9002, 6.2.2.1), and an ack-eliciting packet takes one off the probes that are due in its space (6.2.4)
 abbrev pub after_event : {Q S M P : Type 0} → Event Q S M P → Answer Q → Variables → Variables
 after_event event answer variables =
     probed (sent_in (elicits_in event) answer) (based (sent_at (to_send event) answer) variables)
@@ -219,8 +219,8 @@ thresholds_in config = let transport = config.transport in
     thresholds_of transport.packet_threshold transport.time_threshold transport.persistent_congestion_threshold
 
 module _ {F Q R C K S M P : Type 0} {f : _} {c : _} {q : _} {m : _} {r : _} where
-  -- its recovery is made by these settings, a nanosecond earlier (RFC 9002, 7.3); nothing happened to it, and nothing is
-  -- kept of paths and of losses; then the timer is set
+  -- its recovery is made by these settings, a nanosecond earlier (RFC 9002, 7.3); nothing happened to it, and nothing
+  -- is kept of paths and of losses; then the timer is set
   pub record IsNewSender (side : Side) (config : RecoveryConfig F) (start : ℕ) (random : Stream)
       (new : Sender F Q R C K S M P f c q m r) : Type 0 where
     pub made : Sender F Q R C K S M P f c q m r

@@ -81,8 +81,8 @@ ended now reported (number ∷ numbers) = told (LossesDone now) (Ok (BlackHole r
 abbrev pub latest_start : ℕ
 latest_start = last_time - 1
 
--- congestion is reported, if a packet that counts was sent last at this time (RFC 9002, 7.3.2); if it is persistent, as of
--- a packet that was sent later than every recovery began: the window falls to its least (7.6.2)
+-- congestion is reported, if a packet that counts was sent last at this time (RFC 9002, 7.3.2); if it is persistent,
+-- as of a packet that was sent later than every recovery began: the window falls to its least (7.6.2)
 abbrev pub congested : {Q S M P : Type 0} → ℕ → Bool → ℕ → Option ℕ → List (SenderStep Q S M P)
 congested now persistent bytes None = []
 congested now persistent bytes (Some sent) =

@@ -75,8 +75,8 @@ module _ {K P M : Type 0} (recovery : RecoveryState K P M) (variables : Variable
   tracks_eliciting space =
       option_map_or (λ here. has_eliciting (packets_of here)) (space_in recovery space) false
 
-  -- a client may wait for a server that may not send (RFC 9002, 6.2.2.1); or, until the handshake is confirmed, packets of
-  -- 1-RTT keys fill the window that nobody probes for, while what the handshake needs waits
+  -- a client may wait for a server that may not send (RFC 9002, 6.2.2.1); or, until the handshake is confirmed, packets
+  -- of 1-RTT keys fill the window that nobody probes for, while what the handshake needs waits
   abbrev pub may_deadlock : Bool
   may_deadlock = not (is_address_validated variables)
       || (not variables.is_handshake_confirmed && tracks_eliciting Data)

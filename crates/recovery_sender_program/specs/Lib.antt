@@ -1,2 +1,2 @@
 pub mod Giving
-pub mod Outcomes
+pub mod Report

@@ -5,17 +5,19 @@
 mod answers;
 mod choice;
 mod lines;
-mod outcome;
 mod pages;
 mod play;
+mod report;
 
 use choice::{Choice, choice_of};
-use outcome::Outcome;
 use pages::{HELP, VERSION};
 use play::play;
 use recovery_replay::arguments::{ArgumentsError, arguments};
+use recovery_replay::outcome::Outcome;
+use recovery_replay::script::Ending;
+use report::report;
 use std::io;
-use std::io::{BufReader, ErrorKind};
+use std::io::BufReader;
 use std::process::ExitCode;
 
 /// The calls of standard input are answered.
@@ -29,9 +31,8 @@ fn played(rt: &HostRuntime, choice: Choice) -> Outcome {
 /// What a text that was asked for comes to.
 fn written(text: io::Result<()>) -> Outcome {
     match text {
-        Ok(()) => Outcome::Ended,
-        Err(error) if error.kind() == ErrorKind::BrokenPipe => Outcome::Closed,
-        Err(_) => Outcome::WriteFailed,
+        Ok(()) => Outcome::Ended(Ending::Whole),
+        Err(error) => Outcome::of_failed_write(error),
     }
 }
 
@@ -58,6 +59,6 @@ fn carried_out(rt: &HostRuntime) -> Outcome {
 
 fn main(rt: HostRuntime) -> ExitCode {
     let outcome = carried_out(&rt);
-    let _told = eprint!(rt; "{}", outcome.text());
+    let _told = report(outcome, &mut rt.stderr());
     ExitCode::from(outcome.status())
 }

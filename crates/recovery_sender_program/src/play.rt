@@ -4,7 +4,6 @@ ghost use Rattle.recovery_sender_program.specs.Giving.{YieldsItems};
 use crate::answers::write_said;
 use crate::choice::{Choice, Settings, Window};
 use crate::lines::call_in;
-use crate::outcome::Outcome;
 use rand_core::SeedableRng;
 use rand_pcg::Pcg32;
 use recovery_base::below::NoMemory;
@@ -14,13 +13,15 @@ use recovery_congestion::congestion::{ControllerFactory, NewRenoConfig};
 use recovery_cubic::CubicConfig;
 use recovery_events::feeding::{Sink, Source};
 use recovery_queue::items::ItemQueue;
+use recovery_replay::outcome::Outcome;
 use recovery_replay::reading::{Next, next_line};
 use recovery_replay::replay::{FIRST_PORT, config, skips};
+use recovery_replay::script::Ending;
 use recovery_replay::writing::deliver;
 use recovery_script_syntax::lines::peer_at;
 use recovery_sender::{Call, CallRecord, Sender, run_over};
 use std::alloc::Global;
-use std::io::{ErrorKind, Read, Write};
+use std::io::{Read, Write};
 
 /// The lines of an input as calls, up to the first that is none.
 #[derive(Drop)]
@@ -51,20 +52,20 @@ fn give_all<R: Read, S: Sink<Call<ItemQueue>>>(
     for number in 1..u64::MAX {
         let next = match next_line(input, &mut line) {
             Ok(Some(next)) => next,
-            Ok(None) => return Outcome::Ended,
+            Ok(None) => return Outcome::Ended(Ending::Whole),
             Err(unread) => return Outcome::from(unread),
         };
         let goes_on = match call_in(alloc, &line) {
             Ok(Some(call)) => sink.put(call),
-            Ok(None) => return Outcome::BadLine(number),
+            Ok(None) => return Outcome::Ended(Ending::BadLine(number)),
             Err(_) => return Outcome::OutOfMemory,
         };
         match next {
             Next::Line if goes_on => {}
-            _ => return Outcome::Ended,
+            _ => return Outcome::Ended(Ending::Whole),
         }
     }
-    Outcome::ReadFailed
+    Outcome::Ended(Ending::ReadFailed)
 }
 
 /// The answers to calls, each written as it comes.
@@ -85,8 +86,7 @@ impl<'a, W: Write> Answers<'a, W> {
         }
         match deliver(self.output, self.text.as_bytes()) {
             Ok(()) => Ok(()),
-            Err(error) if error.kind() == ErrorKind::BrokenPipe => Err(Outcome::Closed),
-            Err(_) => Err(Outcome::WriteFailed),
+            Err(error) => Err(Outcome::of_failed_write(error)),
         }
     }
 }
@@ -137,7 +137,7 @@ where
     let mut calls = Lines {
         alloc,
         input,
-        outcome: Outcome::Ended,
+        outcome: Outcome::Ended(Ending::Whole),
     };
     let answers = Answers {
         alloc,

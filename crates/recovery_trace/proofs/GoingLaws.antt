@@ -15,14 +15,15 @@ use Rattle.recovery_replay.specs.declared.reading.Unread.TheVariants as reasons
 use Rattle.recovery_replay.specs.Reading.{BreaksOff, IsLine, TruncatedLine}
 use Rattle.recovery_replay.specs.Script.{lines_of}
 use Rattle.recovery_replay.proofs.ScriptLaws.{line_then}
-use Rattle.recovery_trace.specs.declared.outcome.Outcome.{Outcome}
-use Rattle.recovery_trace.specs.declared.outcome.Outcome.TheVariants.{Ended, BadLine, ReadFailed, OutOfMemory}
+use Rattle.recovery_replay.specs.declared.outcome.Outcome.{Outcome}
+use Rattle.recovery_replay.specs.declared.outcome.Outcome.TheVariants.{Ended, OutOfMemory}
+use Rattle.recovery_replay.specs.declared.script.Ending.TheVariants.{Whole, BadLine, ReadFailed}
 use Rattle.recovery_trace.specs.declared.requests.Choice.{Choice}
 use Rattle.recovery_trace.specs.declared.turn.Turn.TheVariants.{Done, Bad, Over}
-use Rattle.recovery_trace.specs.Outcomes.{outcome_of}
+use Rattle.recovery_replay.specs.Outcomes.{outcome_of}
 use Rattle.recovery_trace.specs.Trace.{ItemBeginning, Streams, origin, streams_of, TracesInput, TracesFrom}
 use Rattle.recovery_trace.specs.Turns.{ItemParts, LineOutcome}
-use Rattle.recovery_trace.proofs.TraceLaws.{Made, SoFar, Taken, also_taken, bad_line, bad_one, done_fine, ends_bad, ends_cut, ends_so, fine_more, nothing_taken, one_line, takes_last, takes_whole, taken_more, turn_bad, turn_done, turn_over}
+use Rattle.recovery_trace.proofs.TraceLaws.{Made, SoFar, Taken, also_taken, bad_line, done_fine, ends_bad, ends_cut, ends_so, fine_more, nothing_taken, one_line, takes_last, takes_whole, taken_more, turn_bad, turn_done, turn_over}
 
 -- what was read and done so far, and how the trace would end here
 pub record GoingBy {F K : Type 0} (beginning : ItemBeginning F K) (choice : Choice) (streams : Streams)
@@ -78,7 +79,7 @@ module _ {F R C K : Type 0} {f : _} {c : _} {q : _} {m : _} {r : _} (choice : Ch
       → GoingBy (origin first config start random) choice streams (state_of recovery) time outcome number
 
   pub begun : (unread before unsaid : Option (List ℕ))
-      → Going (streams_of unread unread before before unsaid unsaid) first 0 Ended 1
+      → Going (streams_of unread unread before before unsaid unsaid) first 0 (Ended Whole) 1
   begun unread before unsaid config start random came = record {
     lines = [];
     taken = nothing_taken unread unread (Consumes-nil unread);
@@ -144,7 +145,7 @@ module _ {F R C K : Type 0} {f : _} {c : _} {q : _} {m : _} {r : _} (choice : Ch
 
       pub one_bad : next ≡ Line → choice.is_strict ≡ false
           → LineOutcome choice.shows kept number old new earlier later mid after now_said said Bad
-          → Going (streams_of unread left before after unsaid said) new later BadLine (number + 1)
+          → Going (streams_of unread left before after unsaid said) new later (Ended (BadLine number)) (number + 1)
       one_bad is lax turn config start random came =
           let g = going config start random came in
           let read = rw is at is_line in record {
@@ -153,9 +154,11 @@ module _ {F R C K : Type 0} {f : _} {c : _} {q : _} {m : _} {r : _} (choice : Ch
             made = turn_bad config start random choice old new earlier later before mid after unsaid now_said said
                 g.lines read.0 kept number g.made g.counted read.1 turn;
             so_far = (
-              bad_one (origin first config start random) choice read.0 g.lines
-                  (bad_line config start random choice old new earlier later before mid after unsaid now_said said
-                  g.lines read.0 kept number g.made g.counted read.1 turn),
+              inl (
+                bad_line config start random choice old new earlier later before mid after unsaid now_said said
+                    g.lines read.0 kept number g.made g.counted read.1 turn,
+                g.counted,
+              ),
               lax,
             );
             counted = omega (arith, g.counted);
@@ -180,7 +183,8 @@ module _ {F R C K : Type 0} {f : _} {c : _} {q : _} {m : _} {r : _} (choice : Ch
 
       pub last_bad : next ≡ Last → choice.is_strict ≡ false
           → LineOutcome choice.shows kept number old new earlier later mid after now_said said Bad
-          → TracesFrom first choice (streams_of unread left before after unsaid said) BadLine
+          → TracesFrom first choice (streams_of unread left before after unsaid said)
+          (Ended (BadLine number))
       last_bad is lax turn config start random came =
           let g = going config start random came in
           let read = rw is at is_line in
@@ -188,10 +192,12 @@ module _ {F R C K : Type 0} {f : _} {c : _} {q : _} {m : _} {r : _} (choice : Ch
           (one.line ∷ g.lines)
           (turn_bad config start random choice old new earlier later before mid after unsaid now_said said g.lines
           one.line kept number g.made g.counted one.is_kept turn)
-          BadLine (
-            bad_one (origin first config start random) choice one.line g.lines
-                (bad_line config start random choice old new earlier later before mid after unsaid now_said said g.lines
-                one.line kept number g.made g.counted one.is_kept turn),
+          (Ended (BadLine number)) (
+            inl (
+              bad_line config start random choice old new earlier later before mid after unsaid now_said said g.lines
+                  one.line kept number g.made g.counted one.is_kept turn,
+              g.counted,
+            ),
             lax,
           )
           (one.takes unread g.lines g.taken) read.4
@@ -199,7 +205,8 @@ module _ {F R C K : Type 0} {f : _} {c : _} {q : _} {m : _} {r : _} (choice : Ch
       -- a line that ends the trace
       pub strict_bad : choice.is_strict ≡ true
           → LineOutcome choice.shows kept number old new earlier later mid after now_said said Bad
-          → TracesFrom first choice (streams_of unread left before after unsaid said) BadLine
+          → TracesFrom first choice (streams_of unread left before after unsaid said)
+          (Ended (BadLine number))
       strict_bad strict turn config start random came =
           let g = going config start random came in
           ends_bad (origin first config start random) choice unread left before after unsaid said (state_of new) later
@@ -209,7 +216,7 @@ module _ {F R C K : Type 0} {f : _} {c : _} {q : _} {m : _} {r : _} (choice : Ch
           outcome g.so_far strict
           (bad_line config start random choice old new earlier later before mid after unsaid now_said said g.lines
           one.line kept number g.made g.counted one.is_kept turn)
-          (one.takes unread g.lines g.taken)
+          number g.counted (one.takes unread g.lines g.taken)
 
       pub over : (ends : Outcome)
           → LineOutcome choice.shows kept number old new earlier later mid after now_said said (Over ends)
@@ -222,7 +229,8 @@ module _ {F R C K : Type 0} {f : _} {c : _} {q : _} {m : _} {r : _} (choice : Ch
           (one.more, one.few, also_taken unread now left g.lines g.taken one.more one.consumed)
 
     -- so many lines that none more is counted
-    pub too_many : TracesFrom first choice (streams_of unread now before mid unsaid now_said) ReadFailed
+    pub too_many : TracesFrom first choice (streams_of unread now before mid unsaid now_said)
+        (Ended ReadFailed)
     too_many config start random came =
         let g = going config start random came in
         ends_cut (origin first config start random) choice unread now before mid unsaid now_said (state_of old) earlier

@@ -1,6 +1,6 @@
 -- One line more of a trace, and its ends: `run` rests on it.
 use Rattle.std.proofs.Common.{◌≡◌, ℕ, suc, ◌+◌, ◌<◌, ◌≤◌, max, inl, inr, true, false, List, [], ◌∷◌, ◌++◌, length, reverse, take, All, Option, refl, sym, ap, subst, true≢false, ◌∙◌, arith, append-nil, append_assoc}
-use Rattle.std.specs.List.{Any, flat_map}
+use Rattle.std.specs.List.{flat_map}
 use Rattle.std.proofs.lemmas.List.{reverse-append}
 use Rattle.std.proofs.lemmas.List.Concat.{flat_map-append}
 use Rattle.std.proofs.lemmas.List.Elements.{All-nil, All-append, All-cons, All-tail}
@@ -19,17 +19,18 @@ use Rattle.recovery_replay.specs.Script.{NoFeed, ended, lines_of}
 use Rattle.recovery_replay.specs.Writing.{AppendsFront}
 use Rattle.recovery_replay.proofs.ReadingLaws.{kept_spells}
 use Rattle.recovery_replay.proofs.ScriptLaws.{last_line, line_then}
-use Rattle.recovery_trace.specs.declared.outcome.Outcome.{Outcome}
-use Rattle.recovery_trace.specs.declared.outcome.Outcome.TheVariants.{Ended, BadLine, WriteFailed, Closed, OutOfMemory}
+use Rattle.recovery_replay.specs.declared.outcome.Outcome.{Outcome}
+use Rattle.recovery_replay.specs.declared.outcome.Outcome.TheVariants.{Ended, WriteFailed, Closed, OutOfMemory}
+use Rattle.recovery_replay.specs.declared.script.Ending.TheVariants.{Whole, BadLine}
 use Rattle.recovery_trace.specs.declared.requests.Choice.{Choice}
 use Rattle.recovery_trace.specs.declared.turn.Turn.TheVariants.{Done, Bad, Over}
-use Rattle.recovery_trace.specs.Outcomes.{outcome_of}
+use Rattle.recovery_replay.specs.Outcomes.{outcome_of}
 use Rattle.recovery_trace.specs.EventTimes.{moment_of}
 use Rattle.recovery_trace.specs.Qlog.{note_of}
 use Rattle.recovery_trace.specs.FaultReports.{ReportsFault}
 use Rattle.recovery_trace.specs.Turns.{AppliesLineEvent, IsUnreadableLine, IsFine, IsSilent, ItemParts, IsSkippedLine, LineOutcome, turn_text}
 use Rattle.recovery_trace.proofs.KeptLaws.{kept_passes, kept_silent, kept_speaks, kept_tells}
-use Rattle.recovery_trace.specs.Trace.{WroteAll, AreParseableLines, EndsBad, WrotePrefix, ItemBeginning, ItemHistory, SpelledBy, Streams, origin, streams_of, ConsumesLines, TakesAlso, TraceGuarantees, TracesInput, time_of}
+use Rattle.recovery_trace.specs.Trace.{WroteAll, AreParseableLines, EndsBad, LastUnreadable, WrotePrefix, ItemBeginning, ItemHistory, SpelledBy, Streams, origin, streams_of, ConsumesLines, TakesAlso, TraceGuarantees, TracesInput, time_of}
 
 -- ---- bytes and lines
 
@@ -103,8 +104,8 @@ module _ (unread now left : Option (List ℕ)) (lines : List (List ℕ)) (t : Ta
 module _ {F K : Type 0} (beginning : ItemBeginning F K) (choice : Choice) where
   -- how the trace would end if it ended here
   abbrev pub SoFar : Outcome → List (List ℕ) → Type 0
-  SoFar Ended lines = All IsFine lines
-  SoFar BadLine lines = Any IsUnreadableLine lines × (choice.is_strict ≡ false)
+  SoFar (Ended Whole) lines = All IsFine lines
+  SoFar (Ended (BadLine number)) lines = LastUnreadable number lines × (choice.is_strict ≡ false)
   SoFar outcome lines = ⊥
 
   -- what these lines came to, and the recovery and the time by then
@@ -120,17 +121,13 @@ module _ {F K : Type 0} (beginning : ItemBeginning F K) (choice : Choice) where
 
   pub fine_more : (outcome : Outcome) (line : List ℕ) (lines : List (List ℕ)) → IsFine line → SoFar outcome lines
       → SoFar outcome (line ∷ lines)
-  fine_more Ended line lines fine so_far = All-cons IsFine line lines fine so_far
-  fine_more BadLine line lines fine so_far =
-      let bad = so_far.0 in ((suc bad.0, bad.1, omega (arith, bad.2), bad.3, bad.4), so_far.1)
+  fine_more (Ended Whole) line lines fine so_far = All-cons IsFine line lines fine so_far
+  fine_more (Ended (BadLine number)) line lines fine so_far = (inr (fine, so_far.0), so_far.1)
   fine_more outcome line lines fine so_far = absurd so_far
 
-  pub bad_one : (line : List ℕ) (lines : List (List ℕ)) → IsUnreadableLine line → Any IsUnreadableLine (line ∷ lines)
-  bad_one line lines bad = (0, line, omega arith, refl, bad)
-
   pub allowed : (outcome : Outcome) (lines : List (List ℕ)) → SoFar outcome lines → AreParseableLines choice lines
-  allowed Ended lines so_far strict = so_far
-  allowed BadLine lines so_far strict = absurd (true≢false (sym strict ∙ so_far.1))
+  allowed (Ended Whole) lines so_far strict = so_far
+  allowed (Ended (BadLine number)) lines so_far strict = absurd (true≢false (sym strict ∙ so_far.1))
   allowed outcome lines so_far strict = absurd so_far
 
   passes_more : (line : List ℕ) (lines : List (List ℕ)) (past : ItemHistory) → IsSkippedLine line → SpelledBy lines past
@@ -335,9 +332,9 @@ module _ {F K : Type 0} (beginning : ItemBeginning F K) (choice : Choice)
   -- the input is over
   pub ends_so : (outcome : Outcome) → SoFar beginning choice outcome lines → ConsumesLines ends lines → IsAtEnd left
       → TracesInput beginning choice ends outcome
-  ends_so Ended so_far takes over = (lines, takes, over, so_far, all_out)
-  ends_so BadLine so_far takes over =
-      (lines, takes, subst (λ s. EndsBad s ends lines) (sym so_far.1) (so_far.0, over), all_out)
+  ends_so (Ended Whole) so_far takes over = (lines, takes, over, so_far, all_out)
+  ends_so (Ended (BadLine number)) so_far takes over =
+      (lines, takes, subst (λ s. EndsBad s number ends lines) (sym so_far.1) (so_far.0, over), all_out)
   ends_so outcome so_far takes over = absurd so_far
 
   -- a read fails, or memory is refused, on the way to the end of a line
@@ -362,13 +359,14 @@ module _ {F K : Type 0} (beginning : ItemBeginning F K) (choice : Choice)
     (made : Made beginning choice before after unsaid said recovery time (line ∷ lines)) where
   -- a line that cannot be read ends a strict trace
   pub ends_bad : (so_far : Outcome) → SoFar beginning choice so_far lines → choice.is_strict ≡ true
-      → IsUnreadableLine line
+      → IsUnreadableLine line → (number : ℕ) → number ≡ length lines + 1
       → ConsumesLines (streams_of unread left before after unsaid said) (line ∷ lines)
-      → TracesInput beginning choice (streams_of unread left before after unsaid said) BadLine
-  ends_bad so_far is_so_far strict bad takes = (
+      → TracesInput beginning choice (streams_of unread left before after unsaid said)
+      (Ended (BadLine number))
+  ends_bad so_far is_so_far strict bad number counted takes = (
     line ∷ lines,
     takes,
-    subst (λ s. EndsBad s (streams_of unread left before after unsaid said) (line ∷ lines)) (sym strict)
-        (bad, allowed beginning choice so_far lines is_so_far strict),
+    subst (λ s. EndsBad s number (streams_of unread left before after unsaid said) (line ∷ lines)) (sym strict)
+        (bad, counted, allowed beginning choice so_far lines is_so_far strict),
     (made.text, made.told, made.traced, made.out, made.is_said),
   )

@@ -3,10 +3,10 @@ use Rattle.std.proofs.Common.{ℕ, inl, inr, List, Option, sym, subst}
 use Rattle.std.specs.Io.KnownBytes.{Keeps}
 use Rattle.quic_recovery.specs.declared.driver.Recovery.{Recovery}
 use Rattle.recovery_replay.specs.Writing.{AppendsFront}
-use Rattle.recovery_trace.specs.declared.outcome.Outcome.{Outcome}
+use Rattle.recovery_replay.specs.declared.outcome.Outcome.{Outcome}
 use Rattle.recovery_trace.specs.declared.requests.Shown.{Shown}
 use Rattle.recovery_trace.specs.declared.turn.Turn.TheVariants.{Over}
-use Rattle.recovery_trace.specs.Outcomes.{IsBroken}
+use Rattle.recovery_replay.specs.Outcomes.{IsBroken}
 use Rattle.recovery_trace.specs.Turns.{AppliesLineEvent, LineOutcome}
 
 module _ {F R C K : Type 0} {f : _} {c : _} {q : _} {m : _} {r : _} (shows : Shown) (line : List ℕ) (number : ℕ)

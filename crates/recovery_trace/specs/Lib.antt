@@ -1,7 +1,7 @@
 pub mod Faults
 pub mod EventTimes
-pub mod Outcomes
 pub mod Qlog
+pub mod Report
 pub mod States
 pub mod FaultReports
 pub mod Trace

@@ -1,6 +1,6 @@
 -- What a trace makes of its input.
 use Rattle.std.specs.Prelude.{◌≡◌, ℕ, ◌+◌, ◌≤◌, max, ◌⊎◌, Bool, true, false, List, [], ◌∷◌, ◌++◌, length, reverse, take, All, Option}
-use Rattle.std.specs.List.{Any, flat_map}
+use Rattle.std.specs.List.{flat_map}
 use Rattle.std.specs.declared.net.socket_addr.SocketAddr.{SocketAddr}
 use Rattle.std.specs.Io.KnownBytes.{Appends, Consumes, IsAtEnd}
 use Rattle.rand_core.specs.Stream.{Stream}
@@ -19,15 +19,16 @@ use Rattle.recovery_replay.specs.FixedWindow.{fixed_made, fixed_words}
 use Rattle.recovery_replay.specs.Replay.{begun_over, first_port}
 use Rattle.recovery_replay.specs.Script.{NoFeed, ended, lines_of}
 use Rattle.recovery_replay.specs.Writing.{AppendsFront}
-use Rattle.recovery_trace.specs.declared.outcome.Outcome.{Outcome}
-use Rattle.recovery_trace.specs.declared.outcome.Outcome.TheVariants.{Ended, BadLine, ReadFailed, WriteFailed, Closed, OutOfMemory, WrongArguments}
+use Rattle.recovery_replay.specs.declared.outcome.Outcome.{Outcome}
+use Rattle.recovery_replay.specs.declared.outcome.Outcome.TheVariants.{Ended, WriteFailed, Closed, OutOfMemory, WrongArguments}
+use Rattle.recovery_replay.specs.declared.script.Ending.TheVariants.{Whole, BadLine, ReadFailed}
 use Rattle.recovery_trace.specs.declared.requests.Choice.{Choice}
 use Rattle.recovery_trace.specs.declared.requests.Shown.{Shown}
 use Rattle.recovery_trace.specs.declared.requests.Shown.TheVariants.{Qlog}
 use Rattle.recovery_trace.specs.declared.requests.Controllers.{Controllers}
 use Rattle.recovery_trace.specs.declared.requests.Controllers.TheVariants.{NewReno, Cubic, Fixed}
 use Rattle.recovery_trace.specs.EventTimes.{moment_of}
-use Rattle.recovery_trace.specs.Outcomes.{IsBroken}
+use Rattle.recovery_replay.specs.Outcomes.{IsBroken}
 use Rattle.recovery_trace.specs.Qlog.{header_text, note_of}
 use Rattle.recovery_trace.specs.FaultReports.{ReportsFault}
 use Rattle.recovery_trace.specs.Turns.{IsUnreadableLine, IsFine, ItemParts, IsSkippedLine, turn_text}
@@ -109,11 +110,18 @@ TakesAlso streams lines more =
 abbrev pub AreParseableLines : Choice → List (List ℕ) → Type 0
 AreParseableLines choice lines = choice.is_strict ≡ true → All IsFine lines
 
+-- the last of the lines that cannot be read has this number
+abbrev pub LastUnreadable : ℕ → List (List ℕ) → Type 0
+LastUnreadable number [] = ⊥
+LastUnreadable number (line ∷ lines) =
+    (IsUnreadableLine line × (number ≡ length lines + 1)) ⊎ (IsFine line × LastUnreadable number lines)
+
 -- the last line cannot be read, and those before can; or the input is over, and some line cannot be read
-abbrev pub EndsBad : Bool → Streams → List (List ℕ) → Type 0
-EndsBad true streams [] = ⊥
-EndsBad true streams (line ∷ lines) = IsUnreadableLine line × All IsFine lines
-EndsBad false streams lines = Any IsUnreadableLine lines × IsAtEnd streams.left
+abbrev pub EndsBad : Bool → ℕ → Streams → List (List ℕ) → Type 0
+EndsBad true number streams [] = ⊥
+EndsBad true number streams (line ∷ lines) =
+    IsUnreadableLine line × (number ≡ length lines + 1) × All IsFine lines
+EndsBad false number streams lines = LastUnreadable number lines × IsAtEnd streams.left
 
 module _ {F K : Type 0} (beginning : ItemBeginning F K) (choice : Choice) (streams : Streams) where
   -- all of it was written and told
@@ -131,11 +139,12 @@ module _ {F K : Type 0} (beginning : ItemBeginning F K) (choice : Choice) (strea
   -- These lines were read, and all that they spell is out where the input is over or a read fails: of a line that this
   -- cuts off nothing is. A write that breaks off is the last; where memory is refused, at most one line more was taken.
   abbrev pub TracesInput : Outcome → Type 0
-  TracesInput Ended =
+  TracesInput (Ended Whole) =
       (lines : List (List ℕ)) × ConsumesLines streams lines × IsAtEnd streams.left × All IsFine lines × WroteAll lines
-  TracesInput BadLine =
-      (lines : List (List ℕ)) × ConsumesLines streams lines × EndsBad choice.is_strict streams lines × WroteAll lines
-  TracesInput ReadFailed =
+  TracesInput (Ended (BadLine number)) =
+      (lines : List (List ℕ)) × ConsumesLines streams lines × EndsBad choice.is_strict number streams lines
+      × WroteAll lines
+  TracesInput (Ended ReadFailed) =
       (lines : List (List ℕ)) × ((cut : List ℕ) × NoFeed cut × TakesAlso streams lines cut)
       × AreParseableLines choice lines × WroteAll lines
   TracesInput WriteFailed = (lines : List (List ℕ)) × ConsumesLines streams lines × AreParseableLines choice lines

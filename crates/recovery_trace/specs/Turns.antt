@@ -9,7 +9,7 @@ use Rattle.quic_recovery.specs.State.{state_of}
 use Rattle.recovery_script_syntax.specs.Answers.{ScriptReply, answer_line}
 use Rattle.recovery_script_syntax.specs.Lines.{ItemEvent, EncodesEvent}
 use Rattle.recovery_replay.specs.Writing.{AppendsFront}
-use Rattle.recovery_trace.specs.declared.outcome.Outcome.TheVariants.{WriteFailed, Closed, OutOfMemory}
+use Rattle.recovery_replay.specs.declared.outcome.Outcome.TheVariants.{WriteFailed, Closed, OutOfMemory}
 use Rattle.recovery_trace.specs.declared.qlog.Note.{Note}
 use Rattle.recovery_trace.specs.declared.requests.Shown.{Shown}
 use Rattle.recovery_trace.specs.declared.requests.Shown.TheVariants as shown

@@ -4,19 +4,21 @@
 
 mod faults;
 mod moments;
-mod outcome;
 mod qlog;
+mod report;
 mod requests;
 mod states;
 mod telling;
 mod trace;
 mod turn;
 
-use outcome::Outcome;
 use recovery_replay::arguments::{ArgumentsError, arguments};
+use recovery_replay::outcome::Outcome;
+use recovery_replay::script::Ending;
+use report::report;
 use requests::{Choice, HELP, Request, USAGE, VERSION, request_of};
 use std::io;
-use std::io::{BufReader, ErrorKind};
+use std::io::BufReader;
 use std::process::ExitCode;
 use trace::trace;
 
@@ -37,9 +39,8 @@ fn traced(rt: &HostRuntime, choice: Choice) -> Outcome {
 /// What a text that was asked for comes to.
 fn written(text: io::Result<()>) -> Outcome {
     match text {
-        Ok(()) => Outcome::Ended,
-        Err(error) if error.kind() == ErrorKind::BrokenPipe => Outcome::Closed,
-        Err(_) => Outcome::WriteFailed,
+        Ok(()) => Outcome::Ended(Ending::Whole),
+        Err(error) => Outcome::of_failed_write(error),
     }
 }
 
@@ -59,6 +60,6 @@ fn carried_out(rt: &HostRuntime) -> Outcome {
 
 fn main(rt: HostRuntime) -> ExitCode {
     let outcome = carried_out(&rt);
-    let _told = eprint!(rt; "{}", outcome.text());
+    let _told = report(outcome, &mut rt.stderr());
     ExitCode::from(outcome.status())
 }

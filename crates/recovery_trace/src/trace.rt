@@ -1,7 +1,6 @@
 //! A trace: each line is read, its event done and its answer written before the next line is read.
 ghost use Rattle.recovery_trace.specs.Trace.{streams_of, TracesAs, TracesBehind, TracesBy, TracesFrom, TracesOver};
 
-use crate::outcome::Outcome;
 use crate::qlog::HEADER;
 use crate::requests::{Choice, Controllers, Shown};
 use crate::turn::{Turn, take_turn, write_out};
@@ -12,8 +11,10 @@ use recovery_base::time::Instant;
 use recovery_congestion::congestion::{ControllerFactory, NewRenoConfig};
 use recovery_cubic::CubicConfig;
 use recovery_queue::items::ItemQueue;
+use recovery_replay::outcome::Outcome;
 use recovery_replay::reading::{Next, next_line};
 use recovery_replay::replay::{FIRST_PORT, config, skips};
+use recovery_replay::script::Ending;
 use recovery_script_syntax::lines::peer_at;
 use std::alloc::Global;
 use std::io::{Read, Write};
@@ -41,7 +42,7 @@ where
     let mut line = Vec::new(alloc);
     let mut text = String::new(alloc);
     let mut time = 0;
-    let mut ended = Outcome::Ended;
+    let mut ended = Outcome::Ended(Ending::Whole);
     for number in 1..u64::MAX {
         let next = match next_line(input, &mut line) {
             Ok(Some(next)) => next,
@@ -60,15 +61,15 @@ where
             errors,
         ) {
             Turn::Done => {}
-            Turn::Bad if choice.is_strict => return Outcome::BadLine,
-            Turn::Bad => ended = Outcome::BadLine,
+            Turn::Bad if choice.is_strict => return Outcome::Ended(Ending::BadLine(number)),
+            Turn::Bad => ended = Outcome::Ended(Ending::BadLine(number)),
             Turn::Over(outcome) => return outcome,
         }
         if let Next::Last = next {
             return ended;
         }
     }
-    Outcome::ReadFailed
+    Outcome::Ended(Ending::ReadFailed)
 }
 
 /// A trace over these controllers.

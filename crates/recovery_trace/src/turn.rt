@@ -2,12 +2,11 @@
 ghost use Rattle.std.specs.Prelude.{◌≡◌, ◌⊎◌, ◌++◌, IfErr, IfOk, OnOk, string_bytes, MatchBool};
 ghost use Rattle.std.specs.Io.KnownBytes.{Appends};
 ghost use Rattle.quic_recovery.specs.State.{state_of};
+ghost use Rattle.recovery_replay.specs.Outcomes.{IsBroken};
 ghost use Rattle.recovery_replay.specs.Writing.{AppendsFront};
-ghost use Rattle.recovery_trace.specs.Outcomes.{IsBroken};
 ghost use Rattle.recovery_trace.specs.Turns.{TurnOutcome, IsSilent, LineOutcome, turn_text};
 
 use crate::moments::moment_of;
-use crate::outcome::Outcome;
 use crate::qlog::{Note, note_of, write_metrics, write_note};
 use crate::requests::Shown;
 use crate::states::write_state;
@@ -18,11 +17,12 @@ use recovery_base::below::NoMemory;
 use recovery_congestion::congestion::ControllerFactory;
 use recovery_events::event::{Answer, Refusal};
 use recovery_queue::items::ItemQueue;
+use recovery_replay::outcome::Outcome;
 use recovery_replay::writing::deliver;
 use recovery_script_syntax::answers::write_reply;
 use recovery_script_syntax::lines::push_event;
 use std::alloc::{AllocError, Global};
-use std::io::{ErrorKind, Write};
+use std::io::Write;
 
 /// What a line came to.
 #[derive(Clone, Copy)]
@@ -112,8 +112,7 @@ pub fn write_out<W: Write>(output: &mut W, text: &str) -> Result<(), Outcome>
 {
     match deliver(output, text.as_bytes()) {
         Ok(()) => Ok(()),
-        Err(error) if error.kind() == ErrorKind::BrokenPipe => Err(Outcome::Closed),
-        Err(_) => Err(Outcome::WriteFailed),
+        Err(error) => Err(Outcome::of_failed_write(error)),
     }
 }
 

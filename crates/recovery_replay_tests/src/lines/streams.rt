@@ -1,6 +1,7 @@
 //! Readers and writers that stop, fail or give and take little at a time.
 use super::{Run, assert_end, assert_read, holds};
-use recovery_replay::replay::{Outcome, replay_and_tell};
+use recovery_replay::outcome::Outcome;
+use recovery_replay::replay::replay_and_tell;
 use recovery_replay::script::Ending;
 use std::alloc::Global;
 use std::io;

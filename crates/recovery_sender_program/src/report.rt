@@ -1,0 +1,23 @@
+//! What is written to standard error when the program ends.
+ghost use Rattle.std.specs.Prelude.{OnOk};
+ghost use Rattle.std.specs.Io.KnownBytes.{Appends};
+ghost use Rattle.recovery_sender_program.specs.Report.{error_text};
+
+use recovery_replay::outcome::Outcome;
+use std::io;
+use std::io::Write;
+
+/// The program's name in its error texts.
+const NAME: &str = "sender";
+
+/// How the program is called.
+const USAGE: &str = "usage: recovery-sender client|server|established \
+    [SEED [WINDOW [PACKETS NUMERATOR DENOMINATOR PERIODS]]]\n";
+
+/// Writes what is wrong.
+pub fn report<E: Write>(outcome: Outcome, errors: &mut E) -> io::Result<()>
+    ensures { OnOk result
+        (Appends (E.contents errors.old) (E.contents errors.new) (error_text outcome)) }
+{
+    outcome.report(NAME, USAGE, errors)
+}
