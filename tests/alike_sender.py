@@ -27,7 +27,7 @@ class Calls(Lines):
 
     def __init__(self, seed):
         super().__init__(seed)
-        self.side = self.one_of("client", "server")
+        self.side = self.one_of("client", "client", "server", "server", "established")
         self.now = self.one_of(0, 0, SECOND)
         self.steps = self.one_of(*STEPS)
         self.spaces = self.one_of(["data"], ["data"] * 6 + SPACES, SPACES)
@@ -43,8 +43,16 @@ class Calls(Lines):
 
     def arguments(self):
         seed = self.one_of("-", self.below(100), self.below(2**64)) if self.is_rare(4) else "-"
-        window = self.one_of(1, 1200, 3000, 24000, 10**6, LAST) if self.is_rare(4) else None
-        return [self.side, *([str(seed)] if window or seed != "-" else []), *([str(window)] if window else [])]
+        window = self.one_of(1, 1200, 3000, 24000, 10**6, LAST) if self.is_rare(4) else "-"
+        words = [self.side, seed, window, *(self.settings() if self.is_rare(4) else [])]
+        while words[-1] == "-":
+            words.pop()
+        return [str(word) for word in words]
+
+    def settings(self):
+        """The packet threshold, the time threshold as a fraction, and the periods of persistent congestion."""
+        time = self.one_of((9, 8), (5, 4), (1, 2), (0, 1), (3, 1), (LAST, 1), (1, LAST))
+        return [self.one_of(3, 4, 0, 1, 2, 10, 2**32 - 1), *time, self.one_of(3, 1, 0, 2, 4, 2**32 - 1)]
 
     def first(self):
         """What is mostly said at the beginning."""
@@ -145,6 +153,7 @@ CALLS = [
     (Calls.send, 36), (Calls.ack, 26), (Calls.timeout, 10), (Calls.said, 2), (Calls.discard, 0.1), (Calls.other, OTHERS),
     (lambda it: f"poll-mtu {it.moment()}", 2),
     (lambda it: f"transmit {it.space()} {it.moment()} {it.one_of(1200, 1200, 1, 3000, 65535, it.below(20000))} {int(not it.is_rare(5))}", 6),
+    (lambda it: f"probe {it.space()}", 3),
     (lambda it: f"datagram {it.one_of(1, 100, 400, 1200, it.near(7, 5))}", 2),
     (lambda it: f"abandon {it.space()} {it.moment()}", 0.7),
 ]

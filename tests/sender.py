@@ -16,7 +16,7 @@ from tree import ROOT
 PROGRAM = ROOT / "crates" / "recovery_sender_program" / "out" / "recovery_sender_program"
 FILES = ROOT / "tests" / "sender"
 GOOD, ANSWER = "confirmed", "done timer none"
-USAGE = "usage: recovery-sender client|server [SEED [WINDOW]]\n"
+USAGE = "usage: recovery-sender client|server|established [SEED [WINDOW [PACKETS NUMERATOR DENOMINATOR PERIODS]]]\n"
 
 # arguments, with status, output and errors over one good line
 ARGUMENTS = [
@@ -24,6 +24,8 @@ ARGUMENTS = [
     (["client", "7", "24000"], 0, f"{ANSWER}\n", ""),
     (["server", "-", "18446744073709551615"], 0, f"{ANSWER}\n", ""),
     (["client", "-", "cubic"], 0, f"{ANSWER}\n", ""),
+    (["server", "1", "-"], 0, f"{ANSWER}\n", ""),
+    (["established", "-", "-", "4294967295", "0", "1", "0"], 0, f"{ANSWER}\n", ""),
     (["--version"], 0, "recovery-sender 0.11.19\n", ""),
     ([], 2, "", USAGE),
     (["7"], 2, "", USAGE),
@@ -31,9 +33,13 @@ ARGUMENTS = [
     (["server", "18446744073709551616"], 2, "", USAGE),
     (["server", "01"], 2, "", USAGE),
     (["server", "1", "0"], 2, "", USAGE),
-    (["server", "1", "-"], 2, "", USAGE),
     (["server", "cubic"], 2, "", USAGE),
     (["server", "1", "2", "3"], 2, "", USAGE),
+    (["server", "1", "2", "3", "9", "8"], 2, "", USAGE),
+    (["server", "1", "2", "4294967296", "9", "8", "3"], 2, "", USAGE),
+    (["server", "1", "2", "3", "9", "0", "3"], 2, "", USAGE),
+    (["server", "1", "2", "3", "9", "8", "4294967296"], 2, "", USAGE),
+    (["server", "1", "2", "3", "9", "8", "3", "-"], 2, "", USAGE),
 ]
 
 tests = tree.Tests("sender")

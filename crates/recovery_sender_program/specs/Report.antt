@@ -1,11 +1,12 @@
 -- What is written to standard error when the program ends.
-use Rattle.std.specs.Prelude.{ℕ, List}
+use Rattle.std.specs.Prelude.{ℕ, List, ◌++◌}
 use lib.Chars.{codes}
 use Rattle.recovery_replay.specs.declared.outcome.Outcome.{Outcome}
 use Rattle.recovery_replay.specs.Outcomes.{outcome_text}
 
 abbrev pub usage : List ℕ
-usage = codes "usage: recovery-sender client|server|established [SEED [WINDOW [PACKETS NUMERATOR DENOMINATOR PERIODS]]]\n"
+usage = codes "usage: recovery-sender client|server|established "
+  ++ codes "[SEED [WINDOW [PACKETS NUMERATOR DENOMINATOR PERIODS]]]\n"
 
 abbrev pub error_text : Outcome → List ℕ
 error_text = outcome_text (codes "sender") usage
