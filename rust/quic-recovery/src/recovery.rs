@@ -402,7 +402,8 @@ impl Recovery {
             ffi::ANSWER_SENDABLE => Answer::Sendable(SendableFrames { acks: flag, other }),
             ffi::ANSWER_QUEUE => Answer::Queue(self.last_items()?),
             ffi::ANSWER_DONE => Answer::Done,
-            _ => return Err(Refusal::from_number(refusal, first)),
+            ffi::ANSWER_REFUSED => return Err(Refusal::from_number(refusal, first)),
+            kind => unreachable!("the library answers an event with {kind}"),
         })
     }
 

@@ -236,6 +236,17 @@ fn taken(reply: ffi::EncodedReply) -> Result<ffi::EncodedReply, SenderError> {
     }
 }
 
+/// A reply of this kind, or why it is a refusal.
+fn of_kind(kind: u8, reply: ffi::EncodedReply) -> Result<ffi::EncodedReply, SenderError> {
+    match taken(reply)? {
+        reply if reply.kind == kind => Ok(reply),
+        reply => unreachable!(
+            "the library answers with {}, and not with {kind}",
+            reply.kind
+        ),
+    }
+}
+
 impl Sender {
     /// A sender to which nothing has happened yet, made at the moment `now`. The first path of a client is validated,
     /// whatever the settings say (RFC 9000, 8.1). Settings that the library does not take are refused.
@@ -314,14 +325,15 @@ impl Sender {
         largest_acked: Option<u64>,
         queue: &[u64],
     ) -> Result<Sent, SenderError> {
-        let reply = taken(self.recovery.reply_to(Event::Send {
+        let event = Event::Send {
             space,
             now,
             size,
             ack_eliciting,
             largest_acked,
             queue,
-        }))?;
+        };
+        let reply = of_kind(ffi::ANSWER_SENT, self.recovery.reply_to(event))?;
         Ok(Sent {
             number: reply.first,
             forgotten: reply.flag.then_some(reply.second),
@@ -401,7 +413,7 @@ impl Sender {
                 self.ranges.len(),
             )
         };
-        let reply = taken(reply)?;
+        let reply = of_kind(ffi::ANSWER_ACKNOWLEDGED, reply)?;
         if reply.second > 0 || reply.flag {
             self.last_outcome(told)?;
         } else {
@@ -456,17 +468,16 @@ impl Sender {
         let handle = self.recovery.handle();
         // SAFETY: the handle holds a recovery, and `self` is borrowed alone.
         let reply = unsafe { ffi::recovery_ffi_sender_probe(handle, space as u8, immediate_ack) };
-        match taken(reply)?.kind {
-            ffi::ANSWER_QUEUE => Ok(self.recovery.last_items()?),
-            kind => unreachable!("the library answers a probe with {kind}"),
-        }
+        of_kind(ffi::ANSWER_QUEUE, reply)?;
+        Ok(self.recovery.last_items()?)
     }
 
     /// A datagram of so many bytes came in on the path in use: what may be sent grows where its address is not validated,
     /// so that the timer may be due at once (RFC 9000, 8.1; RFC 9002, A.6). Refused by `Overflow`.
     pub fn on_datagram(&mut self, bytes: u64) -> Result<(), SenderError> {
         let path = PathName::Current;
-        taken(self.recovery.reply_to(Event::DatagramIn { path, bytes }))?;
+        let reply = self.recovery.reply_to(Event::DatagramIn { path, bytes });
+        of_kind(ffi::ANSWER_DONE, reply)?;
         Ok(())
     }
 
@@ -512,7 +523,7 @@ impl Sender {
         let (handle, now) = (self.recovery.handle(), now.as_nanos());
         // SAFETY: the handle holds a recovery, and `self` is borrowed alone.
         let reply = unsafe { ffi::recovery_ffi_sender_discard(handle, space as u8, now) };
-        taken(reply)?;
+        of_kind(ffi::ANSWER_DONE, reply)?;
         Ok(())
     }
 
@@ -528,7 +539,7 @@ impl Sender {
         let (handle, now) = (self.recovery.handle(), now.as_nanos());
         // SAFETY: the handle holds a recovery, and `self` is borrowed alone.
         let reply = unsafe { ffi::recovery_ffi_sender_abandon(handle, space as u8, now) };
-        taken(reply)?;
+        of_kind(ffi::ANSWER_LOSSES, reply)?;
         let mut told = Acknowledged::default();
         self.last_outcome(&mut told)?;
         Ok(told.losses.numbers)
