@@ -305,11 +305,11 @@ def enum_in_rust(name, derived, parameters=""):
     yield "}"
 
 
-def cases(arms):
-    """What a number is; the last arm takes all that is left, of which there is one."""
+def cases(arms, what):
+    """What a number is; one that the library does not have stops, and is named."""
     yield "        match number {"
-    yield from (f"            {left} => {right}," for left, right in arms[:-1])
-    yield f"            _ => {arms[-1][1]},"
+    yield from (f"            {left} => {right}," for left, right in arms)
+    yield f'            _ => unreachable!("the library names the {what} {{number}}"),'
     yield "        }"
 
 
@@ -343,7 +343,7 @@ def faults_in_rust():
     yield ""
     yield "impl EcnFault {"
     yield "    fn from_number(number: u64) -> Self {"
-    yield from cases([(f"ffi::FAULT_{name}", f"EcnFault::{camel[name]}") for name, _, _ in found])
+    yield from cases([(f"ffi::FAULT_{name}", f"EcnFault::{camel[name]}") for name, _, _ in found], "fault")
     yield "    }"
     yield "}"
     yield from shown("EcnFault", [(f"EcnFault::{camel[name]}", f'"{told[name]}"') for name, _, _ in found])
@@ -358,7 +358,7 @@ def refusals_in_rust():
     yield "    /// By the number that the library gives it; of one by ECN with the number of the fault."
     yield "    pub(crate) fn from_number(number: u8, fault: u64) -> Self {"
     made = lambda name, holds: f"Refusal::{name}(EcnFault::from_number(fault))" if holds else f"Refusal::{name}"
-    yield from cases([(f"ffi::REFUSAL_{snake(name)}", made(name, holds)) for name, holds in numbered])
+    yield from cases([(f"ffi::REFUSAL_{snake(name)}", made(name, holds)) for name, holds in numbered], "refusal")
     yield "    }"
     yield ""
     yield "    /// The number by which scripts and logs know the refusal."
@@ -594,6 +594,16 @@ def layout():
     ran("cargo fmt", ["cargo", "fmt", "--check"], cwd=RUST)
 
 
+def ranges():
+    """The numbers of what events are answered, and of why they are refused, meet none that senders have: these begin at 128."""
+    text = (KEPT / "src" / "numbers.rt").read_text()
+    for group, of_events in ("ANSWER", len(variants(EVENTS, "Answer"))), ("REFUSAL", len(tree.refusals()) + 1):
+        numbers = [int(it) for it in re.findall(rf"^pub const {group}_\w+: u8 = (\d+);", text, re.M)]
+        numbers = sorted(it for it in numbers if group == "REFUSAL" or it >= of_events)
+        apart = of_events <= 128 and numbers and numbers[0] >= 128 and len(set(numbers)) == len(numbers)
+        expect(f"the numbers of {group}_ that senders have lie apart", apart, f"{of_events} of events, {numbers}")
+
+
 def version():
     """The logic of the toolchain is the one that LOGIC names, and the documents name no other."""
     logic = LOGIC.read_text().strip()
@@ -642,6 +652,7 @@ def main():
         return 0 if built() else 1
     for which, path in DECLARED.items():
         expect(f"{path.relative_to(ROOT)} is what the library declares", path.read_text() == written[which], "tests/rust.py --write writes it")
+    ranges()
     version()
     layout()
     without_library()

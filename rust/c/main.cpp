@@ -18,7 +18,7 @@ public:
     Recovery &operator=(const Recovery &) = delete;
     ~Recovery() { recovery_ffi_drop(&handle); }
 
-    recovery_reply received(std::uint64_t now, std::uint64_t number) {
+    recovery_encodedreply received(std::uint64_t now, std::uint64_t number) {
         return recovery_ffi_received(&handle, RECOVERY_SPACE_DATA, now, number, true);
     }
     recovery_spaceview space() { return recovery_ffi_space(&handle, RECOVERY_SPACE_DATA); }

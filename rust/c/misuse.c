@@ -12,7 +12,7 @@ static void expect(const char *what, bool holds) {
     }
 }
 
-static void refused(const char *what, struct recovery_reply reply, unsigned refusal) {
+static void refused(const char *what, struct recovery_encodedreply reply, unsigned refusal) {
     expect(what, reply.kind == RECOVERY_ANSWER_REFUSED && reply.refusal == refusal);
 }
 
@@ -25,7 +25,7 @@ static unsigned made(struct recovery_handle *handle, struct recovery_settings se
 
 // Spaces, timers, numbers, spans and ids that there are not.
 static void arguments(struct recovery_handle *recovery) {
-    const unsigned bad = RECOVERY_ERROR_BAD_ARGUMENT;
+    const unsigned bad = RECOVERY_REFUSAL_BAD_ARGUMENT;
     refused("a packet goes out in space 7", recovery_ffi_send(recovery, 7, 0, 100, true, false, 0, NULL, 0), bad);
     refused("a packet comes in space 3", recovery_ffi_received(recovery, 3, 0, 0, true), bad);
     refused("space 255 is discarded", recovery_ffi_discard(recovery, 255), bad);
@@ -49,9 +49,10 @@ static void arguments(struct recovery_handle *recovery) {
 static void settings(void) {
     const struct recovery_settings sound = recovery_ffi_default_settings();
     struct recovery_settings zero = {0}, mtu = sound, factor = sound, window = sound, skip = sound, many = sound;
-    struct recovery_settings controller = sound, skips = sound;
+    struct recovery_settings controller = sound, skips = sound, fraction = sound;
     mtu.min_mtu = 0;
     factor.loss_denominator = 0;
+    fraction.time_denominator = 0;
     window.initial_window = 0;
     skip.first_skip = 64;
     many.issued = (1ull << 62) + 1;
@@ -61,6 +62,7 @@ static void settings(void) {
     expect("all zeros", made(&none, zero, 8) == RECOVERY_NEW_ZERO_MTU);
     expect("an MTU of zero", made(&none, mtu, 8) == RECOVERY_NEW_ZERO_MTU);
     expect("a denominator of zero", made(&none, factor, 8) == RECOVERY_NEW_ZERO_DENOMINATOR);
+    expect("a time threshold over zero", made(&none, fraction, 8) == RECOVERY_NEW_ZERO_DENOMINATOR);
     expect("a window of zero", made(&none, window, 8) == RECOVERY_NEW_ZERO_WINDOW);
     expect("a first skip of 64", made(&none, skip, 8) == RECOVERY_NEW_SKIP_TOO_LARGE);
     expect("too many ids", made(&none, many, 8) == RECOVERY_NEW_TOO_MANY_ISSUED);
@@ -72,10 +74,10 @@ static void settings(void) {
 
 // A handle that holds no recovery: none was made, or it was freed.
 static void nothing(struct recovery_handle *none) {
-    refused("an event", recovery_ffi_congestion(none, 2, 1, false, 1), RECOVERY_ERROR_NO_RECOVERY);
-    refused("a question", recovery_ffi_next_timeout(none), RECOVERY_ERROR_NO_RECOVERY);
+    refused("an event", recovery_ffi_congestion(none, 2, 1, false, 1), RECOVERY_REFUSAL_NO_RECOVERY);
+    refused("a question", recovery_ffi_next_timeout(none), RECOVERY_REFUSAL_NO_RECOVERY);
     uint64_t item = 7, out[1] = {9};
-    refused("items", recovery_ffi_send(none, 2, 0, 1, true, false, 0, &item, 1), RECOVERY_ERROR_NO_RECOVERY);
+    refused("items", recovery_ffi_send(none, 2, 0, 1, true, false, 0, &item, 1), RECOVERY_REFUSAL_NO_RECOVERY);
     expect("no path", !recovery_ffi_path(none, false).lives && !recovery_ffi_marks(none, false).lives);
     expect("no space", !recovery_ffi_space(none, RECOVERY_SPACE_DATA).lives);
     expect("no timer", !recovery_ffi_timer(none, 0).some && !recovery_ffi_next_id_timeout(none).some);
@@ -90,12 +92,13 @@ static void nothing(struct recovery_handle *none) {
 
 // Calls of a sender where a recovery stands alone, and events that a sender decides itself.
 static void senders(struct recovery_handle *alone) {
-    const unsigned none = RECOVERY_ERROR_NO_SENDER, bad = RECOVERY_ERROR_BAD_ARGUMENT;
+    const unsigned none = RECOVERY_REFUSAL_NO_SENDER, bad = RECOVERY_REFUSAL_BAD_ARGUMENT;
     const struct recovery_ackframe frame = {0}, slow = {.delay_nanos = 1000000000};
     const struct recovery_ackrange range = {.first = 0, .last = 0};
     refused("a datagram", recovery_ffi_sender_transmit(alone, 0, 1200, 2, true), none);
     refused("an ACK", recovery_ffi_sender_ack(alone, 2, 0, &frame, &range, 1), none);
-    refused("a timeout", recovery_ffi_sender_timeout(alone, 0, false), none);
+    refused("a timeout", recovery_ffi_sender_on_timeout(alone, 0), none);
+    refused("a probe", recovery_ffi_sender_probe(alone, 2, false), none);
     refused("a discarded space", recovery_ffi_sender_discard(alone, 0, 0), none);
     refused("an abandoned space", recovery_ffi_sender_abandon(alone, 0, 0), none);
     refused("keys", recovery_ffi_sender_handshake_keys(alone), none);
@@ -106,19 +109,25 @@ static void senders(struct recovery_handle *alone) {
     struct recovery_settings settings = recovery_ffi_default_settings();
     expect("a sender is made", recovery_ffi_sender_new(&sender, true, &settings, &remote, id, 8, 0) == RECOVERY_NEW_MADE);
     expect("none is made over it", recovery_ffi_sender_new(&sender, true, &settings, &remote, id, 8, 0) == RECOVERY_NEW_HELD);
-    refused("an event around it", recovery_ffi_lost(&sender, 2, 0), RECOVERY_ERROR_DECIDED);
-    refused("its timer", recovery_ffi_set_timer(&sender, RECOVERY_TIMER_LOSS_DETECTION, 5), RECOVERY_ERROR_DECIDED);
-    refused("a number that was not sent", recovery_ffi_sender_ack(&sender, 2, 0, &frame, &range, 1), RECOVERY_ERROR_UNSENT);
-    refused("no range", recovery_ffi_sender_ack(&sender, 2, 0, &frame, NULL, 0), RECOVERY_ERROR_BAD_RANGE);
+    refused("an event around it", recovery_ffi_lost(&sender, 2, 0), RECOVERY_REFUSAL_DECIDED);
+    refused("its timer", recovery_ffi_set_timer(&sender, RECOVERY_TIMER_LOSS_DETECTION, 5), RECOVERY_REFUSAL_DECIDED);
+    refused("a number that was not sent", recovery_ffi_sender_ack(&sender, 2, 0, &frame, &range, 1), RECOVERY_REFUSAL_UNSENT);
+    refused("no range", recovery_ffi_sender_ack(&sender, 2, 0, &frame, NULL, 0), RECOVERY_REFUSAL_BAD_RANGE);
     refused("a delay of 10^9 nanoseconds", recovery_ffi_sender_ack(&sender, 2, 0, &slow, &range, 1), bad);
     refused("such a delay of the peer", recovery_ffi_sender_peer_delay(&sender, 0, 1000000000), bad);
     refused("an ACK in space 3", recovery_ffi_sender_ack(&sender, 3, 0, &frame, &range, 1), bad);
     refused("a datagram in space 3", recovery_ffi_sender_transmit(&sender, 0, 1200, 3, true), bad);
+    refused("a probe in space 3", recovery_ffi_sender_probe(&sender, 3, false), bad);
     struct recovery_marks marks = {0};
     expect("no marks around it", !recovery_ffi_set_marks(&sender, false, &marks));
     expect("the marks stay", recovery_ffi_marks(&sender, false).sending_ecn);
     recovery_ffi_drop(&sender);
-    refused("a datagram of none", recovery_ffi_sender_transmit(&sender, 0, 1200, 2, true), RECOVERY_ERROR_NO_RECOVERY);
+    refused("a probe of none", recovery_ffi_sender_probe(&sender, 2, false), RECOVERY_REFUSAL_NO_RECOVERY);
+    expect("an established one is made",
+           recovery_ffi_sender_established(&sender, true, &settings, &remote, id, 8, 0) == RECOVERY_NEW_MADE);
+    refused("a probe in a space that ended", recovery_ffi_sender_probe(&sender, 0, false), RECOVERY_REFUSAL_SPACE_DISCARDED);
+    recovery_ffi_drop(&sender);
+    refused("a datagram of none", recovery_ffi_sender_transmit(&sender, 0, 1200, 2, true), RECOVERY_REFUSAL_NO_RECOVERY);
 }
 
 int main(void) {
@@ -129,7 +138,7 @@ int main(void) {
     expect("none is made over it", made(&recovery, recovery_ffi_default_settings(), 8) == RECOVERY_NEW_HELD);
     arguments(&recovery);
     senders(&recovery);
-    struct recovery_reply sent = recovery_ffi_send(&recovery, RECOVERY_SPACE_DATA, 0, 100, true, false, 0, NULL, 0);
+    struct recovery_encodedreply sent = recovery_ffi_send(&recovery, RECOVERY_SPACE_DATA, 0, 100, true, false, 0, NULL, 0);
     expect("the first packet goes out after all that", sent.kind == RECOVERY_ANSWER_SENT && sent.first == 0);
     recovery_ffi_drop(&recovery);
     expect("nothing is held then", recovery.ptr == NULL);

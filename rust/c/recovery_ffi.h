@@ -58,7 +58,7 @@ enum recovery_answer {
     RECOVERY_ANSWER_ACKNOWLEDGED = 129,
     // No timer of the sender is due.
     RECOVERY_ANSWER_NOTHING = 130,
-    // Packets were looked for that are lost.
+    // Packets were looked for that are lost, in the space that `first` names for a timeout.
     RECOVERY_ANSWER_LOSSES = 131,
     // Probes are to be sent.
     RECOVERY_ANSWER_PROBES = 132,
@@ -109,8 +109,9 @@ enum recovery_refusal {
     RECOVERY_REFUSAL_BAD_RANGE = 19,
     // The number of the peer's id is held with another id, or with a token that is not the frame's (RFC 9000, 19.15).
     RECOVERY_REFUSAL_CONFLICT = 20,
-    // A number was acknowledged that was never sent (RFC 9000, 13.1): of a sender alone.
-    RECOVERY_REFUSAL_UNSENT = 21,
+    // A number was acknowledged that was never sent (RFC 9000, 13.1): of a sender alone. The errors of senders lie above
+    // those of events, so that further ones of these do not meet them.
+    RECOVERY_REFUSAL_UNSENT = 128,
     // The event is one that the sender decides itself: it is not handed in around it.
     RECOVERY_REFUSAL_DECIDED = 252,
     // The handle holds a recovery that stands alone, without a sender.
@@ -164,7 +165,7 @@ enum recovery_new {
     RECOVERY_NEW_ZERO_MTU = 6,
     // The initial window is zero.
     RECOVERY_NEW_ZERO_WINDOW = 7,
-    // The denominator of the loss reduction factor is zero.
+    // The denominator of the loss reduction factor, or of the time threshold, is zero.
     RECOVERY_NEW_ZERO_DENOMINATOR = 8,
     // There is no such controller.
     RECOVERY_NEW_UNKNOWN_CONTROLLER = 9,
@@ -401,6 +402,17 @@ struct recovery_settings {
     uint64_t loss_numerator;
     // Above zero.
     uint64_t loss_denominator;
+    // The time threshold, a fraction of an RTT: a sender declares a packet lost so long after it was sent, if a
+    // later one is acknowledged; 1 stands for a smaller fraction (RFC 9002, 6.1.2).
+    uint64_t time_numerator;
+    // Above zero.
+    uint64_t time_denominator;
+    // The packet threshold: a sender declares a packet lost that was sent so many packets before an acknowledged one;
+    // 1 stands for 0 (RFC 9002, 6.1.1).
+    uint32_t packet_threshold;
+    // How many probe timeouts losses span, for a sender, that are persistent congestion; 1 stands for 0 (RFC 9002,
+    // 7.6.1).
+    uint32_t persistent_congestion_threshold;
     // The size of datagrams before the search, above zero.
     uint16_t initial_mtu;
     // The size that the path is known to carry, above zero.
@@ -441,10 +453,11 @@ struct recovery_encodedreply {
     // Probe: its size in bytes. Otherwise 0.
     uint16_t size;
     // Sent, probe: the number that it was given. Retire: the first number. Timeout, delayed: the moment, in
-    // nanoseconds. In flight: the bytes. Otherwise 0.
+    // nanoseconds. In flight: the bytes. Acknowledged: how many numbers are so newly. Losses of a timeout, probes: the
+    // space. Otherwise 0.
     uint64_t first;
     // Sent: the number that was forgotten. Retire: one above the last number. In flight: how many packets elicit an
-    // ACK. Otherwise 0.
+    // ACK. Acknowledged: how many numbers are lost. Probes: how many are due. Otherwise 0.
     uint64_t second;
 };
 
@@ -749,6 +762,12 @@ struct recovery_timeview recovery_ffi_next_id_timeout(struct recovery_handle *ha
 // `RECOVERY_NEW_MADE`, or the number of what is wrong; the handle then holds what it held.
 uint8_t recovery_ffi_sender_new(struct recovery_handle *handle, bool client, const struct recovery_settings *settings, const struct recovery_address *remote, const uint8_t *initial_cid, size_t initial_cid_len, uint64_t now);
 
+// Makes a recovery of a sender whose handshake is over, as `recovery_ffi_sender_new` makes one, and then
+// `recovery_ffi_validated`, `recovery_ffi_sender_handshake_confirmed` and `recovery_ffi_sender_discard` of the Initial
+// and the Handshake space: 1-RTT packets alone are sent and probed for (RFC 9001, 4.1.2 and 4.9). The answer is that
+// of `recovery_ffi_sender_new`.
+uint8_t recovery_ffi_sender_established(struct recovery_handle *handle, bool client, const struct recovery_settings *settings, const struct recovery_address *remote, const uint8_t *initial_cid, size_t initial_cid_len, uint64_t now);
+
 // Whether a datagram of so many bytes goes out now, with packets of a space: `RECOVERY_ANSWER_TRANSMITTED`, and it is counted;
 // `RECOVERY_ANSWER_BLOCKED` by the limit against amplification (RFC 9000, 8.1); `RECOVERY_ANSWER_FULL` where the window has no room (RFC
 // 9002, 7); `RECOVERY_ANSWER_DELAYED` by the pacer, until `first` (RFC 9002, 7.7). Where nothing in it counts in flight, or a
@@ -765,12 +784,18 @@ struct recovery_encodedreply recovery_ffi_sender_transmit(struct recovery_handle
 // 21.4), or by `RECOVERY_REFUSAL_NO_MEMORY`.
 struct recovery_encodedreply recovery_ffi_sender_ack(struct recovery_handle *handle, uint8_t space, uint64_t now, const struct recovery_ackframe *frame, const struct recovery_ackrange *ranges, size_t ranges_len);
 
-// The timer for losses may be due (RFC 9002, A.9): `RECOVERY_ANSWER_NOTHING` where it is not; `RECOVERY_ANSWER_LOSSES` where packets
-// were looked for that are lost, which `recovery_ffi_last_outcome` and `recovery_ffi_told_numbers` say; or
-// `RECOVERY_ANSWER_PROBES`,
-// with the space in `first` and in `second` how many are to be sent, 1 or 2. `immediate_ack` asks for an IMMEDIATE_ACK
-// frame in a probe. Refused by `RECOVERY_REFUSAL_NO_MEMORY` where the first probe finds none; then nothing changed.
-struct recovery_encodedreply recovery_ffi_sender_timeout(struct recovery_handle *handle, uint64_t now, bool immediate_ack);
+// The timer for losses may be due (RFC 9002, A.9): `RECOVERY_ANSWER_NOTHING` if it is not; `RECOVERY_ANSWER_LOSSES` if a space was
+// searched for lost packets, with the space in `first`, and `recovery_ffi_last_outcome` and
+// `recovery_ffi_told_numbers` say which are lost; or `RECOVERY_ANSWER_PROBES`, with the space in `first` and in `second` how
+// many probes are due there, 1 or 2. For each of them the caller asks `recovery_ffi_sender_transmit`, takes its
+// contents by `recovery_ffi_sender_probe`, and sends it by `recovery_ffi_send`. No sender refuses it.
+struct recovery_encodedreply recovery_ffi_sender_on_timeout(struct recovery_handle *handle, uint64_t now);
+
+// Hands out what a probe of a space carries (RFC 9002, 6.2.4), to be read by `recovery_ffi_last_items`: what waits
+// there to be sent again, or else the contents of the first packet in flight that has any: `RECOVERY_ANSWER_QUEUE`. A queue
+// without items asks for a PING frame. `immediate_ack` asks for an IMMEDIATE_ACK frame in it. Refused by
+// `RECOVERY_REFUSAL_SPACE_DISCARDED`, then by `RECOVERY_REFUSAL_NO_MEMORY`; then nothing changed.
+struct recovery_encodedreply recovery_ffi_sender_probe(struct recovery_handle *handle, uint8_t space, bool immediate_ack);
 
 // The keys of a space are dropped, and with them all that it tracks; probe timeouts are counted anew (RFC 9002, 6.2.2,
 // 6.4 and A.11): `RECOVERY_ANSWER_DONE`. Refused by `RECOVERY_REFUSAL_SPACE_DISCARDED`.
@@ -815,8 +840,8 @@ size_t recovery_ffi_told_numbers(struct recovery_handle *handle, bool lost, uint
 size_t recovery_ffi_told_packets(struct recovery_handle *handle, uint64_t *out, size_t out_len);
 
 // The default settings: an address that is not validated, ACKs 25 ms late at most, ids of 8 bytes that last 10 s, one
-// of them issued, no skips, an RTT of 333 ms, MTUs of 1200 bytes and up to 1452, and NewReno with 12,000 bytes and a
-// half.
+// of them issued, no skips, an RTT of 333 ms, MTUs of 1200 bytes and up to 1452, NewReno with 12,000 bytes and a
+// half, and for senders thresholds of 3 packets, 9/8 of an RTT and 3 probe timeouts.
 struct recovery_settings recovery_ffi_default_settings(void);
 
 // A timer is set to a moment in nanoseconds: the event `SetTimer`.
@@ -829,7 +854,7 @@ struct recovery_encodedreply recovery_ffi_stop_timer(struct recovery_handle *han
 struct recovery_encodedreply recovery_ffi_next_timeout(struct recovery_handle *handle);
 
 // Does nothing; a library of another layout does not have it, and a program with this header does not link with that one.
-void recovery_ffi_layout(void) __asm__("recovery_ffi_layout_d4f2288f");
+void recovery_ffi_layout(void) __asm__("recovery_ffi_layout_e5525016");
 __attribute__((used)) static void (*const recovery_ffi_has_this_layout)(void) = recovery_ffi_layout;
 
 #ifdef __cplusplus

@@ -1,5 +1,6 @@
 // A sender from C: four packets go out, the last one is acknowledged, and the others are lost: the first by its number, two by
-// their age (RFC 9002, 6.1). What they carried is to be sent again. A fifth packet is abandoned (RFC 9002, 6.4).
+// their age (RFC 9002, 6.1). What they carried is to be sent again. No ACK comes for a fifth packet: two probes go out, and the
+// first carries what the packet did (RFC 9002, 6.2.4). In the end all of them are abandoned (RFC 9002, 6.4).
 #include "recovery_ffi.h"
 #include <inttypes.h>
 #include <stdio.h>
@@ -28,18 +29,18 @@ static void packets(struct recovery_handle *sender) {
 }
 
 static void timer(struct recovery_handle *sender) {
-    struct recovery_momentview moment = recovery_ffi_timer(sender, RECOVERY_TIMER_LOSS_DETECTION);
-    if (moment.some) {
-        printf(", timer %" PRIu64 "\n", moment.nanos);
+    struct recovery_timeview time = recovery_ffi_timer(sender, RECOVERY_TIMER_LOSS_DETECTION);
+    if (time.some) {
+        printf(", timer %" PRIu64 "\n", time.nanos);
     } else {
         printf(", no timer\n");
     }
 }
 
-static void tell(struct recovery_handle *sender, struct recovery_reply reply) {
+static void tell(struct recovery_handle *sender, struct recovery_encodedreply reply) {
     printf("%u:", reply.kind);
     if (reply.kind == RECOVERY_ANSWER_ACKNOWLEDGED || reply.kind == RECOVERY_ANSWER_LOSSES) {
-        struct recovery_toldview told = recovery_ffi_last_outcome(sender);
+        struct recovery_outcomeview told = recovery_ffi_last_outcome(sender);
         numbers(sender, "acked", false);
         packets(sender);
         numbers(sender, "lost", true);
@@ -48,17 +49,36 @@ static void tell(struct recovery_handle *sender, struct recovery_reply reply) {
     timer(sender);
 }
 
+// The timer expires at this time: for each probe that is due the datagram is asked for, then what it carries, and it goes out.
+static void probe(struct recovery_handle *sender, uint64_t now) {
+    struct recovery_encodedreply due = recovery_ffi_sender_on_timeout(sender, now);
+    if (due.kind != RECOVERY_ANSWER_PROBES) {
+        printf("no probe is due\n");
+        return;
+    }
+    printf("%" PRIu64 " probes are due in space %" PRIu64 "\n", due.second, due.first);
+    for (uint64_t at = 0; at < due.second; at++) {
+        unsigned goes = recovery_ffi_sender_transmit(sender, now, 1000, due.first, true).kind;
+        if (goes != RECOVERY_ANSWER_TRANSMITTED || recovery_ffi_sender_probe(sender, due.first, false).kind != RECOVERY_ANSWER_QUEUE) {
+            printf("no probe goes out\n");
+            return;
+        }
+        uint64_t taken[8];
+        size_t count = recovery_ffi_last_items(sender, taken, 8);
+        printf("a probe with %zu items, ", count);
+        tell(sender, recovery_ffi_send(sender, due.first, now, 1000, true, false, 0, taken, count));
+    }
+}
+
 int main(void) {
     struct recovery_handle sender = {0};
     struct recovery_settings settings = recovery_ffi_default_settings();
     struct recovery_address remote = {.octets = {192, 0, 2, 1}, .port = 4433};
     uint8_t id[8] = {255, 255, 255, 255, 255, 255, 255, 255};
-    if (recovery_ffi_sender_new(&sender, false, &settings, &remote, id, sizeof id, 0) != RECOVERY_NEW_MADE) {
+    if (recovery_ffi_sender_established(&sender, false, &settings, &remote, id, sizeof id, 0) != RECOVERY_NEW_MADE) {
         printf("no sender was made\n");
         return 1;
     }
-    tell(&sender, recovery_ffi_validated(&sender, false));
-    tell(&sender, recovery_ffi_sender_handshake_confirmed(&sender));
     for (uint64_t number = 0; number < 4; number++) {
         uint64_t now = number * 1000000, item = number + 1;
         tell(&sender, recovery_ffi_send(&sender, space, now, 1000, true, false, 0, &item, 1));
@@ -66,9 +86,9 @@ int main(void) {
     struct recovery_ackframe frame = {.delay_secs = 0};
     struct recovery_ackrange ranges[1] = {{.first = 3, .last = 3}};
     tell(&sender, recovery_ffi_sender_ack(&sender, space, 103000000, &frame, ranges, 1));
-    tell(&sender, recovery_ffi_sender_timeout(&sender, 113499999, false));
-    tell(&sender, recovery_ffi_sender_timeout(&sender, 113500000, false));
-    tell(&sender, recovery_ffi_sender_timeout(&sender, 114500000, false));
+    tell(&sender, recovery_ffi_sender_on_timeout(&sender, 113499999));
+    tell(&sender, recovery_ffi_sender_on_timeout(&sender, 113500000));
+    tell(&sender, recovery_ffi_sender_on_timeout(&sender, 114500000));
     if (recovery_ffi_take_pending(&sender, space).kind == RECOVERY_ANSWER_QUEUE) {
         uint64_t taken[8];
         size_t count = recovery_ffi_last_items(&sender, taken, 8);
@@ -76,7 +96,8 @@ int main(void) {
     }
     uint64_t item = 5;
     tell(&sender, recovery_ffi_send(&sender, space, 120000000, 1000, true, false, 0, &item, 1));
-    tell(&sender, recovery_ffi_sender_abandon(&sender, space, 121000000));
+    probe(&sender, 445000000);
+    tell(&sender, recovery_ffi_sender_abandon(&sender, space, 446000000));
     recovery_ffi_drop(&sender);
     return 0;
 }

@@ -6,7 +6,7 @@
 // Probes over a link that carries so many bytes, from a packet number on; the number behind them.
 static uint64_t search(struct recovery_mtuhandle *mtu, uint16_t link, uint64_t number) {
     for (;;) {
-        struct recovery_reply probe = recovery_ffi_mtu_poll(mtu, 0, number);
+        struct recovery_encodedreply probe = recovery_ffi_mtu_poll(mtu, 0, number);
         if (probe.kind != RECOVERY_ANSWER_PROBE) {
             return number;
         }
@@ -42,7 +42,7 @@ int main(void) {
     uint64_t rtt = 333000000;
     struct recovery_bucket pacer = recovery_ffi_pacer(rtt, 12000, 1200, 0);
     int sent = 0;
-    struct recovery_reply reply = recovery_ffi_pacer_delay(&pacer, rtt, 1200, 1200, 12000, 0);
+    struct recovery_encodedreply reply = recovery_ffi_pacer_delay(&pacer, rtt, 1200, 1200, 12000, 0);
     while (reply.kind == RECOVERY_ANSWER_READY) {
         recovery_ffi_pacer_transmit(&pacer, 1200);
         sent += 1;

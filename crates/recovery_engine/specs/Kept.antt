@@ -1,5 +1,5 @@
 -- The recovery that a stack keeps: one that stands alone, or one of a sender.
-use Rattle.std.specs.Prelude.{◌≡◌, ℕ, Bool, IsFalse, List, [], ◌∷◌, ◌++◌, length, Option, Some, None, is_some, Result, Ok, Err, if◌then◌else◌}
+use Rattle.std.specs.Prelude.{◌≡◌, ℕ, Bool, IsFalse, List, [], ◌∷◌, ◌++◌, length, None, is_some, Result, Ok, Err, if◌then◌else◌}
 use Rattle.std.specs.Option.{option_map_or}
 use Rattle.rand_core.specs.Stream.{Stream}
 use Rattle.recovery_events.specs.declared.event.Answer.{Answer}
@@ -10,6 +10,7 @@ use Rattle.recovery_paths.specs.declared.path_pair.PathName.{PathName}
 use Rattle.recovery_queue.specs.Items.{item_words}
 use Rattle.recovery_sender.specs.Calls.{IsNewSender, IsPassedThrough, EventResult}
 use Rattle.recovery_sender.specs.Senders.{state_in}
+use Rattle.recovery_sender.specs.Established.{IsEstablishedSender}
 use Rattle.recovery_sender.specs.declared.sender.acks.Acknowledged.{Acknowledged}
 use Rattle.recovery_sender.specs.declared.sender.acks.EcnOutcome.TheVariants.{Quiet}
 use Rattle.recovery_sender.specs.declared.sender.losses.Losses.{Losses}
@@ -32,6 +33,8 @@ use Rattle.recovery_engine.specs.declared.controllers.Chosen.{Chosen}
 use Rattle.recovery_engine.specs.declared.controllers.ChosenConfig.{ChosenConfig}
 use Rattle.recovery_engine.specs.declared.kept.Engine.{Engine}
 use Rattle.recovery_engine.specs.declared.kept.Engine.TheVariants.{Alone, Sends}
+use Rattle.recovery_engine.specs.declared.kept.Form.{Form}
+use Rattle.recovery_engine.specs.declared.kept.Form.TheVariants.{Bare, Handshaking, Established}
 use Rattle.recovery_engine.specs.declared.sending.LastOutcome.{LastOutcome}
 
 abbrev pub ItemEvent : Type 0
@@ -106,10 +109,17 @@ IsFreshSender side config now words (Sends sending) =
     IsNewSender side config now words sending.sender × IsEmptyOutcome sending.told
 IsFreshSender side config now words (Alone recovery) = ⊥
 
--- of a sender of this side, if there is one
-abbrev pub IsFresh : Option Side → RecoveryConfig ChosenConfig → ℕ → Stream → Engine → Type 0
-IsFresh None config now words kept = IsFreshAlone config now words kept
-IsFresh (Some side) config now words kept = IsFreshSender side config now words kept
+-- nor to one whose handshake is over
+abbrev pub IsFreshEstablished : Side → RecoveryConfig ChosenConfig → ℕ → Stream → Engine → Type 0
+IsFreshEstablished side config now words (Sends sending) =
+    IsEstablishedSender side config now words sending.sender × IsEmptyOutcome sending.told
+IsFreshEstablished side config now words (Alone recovery) = ⊥
+
+-- in its form
+abbrev pub IsFresh : Form → RecoveryConfig ChosenConfig → ℕ → Stream → Engine → Type 0
+IsFresh Bare config now words kept = IsFreshAlone config now words kept
+IsFresh (Handshaking side) config now words kept = IsFreshSender side config now words kept
+IsFresh (Established side) config now words kept = IsFreshEstablished side config now words kept
 
 -- probe timeouts of a sender that expired in a row (RFC 9002, 6.2.1)
 abbrev pub pto_count_of : Engine → ℕ

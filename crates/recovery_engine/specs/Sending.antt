@@ -6,11 +6,10 @@ use Rattle.recovery_base.specs.declared.below.SpaceId.{SpaceId}
 use Rattle.recovery_events.specs.declared.event.Answer.TheVariants.{Done}
 use Rattle.recovery_events.specs.declared.event.Event.TheVariants.{DiscardSpace}
 use Rattle.recovery_spaces.specs.Packets.{Packets}
-use Rattle.recovery_spaces.specs.Spaces.{space_of}
 use Rattle.recovery_sender.specs.RetransmitAll.{DeclaresAllLost}
 use Rattle.recovery_sender.specs.Acking.{AckResult}
-use Rattle.recovery_losses.specs.Variables.{begun_anew}
-use Rattle.recovery_sender.specs.Calls.{bytes_in_flight, challenged, discard_reply, is_checked, transmit_reply, transmit_steps, window_of}
+use Rattle.recovery_losses.specs.Variables.{begun_anew, is_probe_due}
+use Rattle.recovery_sender.specs.Calls.{bytes_in_flight, challenged, discard_reply, is_checked, transmit_reply, transmit_steps, window_of, ProbeResult}
 use Rattle.recovery_sender.specs.Senders.{state_in}
 use Rattle.recovery_sender.specs.Spaces.{packets_in}
 use Rattle.recovery_sender.specs.Steps as Steps
@@ -58,9 +57,12 @@ transmission_spelled Blocked = plain ANSWER_BLOCKED
 transmission_spelled Full = plain ANSWER_FULL
 transmission_spelled (Delayed until) = record (plain ANSWER_DELAYED) { first = until }
 
+abbrev pub losses_spelled : SpaceId → EncodedReply
+losses_spelled space = record (plain ANSWER_LOSSES) { first = space_number space }
+
 abbrev pub timeout_spelled : Timeout → EncodedReply
 timeout_spelled Nothing = plain ANSWER_NOTHING
-timeout_spelled (Lost losses) = plain ANSWER_LOSSES
+timeout_spelled (Lost space losses) = losses_spelled space
 timeout_spelled (Probe space count) = record (plain ANSWER_PROBES) { first = space_number space; second = count }
 
 -- a frame: how many numbers are newly acknowledged, how many lost, and whether more is told than these
@@ -85,11 +87,11 @@ acknowledged_spelled told = record (plain ANSWER_ACKNOWLEDGED) {
 pub record TransmitReply (now bytes : ℕ) (space : SpaceId) (in_flight : Bool) (old : Sending) (spelling : EncodedReply)
     (new : Sending) : Type 0 where
   pub reply : Result Transmission SenderError
-  pub is : reply ≡ transmit_reply chosen_words (state_in old.sender) now bytes space in_flight
+  pub is : reply ≡ transmit_reply chosen_words (state_in old.sender) old.sender.variables now bytes space in_flight
   pub window : reply ≡ Ok Transmitted → in_flight ≡ true
-      → (space_of space (state_in old.sender).spaces).loss_probes ≡ 0
+      → is_probe_due old.sender.variables space ≡ false
       → bytes_in_flight (state_in old.sender) + bytes ≤ window_of chosen_words (state_in old.sender)
-  pub steps : IfOk reply (λ sent. let checked = is_checked (state_in old.sender) space in_flight in
+  pub steps : IfOk reply (λ sent. let checked = is_checked old.sender.variables space in_flight in
       CompletesCall (transmit_steps now bytes checked sent) old.sender.variables old.sender new.sender)
   pub stays : OnErr reply (new.sender ≡ old.sender)
   pub spells : spelling ≡ spelled_by transmission_spelled reply
@@ -126,16 +128,27 @@ AckFrameReply space now given ack old spelling new =
     AckReply space now (map range_given given) ack old spelling new ⊎ LacksRangeMemory given old spelling new
 
 -- a timeout: so are losses that it finds (RFC 9002, A.9)
-abbrev pub IsOutcomeOfTimeout : Result Timeout SenderError → LastOutcome → LastOutcome → Type 0
-IsOutcomeOfTimeout (Ok (Lost losses)) old new = HasLossesOnly losses new
-IsOutcomeOfTimeout reply old new = new ≡ old
+abbrev pub IsOutcomeOfTimeout : Timeout → LastOutcome → LastOutcome → Type 0
+IsOutcomeOfTimeout (Lost space losses) old new = HasLossesOnly losses new
+IsOutcomeOfTimeout timeout old new = new ≡ old
 
-pub record TimeoutReply (now : ℕ) (immediate : Bool) (old : Sending) (spelling : EncodedReply)
+pub record TimeoutReply (now : ℕ) (old : Sending) (spelling : EncodedReply) (new : Sending) : Type 0 where
+  pub timeout : Timeout
+  pub comes : TimeoutResult now old.sender new.sender timeout
+  pub spells : spelling ≡ timeout_spelled timeout
+  pub told : IsOutcomeOfTimeout timeout old.told new.told
+
+-- what a probe carries is given, or in numbers why it is refused (RFC 9002, 6.2.4)
+abbrev pub probe_given : Result (List ℕ) SenderError → Result (List ℕ) EncodedReply
+probe_given (Ok queue) = Ok queue
+probe_given (Err refusal) = Err (refused_spelled refusal)
+
+pub record ProbeReply (space : SpaceId) (immediate : Bool) (old : Sending) (given : Result (List ℕ) EncodedReply)
     (new : Sending) : Type 0 where
-  pub reply : Result Timeout SenderError
-  pub comes : TimeoutResult now immediate (tt {0}) (tt {0}) old.sender new.sender reply
-  pub spells : spelling ≡ spelled_by timeout_spelled reply
-  pub told : IsOutcomeOfTimeout reply old.told new.told
+  pub reply : Result (List ℕ) SenderError
+  pub comes : ProbeResult space immediate (tt {0}) old.sender new.sender reply
+  pub gives : given ≡ probe_given reply
+  pub told : new.told ≡ old.told
 
 -- a space ends (RFC 9002, 6.2.2, 6.4 and A.11)
 pub record DiscardReply (space : SpaceId) (now : ℕ) (old : Sending) (spelling : EncodedReply)
@@ -143,7 +156,7 @@ pub record DiscardReply (space : SpaceId) (now : ℕ) (old : Sending) (spelling 
   pub reply : Result (Unit {0}) SenderError
   pub is : reply ≡ discard_reply (state_in old.sender) space
   pub steps : OnOk reply (CompletesCall (Steps.told (DiscardSpace space) (Ok Done) ∷ [])
-      (begun_anew now old.sender.variables)
+      (begun_anew space now old.sender.variables)
       old.sender new.sender)
   pub stays : OnErr reply (new.sender ≡ old.sender)
   pub spells : spelling ≡ spelled_by (λ done. plain ANSWER_DONE) reply
@@ -204,7 +217,7 @@ abbrev pub SenderCallReply : Call → List AckRange → Sending → EncodedReply
 SenderCallReply (Transmit now bytes space in_flight) given old spelling new =
     TransmitReply now bytes space in_flight old spelling new
 SenderCallReply (TakeAck space now ack) given old spelling new = AckFrameReply space now given ack old spelling new
-SenderCallReply (Expire now immediate) given old spelling new = TimeoutReply now immediate old spelling new
+SenderCallReply (Expire now) given old spelling new = TimeoutReply now old spelling new
 SenderCallReply (Discard space now) given old spelling new = DiscardReply space now old spelling new
 SenderCallReply (Abandon space now) given old spelling new = RetransmitAllReply space now old spelling new
 SenderCallReply HandshakeKeys given old spelling new = UpdatesVariables keyed old spelling new
@@ -219,6 +232,12 @@ abbrev pub UnlessNoSender : Call → List AckRange → Engine → EncodedReply �
 UnlessNoSender call given (Alone old) spelling new = (spelling ≡ no_sender) × (new ≡ Alone old)
 UnlessNoSender call given (Sends old) spelling (Sends new) = SenderCallReply call given old spelling new
 UnlessNoSender call given (Sends old) spelling (Alone new) = ⊥
+
+-- and a probe
+abbrev pub ProbeUnlessNoSender : SpaceId → Bool → Engine → Result (List ℕ) EncodedReply → Engine → Type 0
+ProbeUnlessNoSender space immediate (Alone old) given new = (given ≡ Err no_sender) × (new ≡ Alone old)
+ProbeUnlessNoSender space immediate (Sends old) given (Sends new) = ProbeReply space immediate old given new
+ProbeUnlessNoSender space immediate (Sends old) given (Alone new) = ⊥
 
 -- ---- what was told last, in numbers
 

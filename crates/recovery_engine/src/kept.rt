@@ -6,16 +6,16 @@ ghost use Rattle.rand_pcg.specs.Pcg.{pcg32};
 ghost use Rattle.quic_recovery.specs.State.{state_of};
 ghost use Rattle.recovery_packet_numbers.specs.Skips.{IsSkips};
 ghost use Rattle.recovery_sender.specs.Calls.{IsPassedThrough, EventResult};
-ghost use Rattle.recovery_engine.specs.Kept.{by_sender, numbers_told, packets_told, parts_kept, pto_count_of, EventOutcome, IsFreshAlone, IsFreshSender, IsFresh, AcceptsEvent, MarksKept};
-ghost use Rattle.recovery_engine.specs.Sending.{told_view, UnlessNoSender};
+ghost use Rattle.recovery_engine.specs.Kept.{by_sender, numbers_told, packets_told, parts_kept, pto_count_of, EventOutcome, IsFreshAlone, IsFreshEstablished, IsFreshSender, IsFresh, AcceptsEvent, MarksKept};
+ghost use Rattle.recovery_engine.specs.Sending.{told_view, ProbeUnlessNoSender, UnlessNoSender};
 ghost use Rattle.recovery_engine.specs.Replies.{IsWritten};
 
 use crate::controllers::ChosenConfig;
-use crate::sending::{AckRange, Call, OutcomeView, Sending, no_outcome};
+use crate::sending::{AckRange, Call, OutcomeView, Sending};
 use crate::spelling::{EncodedReply, copy_numbers};
 use quic_recovery::{LiveRecovery, Recovery};
 use rand_pcg::Pcg32;
-use recovery_base::below::NoMemory;
+use recovery_base::below::{NoMemory, SpaceId};
 use recovery_base::time::Instant;
 use recovery_events::event::{Answer, Event, Refusal};
 use recovery_history::RecoveryConfig;
@@ -31,6 +31,17 @@ pub type ItemRecovery = LiveRecovery<ChosenConfig, ItemQueue, Pcg32>;
 
 /// A sender over such a one.
 pub type ItemSender = Sender<ChosenConfig, ItemQueue, Pcg32>;
+
+/// What a recovery begins as.
+#[derive(Clone, Copy)]
+pub enum Form {
+    /// A recovery alone: its caller decides what is lost.
+    Bare,
+    /// One of a sender of this side, from the start of the handshake.
+    Handshaking(Side),
+    /// One of a sender of this side, once the handshake is confirmed.
+    Established(Side),
+}
 
 /// The recovery of a stack.
 #[derive(Drop)]
@@ -56,10 +67,10 @@ fn passed(sending: &mut Sending, event: Event<ItemQueue>) -> Result<Answer<ItemQ
 }
 
 impl Engine {
-    /// A recovery to which nothing has happened yet: of a sender of this side, if there is one.
+    /// A recovery to which nothing has happened yet, in this form.
     pub fn new(
         alloc: Global,
-        side: Option<Side>,
+        form: Form,
         config: RecoveryConfig<ChosenConfig>,
         rng: Pcg32,
         now: Instant,
@@ -67,11 +78,12 @@ impl Engine {
         requires issued { config.issued ≤ number_limit }
         requires skips { IsSkips config.skips }
         ensures { IfOk result
-            (λ kept. IsFresh side config now (stream_of (steps_u32 pcg32) rng) kept) }
+            (λ kept. IsFresh form config now (stream_of (steps_u32 pcg32) rng) kept) }
     {
-        match side {
-            Some(side) => Engine::sends(alloc, side, config, rng, now),
-            None => Engine::alone(alloc, config, rng, now),
+        match form {
+            Form::Bare => Engine::alone(alloc, config, rng, now),
+            Form::Handshaking(side) => Engine::sends(alloc, side, config, rng, now),
+            Form::Established(side) => Engine::established(alloc, side, config, rng, now),
         }
     }
 
@@ -103,13 +115,23 @@ impl Engine {
             (λ kept. IsFreshSender side config now (stream_of (steps_u32 pcg32) rng) kept) }
     {
         let sender = Sender::new(alloc, side, config, rng, now)?;
-        Ok(Engine::Sends(Sending {
-            sender,
-            told: no_outcome(alloc),
-            ranges: Vec::new(alloc),
-            numbers_room: Vec::new(alloc),
-            packets_room: Vec::new(alloc),
-        }))
+        Ok(Engine::Sends(Sending::new(alloc, sender)))
+    }
+
+    fn established(
+        alloc: Global,
+        side: Side,
+        config: RecoveryConfig<ChosenConfig>,
+        rng: Pcg32,
+        now: Instant,
+    ) -> Result<Engine, NoMemory>
+        requires issued { config.issued ≤ number_limit }
+        requires skips { IsSkips config.skips }
+        ensures { IfOk result
+            (λ kept. IsFreshEstablished side config now (stream_of (steps_u32 pcg32) rng) kept) }
+    {
+        let sender = Sender::established(alloc, side, config, rng, now)?;
+        Ok(Engine::Sends(Sending::new(alloc, sender)))
     }
 
     /// The recovery, to look at.
@@ -206,6 +228,16 @@ impl Engine {
         match self {
             Engine::Alone(_) => EncodedReply::no_sender(),
             Engine::Sends(sending) => sending.call_sender(alloc, call, ranges),
+        }
+    }
+
+    /// Hands out what a probe of a sender carries, or says in numbers why it is refused; refused where there is none.
+    pub fn probe(&mut self, space: SpaceId, immediate_ack: bool) -> Result<ItemQueue, EncodedReply>
+        ensures { ProbeUnlessNoSender space immediate_ack self.old result self.new }
+    {
+        match self {
+            Engine::Alone(_) => Err(EncodedReply::no_sender()),
+            Engine::Sends(sending) => sending.probe(space, immediate_ack),
         }
     }
 

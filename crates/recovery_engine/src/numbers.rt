@@ -46,15 +46,16 @@ pub const ANSWER_FULL: u8 = 128;
 pub const ANSWER_ACKNOWLEDGED: u8 = 129;
 /// No timer of the sender is due.
 pub const ANSWER_NOTHING: u8 = 130;
-/// Packets were looked for that are lost.
+/// Packets were looked for that are lost, in the space that `first` names for a timeout.
 pub const ANSWER_LOSSES: u8 = 131;
 /// Probes are to be sent.
 pub const ANSWER_PROBES: u8 = 132;
 /// The event is refused. It lies far from the answers, so that further ones do not move it.
 pub const ANSWER_REFUSED: u8 = 255;
 
-/// A number was acknowledged that was never sent (RFC 9000, 13.1): of a sender alone.
-pub const REFUSAL_UNSENT: u8 = 21;
+/// A number was acknowledged that was never sent (RFC 9000, 13.1): of a sender alone. The errors of senders lie above
+/// those of events, so that further ones of these do not meet them.
+pub const REFUSAL_UNSENT: u8 = 128;
 /// The event is one that the sender decides itself: it is not handed in around it.
 pub const REFUSAL_DECIDED: u8 = 252;
 /// The handle holds a recovery that stands alone, without a sender.
@@ -99,7 +100,7 @@ pub const NEW_SKIP_TOO_LARGE: u8 = 5;
 pub const NEW_ZERO_MTU: u8 = 6;
 /// The initial window is zero.
 pub const NEW_ZERO_WINDOW: u8 = 7;
-/// The denominator of the loss reduction factor is zero.
+/// The denominator of the loss reduction factor, or of the time threshold, is zero.
 pub const NEW_ZERO_DENOMINATOR: u8 = 8;
 /// There is no such controller.
 pub const NEW_UNKNOWN_CONTROLLER: u8 = 9;

@@ -5,7 +5,7 @@ ghost use Rattle.recovery_sender.specs.Senders.{state_in};
 ghost use Rattle.recovery_sender.specs.Spaces.{packets_in};
 ghost use Rattle.recovery_engine.specs.Kept.{items_of, numbers_of, packets_listed, IsEmptyOutcome, HasLossesOnly};
 ghost use Rattle.recovery_engine.specs.Replies.{plain};
-ghost use Rattle.recovery_engine.specs.Sending.{acknowledged_spelled, confirmed, delayed_by, ecn_number, is_quiet, keyed, lost_alone, no_told, range_given, refused_spelled, timeout_spelled, tells_more, told_shown, transmission_spelled, AckReply, ChallengeReply, DiscardReply, TimeoutReply, RetransmitAllReply, UpdatesVariables, SenderCallReply, AckFrameReply, TransmitReply};
+ghost use Rattle.recovery_engine.specs.Sending.{acknowledged_spelled, confirmed, delayed_by, ecn_number, is_quiet, keyed, lost_alone, no_told, losses_spelled, range_given, refused_spelled, timeout_spelled, tells_more, told_shown, transmission_spelled, AckReply, ChallengeReply, DiscardReply, ProbeReply, TimeoutReply, RetransmitAllReply, UpdatesVariables, SenderCallReply, AckFrameReply, TransmitReply};
 
 use crate::kept::ItemSender;
 use crate::numbers::{
@@ -17,6 +17,7 @@ use crate::spelling::{EncodedReply, encode_number, encode_refusal, space_number}
 use recovery_base::below::SpaceId;
 use recovery_base::time::{Duration, Instant};
 use recovery_losses::Ack;
+use recovery_queue::items::ItemQueue;
 use recovery_sender::{Acknowledged, EcnOutcome, Losses, SenderError, Timeout, Transmission};
 use std::alloc::Global;
 use std::mem;
@@ -70,10 +71,7 @@ pub enum Call {
         ack: Ack,
     },
     /// The timer for losses may be due.
-    Expire {
-        now: Instant,
-        immediate_ack: bool,
-    },
+    Expire(Instant),
     /// The keys of a space are dropped.
     Discard {
         space: SpaceId,
@@ -150,7 +148,7 @@ fn lost_alone(numbers: Vec<u64>) -> Losses
 }
 
 /// Nothing was told yet. It takes no memory.
-pub fn no_outcome(alloc: Global) -> LastOutcome
+fn no_outcome(alloc: Global) -> LastOutcome
     ensures { IsEmptyOutcome result }
 {
     told_lost(alloc, lost_alone(Vec::new(alloc)))
@@ -257,6 +255,13 @@ fn spell_transmission(sent: Transmission) -> EncodedReply
     }
 }
 
+/// A space was searched for losses.
+fn spell_losses(space: SpaceId) -> EncodedReply
+    ensures { result ≡ losses_spelled space }
+{
+    encode_number(ANSWER_LOSSES, u64::from(space_number(space)))
+}
+
 /// So many probes are due in a space.
 fn spell_probes(space: SpaceId, count: u8) -> EncodedReply
     ensures { result ≡ timeout_spelled (Probe space count) }
@@ -324,6 +329,20 @@ fn list_packets(
 }
 
 impl Sending {
+    /// This sender, which told nothing yet. It takes no memory.
+    pub fn new(alloc: Global, sender: ItemSender) -> Sending
+        ensures sender { result.sender ≡ sender }
+        ensures told { IsEmptyOutcome result.told }
+    {
+        Sending {
+            sender,
+            told: no_outcome(alloc),
+            ranges: Vec::new(alloc),
+            numbers_room: Vec::new(alloc),
+            packets_room: Vec::new(alloc),
+        }
+    }
+
     /// The numbers that were newly acknowledged, or those that were lost.
     pub fn numbers(&self, lost: bool) -> &[u64]
         ensures { result.now ≡ numbers_of lost self.now.told.acked }
@@ -348,7 +367,7 @@ impl Sending {
                 in_flight,
             } => self.transmit(now, bytes, space, in_flight),
             Call::TakeAck { space, now, ack } => self.take_frame(alloc, space, now, ranges, ack),
-            Call::Expire { now, immediate_ack } => self.expire(alloc, now, immediate_ack),
+            Call::Expire(now) => self.expire(alloc, now),
             Call::Discard { space, now } => self.discard(space, now),
             Call::Abandon { space, now } => self.retransmit_all(alloc, space, now),
             Call::HandshakeKeys => self.handshake_keys(),
@@ -428,17 +447,26 @@ impl Sending {
         self.packets_room = packets;
     }
 
-    fn expire(&mut self, alloc: Global, now: Instant, immediate_ack: bool) -> EncodedReply
-        ensures { TimeoutReply now immediate_ack self.old result self.new }
+    fn expire(&mut self, alloc: Global, now: Instant) -> EncodedReply
+        ensures { TimeoutReply now self.old result self.new }
     {
-        match self.sender.on_timeout(now, immediate_ack, (), ()) {
-            Ok(Timeout::Nothing) => EncodedReply::plain(ANSWER_NOTHING),
-            Ok(Timeout::Lost(losses)) => {
+        match self.sender.on_timeout(now) {
+            Timeout::Nothing => EncodedReply::plain(ANSWER_NOTHING),
+            Timeout::Lost { space, losses } => {
                 self.told = told_lost(alloc, losses);
-                EncodedReply::plain(ANSWER_LOSSES)
+                spell_losses(space)
             }
-            Ok(Timeout::Probe { space, count }) => spell_probes(space, count),
-            Err(refused) => spell_refused(refused),
+            Timeout::Probe { space, count } => spell_probes(space, count),
+        }
+    }
+
+    /// Hands out what a probe of a space carries, or says in numbers why it is refused.
+    pub fn probe(&mut self, space: SpaceId, immediate_ack: bool) -> Result<ItemQueue, EncodedReply>
+        ensures { ProbeReply space immediate_ack self.old result self.new }
+    {
+        match self.sender.probe(space, immediate_ack, ()) {
+            Ok(queue) => Ok(queue),
+            Err(refused) => Err(spell_refused(refused)),
         }
     }
 

@@ -34,10 +34,11 @@ pub struct EncodedReply {
     /// Probe: its size in bytes. Otherwise 0.
     pub size: u16,
     /// Sent, probe: the number that it was given. Retire: the first number. Timeout, delayed: the moment, in
-    /// nanoseconds. In flight: the bytes. Otherwise 0.
+    /// nanoseconds. In flight: the bytes. Acknowledged: how many numbers are so newly. Losses of a timeout, probes: the
+    /// space. Otherwise 0.
     pub first: u64,
     /// Sent: the number that was forgotten. Retire: one above the last number. In flight: how many packets elicit an
-    /// ACK. Otherwise 0.
+    /// ACK. Acknowledged: how many numbers are lost. Probes: how many are due. Otherwise 0.
     pub second: u64,
 }
 

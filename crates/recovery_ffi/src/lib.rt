@@ -20,8 +20,10 @@ mod settings;
 mod timers;
 
 ghost use Rattle.std.specs.Prelude.{◌≡◌, None};
+ghost use Rattle.recovery_engine.specs.declared.kept.Form.TheVariants.{Bare};
 ghost use Rattle.recovery_stack.specs.Made.{NewOr};
 
+use recovery_engine::kept::Form;
 use recovery_stack::codes::Address;
 use recovery_stack::handle::Handle;
 use recovery_stack::making::begin;
@@ -39,10 +41,18 @@ pub extern "C" fn recovery_ffi_new(
     initial_cid: &[u8],
     now: u64,
 ) -> u8
-    ensures { NewOr None result settings.now remote.now initial_cid.now now
+    ensures { NewOr Bare result settings.now remote.now initial_cid.now now
         handle.old.slot.held handle.new.slot.held }
 {
-    begin(alloc, handle, None, settings, remote, initial_cid, now)
+    begin(
+        alloc,
+        handle,
+        Form::Bare,
+        settings,
+        remote,
+        initial_cid,
+        now,
+    )
 }
 
 /// Frees a recovery. The handle holds none then; one that holds none stays so.

@@ -1,16 +1,18 @@
 //! The sending half of a connection (RFC 9002, Appendices A and B): which packets are lost, when to probe, and whether
 //! a datagram may go out. An export for each call of it that is no event; events that pass it takes as a recovery does.
-ghost use Rattle.std.specs.Prelude.{◌≡◌, Some};
+ghost use Rattle.std.specs.Prelude.{◌≡◌};
 ghost use Rattle.recovery_stack.specs.Answers.{ReadsHandle};
 ghost use Rattle.recovery_stack.specs.Codes.{maybe, side_coded, space_coded, span};
 ghost use Rattle.recovery_engine.specs.Kept.{numbers_told, packets_told, pto_count_of};
 ghost use Rattle.recovery_stack.specs.Made.{NewOr};
-ghost use Rattle.recovery_stack.specs.SenderCalls.{frame_given, CallsSender, AsksAck, CallsSenderTo};
+ghost use Rattle.recovery_stack.specs.SenderCalls.{frame_given, CallsSender, AsksAck, CallsSenderTo, ProbesIn};
+ghost use Rattle.recovery_engine.specs.declared.kept.Form.TheVariants.{Handshaking, Established};
 ghost use Rattle.recovery_engine.specs.Sending.{no_told, told_view};
 ghost use Rattle.recovery_engine.specs.Replies.{IsWritten};
 ghost use Rattle.recovery_engine.specs.declared.sending.Call.TheVariants.{Transmit, Expire, Discard, Abandon, HandshakeKeys, HandshakeConfirmed, PeerDelay, Challenge};
 
 use recovery_base::time::Instant;
+use recovery_engine::kept::Form;
 use recovery_engine::sending::{AckRange, Call, OutcomeView};
 use recovery_engine::spelling::EncodedReply;
 use recovery_stack::codes::{Address, maybe, space_coded, span};
@@ -33,13 +35,41 @@ pub extern "C" fn recovery_ffi_sender_new(
     initial_cid: &[u8],
     now: u64,
 ) -> u8
-    ensures { NewOr (Some (side_coded client)) result settings.now remote.now initial_cid.now now
-        handle.old.slot.held handle.new.slot.held }
+    ensures { NewOr (Handshaking (side_coded client)) result settings.now remote.now initial_cid.now
+        now handle.old.slot.held handle.new.slot.held }
 {
     begin(
         alloc,
         handle,
-        Some(side_of(client)),
+        Form::Handshaking(side_of(client)),
+        settings,
+        remote,
+        initial_cid,
+        now,
+    )
+}
+
+/// Makes a recovery of a sender whose handshake is over, as `recovery_ffi_sender_new` makes one, and then
+/// `recovery_ffi_validated`, `recovery_ffi_sender_handshake_confirmed` and `recovery_ffi_sender_discard` of the Initial
+/// and the Handshake space: 1-RTT packets alone are sent and probed for (RFC 9001, 4.1.2 and 4.9). The answer is that
+/// of `recovery_ffi_sender_new`.
+#[unsafe(no_mangle)]
+pub extern "C" fn recovery_ffi_sender_established(
+    alloc: Global,
+    handle: &mut Handle,
+    client: bool,
+    settings: &Settings,
+    remote: &Address,
+    initial_cid: &[u8],
+    now: u64,
+) -> u8
+    ensures { NewOr (Established (side_coded client)) result settings.now remote.now initial_cid.now
+        now handle.old.slot.held handle.new.slot.held }
+{
+    begin(
+        alloc,
+        handle,
+        Form::Established(side_of(client)),
         settings,
         remote,
         initial_cid,
@@ -100,28 +130,40 @@ pub extern "C" fn recovery_ffi_sender_ack(
     handle.take_ack(alloc, space, now, frame, ranges)
 }
 
-/// The timer for losses may be due (RFC 9002, A.9): `ANSWER_NOTHING` where it is not; `ANSWER_LOSSES` where packets
-/// were looked for that are lost, which `recovery_ffi_last_outcome` and `recovery_ffi_told_numbers` say; or
-/// `ANSWER_PROBES`,
-/// with the space in `first` and in `second` how many are to be sent, 1 or 2. `immediate_ack` asks for an IMMEDIATE_ACK
-/// frame in a probe. Refused by `REFUSAL_NO_MEMORY` where the first probe finds none; then nothing changed.
+/// The timer for losses may be due (RFC 9002, A.9): `ANSWER_NOTHING` if it is not; `ANSWER_LOSSES` if a space was
+/// searched for lost packets, with the space in `first`, and `recovery_ffi_last_outcome` and
+/// `recovery_ffi_told_numbers` say which are lost; or `ANSWER_PROBES`, with the space in `first` and in `second` how
+/// many probes are due there, 1 or 2. For each of them the caller asks `recovery_ffi_sender_transmit`, takes its
+/// contents by `recovery_ffi_sender_probe`, and sends it by `recovery_ffi_send`. No sender refuses it.
 #[unsafe(no_mangle)]
-pub extern "C" fn recovery_ffi_sender_timeout(
+pub extern "C" fn recovery_ffi_sender_on_timeout(
     alloc: Global,
     handle: &mut Handle,
     now: u64,
+) -> EncodedReply
+    ensures { CallsSender handle.old.slot.held (Expire now) result handle.new.slot.held }
+{
+    handle.call_sender(alloc, Call::Expire(Instant::from_nanos(now)))
+}
+
+/// Hands out what a probe of a space carries (RFC 9002, 6.2.4), to be read by `recovery_ffi_last_items`: what waits
+/// there to be sent again, or else the contents of the first packet in flight that has any: `ANSWER_QUEUE`. A queue
+/// without items asks for a PING frame. `immediate_ack` asks for an IMMEDIATE_ACK frame in it. Refused by
+/// `REFUSAL_SPACE_DISCARDED`, then by `REFUSAL_NO_MEMORY`; then nothing changed.
+#[unsafe(no_mangle)]
+pub extern "C" fn recovery_ffi_sender_probe(
+    alloc: Global,
+    handle: &mut Handle,
+    space: u8,
     immediate_ack: bool,
 ) -> EncodedReply
-    ensures { CallsSender handle.old.slot.held (Expire now immediate_ack) result
+    ensures { ProbesIn (space_coded space) immediate_ack handle.old.slot.held result
         handle.new.slot.held }
 {
-    handle.call_sender(
-        alloc,
-        Call::Expire {
-            now: Instant::from_nanos(now),
-            immediate_ack,
-        },
-    )
+    match space_coded(space) {
+        Some(space) => handle.probe(alloc, space, immediate_ack),
+        None => EncodedReply::bad_argument(),
+    }
 }
 
 /// The keys of a space are dropped, and with them all that it tracks; probe timeouts are counted anew (RFC 9002, 6.2.2,

@@ -240,7 +240,7 @@ module _ {P M : Type 0} (look : LossPass) (old : Packets P M) where
         bytes = looked.bytes;
         last_sent = looked.last_sent;
         run = run_like _ _ look.skipped look.period from (next.number + 1) tally.run (omega (arith, is.from_on))
-          looked.run;
+            looked.run;
       }
         where
           due_here : IsDueAt look next.number is.packet.time_sent due

@@ -18,4 +18,4 @@ pub record PassSoFar {P M : Type 0} (look : LossPass) (old : Packets P M) (end :
   pub last_sent : tally.last_sent ≡ last_counted look old numbers
   -- the numbers that are lost now, one behind another
   pub run :
-    IsLossRun (IsDeclaredLost numbers tally.probe) (IsEndAt look old numbers) look.skipped look.period end tally.run
+      IsLossRun (IsDeclaredLost numbers tally.probe) (IsEndAt look old numbers) look.skipped look.period end tally.run

@@ -37,7 +37,7 @@ module _ {F Q R C K S M P : Type 0} {f : _} {c : _} {q : _} {m : _} {r : _} (old
     pub record TransmitCall (datagram : Datagram) (reply : Result Transmission SenderError) : Type 0 where
       pub is : reply
           ≡ transmit_reply c.words (state_in old) old.variables datagram.now datagram.bytes datagram.space
-              datagram.in_flight
+          datagram.in_flight
       pub window : reply ≡ Ok Transmitted → datagram.in_flight ≡ true
           → is_probe_due old.variables datagram.space ≡ false
           → bytes_in_flight (state_in old) + datagram.bytes ≤ window_of c.words (state_in old)

@@ -1,9 +1,10 @@
 -- What a call of a sender comes to, of what a handle holds.
-use Rattle.std.specs.Prelude.{◌≡◌, ℕ, List, [], Option, None, Some, option_map, option_and_then, if◌then◌else◌}
+use Rattle.std.specs.Prelude.{◌≡◌, ℕ, Bool, List, [], Option, None, Some, Result, Ok, Err, option_map, option_and_then, if◌then◌else◌}
 use Rattle.recovery_base.specs.declared.below.SpaceId.{SpaceId}
 use Rattle.recovery_losses.specs.declared.frames.Ack.{Ack}
-use Rattle.recovery_engine.specs.Replies.{no_recovery}
-use Rattle.recovery_engine.specs.Sending.{UnlessNoSender}
+use Rattle.recovery_engine.specs.Replies.{no_recovery, plain}
+use Rattle.recovery_engine.specs.Sending.{ProbeUnlessNoSender, UnlessNoSender}
+use Rattle.recovery_engine.specs.declared.numbers.TheConstants.{ANSWER_QUEUE}
 use Rattle.recovery_engine.specs.declared.sending.AckRange.{AckRange}
 use Rattle.recovery_engine.specs.declared.sending.Call.{Call}
 use Rattle.recovery_engine.specs.declared.sending.Call.TheVariants.{TakeAck}
@@ -39,6 +40,42 @@ CallsSender old call spelling new = AsksWith old call [] spelling new
 abbrev pub CallsSenderTo : {C : Type 0} → Option C → (C → Call) → Option Stack → EncodedReply → Option Stack → Type 0
 CallsSenderTo None call old spelling new = IsBadArgument old spelling new
 CallsSenderTo (Some named) call old spelling new = CallsSender old (call named) spelling new
+
+-- ---- a probe
+
+abbrev pub probe_spelled : Result (List ℕ) EncodedReply → EncodedReply
+probe_spelled (Ok queue) = plain ANSWER_QUEUE
+probe_spelled (Err refusal) = refusal
+
+-- the queue that was taken last is then what the probe carries
+abbrev pub probe_taken : Result (List ℕ) EncodedReply → List ℕ → List ℕ
+probe_taken (Ok queue) taken = queue
+probe_taken (Err refusal) taken = taken
+
+pub record ProbesStack (space : SpaceId) (immediate : Bool) (was : Stack) (spelling : EncodedReply)
+    (is : Stack) : Type 0 where
+  pub given : Result (List ℕ) EncodedReply
+  pub comes : ProbeUnlessNoSender space immediate was.kept given is.kept
+  pub spells : spelling ≡ probe_spelled given
+  pub taken : is.taken ≡ probe_taken given was.taken
+  pub token : is.token ≡ was.token
+
+pub record ProbesHeld (was : Stack) (space : SpaceId) (immediate : Bool) (spelling : EncodedReply)
+    (new : Option Stack) : Type 0
+  where
+    pub is : Stack
+    pub holds : new ≡ Some is
+    pub probes : ProbesStack space immediate was spelling is
+
+-- where a handle holds none, the call is refused
+abbrev pub ProbesHandle : Option Stack → SpaceId → Bool → EncodedReply → Option Stack → Type 0
+ProbesHandle None space immediate spelling new = (spelling ≡ no_recovery) × (new ≡ None)
+ProbesHandle (Some was) space immediate spelling new = ProbesHeld was space immediate spelling new
+
+-- in the space that a number names, where it names one
+abbrev pub ProbesIn : Option SpaceId → Bool → Option Stack → EncodedReply → Option Stack → Type 0
+ProbesIn None immediate old spelling new = IsBadArgument old spelling new
+ProbesIn (Some space) immediate old spelling new = ProbesHandle old space immediate spelling new
 
 -- ---- an ACK frame as it is given
 

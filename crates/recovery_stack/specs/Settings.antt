@@ -29,7 +29,7 @@ settings_fault settings =
     (if nat_le first_skip_limit settings.first_skip then NEW_SKIP_TOO_LARGE else
     (if settings.initial_mtu == 0 || settings.min_mtu == 0 then NEW_ZERO_MTU else
     (if settings.initial_window == 0 then NEW_ZERO_WINDOW else
-    (if settings.loss_denominator == 0 then NEW_ZERO_DENOMINATOR else
+    (if settings.loss_denominator == 0 || settings.time_denominator == 0 then NEW_ZERO_DENOMINATOR else
     (if nat_lt CONTROLLER_CUBIC settings.controller then NEW_UNKNOWN_CONTROLLER else
     (if nat_lt SKIPS_STARTING settings.skips then NEW_UNKNOWN_SKIPS else NEW_MADE))))))
 
@@ -39,6 +39,7 @@ pub record AreSettingsSound (settings : Settings) : Type 0 where
   pub first_skip : settings.first_skip < first_skip_limit
   pub window : 0 < settings.initial_window
   pub factor : 0 < settings.loss_denominator
+  pub time : 0 < settings.time_denominator
   pub initial_mtu : 0 < settings.initial_mtu
   pub min_mtu : 0 < settings.min_mtu
 
@@ -77,6 +78,9 @@ transport_of settings = record (settings_with (controller_of settings)) {
   initial_mtu = settings.initial_mtu;
   min_mtu = settings.min_mtu;
   mtu_discovery_config = discovery_of settings;
+  packet_threshold = settings.packet_threshold;
+  time_threshold = (settings.time_numerator, settings.time_denominator);
+  persistent_congestion_threshold = settings.persistent_congestion_threshold;
 }
 
 abbrev pub config_of : Settings → List ℕ → SocketAddr → RecoveryConfig ChosenConfig
@@ -90,7 +94,7 @@ config_of settings cid remote = record (config_with (transport_of settings) remo
   skips = skips_of settings.skips settings.first_skip;
 }
 
--- the settings that are used by default (RFC 9000, 14 and 18.2; RFC 9002, 6.2.2 and 7.2)
+-- the settings that are used by default (RFC 9000, 14 and 18.2; RFC 9002, 6.1, 6.2.2, 7.2 and 7.6.1)
 abbrev pub default_settings : Settings
 default_settings = record {
   max_ack_delay = 25 * milliseconds;
@@ -104,6 +108,10 @@ default_settings = record {
   initial_window = 12000;
   loss_numerator = 1;
   loss_denominator = 2;
+  time_numerator = 9;
+  time_denominator = 8;
+  packet_threshold = 3;
+  persistent_congestion_threshold = 3;
   initial_mtu = 1200;
   min_mtu = 1200;
   mtu_upper_bound = 1452;

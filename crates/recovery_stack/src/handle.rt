@@ -4,11 +4,12 @@ ghost use Rattle.std.specs.List.{All};
 ghost use Rattle.recovery_base.specs.Ids.{longest_cid};
 ghost use Rattle.recovery_stack.specs.Answers.{HandleApplies, IsBadArgument, IssuesIdsOrNoMemory};
 ghost use Rattle.recovery_stack.specs.Held.{HoldsIf};
-ghost use Rattle.recovery_stack.specs.SenderCalls.{CallsSender, AsksWith};
+ghost use Rattle.recovery_stack.specs.SenderCalls.{CallsSender, AsksWith, ProbesHandle};
 
 use crate::codes::{Id, are_ids, ids_of};
 use crate::slot::Slot;
 use crate::stack::Stack;
+use recovery_base::below::SpaceId;
 use recovery_base::time::Instant;
 use recovery_engine::sending::{AckRange, Call};
 use recovery_engine::spelling::EncodedReply;
@@ -96,6 +97,18 @@ impl Handle {
             return EncodedReply::no_recovery();
         };
         let reply = stack.call_sender(alloc, call, ranges);
+        self.put(stack);
+        reply
+    }
+
+    /// What a probe of a sender carries is handed out; refused where no stack is held.
+    pub fn probe(&mut self, alloc: Global, space: SpaceId, immediate_ack: bool) -> EncodedReply
+        ensures { ProbesHandle self.old.slot.held space immediate_ack result self.new.slot.held }
+    {
+        let Some(mut stack) = self.take(alloc) else {
+            return EncodedReply::no_recovery();
+        };
+        let reply = stack.probe(space, immediate_ack);
         self.put(stack);
         reply
     }

@@ -11,22 +11,21 @@ use rand_core::SeedableRng;
 use rand_pcg::Pcg32;
 use recovery_base::below::ConnectionId;
 use recovery_base::time::Instant;
+use recovery_engine::kept::Form;
 use recovery_engine::numbers::{NEW_CID_TOO_LONG, NEW_HELD, NEW_MADE, NEW_NO_MEMORY};
-use recovery_losses::Side;
 use std::alloc::Global;
 
-/// A handle that holds none comes to hold a recovery: of a sender of this side, if there is one. `NEW_MADE`, or the
-/// number of what is wrong.
+/// A handle that holds none comes to hold a recovery in this form. `NEW_MADE`, or the number of what is wrong.
 pub fn begin(
     alloc: Global,
     handle: &mut Handle,
-    side: Option<Side>,
+    form: Form,
     settings: &Settings,
     remote: &Address,
     initial_cid: &[u8],
     now: u64,
 ) -> u8
-    ensures { NewOr side result settings.now remote.now initial_cid.now now
+    ensures { NewOr form result settings.now remote.now initial_cid.now now
         handle.old.slot.held handle.new.slot.held }
 {
     if handle.holds() {
@@ -39,7 +38,7 @@ pub fn begin(
     if fault != NEW_MADE {
         return fault;
     }
-    if make(alloc, handle, side, settings, remote, id, now) {
+    if make(alloc, handle, form, settings, remote, id, now) {
         NEW_MADE
     } else {
         NEW_NO_MEMORY
@@ -54,7 +53,7 @@ pub fn begin(
 fn make(
     alloc: Global,
     handle: &mut Handle,
-    side: Option<Side>,
+    form: Form,
     settings: &Settings,
     remote: &Address,
     id: ConnectionId,
@@ -62,12 +61,12 @@ fn make(
 ) -> bool
     requires none { handle.old.slot.held ≡ None }
     requires sound { AreSettingsSound settings.now }
-    ensures { MadeOrNoMemory side result settings.now remote.now id now handle.new.slot.held }
+    ensures { MadeOrNoMemory form result settings.now remote.now id now handle.new.slot.held }
 {
     let peer = socket_of(remote);
     let config = config(settings, id, peer);
     let rng = Pcg32::seed_from_u64(settings.seed);
-    match Stack::new(alloc, side, config, rng, Instant::from_nanos(now)) {
+    match Stack::new(alloc, form, config, rng, Instant::from_nanos(now)) {
         Ok(stack) => handle.make(alloc, stack),
         Err(_) => false,
     }

@@ -47,6 +47,17 @@ pub struct Settings {
     pub loss_numerator: u64,
     /// Above zero.
     pub loss_denominator: u64,
+    /// The time threshold, a fraction of an RTT: a sender declares a packet lost so long after it was sent, if a
+    /// later one is acknowledged; 1 stands for a smaller fraction (RFC 9002, 6.1.2).
+    pub time_numerator: u64,
+    /// Above zero.
+    pub time_denominator: u64,
+    /// The packet threshold: a sender declares a packet lost that was sent so many packets before an acknowledged one;
+    /// 1 stands for 0 (RFC 9002, 6.1.1).
+    pub packet_threshold: u32,
+    /// How many probe timeouts losses span, for a sender, that are persistent congestion; 1 stands for 0 (RFC 9002,
+    /// 7.6.1).
+    pub persistent_congestion_threshold: u32,
     /// The size of datagrams before the search, above zero.
     pub initial_mtu: u16,
     /// The size that the path is known to carry, above zero.
@@ -72,8 +83,8 @@ pub struct Settings {
 }
 
 impl Default for Settings {
-    /// Those of RFC 9000, 14 and 18.2, and RFC 9002, 6.2.2 and 7.2, over NewReno; `recovery_ffi_default_settings` says
-    /// each.
+    /// Those of RFC 9000, 14 and 18.2, and RFC 9002, 6.1, 6.2.2, 7.2 and 7.6.1, over NewReno;
+    /// `recovery_ffi_default_settings` says each.
     fn default() -> Settings
         ensures defaults { result ≡ default_settings }
         ensures sound { settings_fault result ≡ NEW_MADE }
@@ -90,6 +101,10 @@ impl Default for Settings {
             initial_window: 12_000,
             loss_numerator: 1,
             loss_denominator: 2,
+            time_numerator: 9,
+            time_denominator: 8,
+            packet_threshold: 3,
+            persistent_congestion_threshold: 3,
             initial_mtu: 1200,
             min_mtu: 1200,
             mtu_upper_bound: 1452,
@@ -118,7 +133,7 @@ pub fn fault(settings: &Settings) -> u8
         NEW_ZERO_MTU
     } else if settings.initial_window == 0 {
         NEW_ZERO_WINDOW
-    } else if settings.loss_denominator == 0 {
+    } else if settings.loss_denominator == 0 || settings.time_denominator == 0 {
         NEW_ZERO_DENOMINATOR
     } else if settings.controller > CONTROLLER_CUBIC {
         NEW_UNKNOWN_CONTROLLER
@@ -194,6 +209,9 @@ fn transport(settings: &Settings) -> TransportConfig<ChosenConfig>
     transport.initial_mtu(settings.initial_mtu);
     transport.min_mtu(settings.min_mtu);
     transport.mtu_discovery_config(discovery(settings));
+    transport.packet_threshold(settings.packet_threshold);
+    transport.time_threshold(settings.time_numerator, settings.time_denominator);
+    transport.persistent_congestion_threshold(settings.persistent_congestion_threshold);
     transport
 }
 

@@ -9,19 +9,19 @@ ghost use Rattle.recovery_engine.specs.Kept.{parts_kept, AcceptsEvent};
 ghost use Rattle.recovery_engine.specs.Replies.{taken_after, token_after};
 ghost use Rattle.recovery_stack.specs.Made.{IsNewHandle};
 ghost use Rattle.recovery_stack.specs.Answers.{EventReply, AppliesOrRejects};
-ghost use Rattle.recovery_stack.specs.SenderCalls.{AsksStack};
+ghost use Rattle.recovery_stack.specs.SenderCalls.{AsksStack, ProbesStack};
 
 use quic_recovery::Recovery;
 use rand_pcg::Pcg32;
-use recovery_base::below::{NoMemory, ResetToken};
+use recovery_base::below::{NoMemory, ResetToken, SpaceId};
 use recovery_base::time::Instant;
 use recovery_engine::controllers::{Chosen, ChosenConfig};
-use recovery_engine::kept::Engine;
+use recovery_engine::kept::{Engine, Form};
+use recovery_engine::numbers::ANSWER_QUEUE;
 use recovery_engine::sending::{AckRange, Call};
 use recovery_engine::spelling::{EncodedReply, encode_reply};
 use recovery_events::event::{Answer, Event, Refusal};
 use recovery_history::RecoveryConfig;
-use recovery_losses::Side;
 use recovery_paths::paths::PathData;
 use recovery_queue::items::ItemQueue;
 use recovery_spaces::spaces::PacketSpace;
@@ -44,10 +44,10 @@ pub struct Stack {
 }
 
 impl Stack {
-    /// A recovery to which nothing has happened yet: of a sender of this side, if there is one.
+    /// A recovery to which nothing has happened yet, in this form.
     pub fn new(
         alloc: Global,
-        side: Option<Side>,
+        form: Form,
         config: RecoveryConfig<ChosenConfig>,
         rng: Pcg32,
         now: Instant,
@@ -55,9 +55,9 @@ impl Stack {
         requires issued { config.issued ≤ number_limit }
         requires skips { IsSkips config.skips }
         ensures { IfOk result
-            (λ stack. IsNewHandle side config now (stream_of (steps_u32 pcg32) rng) stack) }
+            (λ stack. IsNewHandle form config now (stream_of (steps_u32 pcg32) rng) stack) }
     {
-        let kept = Engine::new(alloc, side, config, rng, now)?;
+        let kept = Engine::new(alloc, form, config, rng, now)?;
         Ok(Stack {
             kept,
             taken: ItemQueue::from_items(Vec::new(alloc)),
@@ -114,5 +114,18 @@ impl Stack {
         ensures { AsksStack call ranges.now self.old result self.new }
     {
         self.kept.call_sender(alloc, call, ranges)
+    }
+
+    /// What a probe of a sender carries is handed out; refused where there is none.
+    pub fn probe(&mut self, space: SpaceId, immediate_ack: bool) -> EncodedReply
+        ensures { ProbesStack space immediate_ack self.old result self.new }
+    {
+        match self.kept.probe(space, immediate_ack) {
+            Ok(queue) => {
+                self.taken = queue;
+                EncodedReply::plain(ANSWER_QUEUE)
+            }
+            Err(refused) => refused,
+        }
     }
 }

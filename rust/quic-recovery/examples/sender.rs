@@ -131,13 +131,8 @@ struct Stack {
 impl Stack {
     fn new(socket: UdpSocket, remote: SocketAddr, began: Clock) -> Outcome<Self> {
         let start = Instant::from_nanos(0);
-        let mut sender = Sender::new(Side::Client, &config(remote), start)?;
-        sender.on_handshake_confirmed();
-        for space in [SpaceId::Initial, SpaceId::Handshake] {
-            sender.discard(space, start)?;
-        }
         Ok(Stack {
-            sender,
+            sender: Sender::established(Side::Client, &config(remote), start)?,
             socket,
             began,
             waiting: (0..ITEMS).collect(),
@@ -149,13 +144,17 @@ impl Stack {
         })
     }
 
-    /// One packet with up to four items; without one it is a PING.
-    fn send(&mut self) -> Outcome<()> {
+    /// Up to four items that wait.
+    fn next_items(&mut self) -> Vec<u64> {
         let count = self.waiting.len().min(4);
-        let items: Vec<u64> = self.waiting.drain(..count).collect();
+        self.waiting.drain(..count).collect()
+    }
+
+    /// One packet with these items; without one it is a PING.
+    fn send(&mut self, items: &[u64]) -> Outcome<()> {
         let sent = self
             .sender
-            .send(SPACE, now(self.began), SIZE, true, None, &items)?;
+            .send(SPACE, now(self.began), SIZE, true, None, items)?;
         let head = [sent.number, items.len() as u64];
         let mut datagram = bytes(head.into_iter().chain(items.iter().copied()));
         datagram.resize(usize::from(SIZE), 0);
@@ -168,7 +167,10 @@ impl Stack {
     fn send_all(&mut self) -> Outcome<Option<Instant>> {
         while !self.waiting.is_empty() {
             match self.sender.transmit(now(self.began), SIZE, SPACE, true)? {
-                Transmission::Transmitted => self.send()?,
+                Transmission::Transmitted => {
+                    let items = self.next_items();
+                    self.send(&items)?;
+                }
                 Transmission::Delayed(until) => return Ok(Some(until)),
                 Transmission::Full | Transmission::Blocked => return Ok(None),
             }
@@ -206,18 +208,27 @@ impl Stack {
 
     /// The timer may be due: something may be lost, or probes go out, whatever the window says (RFC 9002, 6.2.4).
     fn time_out(&mut self) -> Outcome<()> {
-        match self.sender.on_timeout(now(self.began), false)? {
-            Timeout::Nothing => {}
-            Timeout::Lost(losses) => self.lose(losses.numbers.len())?,
-            Timeout::Probe { count, .. } => {
-                self.take_pending()?;
-                for _ in 0..count {
-                    self.sender.transmit(now(self.began), SIZE, SPACE, true)?;
-                    self.send()?;
-                    self.probes += 1;
-                }
-            }
+        match self.sender.on_timeout(now(self.began))? {
+            Timeout::Nothing => Ok(()),
+            Timeout::Lost { losses, .. } => self.lose(losses.numbers.len()),
+            Timeout::Probe { space, count } => (0..count).try_for_each(|_| self.probe(space)),
         }
+    }
+
+    /// A probe goes out: with what waits to be sent again, or with the items of a packet in flight, or else with new ones. Of
+    /// more than four the others wait for their turn.
+    fn probe(&mut self, space: SpaceId) -> Outcome<()> {
+        let sent = self.sender.transmit(now(self.began), SIZE, space, true)?;
+        if sent != Transmission::Transmitted {
+            return Ok(());
+        }
+        let mut items = self.sender.probe(space, false)?;
+        self.waiting.extend(items.drain(items.len().min(4)..));
+        if items.is_empty() {
+            items = self.next_items();
+        }
+        self.send(&items)?;
+        self.probes += 1;
         Ok(())
     }
 

@@ -442,19 +442,35 @@ impl Sender {
         self.take_pending()
     }
 
-    /// The timer expired: packets are lost, or a probe goes out, whatever the window says (RFC 9002, 6.2.4).
+    /// A probe goes out, whatever window and pacer say, with what waits to be sent again, or with the piece of a packet in
+    /// flight (RFC 9002, 6.2.4): its contents are taken only for a datagram that goes out.
+    fn probe(&mut self) -> Outcome<()> {
+        let goes = self.end.recovery.apply(Event::Transmit {
+            now: self.end.now(),
+            bytes: (HEAD + PIECE) as u16,
+            checked: false,
+        })?;
+        if goes != Answer::Transmitted {
+            return Ok(());
+        }
+        self.end.recovery.apply(Event::QueueProbe {
+            space: SPACE,
+            immediate_ack: false,
+        })?;
+        self.take_pending()?;
+        let piece = self.next_piece().unwrap_or(u64::MAX / PIECE as u64);
+        self.send_piece(piece)
+    }
+
+    /// The timer expired: packets are lost, or two probes go out.
     fn timed_out(&mut self) -> Outcome<()> {
         if self.loss_time.is_some() {
             self.find_lost()?;
         } else {
             self.timeouts += 1;
-            self.end.recovery.apply(Event::QueueProbe {
-                space: SPACE,
-                immediate_ack: false,
-            })?;
-            self.take_pending()?;
-            let piece = self.next_piece().unwrap_or(u64::MAX / PIECE as u64);
-            self.send_piece(piece)?;
+            for _ in 0..2 {
+                self.probe()?;
+            }
         }
         self.set_timer()
     }

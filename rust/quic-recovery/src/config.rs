@@ -97,10 +97,20 @@ pub struct TransportConfig {
     pub mtu_discovery_config: Option<MtuDiscoveryConfig>,
     /// The congestion controller of each path.
     pub congestion: Congestion,
+    /// How many packets later than a lost one an acknowledged one was sent, at least: of a [`Sender`](crate::Sender). RFC
+    /// 9002, 6.1.1 recommends at least 3; 1 stands for 0.
+    pub packet_threshold: u32,
+    /// After which fraction of an RTT a packet is lost that was sent before an acknowledged one: numerator and denominator,
+    /// which is above zero, of a [`Sender`](crate::Sender) (RFC 9002, 6.1.2). 1 stands for a smaller fraction.
+    pub time_threshold: (u64, u64),
+    /// How many probe timeouts the losses span that are persistent congestion: of a [`Sender`](crate::Sender) (RFC 9002,
+    /// 7.6.1). 1 stands for 0.
+    pub persistent_congestion_threshold: u32,
 }
 
 impl Default for TransportConfig {
-    /// 333 ms, 1200 bytes, 1200 bytes, and the defaults of the search and of NewReno.
+    /// 333 ms, 1200 bytes, 1200 bytes, the defaults of the search and of NewReno, 3 packets, 9/8 of an RTT, and 3 probe
+    /// timeouts.
     fn default() -> Self {
         TransportConfig {
             initial_rtt: Duration::from_millis(333),
@@ -108,6 +118,9 @@ impl Default for TransportConfig {
             min_mtu: 1200,
             mtu_discovery_config: Some(MtuDiscoveryConfig::default()),
             congestion: Congestion::default(),
+            packet_threshold: 3,
+            time_threshold: (9, 8),
+            persistent_congestion_threshold: 3,
         }
     }
 }
@@ -193,7 +206,7 @@ pub enum ConfigError {
     ZeroMtu,
     /// The initial window is zero.
     ZeroWindow,
-    /// The denominator of the loss reduction factor is zero.
+    /// The denominator of the loss reduction factor, or of the time threshold, is zero.
     ZeroDenominator,
 }
 
@@ -205,7 +218,9 @@ impl fmt::Display for ConfigError {
             ConfigError::SkipTooLarge => "the first skip is 64 or more",
             ConfigError::ZeroMtu => "an MTU is zero",
             ConfigError::ZeroWindow => "the initial window is zero",
-            ConfigError::ZeroDenominator => "the denominator of the loss reduction factor is zero",
+            ConfigError::ZeroDenominator => {
+                "the denominator of the loss reduction factor or of the time threshold is zero"
+            }
         })
     }
 }
@@ -249,8 +264,9 @@ impl ConfigError {
             ffi::NEW_ZERO_MTU => Some(ConfigError::ZeroMtu),
             ffi::NEW_ZERO_WINDOW => Some(ConfigError::ZeroWindow),
             ffi::NEW_ZERO_DENOMINATOR => Some(ConfigError::ZeroDenominator),
+            ffi::NEW_NO_MEMORY => Some(ConfigError::NoMemory),
             // the others no settings of this crate come to
-            _ => Some(ConfigError::NoMemory),
+            number => unreachable!("the library makes no recovery, by {number}"),
         }
     }
 }
@@ -287,6 +303,10 @@ impl RecoveryConfig {
             initial_window: reno.initial_window,
             loss_numerator: reno.loss_reduction_factor.0,
             loss_denominator: reno.loss_reduction_factor.1,
+            time_numerator: transport.time_threshold.0,
+            time_denominator: transport.time_threshold.1,
+            packet_threshold: transport.packet_threshold,
+            persistent_congestion_threshold: transport.persistent_congestion_threshold,
             initial_mtu: transport.initial_mtu,
             min_mtu: transport.min_mtu,
             mtu_upper_bound: search.upper_bound,

@@ -385,7 +385,8 @@ impl EcnFault {
             ffi::FAULT_ECT1_FALLS => EcnFault::Ect1Falls,
             ffi::FAULT_CE_FALLS => EcnFault::CeFalls,
             ffi::FAULT_BLEACHED => EcnFault::Bleached,
-            _ => EcnFault::Corrupted,
+            ffi::FAULT_CORRUPTED => EcnFault::Corrupted,
+            _ => unreachable!("the library names the fault {number}"),
         }
     }
 }
@@ -472,7 +473,8 @@ impl Refusal {
             ffi::REFUSAL_ECN => Refusal::Ecn(EcnFault::from_number(fault)),
             ffi::REFUSAL_NOT_INITIAL_ID => Refusal::NotInitialId,
             ffi::REFUSAL_BAD_RANGE => Refusal::BadRange,
-            _ => Refusal::Conflict,
+            ffi::REFUSAL_CONFLICT => Refusal::Conflict,
+            _ => unreachable!("the library names the refusal {number}"),
         }
     }
 

@@ -46,7 +46,7 @@ pub const ANSWER_FULL: u8 = 128;
 pub const ANSWER_ACKNOWLEDGED: u8 = 129;
 /// No timer of the sender is due.
 pub const ANSWER_NOTHING: u8 = 130;
-/// Packets were looked for that are lost.
+/// Packets were looked for that are lost, in the space that `first` names for a timeout.
 pub const ANSWER_LOSSES: u8 = 131;
 /// Probes are to be sent.
 pub const ANSWER_PROBES: u8 = 132;
@@ -94,8 +94,9 @@ pub const REFUSAL_NOT_INITIAL_ID: u8 = 18;
 pub const REFUSAL_BAD_RANGE: u8 = 19;
 /// The number of the peer's id is held with another id, or with a token that is not the frame's (RFC 9000, 19.15).
 pub const REFUSAL_CONFLICT: u8 = 20;
-/// A number was acknowledged that was never sent (RFC 9000, 13.1): of a sender alone.
-pub const REFUSAL_UNSENT: u8 = 21;
+/// A number was acknowledged that was never sent (RFC 9000, 13.1): of a sender alone. The errors of senders lie above
+/// those of events, so that further ones of these do not meet them.
+pub const REFUSAL_UNSENT: u8 = 128;
 /// The event is one that the sender decides itself: it is not handed in around it.
 pub const REFUSAL_DECIDED: u8 = 252;
 /// The handle holds a recovery that stands alone, without a sender.
@@ -140,7 +141,7 @@ pub const NEW_SKIP_TOO_LARGE: u8 = 5;
 pub const NEW_ZERO_MTU: u8 = 6;
 /// The initial window is zero.
 pub const NEW_ZERO_WINDOW: u8 = 7;
-/// The denominator of the loss reduction factor is zero.
+/// The denominator of the loss reduction factor, or of the time threshold, is zero.
 pub const NEW_ZERO_DENOMINATOR: u8 = 8;
 /// There is no such controller.
 pub const NEW_UNKNOWN_CONTROLLER: u8 = 9;
@@ -388,6 +389,17 @@ pub struct Settings {
     pub loss_numerator: u64,
     /// Above zero.
     pub loss_denominator: u64,
+    /// The time threshold, a fraction of an RTT: a sender declares a packet lost so long after it was sent, if a
+    /// later one is acknowledged; 1 stands for a smaller fraction (RFC 9002, 6.1.2).
+    pub time_numerator: u64,
+    /// Above zero.
+    pub time_denominator: u64,
+    /// The packet threshold: a sender declares a packet lost that was sent so many packets before an acknowledged one;
+    /// 1 stands for 0 (RFC 9002, 6.1.1).
+    pub packet_threshold: u32,
+    /// How many probe timeouts losses span, for a sender, that are persistent congestion; 1 stands for 0 (RFC 9002,
+    /// 7.6.1).
+    pub persistent_congestion_threshold: u32,
     /// The size of datagrams before the search, above zero.
     pub initial_mtu: u16,
     /// The size that the path is known to carry, above zero.
@@ -430,10 +442,11 @@ pub struct EncodedReply {
     /// Probe: its size in bytes. Otherwise 0.
     pub size: u16,
     /// Sent, probe: the number that it was given. Retire: the first number. Timeout, delayed: the moment, in
-    /// nanoseconds. In flight: the bytes. Otherwise 0.
+    /// nanoseconds. In flight: the bytes. Acknowledged: how many numbers are so newly. Losses of a timeout, probes: the
+    /// space. Otherwise 0.
     pub first: u64,
     /// Sent: the number that was forgotten. Retire: one above the last number. In flight: how many packets elicit an
-    /// ACK. Otherwise 0.
+    /// ACK. Acknowledged: how many numbers are lost. Probes: how many are due. Otherwise 0.
     pub second: u64,
 }
 
@@ -538,7 +551,7 @@ pub struct IdsView {
 
 unsafe extern "C" {
     /// Does nothing; a library of another layout does not have it.
-    #[link_name = "recovery_ffi_layout_d4f2288f"]
+    #[link_name = "recovery_ffi_layout_e5525016"]
     pub fn recovery_ffi_layout();
 
     /// Makes a recovery, whose peer is at this address and has this id of at most 20 bytes. The answer is `NEW_MADE`, or
@@ -872,6 +885,20 @@ unsafe extern "C" {
         now: u64,
     ) -> u8;
 
+    /// Makes a recovery of a sender whose handshake is over, as `recovery_ffi_sender_new` makes one, and then
+    /// `recovery_ffi_validated`, `recovery_ffi_sender_handshake_confirmed` and `recovery_ffi_sender_discard` of the Initial
+    /// and the Handshake space: 1-RTT packets alone are sent and probed for (RFC 9001, 4.1.2 and 4.9). The answer is that
+    /// of `recovery_ffi_sender_new`.
+    pub fn recovery_ffi_sender_established(
+        handle: *mut Handle,
+        client: bool,
+        settings: *const Settings,
+        remote: *const Address,
+        initial_cid: *const u8,
+        initial_cid_len: usize,
+        now: u64,
+    ) -> u8;
+
     /// Whether a datagram of so many bytes goes out now, with packets of a space: `ANSWER_TRANSMITTED`, and it is counted;
     /// `ANSWER_BLOCKED` by the limit against amplification (RFC 9000, 8.1); `ANSWER_FULL` where the window has no room (RFC
     /// 9002, 7); `ANSWER_DELAYED` by the pacer, until `first` (RFC 9002, 7.7). Where nothing in it counts in flight, or a
@@ -901,14 +928,20 @@ unsafe extern "C" {
         ranges_len: usize,
     ) -> EncodedReply;
 
-    /// The timer for losses may be due (RFC 9002, A.9): `ANSWER_NOTHING` where it is not; `ANSWER_LOSSES` where packets
-    /// were looked for that are lost, which `recovery_ffi_last_outcome` and `recovery_ffi_told_numbers` say; or
-    /// `ANSWER_PROBES`,
-    /// with the space in `first` and in `second` how many are to be sent, 1 or 2. `immediate_ack` asks for an IMMEDIATE_ACK
-    /// frame in a probe. Refused by `REFUSAL_NO_MEMORY` where the first probe finds none; then nothing changed.
-    pub fn recovery_ffi_sender_timeout(
+    /// The timer for losses may be due (RFC 9002, A.9): `ANSWER_NOTHING` if it is not; `ANSWER_LOSSES` if a space was
+    /// searched for lost packets, with the space in `first`, and `recovery_ffi_last_outcome` and
+    /// `recovery_ffi_told_numbers` say which are lost; or `ANSWER_PROBES`, with the space in `first` and in `second` how
+    /// many probes are due there, 1 or 2. For each of them the caller asks `recovery_ffi_sender_transmit`, takes its
+    /// contents by `recovery_ffi_sender_probe`, and sends it by `recovery_ffi_send`. No sender refuses it.
+    pub fn recovery_ffi_sender_on_timeout(handle: *mut Handle, now: u64) -> EncodedReply;
+
+    /// Hands out what a probe of a space carries (RFC 9002, 6.2.4), to be read by `recovery_ffi_last_items`: what waits
+    /// there to be sent again, or else the contents of the first packet in flight that has any: `ANSWER_QUEUE`. A queue
+    /// without items asks for a PING frame. `immediate_ack` asks for an IMMEDIATE_ACK frame in it. Refused by
+    /// `REFUSAL_SPACE_DISCARDED`, then by `REFUSAL_NO_MEMORY`; then nothing changed.
+    pub fn recovery_ffi_sender_probe(
         handle: *mut Handle,
-        now: u64,
+        space: u8,
         immediate_ack: bool,
     ) -> EncodedReply;
 
@@ -969,8 +1002,8 @@ unsafe extern "C" {
     pub fn recovery_ffi_told_packets(handle: *mut Handle, out: *mut u64, out_len: usize) -> usize;
 
     /// The default settings: an address that is not validated, ACKs 25 ms late at most, ids of 8 bytes that last 10 s, one
-    /// of them issued, no skips, an RTT of 333 ms, MTUs of 1200 bytes and up to 1452, and NewReno with 12,000 bytes and a
-    /// half.
+    /// of them issued, no skips, an RTT of 333 ms, MTUs of 1200 bytes and up to 1452, NewReno with 12,000 bytes and a
+    /// half, and for senders thresholds of 3 packets, 9/8 of an RTT and 3 probe timeouts.
     pub fn recovery_ffi_default_settings() -> Settings;
 
     /// A timer is set to a moment in nanoseconds: the event `SetTimer`.

@@ -126,7 +126,11 @@ impl MtuDiscovery {
         // SAFETY: the handle holds a discovery.
         let reply =
             unsafe { ffi::recovery_ffi_mtu_poll(handle, now.as_nanos(), next_packet_number) };
-        (reply.kind == ffi::ANSWER_PROBE).then_some(reply.size)
+        match reply.kind {
+            ffi::ANSWER_PROBE => Some(reply.size),
+            ffi::ANSWER_NO_PROBE => None,
+            kind => unreachable!("the library answers a poll with {kind}"),
+        }
     }
 
     /// The peer takes no packets larger than this. Not taken where it is 0, and while a search runs: the limit is told before the

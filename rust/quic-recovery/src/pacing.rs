@@ -79,7 +79,10 @@ impl Pacer {
             ffi::recovery_ffi_pacer_delay(bucket, nanos(rtt), bytes, mtu, window, now.as_nanos())
         };
         taken(reply)?;
-        let is_delayed = reply.kind == ffi::ANSWER_DELAYED;
-        Ok(is_delayed.then_some(Instant::from_nanos(reply.first)))
+        match reply.kind {
+            ffi::ANSWER_DELAYED => Ok(Some(Instant::from_nanos(reply.first))),
+            ffi::ANSWER_READY => Ok(None),
+            kind => unreachable!("the library answers a pacer with {kind}"),
+        }
     }
 }

@@ -122,6 +122,17 @@ impl Drop for Recovery {
     }
 }
 
+/// What a recovery begins as.
+#[derive(Clone, Copy)]
+pub(crate) enum Form {
+    /// A recovery alone.
+    Bare,
+    /// One of a sender of this side, from the start of the handshake.
+    Handshaking(Side),
+    /// One of a sender of this side, once the handshake is confirmed.
+    Established(Side),
+}
+
 fn is_previous(path: PathName) -> bool {
     path == PathName::Previous
 }
@@ -277,12 +288,12 @@ impl Recovery {
     /// A recovery to which nothing has happened yet, made at the moment `now`. Settings that the library does not take are
     /// refused.
     pub fn new(config: &RecoveryConfig, now: Instant) -> Result<Self, ConfigError> {
-        Recovery::of(None, config, now)
+        Recovery::of(Form::Bare, config, now)
     }
 
-    /// The same, of a sender of this side if there is one.
+    /// The same, in this form.
     pub(crate) fn of(
-        side: Option<Side>,
+        form: Form,
         config: &RecoveryConfig,
         now: Instant,
     ) -> Result<Self, ConfigError> {
@@ -298,9 +309,20 @@ impl Recovery {
         unsafe { ffi::recovery_ffi_layout() };
         // SAFETY: the handle is as it begins, and the id is a slice.
         let code = unsafe {
-            match side {
-                None => ffi::recovery_ffi_new(&mut handle, &settings, &remote, bytes, len, now),
-                Some(side) => ffi::recovery_ffi_sender_new(
+            match form {
+                Form::Bare => {
+                    ffi::recovery_ffi_new(&mut handle, &settings, &remote, bytes, len, now)
+                }
+                Form::Handshaking(side) => ffi::recovery_ffi_sender_new(
+                    &mut handle,
+                    side == Side::Client,
+                    &settings,
+                    &remote,
+                    bytes,
+                    len,
+                    now,
+                ),
+                Form::Established(side) => ffi::recovery_ffi_sender_established(
                     &mut handle,
                     side == Side::Client,
                     &settings,
@@ -380,7 +402,8 @@ impl Recovery {
             ffi::ANSWER_SENDABLE => Answer::Sendable(SendableFrames { acks: flag, other }),
             ffi::ANSWER_QUEUE => Answer::Queue(self.last_items()?),
             ffi::ANSWER_DONE => Answer::Done,
-            _ => return Err(Refusal::from_number(refusal, first)),
+            ffi::ANSWER_REFUSED => return Err(Refusal::from_number(refusal, first)),
+            kind => unreachable!("the library answers an event with {kind}"),
         })
     }
 

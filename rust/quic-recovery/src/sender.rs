@@ -2,7 +2,7 @@
 use crate::config::{ConfigError, RecoveryConfig};
 use crate::event::{Answer, Event, Refusal};
 use crate::ffi;
-use crate::recovery::Recovery;
+use crate::recovery::{Form, Recovery};
 use crate::timer::Timer;
 use crate::types::{EcnCounts, Instant, PathName, SpaceId};
 use std::error::Error;
@@ -183,13 +183,18 @@ impl<'a> Iterator for Packets<'a> {
 pub enum Timeout {
     /// The timer is not due.
     Nothing,
-    /// These packets were found lost.
-    Lost(Losses),
-    /// So many probes are to be sent in a space, 1 or 2.
+    /// A space was searched for losses.
+    Lost {
+        /// The space.
+        space: SpaceId,
+        /// What was found lost.
+        losses: Losses,
+    },
+    /// Probes are due in a space (RFC 9002, 6.2.4): [`Sender::on_timeout`] says what the caller does for each.
     Probe {
         /// The space.
         space: SpaceId,
-        /// How many.
+        /// How many: 2, or 1 against a deadlock.
         count: u8,
     },
 }
@@ -210,6 +215,14 @@ pub struct Sender {
     ranges: Vec<ffi::AckRange>,
 }
 
+/// The space of this number.
+fn space_of(number: u64) -> SpaceId {
+    match SpaceId::VALUES.into_iter().find(|it| *it as u64 == number) {
+        Some(space) => space,
+        None => unreachable!("the library names the space {number}"),
+    }
+}
+
 /// A reply, or why it is a refusal.
 fn taken(reply: ffi::EncodedReply) -> Result<ffi::EncodedReply, SenderError> {
     match (reply.kind, reply.refusal) {
@@ -223,12 +236,37 @@ fn taken(reply: ffi::EncodedReply) -> Result<ffi::EncodedReply, SenderError> {
     }
 }
 
+/// A reply of this kind, or why it is a refusal.
+fn of_kind(kind: u8, reply: ffi::EncodedReply) -> Result<ffi::EncodedReply, SenderError> {
+    match taken(reply)? {
+        reply if reply.kind == kind => Ok(reply),
+        reply => unreachable!(
+            "the library answers with {}, and not with {kind}",
+            reply.kind
+        ),
+    }
+}
+
 impl Sender {
     /// A sender to which nothing has happened yet, made at the moment `now`. The first path of a client is validated,
     /// whatever the settings say (RFC 9000, 8.1). Settings that the library does not take are refused.
     pub fn new(side: Side, config: &RecoveryConfig, now: Instant) -> Result<Self, ConfigError> {
         Ok(Sender {
-            recovery: Recovery::of(Some(side), config, now)?,
+            recovery: Recovery::of(Form::Handshaking(side), config, now)?,
+            ranges: Vec::new(),
+        })
+    }
+
+    /// The sender of a connection that is established, made at the time `now`: [`Sender::new`],
+    /// [`Sender::on_address_validated`], [`Sender::on_handshake_confirmed`], and the Initial and Handshake spaces discarded
+    /// (RFC 9001, 4.1.2 and 4.9). It sends and probes for 1-RTT packets alone. The errors are those of [`Sender::new`].
+    pub fn established(
+        side: Side,
+        config: &RecoveryConfig,
+        now: Instant,
+    ) -> Result<Self, ConfigError> {
+        Ok(Sender {
+            recovery: Recovery::of(Form::Established(side), config, now)?,
             ranges: Vec::new(),
         })
     }
@@ -268,10 +306,11 @@ impl Sender {
         };
         let reply = taken(reply)?;
         Ok(match reply.kind {
+            ffi::ANSWER_TRANSMITTED => Transmission::Transmitted,
             ffi::ANSWER_BLOCKED => Transmission::Blocked,
             ffi::ANSWER_FULL => Transmission::Full,
             ffi::ANSWER_DELAYED => Transmission::Delayed(Instant::from_nanos(reply.first)),
-            _ => Transmission::Transmitted,
+            kind => unreachable!("the library answers a datagram with {kind}"),
         })
     }
 
@@ -286,14 +325,15 @@ impl Sender {
         largest_acked: Option<u64>,
         queue: &[u64],
     ) -> Result<Sent, SenderError> {
-        let reply = taken(self.recovery.reply_to(Event::Send {
+        let event = Event::Send {
             space,
             now,
             size,
             ack_eliciting,
             largest_acked,
             queue,
-        }))?;
+        };
+        let reply = of_kind(ffi::ANSWER_SENT, self.recovery.reply_to(event))?;
         Ok(Sent {
             number: reply.first,
             forgotten: reply.flag.then_some(reply.second),
@@ -304,10 +344,14 @@ impl Sender {
     /// asked: a probe of the MTU is let pass it (RFC 9000, 14.4).
     pub fn poll_mtu(&mut self, now: Instant) -> Result<Option<MtuProbe>, SenderError> {
         let reply = taken(self.recovery.reply_to(Event::PollMtu { now }))?;
-        Ok((reply.kind == ffi::ANSWER_PROBE).then_some(MtuProbe {
-            number: reply.first,
-            size: reply.size,
-        }))
+        match reply.kind {
+            ffi::ANSWER_PROBE => Ok(Some(MtuProbe {
+                number: reply.first,
+                size: reply.size,
+            })),
+            ffi::ANSWER_NO_PROBE => Ok(None),
+            kind => unreachable!("the library answers whether a probe is due with {kind}"),
+        }
     }
 
     /// An ACK frame came in (RFC 9002, A.7), with the first and last number of each of its ranges, the highest range
@@ -369,7 +413,7 @@ impl Sender {
                 self.ranges.len(),
             )
         };
-        let reply = taken(reply)?;
+        let reply = of_kind(ffi::ANSWER_ACKNOWLEDGED, reply)?;
         if reply.second > 0 || reply.flag {
             self.last_outcome(told)?;
         } else {
@@ -380,41 +424,60 @@ impl Sender {
         Ok(())
     }
 
-    /// The timer for losses may be due (RFC 9002, A.9): losses are looked for, or probes are to be sent, with an
-    /// IMMEDIATE_ACK frame where `immediate_ack` asks for one. Nothing, where it is not due. Refused by `NoMemory` where
-    /// the first probe finds none. Where memory is missing for the answer alone, [`Sender::last_outcome`] says what was lost.
-    pub fn on_timeout(
-        &mut self,
-        now: Instant,
-        immediate_ack: bool,
-    ) -> Result<Timeout, SenderError> {
+    /// The timer for losses may be due (RFC 9002, A.9). Before its time nothing happens. If a space may have lost packets,
+    /// they are declared lost. Otherwise probes are due in the space whose timer expired, in place of those that were due
+    /// before. For each of them the caller asks [`Sender::transmit`], takes its contents by [`Sender::probe`] and sends it
+    /// by [`Sender::send`], in this order.
+    ///
+    /// # Errors
+    /// `NoMemory` alone, if the answer's vector finds no memory: the call is done then, and [`Sender::last_outcome`] says
+    /// what was lost.
+    pub fn on_timeout(&mut self, now: Instant) -> Result<Timeout, SenderError> {
         let (handle, now) = (self.recovery.handle(), now.as_nanos());
         // SAFETY: the handle holds a recovery, and `self` is borrowed alone.
-        let reply = unsafe { ffi::recovery_ffi_sender_timeout(handle, now, immediate_ack) };
-        let reply = taken(reply)?;
+        let reply = taken(unsafe { ffi::recovery_ffi_sender_on_timeout(handle, now) })?;
         Ok(match reply.kind {
+            ffi::ANSWER_NOTHING => Timeout::Nothing,
             ffi::ANSWER_LOSSES => {
                 let mut told = Acknowledged::default();
                 self.last_outcome(&mut told)?;
-                Timeout::Lost(told.losses)
+                Timeout::Lost {
+                    space: space_of(reply.first),
+                    losses: told.losses,
+                }
             }
-            ffi::ANSWER_PROBES => {
-                let space = SpaceId::VALUES
-                    .into_iter()
-                    .find(|it| *it as u64 == reply.first)
-                    .unwrap_or(SpaceId::Data);
-                let count = u8::from(reply.second > 1) + 1;
-                Timeout::Probe { space, count }
-            }
-            _ => Timeout::Nothing,
+            ffi::ANSWER_PROBES => match reply.second {
+                count @ 1..=2 => Timeout::Probe {
+                    space: space_of(reply.first),
+                    count: count as u8,
+                },
+                count => unreachable!("the library says that {count} probes are due"),
+            },
+            kind => unreachable!("the library answers a timeout with {kind}"),
         })
+    }
+
+    /// Hands out what a probe of a space carries (RFC 9002, 6.2.4): what waits there to be sent again, or else the contents
+    /// of the first packet in flight that has any. If both probes of a timeout ask so, each carries the contents of another
+    /// packet. No items ask for a PING frame. `immediate_ack` asks for an IMMEDIATE_ACK frame in the probe.
+    ///
+    /// # Errors
+    /// `SpaceDiscarded`, or `NoMemory` if the queues cannot be joined: then nothing has changed. `NoMemory` too, if the
+    /// answer's vector finds no memory: the items can then still be read by [`Recovery::last_items`].
+    pub fn probe(&mut self, space: SpaceId, immediate_ack: bool) -> Result<Vec<u64>, SenderError> {
+        let handle = self.recovery.handle();
+        // SAFETY: the handle holds a recovery, and `self` is borrowed alone.
+        let reply = unsafe { ffi::recovery_ffi_sender_probe(handle, space as u8, immediate_ack) };
+        of_kind(ffi::ANSWER_QUEUE, reply)?;
+        Ok(self.recovery.last_items()?)
     }
 
     /// A datagram of so many bytes came in on the path in use: what may be sent grows where its address is not validated,
     /// so that the timer may be due at once (RFC 9000, 8.1; RFC 9002, A.6). Refused by `Overflow`.
     pub fn on_datagram(&mut self, bytes: u64) -> Result<(), SenderError> {
         let path = PathName::Current;
-        taken(self.recovery.reply_to(Event::DatagramIn { path, bytes }))?;
+        let reply = self.recovery.reply_to(Event::DatagramIn { path, bytes });
+        of_kind(ffi::ANSWER_DONE, reply)?;
         Ok(())
     }
 
@@ -460,7 +523,7 @@ impl Sender {
         let (handle, now) = (self.recovery.handle(), now.as_nanos());
         // SAFETY: the handle holds a recovery, and `self` is borrowed alone.
         let reply = unsafe { ffi::recovery_ffi_sender_discard(handle, space as u8, now) };
-        taken(reply)?;
+        of_kind(ffi::ANSWER_DONE, reply)?;
         Ok(())
     }
 
@@ -476,7 +539,7 @@ impl Sender {
         let (handle, now) = (self.recovery.handle(), now.as_nanos());
         // SAFETY: the handle holds a recovery, and `self` is borrowed alone.
         let reply = unsafe { ffi::recovery_ffi_sender_abandon(handle, space as u8, now) };
-        taken(reply)?;
+        of_kind(ffi::ANSWER_LOSSES, reply)?;
         let mut told = Acknowledged::default();
         self.last_outcome(&mut told)?;
         Ok(told.losses.numbers)
@@ -505,9 +568,10 @@ impl Sender {
         into.losses.is_persistent = view.is_persistent;
         into.losses.is_black_hole = view.is_black_hole;
         into.ecn = match view.ecn {
+            ffi::ECN_QUIET => EcnOutcome::Quiet,
             ffi::ECN_MARKED => EcnOutcome::Marked,
             ffi::ECN_FAILED => EcnOutcome::Failed,
-            _ => EcnOutcome::Quiet,
+            number => unreachable!("the library says that counts of ECN come to {number}"),
         };
         Ok(())
     }

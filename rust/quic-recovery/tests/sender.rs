@@ -90,7 +90,7 @@ fn transmitted(sent: Transmission) -> String {
 fn timed_out(timeout: Timeout) -> String {
     match timeout {
         Timeout::Nothing => "nothing".into(),
-        Timeout::Lost(losses) => lost(&losses),
+        Timeout::Lost { losses, .. } => lost(&losses),
         Timeout::Probe { space, count } => {
             format!("probe {} {count}", space.to_string().to_lowercase())
         }
@@ -144,7 +144,10 @@ fn called(sender: &mut Sender, line: &Line) -> Result<String, SenderError> {
                 .on_ack(line.space(1), line.moment(2), &ack, &ranges)
                 .map(|it| acked(&it))
         }
-        "timeout" => sender.on_timeout(line.moment(1), false).map(timed_out),
+        "timeout" => sender.on_timeout(line.moment(1)).map(timed_out),
+        "probe" => sender
+            .probe(line.space(1), false)
+            .map(|it| written(&Ok(Answer::Queue(it)))),
         "datagram" => sender.on_datagram(line.number(1)).map(done),
         "discard" => sender.discard(line.space(1), line.moment(2)).map(done),
         "abandon" => sender
@@ -170,11 +173,19 @@ fn answer(sender: &mut Sender, line: &str) -> String {
 /// A sender with the arguments of the program.
 fn sender_of(words: &[&str]) -> Sender {
     let number = |at: usize| words.get(at).and_then(|it| it.parse().ok());
-    let side = match words[0] {
-        "client" => Side::Client,
-        _ => Side::Server,
+    let mut config = config(number(1), number(2));
+    if let [packets, numerator, denominator, periods] = words.get(3..).unwrap_or_default() {
+        config.transport.packet_threshold = packets.parse().unwrap();
+        config.transport.time_threshold =
+            (numerator.parse().unwrap(), denominator.parse().unwrap());
+        config.transport.persistent_congestion_threshold = periods.parse().unwrap();
+    }
+    let made = match words[0] {
+        "client" => Sender::new(Side::Client, &config, at(0)),
+        "established" => Sender::established(Side::Client, &config, at(0)),
+        _ => Sender::new(Side::Server, &config, at(0)),
     };
-    Sender::new(side, &config(number(1), number(2)), at(0)).unwrap()
+    made.unwrap()
 }
 
 /// The rows of the repository, whose answers come of an independent model: each line with its answer.
@@ -292,10 +303,65 @@ fn probe_timeouts() {
     let (now, space) = (sender.timer().unwrap(), SpaceId::Data);
     let probes = Timeout::Probe { space, count: 2 };
     assert_eq!(sender.pto_count(), 0);
-    assert_eq!(sender.on_timeout(now, false), Ok(probes));
+    assert_eq!(sender.on_timeout(now), Ok(probes));
     assert_eq!(sender.pto_count(), 1);
+    assert_eq!(sender.on_timeout(now), Ok(Timeout::Nothing));
     ack(&mut sender, 2000, &[(0, 0)], &mut Acknowledged::default());
     assert_eq!(sender.pto_count(), 0);
+}
+
+/// Each probe of a timeout carries the contents of another packet; where none has any, it asks for a PING (RFC 9002,
+/// 6.2.4).
+#[test]
+fn probes_carry_contents() {
+    let (mut sender, space) = (with_packets(2), SpaceId::Data);
+    let now = sender.timer().unwrap();
+    let probes = Timeout::Probe { space, count: 2 };
+    assert_eq!(sender.on_timeout(now), Ok(probes));
+    for items in [vec![0], vec![1]] {
+        let goes = sender.transmit(now, 1000, space, true);
+        assert_eq!(goes, Ok(Transmission::Transmitted));
+        assert_eq!(sender.probe(space, false), Ok(items.clone()));
+        assert!(sender.send(space, now, 1000, true, None, &items).is_ok());
+    }
+    for items in [vec![0], vec![1]] {
+        assert_eq!(sender.probe(space, true), Ok(items));
+    }
+    assert_eq!(sender.probe(space, false), Ok(vec![]));
+    let space = SpaceId::Initial;
+    assert_eq!(sender.discard(space, now), Ok(()));
+    let gone = SenderError::Event(Refusal::SpaceDiscarded);
+    assert_eq!(sender.probe(space, false), Err(gone));
+}
+
+/// A timeout that finds losses names their space.
+#[test]
+fn losses_by_time() {
+    let mut sender = with_packets(2);
+    ack(&mut sender, 101, &[(1, 1)], &mut Acknowledged::default());
+    let now = sender.timer().unwrap();
+    let Ok(Timeout::Lost { space, losses }) = sender.on_timeout(now) else {
+        panic!("packet 0 is lost by now");
+    };
+    assert_eq!((space, losses.numbers), (SpaceId::Data, vec![0]));
+}
+
+/// A sender that is made established sends and probes for 1-RTT packets alone.
+#[test]
+fn an_established_connection() {
+    let config = RecoveryConfig::default();
+    let mut sender = Sender::established(Side::Server, &config, at(5)).unwrap();
+    assert_eq!((sender.timer(), sender.pto_count()), (None, 0));
+    for space in [SpaceId::Initial, SpaceId::Handshake] {
+        assert_eq!(sender.recovery().space(space), None);
+    }
+    let path = sender.recovery().path(PathName::Current).unwrap();
+    assert!(path.validated);
+    let sent = sender.send(SpaceId::Data, at(5), 1200, true, None, &[7]);
+    assert!(sent.is_ok());
+    let now = sender.timer().unwrap();
+    let (space, count) = (SpaceId::Data, 2);
+    assert_eq!(sender.on_timeout(now), Ok(Timeout::Probe { space, count }));
 }
 
 /// All that can be read of a recovery can be read of a sender's; contents that were lost wait there.
@@ -417,6 +483,27 @@ fn settings() {
     config.transport.min_mtu = 0;
     let made = Sender::new(Side::Client, &config, at(0));
     assert_eq!(made.err(), Some(ConfigError::ZeroMtu));
+    let mut config = RecoveryConfig::default();
+    config.transport.time_threshold = (9, 0);
+    let made = Sender::established(Side::Client, &config, at(0));
+    assert_eq!(made.err(), Some(ConfigError::ZeroDenominator));
+}
+
+/// The packet threshold acts (RFC 9002, 6.1.1).
+#[test]
+fn a_packet_threshold() {
+    for (packet_threshold, lost) in [(3, vec![0]), (1, vec![0, 1, 2]), (9, vec![])] {
+        let mut config = RecoveryConfig::default();
+        config.transport.packet_threshold = packet_threshold;
+        let mut sender = Sender::established(Side::Client, &config, at(0)).unwrap();
+        for _ in 0..4 {
+            let sent = sender.send(SpaceId::Data, at(0), 1000, true, None, &[]);
+            assert!(sent.is_ok());
+        }
+        let mut told = Acknowledged::default();
+        ack(&mut sender, 10, &[(3, 3)], &mut told);
+        assert_eq!(told.losses.numbers, lost);
+    }
 }
 
 /// A sender may move to another thread.

@@ -144,10 +144,16 @@ impl Sender {
         Ok(())
     }
 
-    pub fn on_timeout(&mut self, now: qr::Instant, immediate_ack: bool) -> Result<qr::Timeout, SenderError> {
-        let told = self.compare().on_timeout(now, immediate_ack)?;
+    pub fn on_timeout(&mut self, now: qr::Instant) -> Result<qr::Timeout, SenderError> {
+        let told = self.compare().on_timeout(now)?;
         self.own.timed_out(now, &told);
         Ok(told)
+    }
+
+    pub fn probe(&mut self, space: qr::SpaceId, immediate_ack: bool) -> Result<Vec<u64>, SenderError> {
+        let keys = self.compare().probe(space, immediate_ack)?;
+        self.own.probed(space, &keys);
+        Ok(keys)
     }
 
     pub fn discard(&mut self, space: qr::SpaceId, now: qr::Instant) -> Result<(), SenderError> {
@@ -157,7 +163,7 @@ impl Sender {
         Ok(())
     }
 
-    pub fn abandon(&mut self, space: qr::SpaceId, now: qr::Instant) -> Result<Vec<u64>, SenderError> {
+    pub fn retransmit_all(&mut self, space: qr::SpaceId, now: qr::Instant) -> Result<Vec<u64>, SenderError> {
         let numbers = self.compare().retransmit_all(space, now)?;
         self.own.abandoned(space, &numbers);
         self.own.begin_anew(now);
@@ -240,7 +246,9 @@ impl Own {
             Some(path) if !fresh => (path.rtt, path.congestion.clone_box(), path.mtu),
             _ => {
                 let rtt = RttEstimator::new(self.initial_rtt);
-                (rtt, self.reno.build(now), self.initial_mtu.min(self.limit))
+                // What is sent at its very time counts as sent after the start of a recovery
+                let start = now.checked_sub(Duration::from_nanos(1)).unwrap_or(now);
+                (rtt, self.reno.build(start), self.initial_mtu.min(self.limit))
             }
         };
         self.previous = (!self.paths.is_empty()).then_some(self.current);
@@ -402,7 +410,8 @@ impl Own {
         };
         let probes = (0..3).filter(lives).filter_map(probe).min();
         let space = usize::from(self.has_handshake_keys && !self.discarded[1]);
-        let is_stuck = !self.is_server && !self.is_address_known && !self.discarded[space];
+        let fills = !self.discarded[2] && !self.is_confirmed && self.spaces[2].sent_packets.values().any(|it| it.ack_eliciting);
+        let is_stuck = (!self.is_server && !self.is_address_known || fills) && !self.discarded[space];
         probes.or(is_stuck.then(|| self.base + span(space)))
     }
 
@@ -433,6 +442,8 @@ impl Own {
         }
         self.same("bytes lost", last.map(|_| bytes), losses.congestion);
         if let Some(sent) = last {
+            // If it persists, it is told of a packet sent later than every recovery began, so that the window is the least
+            let sent = if losses.is_persistent { now + Duration::from_secs(86_400) } else { sent };
             let path = self.path();
             path.congestion.on_congestion_event(now, sent, losses.is_persistent, bytes);
         }
@@ -442,25 +453,29 @@ impl Own {
     fn timed_out(&mut self, now: qr::Instant, told: &qr::Timeout) {
         let now = self.at(now);
         match told {
-            qr::Timeout::Lost(losses) => {
+            qr::Timeout::Lost { space, losses } => {
                 let due = SPACES.into_iter().find(|it| {
                     let time = self.spaces[*it as usize].loss_time;
                     !self.discarded[*it as usize] && time.map_or(false, |time| time <= now)
                 });
-                self.same("a space has losses", true, due.is_some());
+                self.same("the space of losses", due, Some(*space));
                 self.base = now;
                 if let Some(space) = due {
                     self.lost(space, now, losses);
                 }
             }
-            qr::Timeout::Probe { space, .. } => {
-                let it = &mut self.spaces[*space as usize];
-                it.loss_probes = 1;
-                it.maybe_queue_probe(&self.streams);
-                (self.pto_count, self.base) = (self.pto_count + 1, now);
-            }
+            qr::Timeout::Probe { .. } => (self.pto_count, self.base) = (self.pto_count + 1, now),
             _ => {}
         }
+    }
+
+    /// A probe, which carries what these packets did
+    fn probed(&mut self, space: qr::SpaceId, keys: &Vec<u64>) {
+        let it = &mut self.spaces[space as usize];
+        it.loss_probes = 1;
+        it.maybe_queue_probe(&self.streams);
+        let own = mem::take(&mut it.pending).retire_cids;
+        self.same("what a probe carries", &own, keys);
     }
 
     /// An ACK frame, which came to this

@@ -353,8 +353,14 @@ impl Proved {
     /// The timer for losses may be due
     pub fn on_timeout(&mut self, now: Instant) -> qr::Timeout {
         let now = self.at(now);
-        let told = self.sender.on_timeout(now, false);
+        let told = self.sender.on_timeout(now);
         told.unwrap_or(qr::Timeout::Nothing)
+    }
+
+    /// The keys of packets whose frames a probe carries; a probe without any is a PING
+    pub fn probe(&mut self, space: SpaceId) -> Vec<u64> {
+        let keys = self.changing_in(space).probe(space_of(space), false);
+        keys.unwrap_or_default()
     }
 
     /// The keys of packets whose frames wait to be sent again
