@@ -203,7 +203,7 @@ fn play<R: Read, W: Write>(
 }
 
 /// Returns what the program writes to standard error, with a line feed at the end; empty on success.
-pub fn message(outcome: Outcome) -> ArrayString<96>
+pub fn message(outcome: Outcome) -> ArrayString<128>
     ensures { result.bytes ≡ error_text outcome }
 {
     outcome.text(NAME, USAGE)
