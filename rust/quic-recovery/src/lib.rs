@@ -13,8 +13,8 @@
 //! use quic_recovery::{Ack, Instant, RecoveryConfig, Sender, Side, SpaceId, Transmission};
 //!
 //! let at = |millis: u64| Instant::from_nanos(millis * 1_000_000);
-//! let (space, mut sender) = (SpaceId::Data, Sender::new(Side::Client, &RecoveryConfig::default(), at(0))?);
-//! sender.on_handshake_confirmed();
+//! let mut sender = Sender::established(Side::Client, &RecoveryConfig::default(), at(0))?;
+//! let space = SpaceId::Data;
 //! for item in 0..4 {
 //!     assert_eq!(sender.transmit(at(0), 1200, space, true)?, Transmission::Transmitted);
 //!     sender.send(space, at(0), 1200, true, None, &[item])?;
