@@ -1,5 +1,5 @@
 -- What holds of each call holds over all that a source gives.
-use Rattle.std.proofs.Common.{◌≡◌, ◌≤◌, arith, ℕ, List, [], ◌∷◌, ◌++◌, length, vec_capacity, refl, ap, sym, subst, ◌∙◌}
+use Rattle.std.proofs.Common.{◌≡◌, ◌≤◌, arith, List, [], ◌∷◌, ◌++◌, length, vec_capacity, refl, ap, sym, subst, ◌∙◌}
 use Rattle.std.specs.Global.{Vec}
 use Rattle.recovery_events.specs.Feeding.{PushesInto, TakesAll}
 use Rattle.recovery_events.proofs.FeedingLaws.{fills}

@@ -1,7 +1,7 @@
 -- What each call of a sender comes to (RFC 9002, Appendices A and B), in one place. What is promised by the events
 -- before it, and that it never stalls, is part of it (`ProcessesAck`, `DetectsLosses`, `DeclaresAllLost`,
 -- `CompletesCall`).
-use Rattle.std.specs.Prelude.{◌≡◌, ℕ, ◌+◌, ◌≤◌, Bool, true, false, Result, Ok, Err, IfOk, OnOk, OnErr, [], ◌∷◌}
+use Rattle.std.specs.Prelude.{◌≡◌, ℕ, ◌+◌, ◌≤◌, true, false, Result, Ok, Err, IfOk, OnOk, OnErr, [], ◌∷◌}
 use Rattle.recovery_base.specs.declared.below.SpaceId.{SpaceId}
 use Rattle.recovery_events.specs.declared.event.Answer.TheVariants as answers
 use Rattle.recovery_events.specs.declared.event.Event.{Event}

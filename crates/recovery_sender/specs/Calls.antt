@@ -1,5 +1,5 @@
 -- What the calls beside ACK frames and losses come to, by the state before them (RFC 9002, A.5, A.9 and A.11).
-use Rattle.std.specs.Prelude.{◌≡◌, ℕ, ◌+◌, ◌-◌, ◌||◌, ◌&&◌, ◌==◌, not, nat_lt, nat_le, Bool, true, false, Option, None, Some, Result, Ok, Err, List, [], ◌∷◌, if◌then◌else◌}
+use Rattle.std.specs.Prelude.{◌≡◌, ℕ, ◌+◌, ◌-◌, ◌||◌, ◌&&◌, not, nat_lt, nat_le, Bool, true, false, Option, None, Some, Result, Ok, Err, List, [], ◌∷◌, if◌then◌else◌}
 use Rattle.std.specs.Option.{option_and_then}
 use Rattle.recovery_base.specs.declared.below.SpaceId.{SpaceId}
 use Rattle.recovery_base.specs.declared.timer.Timer.TheVariants.{LossDetection}
@@ -13,7 +13,6 @@ use Rattle.recovery_events.specs.declared.event.Refusal.TheVariants.{NoMemory, S
 use Rattle.rand_core.specs.Stream.{Stream}
 use Rattle.recovery_spaces.specs.Discarded.{is_discarded}
 use Rattle.recovery_spaces.specs.Paths.{counters_of}
-use Rattle.recovery_spaces.specs.Spaces.{space_of}
 use Rattle.recovery_paths.specs.PathLog.{paths_marks}
 use Rattle.recovery_paths.specs.PathStates.{PathMarks, is_blocked, path_delay}
 use Rattle.recovery_history.specs.declared.config.RecoveryConfig.{RecoveryConfig}

@@ -61,7 +61,8 @@ fn backdate<Q: RetransmitQueue>(event: &mut Event<Q>)
     ensures { event.new ≡ backdated event.old }
 {
     match event {
-        Event::NewPath { now, .. } | Event::ResetPath { now } => *now = nanosecond_before(*now),
+        Event::NewPath { now, .. } => *now = nanosecond_before(*now),
+        Event::ResetPath { now } => *now = nanosecond_before(*now),
         _ => {}
     }
 }

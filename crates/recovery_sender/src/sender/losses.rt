@@ -1,6 +1,7 @@
 //! Which packets are lost (RFC 9002, 6.1, 7.6 and A.10).
-ghost use Rattle.std.specs.Prelude.{◌≡◌, ◌≢◌, ℕ, ◌+◌, ◌-◌, min, ◌<◌, ◌≤◌, ◌++◌, ◌∷◌, [], true, false, None, Some, Decides, MatchOption, IfSome, IfNone, ◌⊎◌, option_map, if◌then◌else◌};
+ghost use Rattle.std.specs.Prelude.{◌≡◌, ◌≢◌, ℕ, ◌+◌, ◌-◌, ◌*◌, min, ◌<◌, ◌≤◌, ◌++◌, ◌∷◌, [], true, false, None, Some, Decides, MatchOption, IfSome, IfNone, ◌⊎◌, option_map, if◌then◌else◌};
 ghost use Rattle.std.specs.Option.{ForSome};
+ghost use Rattle.recovery_base.specs.Times.{span_limit};
 ghost use Rattle.recovery_base.specs.Units.{last_time, u64_limit};
 ghost use Rattle.recovery_events.specs.declared.event.Event.TheVariants.{Lost};
 ghost use Rattle.recovery_spaces.specs.Packets.{packet_at};
@@ -40,6 +41,14 @@ fn sent_for(persistent: bool, sent: Instant) -> Instant
     } else {
         sent
     }
+}
+
+/// So many probe timeouts, each of so many nanoseconds.
+fn times(count: u32, once: u128) -> u128
+    requires small { once < 2 * span_limit }
+    ensures { result ≡ count * once }
+{
+    u128::from(count) * once
 }
 
 /// What a look for losses found.
@@ -126,7 +135,7 @@ where
             generation: path.generation(),
             first_sample,
             skipped,
-            period: u128::from(thresholds.persistent) * once,
+            period: times(thresholds.persistent, once),
         }
     }
 

@@ -1,5 +1,4 @@
-use Rattle.std.proofs.Common.{refl, ap, ◌∙◌}
-use Rattle.recovery_losses.specs.Variables.{based}
+use Rattle.std.proofs.Common.{refl}
 use Rattle.recovery_sender.proofs.StepLaws.{does_as}
 use Rattle.recovery_sender.proofs.sender.Sender.goes_on.Goals as goal
 

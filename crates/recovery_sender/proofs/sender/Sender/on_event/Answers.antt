@@ -1,3 +1,4 @@
+use Rattle.std.proofs.Common.{refl}
 use Rattle.recovery_history.specs.History.{queue_model}
 use Rattle.recovery_sender.specs.Senders.{state_in}
 use Rattle.recovery_sender.proofs.TimerKeptLaws.{event_left}
@@ -15,3 +16,9 @@ goes_on-requires g c = λ was. let known = c.is_left_by-was_timed.ensures in
     (queue_model g.Q.RetransmitQueue.contents g.Q.RetransmitQueue.words g.Q.RetransmitQueue.blank)
     c.args.self.now.variables (state_in c.args.self.now) _ c.backdate.new.event c.in-Ok.answer (known.leaves was)
     c.in-Ok.ensures.changes (known.timed was))
+
+pub returns-in-Err : goal.returns-in-Err
+returns-in-Err g c = rw (← c.backdate.ensures) record {
+  leads = (_, c.in-Err.ensures.changes, c.in-Err.ensures.extends, refl);
+  variables = refl;
+}
