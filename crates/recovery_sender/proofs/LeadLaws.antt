@@ -115,5 +115,5 @@ module _ {F Q R C K S M P : Type 0} {f : _} {c : _} {q : _} {m : _} {r : _} (spa
       → TakesSteps (congested now persistent bytes sent) old new → tracked (state_in new) ≡ tracked (state_in old)
   packets_congested now persistent bytes None goes = ap tracked goes.leads
   packets_congested now persistent bytes (Some sent) goes = let leads = goes.leads in ap tracked leads.4
-      ∙ congestion_same (queue_model q.contents q.words q.blank) space leads.0 (state_in old) leads.1 _ _ persistent bytes
-      leads.2
+      ∙ congestion_same (queue_model q.contents q.words q.blank) space leads.0 (state_in old) leads.1 _ _ persistent
+      bytes leads.2
