@@ -7,7 +7,7 @@ use Rattle.recovery_engine.specs.Kept.{ItemEvent}
 use Rattle.recovery_stack.specs.Marks.{MarksStack, SetsMarks}
 use Rattle.recovery_base.specs.declared.below.SpaceId.{SpaceId}
 use Rattle.recovery_losses.specs.declared.frames.Ack.{Ack}
-use Rattle.recovery_stack.specs.SenderCalls.{AsksAck, AsksStack, AsksWith}
+use Rattle.recovery_stack.specs.SenderCalls.{AsksAck, AsksStack, AsksWith, ProbesHandle, ProbesStack}
 use Rattle.recovery_engine.specs.declared.sending.AckRange.{AckRange}
 use Rattle.recovery_engine.specs.declared.sending.Call.{Call}
 use Rattle.recovery_engine.specs.declared.sending.Call.TheVariants.{TakeAck}
@@ -27,6 +27,14 @@ pub asks_held : {call : Call} {given : List AckRange} {spelling : EncodedReply} 
 asks_held {call} {given} {spelling} {old} {new} was is held holds asks =
     subst (λ (o : Option Stack). AsksWith o call given spelling new) (sym held)
     (record { is = is; holds = holds; asks = asks })
+
+pub probes_held : {space : SpaceId} {immediate : Bool} {spelling : EncodedReply} {old new : Option Stack}
+    (was is : Stack)
+    → old ≡ Some was → new ≡ Some is → ProbesStack space immediate was spelling is
+    → ProbesHandle old space immediate spelling new
+probes_held {space} {immediate} {spelling} {old} {new} was is held holds probes =
+    subst (λ (o : Option Stack). ProbesHandle o space immediate spelling new) (sym held)
+    (record { is = is; holds = holds; probes = probes })
 
 pub marks_held : {name : PathName} {marks : PathMarks} {is_set : Bool} {given : Option PathMarks}
     {old new : Option Stack} (was is : Stack) → given ≡ Some marks → old ≡ Some was → new ≡ Some is
