@@ -13,10 +13,12 @@ fn spans(rt: HostRuntime) {
     same(
         &rt,
         &[
-            (loss_delay(millis(80), hundred), nanos(LOSS_DELAY)),
-            (loss_delay(hundred, millis(80)), nanos(LOSS_DELAY)),
-            (loss_delay(Duration::ZERO, nanos(8)), millis(1)),
-            (loss_delay(Duration::MAX, millis(1)), Duration::MAX),
+            (loss_delay((9, 8), millis(80), hundred), nanos(LOSS_DELAY)),
+            (loss_delay((9, 8), hundred, millis(80)), nanos(LOSS_DELAY)),
+            (loss_delay((9, 8), Duration::ZERO, nanos(8)), millis(1)),
+            (loss_delay((9, 8), Duration::MAX, millis(1)), Duration::MAX),
+            (loss_delay((5, 4), millis(80), hundred), millis(125)),
+            (loss_delay((1, 2), millis(80), hundred), hundred),
         ],
     );
     same(
