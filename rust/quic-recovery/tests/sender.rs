@@ -174,6 +174,9 @@ fn answer(sender: &mut Sender, line: &str) -> String {
 fn sender_of(words: &[&str]) -> Sender {
     let number = |at: usize| words.get(at).and_then(|it| it.parse().ok());
     let mut config = config(number(1), number(2));
+    if words.get(2) == Some(&"cubic") {
+        config.transport.congestion = Congestion::Cubic(CubicConfig::default());
+    }
     if let [packets, numerator, denominator, periods] = words.get(3..).unwrap_or_default() {
         config.transport.packet_threshold = packets.parse().unwrap();
         config.transport.time_threshold =
