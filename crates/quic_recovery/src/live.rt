@@ -35,11 +35,8 @@ pub struct LiveRecovery<F: ControllerFactory, Q: RetransmitQueue, R: Rng> {
 
 impl<F, Q, R> LiveRecovery<F, Q, R>
 where
-    F: ControllerFactory + Drop,
-    F::Controller: Drop,
-    Q: RetransmitQueue + Drop,
-    Q::Meta: Drop,
-    Q::Streams: Drop,
+    F: ControllerFactory,
+    Q: RetransmitQueue,
     R: Rng + Drop,
 {
     /// A recovery to which nothing has happened yet, made at the moment `now`, as [`Recovery::new`] makes it.

@@ -26,11 +26,8 @@ struct Runner<F: ControllerFactory, Q: RetransmitQueue, R: Rng, S> {
 
 impl<F, Q, R, S> Sink<Event<Q>> for Runner<F, Q, R, S>
 where
-    F: ControllerFactory + Drop,
-    F::Controller: Drop,
-    Q: RetransmitQueue + Drop,
-    Q::Meta: Drop,
-    Q::Streams: Drop,
+    F: ControllerFactory,
+    Q: RetransmitQueue,
     R: Rng + Drop,
     S: Sink<Result<Answer<Q>, Refusal>>,
 {
@@ -46,11 +43,8 @@ where
 
 impl<F, Q, R> Recovery<F, Q, R>
 where
-    F: ControllerFactory + Drop,
-    F::Controller: Drop,
-    Q: RetransmitQueue + Drop,
-    Q::Meta: Drop,
-    Q::Streams: Drop,
+    F: ControllerFactory,
+    Q: RetransmitQueue,
     R: Rng + Drop,
 {
     /// Every event that a source gives, in order, from a fresh start: the state that is left, and the sink that took

@@ -67,8 +67,7 @@ pub fn walk<const N: usize, F, R>(
     rows: [(Event, Reply); N],
 ) -> Result<Recovery<F, Tally, R>, Wrong>
 where
-    F: ControllerFactory + Drop,
-    F::Controller: Drop,
+    F: ControllerFactory,
     R: Rng + Drop,
     requires rows { N < 1000 }
     requires issued { config.issued ≡ 1 }

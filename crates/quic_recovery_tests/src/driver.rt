@@ -49,8 +49,7 @@ pub(crate) fn made<F, R>(
     rng: R,
 ) -> Recovery<F, Tally, R>
 where
-    F: ControllerFactory + Drop,
-    F::Controller: Drop,
+    F: ControllerFactory,
     R: Rng + Drop,
     requires issued { config.issued ≡ 1 }
     requires skips { IsSkips config.skips }
@@ -75,8 +74,7 @@ pub(crate) fn told<F, R>(
     want: Reply,
 )
 where
-    F: ControllerFactory + Drop,
-    F::Controller: Drop,
+    F: ControllerFactory,
     R: Rng + Drop,
 {
     let reply = recovery.apply(event);
@@ -90,8 +88,7 @@ pub(crate) fn play<F, R, const N: usize>(
     rows: [(Event, Reply); N],
 )
 where
-    F: ControllerFactory + Drop,
-    F::Controller: Drop,
+    F: ControllerFactory,
     R: Rng + Drop,
     requires { N < 1000 }
 {

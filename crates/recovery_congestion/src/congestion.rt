@@ -109,8 +109,8 @@ pub trait Controller: Sized {
 }
 
 /// What makes the controllers of paths.
-pub trait ControllerFactory {
-    type Controller: Controller;
+pub trait ControllerFactory: Drop {
+    type Controller: Controller + Drop;
 
     /// The content of a controller that is made at a moment, with an MTU in bytes.
     ghost built: { Self → ℕ → ℕ → Self.Controller.Content };

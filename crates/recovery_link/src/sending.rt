@@ -59,8 +59,7 @@ fn again_at(sent: &Transmission) -> Option<u64> {
 
 impl<'a, F, W> Sending<'a, F, W>
 where
-    F: ControllerFactory + Drop,
-    F::Controller: Drop,
+    F: ControllerFactory,
     W: Write,
 {
     /// A sender as `recovery-sender client` has it, with nothing sent.

@@ -28,8 +28,7 @@ struct Transfer<'a, F: ControllerFactory, W> {
 
 impl<'a, F, W> Transfer<'a, F, W>
 where
-    F: ControllerFactory + Drop,
-    F::Controller: Drop,
+    F: ControllerFactory,
     W: Write,
 {
     /// Whether nothing waits to be sent.
@@ -145,8 +144,7 @@ fn transferred_by<F, W>(
     output: &mut W,
 ) -> Result<Figures, Ending>
 where
-    F: ControllerFactory + Drop,
-    F::Controller: Drop,
+    F: ControllerFactory,
     W: Write,
 {
     let teller = Teller::new(alloc, settings.form, output);

@@ -66,7 +66,6 @@ fn is_cloned<C: Controller + Drop>(controller: &C) -> bool {
 fn play<F: ControllerFactory>(rt: &impl Abort, factory: F, initial: u64, rows: &[(Call, u64)])
 where
     F: Drop,
-    F::Controller: Drop,
 {
     let mut controller = factory.build(at(0), 1200);
     let is_first = controller.initial_window() == initial && controller.window() == initial;
@@ -93,7 +92,6 @@ fn lose<C: Controller>(controller: &mut C) -> u64
 /// The window of a fresh controller after two losses.
 fn lose_twice<F: ControllerFactory>(factory: &F) -> u64
 where
-    F::Controller: Drop,
     ensures { 0 < result }
 {
     let mut controller = factory.build(at(0), 1);

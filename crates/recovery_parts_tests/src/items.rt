@@ -18,7 +18,7 @@ fn queue(alloc: Global, items: Option<&[u64]>) -> Result<ItemQueue, AllocError> 
 }
 
 /// Joins one queue to another by the trait's call alone.
-fn joined<Q: RetransmitQueue + Drop>(rt: &impl Abort, mut queue: Q, other: Q) -> Q {
+fn joined<Q: RetransmitQueue>(rt: &impl Abort, mut queue: Q, other: Q) -> Q {
     assert!(rt; queue.append(other).is_ok(), "NoMemory");
     queue
 }

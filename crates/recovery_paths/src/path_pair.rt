@@ -176,8 +176,7 @@ impl<C: Controller + Drop> PathPair<C> {
         space: &mut PacketSpace<Q>,
     ) -> Result<Option<(u64, SentPacket<Q>)>, LedgerError>
     where
-        Q: RetransmitQueue + Drop,
-        Q::Meta: Drop,
+        Q: RetransmitQueue,
         requires { CanTrackOn self.old number packet space.old }
         ensures space { OnOk result (space.new
             ≡ with_tracking (after_sending number packet (tracking_of space.old)) space.old) }
@@ -245,8 +244,7 @@ impl<C: Controller + Drop> PathPair<C> {
     /// packets that the space tracks.
     pub fn forget_all<Q>(&mut self, space: &mut PacketSpace<Q>)
     where
-        Q: RetransmitQueue + Drop,
-        Q::Meta: Drop,
+        Q: RetransmitQueue,
         requires { AreCountedOnEach self.old (packets_of space.old) }
         ensures space { space.new ≡ space_empties space.old }
         ensures paths { self.new ≡ paths_without (packets_of space.old) self.old }

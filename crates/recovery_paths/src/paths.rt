@@ -292,8 +292,7 @@ impl<C: Controller + Drop> PathData<C> {
         space: &mut PacketSpace<Q>,
     ) -> Result<Option<(u64, SentPacket<Q>)>, LedgerError>
     where
-        Q: RetransmitQueue + Drop,
-        Q::Meta: Drop,
+        Q: RetransmitQueue,
         requires { CanTrack self.old.ledger number packet space.old }
         ensures space { OnOk result (space.new
             ≡ with_tracking (after_sending number packet (tracking_of space.old)) space.old) }

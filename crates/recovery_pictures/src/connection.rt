@@ -103,8 +103,7 @@ fn gathered<F>(
     events: Vec<Event<ItemQueue>>,
 ) -> Result<Curves, NoMemory>
 where
-    F: ControllerFactory + Drop,
-    F::Controller: Drop,
+    F: ControllerFactory,
 {
     let config = config(TransportConfig::with_factory(factory), choice.seed);
     let rng = Pcg32::seed_from_u64(choice.seed.unwrap_or(0));

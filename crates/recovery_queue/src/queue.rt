@@ -8,12 +8,12 @@ use std::alloc::Global;
 ///
 /// An implementation says by functions of its own (`words`) what each call does to what contracts see of it
 /// (`contents`), and keeps the laws: the empty contents add nothing on either side, and are seen to be empty.
-pub trait RetransmitQueue: Sized {
+pub trait RetransmitQueue: Sized + Drop {
     /// What `is_empty` looks at besides the queue, as the streams whose data it is.
-    type Streams;
+    type Streams: Drop;
 
     /// What a packet says of itself besides its contents.
-    type Meta: Default;
+    type Meta: Default + Drop;
 
     /// What contracts see of a queue. No code makes a value of it.
     type Contents;

@@ -80,8 +80,7 @@ fn answers_over<F, E>(
     script: &mut E,
 ) -> Result<String, NoMemory>
 where
-    F: ControllerFactory + Drop,
-    F::Controller: Drop,
+    F: ControllerFactory,
     E: Source<Event<ItemQueue>>,
     ensures { IfOk result (λ text. Session (RunsOver F.built F.Controller.words factory seed)
         (λ events. E.gives script.old events script.new) (λ lines. string_bytes text ≡ lines)) }

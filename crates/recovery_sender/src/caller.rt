@@ -29,11 +29,8 @@ fn done<Q>(done: Result<(), SenderError>) -> Result<CallReplyValue<Q>, SenderErr
 
 impl<F, Q, R> Caller<F, Q, R>
 where
-    F: ControllerFactory + Drop,
-    F::Controller: Drop,
-    Q: RetransmitQueue + Drop,
-    Q::Meta: Drop,
-    Q::Streams: Drop,
+    F: ControllerFactory,
+    Q: RetransmitQueue,
     R: Rng + Drop,
 {
     /// One call, as the sender's own of its name does it.

@@ -28,11 +28,8 @@ struct Runner<F: ControllerFactory, Q: RetransmitQueue, R: Rng, S> {
 
 impl<F, Q, R, S> Sink<Call<Q>> for Runner<F, Q, R, S>
 where
-    F: ControllerFactory + Drop,
-    F::Controller: Drop,
-    Q: RetransmitQueue + Drop,
-    Q::Meta: Drop,
-    Q::Streams: Drop,
+    F: ControllerFactory,
+    Q: RetransmitQueue,
     R: Rng + Drop,
     S: Sink<CallRecord<Q>>,
 {
@@ -55,11 +52,8 @@ pub fn run_over<F, Q, R, E, S>(
     said: S,
 ) -> (Sender<F, Q, R>, S)
 where
-    F: ControllerFactory + Drop,
-    F::Controller: Drop,
-    Q: RetransmitQueue + Drop,
-    Q::Meta: Drop,
-    Q::Streams: Drop,
+    F: ControllerFactory,
+    Q: RetransmitQueue,
     R: Rng + Drop,
     E: Source<Call<Q>>,
     S: Sink<CallRecord<Q>> + Drop,
@@ -87,11 +81,8 @@ pub fn run<F, Q, R>(
     calls: Vec<Call<Q>>,
 ) -> Result<(Sender<F, Q, R>, Vec<CallRecord<Q>>), NoMemory>
 where
-    F: ControllerFactory + Drop,
-    F::Controller: Drop,
-    Q: RetransmitQueue + Drop,
-    Q::Meta: Drop,
-    Q::Streams: Drop,
+    F: ControllerFactory,
+    Q: RetransmitQueue,
     R: Rng + Drop,
     requires issued { config.issued ≤ number_limit }
     requires skips { IsSkips config.skips }

@@ -54,11 +54,8 @@ pub struct Sender<F: ControllerFactory, Q: RetransmitQueue, R: Rng> {
 
 impl<F, Q, R> Sender<F, Q, R>
 where
-    F: ControllerFactory + Drop,
-    F::Controller: Drop,
-    Q: RetransmitQueue + Drop,
-    Q::Meta: Drop,
-    Q::Streams: Drop,
+    F: ControllerFactory,
+    Q: RetransmitQueue,
     R: Rng + Drop,
 {
     /// The recovery, to look at.

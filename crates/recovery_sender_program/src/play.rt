@@ -118,8 +118,7 @@ fn play_over<F, R, W>(
     output: &mut W,
 ) -> Result<Outcome, NoMemory>
 where
-    F: ControllerFactory + Drop,
-    F::Controller: Drop,
+    F: ControllerFactory,
     R: Read,
     W: Write,
 {

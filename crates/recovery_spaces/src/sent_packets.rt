@@ -55,8 +55,7 @@ impl<Q: RetransmitQueue> Model for SentPackets<Q> {
 
 impl<Q> SentPackets<Q>
 where
-    Q: RetransmitQueue + Drop,
-    Q::Meta: Drop,
+    Q: RetransmitQueue,
 {
     /// None is tracked yet, and none was sent. It takes no memory before the first packet.
     pub fn new(alloc: Global) -> Self
@@ -273,8 +272,7 @@ fn silent_count<Q: RetransmitQueue>(last: Option<u64>, number: u64, packet: &Sen
 /// The least number above another, or of all where there is no other. None of those stands below `from`.
 fn first_silent<Q>(packets: &SlotQueue<SentPacket<Q>>, last: Option<u64>, from: u64) -> Option<u64>
 where
-    Q: RetransmitQueue + Drop,
-    Q::Meta: Drop,
+    Q: RetransmitQueue,
     requires found { AreAboveFrom last from (entries_in packets.now) }
     requires small { AreBelow (entries_in packets.now) u64_limit }
     ensures first { result
@@ -307,8 +305,7 @@ fn first_filled<Q>(
     streams: &Q::Streams,
 ) -> (Option<u64>, u64)
 where
-    Q: RetransmitQueue + Drop,
-    Q::Meta: Drop,
+    Q: RetransmitQueue,
     requires { AreVoidBelow Q.words from (entries_in packets.now) }
     ensures number { result.0 ≡ first_filled Q.words streams.now (entries_in packets.now) }
     ensures void { AreVoidBelow Q.words result.1 (entries_in packets.now) }

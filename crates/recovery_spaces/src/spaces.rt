@@ -180,8 +180,7 @@ impl<Q: RetransmitQueue> Model for PacketSpace<Q> {
 
 impl<Q> PacketSpace<Q>
 where
-    Q: RetransmitQueue + Drop,
-    Q::Meta: Drop,
+    Q: RetransmitQueue,
 {
     /// A space in which nothing was received or sent yet.
     pub fn new(alloc: Global, now: Instant) -> Self
@@ -517,8 +516,7 @@ impl<Q: RetransmitQueue> Model for PacketSpaces<Q> {
 
 impl<Q> PacketSpaces<Q>
 where
-    Q: RetransmitQueue + Drop,
-    Q::Meta: Drop,
+    Q: RetransmitQueue,
 {
     /// Three spaces in which nothing was received or sent yet.
     pub fn new(alloc: Global, now: Instant) -> Self

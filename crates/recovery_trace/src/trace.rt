@@ -29,8 +29,7 @@ fn run<F, R, W, E>(
     errors: &mut E,
 ) -> Outcome
 where
-    F: ControllerFactory + Drop,
-    F::Controller: Drop,
+    F: ControllerFactory,
     R: Read,
     W: Write,
     E: Write,
@@ -82,8 +81,7 @@ fn trace_over<F, R, W, E>(
     errors: &mut E,
 ) -> Outcome
 where
-    F: ControllerFactory + Drop,
-    F::Controller: Drop,
+    F: ControllerFactory,
     R: Read,
     W: Write,
     E: Write,

@@ -52,8 +52,7 @@ fn write_turn<F>(
     note: Note,
 ) -> Result<(), AllocError>
 where
-    F: ControllerFactory + Drop,
-    F::Controller: Drop,
+    F: ControllerFactory,
     ensures { OnOk result (string_bytes text.new ≡ string_bytes text.old
         ++ turn_text F.Controller.words shows time note reply.now (state_of recovery.now)) }
 {
@@ -81,8 +80,7 @@ fn answer<F>(
     text: &mut String,
 ) -> Result<bool, NoMemory>
 where
-    F: ControllerFactory + Drop,
-    F::Controller: Drop,
+    F: ControllerFactory,
     ensures { IfOk result
         (TurnOutcome shows line.now live.old.recovery live.new.recovery time.old time.new
         (string_bytes text.new)) }
@@ -133,8 +131,7 @@ pub fn take_turn<F, W, E>(
     errors: &mut E,
 ) -> Turn
 where
-    F: ControllerFactory + Drop,
-    F::Controller: Drop,
+    F: ControllerFactory,
     W: Write,
     E: Write,
     ensures { LineOutcome shows line.now number live.old.recovery live.new.recovery time.old

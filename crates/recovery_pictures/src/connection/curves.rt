@@ -95,8 +95,7 @@ impl Curves {
         events: Vec<Event<ItemQueue>>,
     ) -> Result<(), NoMemory>
     where
-        F: ControllerFactory + Drop,
-        F::Controller: Drop,
+        F: ControllerFactory,
     {
         for event in events {
             self.step(recovery, event)?;
@@ -115,8 +114,7 @@ impl Curves {
         event: Event<ItemQueue>,
     ) -> Result<(), NoMemory>
     where
-        F: ControllerFactory + Drop,
-        F::Controller: Drop,
+        F: ControllerFactory,
     {
         if let Some(now) = moment_of(&event) {
             self.now = now.as_nanos().max(self.now);

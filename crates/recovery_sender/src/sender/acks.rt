@@ -84,11 +84,8 @@ fn is_marked<Q>(answer: &Answer<Q>) -> bool
 
 impl<F, Q, R> Sender<F, Q, R>
 where
-    F: ControllerFactory + Drop,
-    F::Controller: Drop,
-    Q: RetransmitQueue + Drop,
-    Q::Meta: Drop,
-    Q::Streams: Drop,
+    F: ControllerFactory,
+    Q: RetransmitQueue,
     R: Rng + Drop,
 {
     /// An ACK frame came in (RFC 9002, A.7: OnAckReceived), with the first and last number of each of its ranges, the

@@ -18,11 +18,8 @@ use recovery_queue::queue::RetransmitQueue;
 
 impl<F, Q, R> Sender<F, Q, R>
 where
-    F: ControllerFactory + Drop,
-    F::Controller: Drop,
-    Q: RetransmitQueue + Drop,
-    Q::Meta: Drop,
-    Q::Streams: Drop,
+    F: ControllerFactory,
+    Q: RetransmitQueue,
     R: Rng + Drop,
 {
     /// The keys of a space are dropped, and with them all that it tracks; probe timeouts are counted anew (RFC 9002,

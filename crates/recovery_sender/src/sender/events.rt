@@ -146,11 +146,8 @@ fn leaves_timer<Q: RetransmitQueue>(event: &Event<Q>) -> bool
 
 impl<F, Q, R> Sender<F, Q, R>
 where
-    F: ControllerFactory + Drop,
-    F::Controller: Drop,
-    Q: RetransmitQueue + Drop,
-    Q::Meta: Drop,
-    Q::Streams: Drop,
+    F: ControllerFactory,
+    Q: RetransmitQueue,
     R: Rng + Drop,
 {
     /// A new sender, made at the time `now`. The first path of a client is validated, whatever the settings say (RFC

@@ -93,11 +93,8 @@ fn is_reported<Q>(answer: &Answer<Q>) -> bool
 
 impl<F, Q, R> Sender<F, Q, R>
 where
-    F: ControllerFactory + Drop,
-    F::Controller: Drop,
-    Q: RetransmitQueue + Drop,
-    Q::Meta: Drop,
-    Q::Streams: Drop,
+    F: ControllerFactory,
+    Q: RetransmitQueue,
     R: Rng + Drop,
 {
     /// What a look at a space goes by, of which this is the largest number acknowledged.

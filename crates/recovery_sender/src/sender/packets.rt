@@ -66,11 +66,8 @@ fn sent_at<Q>(time: Option<Instant>, answer: &Answer<Q>) -> Option<Instant>
 
 impl<F, Q, R> Sender<F, Q, R>
 where
-    F: ControllerFactory + Drop,
-    F::Controller: Drop,
-    Q: RetransmitQueue + Drop,
-    Q::Meta: Drop,
-    Q::Streams: Drop,
+    F: ControllerFactory,
+    Q: RetransmitQueue,
     R: Rng + Drop,
 {
     /// Whether a datagram of so many bytes goes out now, with packets of a space. Where nothing in it counts in flight,

@@ -51,11 +51,8 @@ fn done<Q: Drop>(reply: Result<Answer<Q>, Refusal>) -> Result<(), SenderError>
 
 impl<F, Q, R> Sender<F, Q, R>
 where
-    F: ControllerFactory + Drop,
-    F::Controller: Drop,
-    Q: RetransmitQueue + Drop,
-    Q::Meta: Drop,
-    Q::Streams: Drop,
+    F: ControllerFactory,
+    Q: RetransmitQueue,
     R: Rng + Drop,
 {
     /// The timer for losses may be due (RFC 9002, A.9: OnLossDetectionTimeout). Before its time nothing happens. If a

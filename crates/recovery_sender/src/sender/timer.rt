@@ -25,8 +25,7 @@ use recovery_spaces::spaces::PacketSpace;
 /// Whether some packet tracked in a space elicits an ACK (RFC 9002, 2).
 fn has_eliciting<Q>(here: &PacketSpace<Q>) -> bool
 where
-    Q: RetransmitQueue + Drop,
-    Q::Meta: Drop,
+    Q: RetransmitQueue,
     ensures { result ≡ has_eliciting (packets_of here.now) }
 {
     here.sent_packets.has_ack_eliciting()
@@ -34,11 +33,8 @@ where
 
 impl<F, Q, R> Sender<F, Q, R>
 where
-    F: ControllerFactory + Drop,
-    F::Controller: Drop,
-    Q: RetransmitQueue + Drop,
-    Q::Meta: Drop,
-    Q::Streams: Drop,
+    F: ControllerFactory,
+    Q: RetransmitQueue,
     R: Rng + Drop,
 {
     /// The moment of the timer for losses (RFC 9002, A.8), as each call leaves it.
