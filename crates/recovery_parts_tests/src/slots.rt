@@ -1,13 +1,14 @@
 //! Packets are acknowledged in some order, all but the first: that one is found, and few slots are left. The limit of
-//! the slots, and that few are looked at, is proved.
+//! the slots, and that few are looked at, is proved. Then packets are looked up by number and by range of numbers.
 use crate::rows::holds;
 use recovery_base::below::NoMemory;
 use recovery_base::time::Instant;
 use recovery_queue::items::ItemQueue;
 use recovery_queue::queue::RetransmitQueue;
+use recovery_queue::slots::SlotQueue;
 use recovery_spaces::sent_packets::SentPackets;
 use recovery_spaces::spaces::{PacketSpace, SentPacket};
-use std::alloc::Global;
+use std::alloc::{AllocError, Global};
 use std::process::Abort;
 
 /// In which order the packets from 1 on are acknowledged.
@@ -128,4 +129,117 @@ fn packets_are_gone_over_upward(rt: HostRuntime) {
     holds(&rt, space.sent_packets.has_ack_eliciting(), 1);
     holds(&rt, takes(&mut space, 1) && takes(&mut space, 4), 4);
     holds(&rt, !space.sent_packets.has_ack_eliciting(), 4);
+}
+
+/// Packets 0 to 4 without 0, 2 and 3: the first packet at or above a number and below an end.
+static RANGES: [(u64, u64, Option<u64>); 10] = [
+    (0, 0, None),
+    (0, 1, None),
+    (0, 2, Some(1)),
+    (1, 2, Some(1)),
+    (2, 4, None),
+    (2, 5, Some(4)),
+    (2, u64::MAX, Some(4)),
+    (3, 2, None),
+    (4, 5, Some(4)),
+    (5, u64::MAX, None),
+];
+
+/// Of the same packets: whether a number is one of them, and how many have lower numbers.
+static NUMBERS: [(u64, bool, usize); 6] = [
+    (0, false, 0),
+    (1, true, 0),
+    (2, false, 1),
+    (4, true, 1),
+    (5, false, 2),
+    (u64::MAX, false, 2),
+];
+
+/// Whether a count covers the packets with lower numbers, and is no more than the count of all packets.
+fn covers(count: usize, below: usize) -> bool {
+    below <= count && count <= 2
+}
+
+/// The number of the first packet at or above a number and below an end.
+fn first_between(packets: &SentPackets<ItemQueue>, from: u64, end: u64) -> Option<u64> {
+    match packets.tracked_between(from, end) {
+        Some((found, _)) => Some(found),
+        None => None,
+    }
+}
+
+#[test]
+fn packets_are_looked_up(rt: HostRuntime) {
+    let mut space = sent(&rt, rt.alloc(), 5);
+    for number in [0, 2, 3] {
+        holds(&rt, takes(&mut space, number), number);
+    }
+    let packets = &space.sent_packets;
+    for (from, end, first) in &RANGES {
+        holds(&rt, first_between(packets, *from, *end) == *first, *from);
+    }
+    for (number, is_tracked, below) in &NUMBERS {
+        holds(&rt, packets.get(*number).is_some() == *is_tracked, *number);
+        holds(&rt, covers(packets.count_below(*number), *below), *number);
+    }
+}
+
+type Slots = SlotQueue<SentPacket<ItemQueue>>;
+
+/// This many packets in slots, from number 0 on.
+fn queued(rt: &impl Abort, alloc: Global, count: u64) -> Slots {
+    let mut slots = SlotQueue::new(alloc);
+    for number in 0..count {
+        match slots.push(number, packet(alloc)) {
+            Ok(()) => {}
+            Err(AllocError) => panic!(rt; "{number}"),
+        }
+    }
+    slots
+}
+
+/// The number of the first packet of a range, and how many slots were looked at.
+fn first_looked_at(slots: &Slots, from: u64, end: u64) -> (Option<u64>, usize) {
+    match slots.entry_between(from, end) {
+        (Some((found, _)), looks) => (Some(found), looks),
+        (None, looks) => (None, looks),
+    }
+}
+
+#[test]
+fn slots_are_looked_up(rt: HostRuntime) {
+    let mut slots = queued(&rt, rt.alloc(), 5);
+    for number in [0, 2, 3] {
+        holds(&rt, slots.take(number).is_some(), number);
+    }
+    for (from, end, first) in &RANGES {
+        holds(&rt, first_looked_at(&slots, *from, *end).0 == *first, *from);
+    }
+    for (number, _, below) in &NUMBERS {
+        holds(&rt, covers(slots.filled_below(*number), *below), *number);
+    }
+}
+
+/// Of packets 0 to 999, those from 1 to 500 are taken out, and their slots stay. A search takes at most 10 looks, as
+/// 1000 slots are fewer than 2^10. A range takes one look more for each slot from its start up to the packet that is
+/// found, or up to its end, and one for the slot there.
+#[test]
+fn an_emptied_range_takes_few_looks(rt: HostRuntime) {
+    static LOOKS: [(u64, u64, Option<u64>, usize); 6] = [
+        (0, 1, Some(0), 11),
+        (1, 2, None, 12),
+        (200, 203, None, 14),
+        (499, 502, Some(501), 13),
+        (900, 1000, Some(900), 11),
+        (1000, u64::MAX, None, 11),
+    ];
+    let mut slots = queued(&rt, rt.alloc(), 1000);
+    for number in 1..501 {
+        holds(&rt, slots.take(number).is_some(), number);
+    }
+    holds(&rt, slots.len() == 1000, 1000);
+    for (from, end, first, most) in &LOOKS {
+        let (found, looks) = first_looked_at(&slots, *from, *end);
+        holds(&rt, found == *first && looks <= *most, *from);
+    }
 }

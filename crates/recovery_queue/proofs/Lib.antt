@@ -1,2 +1,3 @@
 pub mod SlotEntryLaws
 pub mod SlotLaws
+pub mod SlotWalkLaws

@@ -11,7 +11,7 @@ use Rattle.std.proofs.Math.Seq.{set-append_seam}
 use Rattle.std.proofs.lemmas.List.Filters.{length-filter_both}
 use Rattle.recovery_queue.specs.declared.slots.Slot.{Slot}
 use Rattle.recovery_queue.specs.Slots.{entries_in, item_at, AreSlotsIncreasing, IsSlotAt, Divides, IsHeldAt, IsAboveAll, IsFirst, IsFirstWith, IsLast, IsSlotQueueSound, IsClosedUp, IsFrontEmpty, IsBackFrom, Replaces, FindsSlot, CompactsSlots, RemovesSlot, trimmed, is_filled, is_below, is_from, first_number, AreFrom}
-use Rattle.recovery_queue.proofs.SlotLaws.{Slots, at_itself}
+use Rattle.recovery_queue.proofs.SlotLaws.{Slots, at_itself, one_slot}
 
 pub not_both : {b : Bool} → b ≡ true → b ≡ false → ⊥
 not_both {b} e f = cc
@@ -99,6 +99,13 @@ module _ {T : Type 0} where
   item_held {number = number} {item = item} held =
       let its = here number item item held.after held.before held.none in
       rw (held.is, ← held.place_is) (its.0, its.3)
+
+  -- the slot at the place that was found holds what is filed under the number
+  pub found_read : {slots : Slots T} {number place : ℕ} {at : Option ℕ × ℕ} → FindsSlot slots number at
+      → at.0 ≡ Some place → (slot : Slot T) → IsSlotAt slots place slot → slot.item ≡ item_at slots number
+  found_read {slots} {number} {place} finds is slot there =
+      let held : (item : T) × IsHeldAt slots number place item = grind (arith, finds.place, is) in
+      ap (λ (s : Slot T). s.item) (one_slot slots place slot _ there (item_held held.1).1) ∙ sym (item_held held.1).0
 
   module _ {old mid : Slots T} {number place : ℕ} {at : Option ℕ × ℕ} {found : Option T}
       (finds : FindsSlot old number at) (is : at.0 ≡ Some place) (first : Replaces old place None found mid) where
@@ -389,14 +396,24 @@ module _ {T : Type 0} where
   entries_to (slot ∷ slots) (suc place) = grind (arith, entries_to slots place)
   entries_to slots place = omega arith
 
+  -- whatever place divides the slots, no more are filed below the number
+  pub filed_before : {slots : Slots T} {number place : ℕ} → Divides slots number place
+      → (length (filter (is_below number) (entries_in slots)) ≤ place)
+      × (length (filter (is_below number) (entries_in slots)) ≤ length (entries_in slots))
+  filed_before {slots} {number} {place} divides = grind (
+    arith,
+    divided slots number place divides,
+    length-filter_both (is_below number) (is_from number) (λ _. refl) (entries_in slots),
+    entries_to slots place,
+  )
+
   pub filed : {slots : Slots T} {number place : ℕ} → Divides slots number place → place ≤ length slots
       → (length (filter (is_below number) (entries_in slots)) ≤ place)
       × (place + length (filter (is_from number) (entries_in slots)) ≤ length slots)
   filed {slots} {number} {place} divides within = grind (
     arith,
     divided slots number place divides,
-    length-filter_both (is_below number) (is_from number) (λ _. refl) (entries_in slots),
-    entries_to slots place,
+    filed_before divides,
     entries_fit (drop place slots),
     length-drop place slots,
   )

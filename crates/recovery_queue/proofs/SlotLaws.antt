@@ -50,7 +50,7 @@ module _ {T : Type 0} where
   slot_within (first ∷ slots) (suc place) slot at = omega (arith, slot_within slots place slot at)
   slot_within slots place slot at = grind (arith, at)
 
-  one_slot : (slots : Slots T) (place : ℕ) (slot other : Slot T) → IsSlotAt slots place slot
+  pub one_slot : (slots : Slots T) (place : ℕ) (slot other : Slot T) → IsSlotAt slots place slot
       → IsSlotAt slots place other → slot ≡ other
   one_slot (first ∷ slots) (suc place) slot other at at2 = one_slot slots place slot other at at2
   one_slot slots place slot other at at2 = grind (arith, at, at2)
@@ -71,7 +71,7 @@ module _ {T : Type 0} where
   stands slots first end place slot rising at = grind (arith, at, rises_room)
 
   -- numbers are at least as far from one another as their places
-  apart : (slots : Slots T) (place other : ℕ) (slot later : Slot T) → IsIncreasing slots → IsSlotAt slots place slot
+  pub apart : (slots : Slots T) (place other : ℕ) (slot later : Slot T) → IsIncreasing slots → IsSlotAt slots place slot
       → IsSlotAt slots other later → place ≤ other → slot.number + other ≤ later.number + place
   apart (head ∷ slots) zero zero slot later rises at there upto = grind (arith, at, there)
   apart (head ∷ slots) zero (suc other) slot later rises at there upto =

@@ -1,5 +1,5 @@
 -- A queue of slots in the order of their numbers: what is filed in it, and what is found in it.
-use Rattle.std.specs.Prelude.{◌≡◌, ℕ, ◌+◌, ◌*◌, ◌^◌, ◌<◌, ◌≤◌, zero, suc, List, [], ◌∷◌, ◌++◌, length, Option, None, Some, MatchOption, IfSome, filter, set, Bool, not, nat_lt, if◌then◌else◌}
+use Rattle.std.specs.Prelude.{◌≡◌, ℕ, ◌+◌, ◌-◌, ◌*◌, ◌^◌, ◌<◌, ◌≤◌, zero, suc, List, [], ◌∷◌, ◌++◌, length, Option, None, Some, MatchOption, IfSome, filter, set, Bool, not, nat_lt, if◌then◌else◌}
 use Rattle.std.specs.Ordering.{nat_cmp}
 use Rattle.std.specs.BTreeMap.{is_at}
 use Rattle.std.specs.Map.{lookup}
@@ -93,6 +93,12 @@ pub record IsHeldAt {T : Type 0} (slots : List (Slot T)) (number place : ℕ) (i
 -- no more slots were looked at than their count has binary digits
 abbrev pub IsWithinDigits : ℕ → ℕ → Type 0
 IsWithinDigits looks slots = (digits : ℕ) → slots < 2 ^ digits → looks ≤ digits
+
+-- no more slots were looked at than it takes to find a number, and one more for each slot from its place up to that of
+-- another number, with the slot there
+abbrev pub IsWithinWalk : {T : Type 0} → List (Slot T) → ℕ → ℕ → ℕ → Type 0
+IsWithinWalk slots from until looks = (digits start stop : ℕ) → length slots < 2 ^ digits → Divides slots from start
+    → Divides slots until stop → looks ≤ digits + (stop - start) + 1
 
 -- a number's place among the slots, and how many were looked at for it: one at least, where it was found, and no more
 -- where no number is left out

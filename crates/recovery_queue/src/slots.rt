@@ -1,10 +1,11 @@
 //! A queue of slots in the order of their numbers.
 ghost use Rattle.std.specs.Prelude.{◌≡◌, ℕ, ◌+◌, ◌-◌, ◌^◌, ◌<◌, ◌≤◌, ◌∷◌, ◌++◌, [], length, drop, filter, slice_index_or, Some, None, Decides, IfSome, IfNone, IfOk, OnOk, OnErr, MatchOption, MatchResult};
 ghost use Rattle.std.specs.VecDeque.{deque_len, deque_capacity};
+ghost use Rattle.std.specs.Option.{option_map_or};
 ghost use Rattle.std.specs.Ordering.{nat_cmp};
 ghost use Rattle.std.specs.BTreeMap.{is_at};
 ghost use Rattle.std.specs.Map.{remove_entry};
-ghost use Rattle.recovery_queue.specs.Slots.{entries_in, item_at, AreSlotsIncreasing, IsFiledAt, Divides, Encloses, IsHeldAt, IsEmptyAt, IsAboveAll, IsClosedUp, IsFrontEmpty, IsBackFrom, Replaces, IsIncreasing, LeavesNoneOut, IsFirst, IsFirstWith, IsLast, FindsSlot, IsWithinDigits, CompactsSlots, RemovesSlot, trimmed, AreFrom, entries_from, first_entry, first_number, is_filled};
+ghost use Rattle.recovery_queue.specs.Slots.{entries_in, item_at, AreSlotsIncreasing, IsFiledAt, Divides, Encloses, IsHeldAt, IsEmptyAt, IsAboveAll, IsClosedUp, IsFrontEmpty, IsBackFrom, Replaces, IsIncreasing, LeavesNoneOut, IsFirst, IsFirstWith, IsLast, FindsSlot, IsWithinDigits, CompactsSlots, RemovesSlot, trimmed, AreFrom, IsWithinWalk, entries_from, first_entry, first_number, is_below, is_filled};
 
 mod looks;
 
@@ -138,16 +139,35 @@ impl<T: Drop> SlotQueue<T> {
         (place.ok(), looks)
     }
 
+    /// The first place whose number is not below this one, or a place past all slots if there is none; and how many
+    /// slots were looked at for it.
+    fn start_of(&self, number: u64) -> (usize, u32)
+        ensures divides { Divides self.now number result.0 }
+        ensures looks { IsWithinDigits result.1 (length self.now) }
+    {
+        let (place, looks) = self.search(number);
+        match place {
+            Ok(place) => (place, looks),
+            Err(place) => (place, looks),
+        }
+    }
+
     /// The first place whose number is not below this one; where there is none, how many slots there are, or more.
     pub fn place_from(&self, number: u64) -> usize
         ensures entries { entries_in (drop result self.now) ≡ entries_from number self.now }
         ensures divides { Divides self.now number result }
     {
-        let (place, _) = self.search(number);
-        match place {
-            Ok(place) => place,
-            Err(place) => place,
-        }
+        let (place, _) = self.start_of(number);
+        place
+    }
+
+    /// How many items are filed below a number: at least as many, and no more than are filed in all. It costs what
+    /// `find` costs.
+    pub fn filled_below(&self, number: u64) -> usize
+        ensures enough { length (filter (is_below number) (entries_in self.now)) ≤ result }
+        ensures most { result ≤ length (entries_in self.now) }
+    {
+        self.place_from(number).min(self.filled)
     }
 
     /// Puts another item, or none, into the slot at a place, and hands out what was in it.
@@ -241,6 +261,32 @@ impl<T: Drop> SlotQueue<T> {
             }
         }
         None
+    }
+
+    /// What is filed under the lowest number from one on and below an end, with that number; and how many slots were
+    /// looked at. Cost: that of `find`, and one step for each slot between the first number and the one found, or the
+    /// end.
+    pub fn entry_between(&self, from: u64, end: u64) -> (Option<(u64, &T)>, usize)
+        ensures none { IfNone result.0 (AreFrom end (entries_from from self.now)) }
+        ensures first { IfSome result.0 (λ found. (found.0 < end)
+            × (first_entry (entries_from from self.now) ≡ Some (found.0, found.1.now))) }
+        ensures lowest { IfSome result.0 (λ found. AreFrom found.0 (entries_from from self.now)) }
+        ensures looks { IsWithinWalk self.now from
+            (option_map_or (λ found. found.0) result.0 end) result.1 }
+    {
+        let (start, looks) = self.start_of(from);
+        let looks = looks as usize;
+        for place in start..self.len() {
+            let slot = &self.slots[place];
+            let looked = looks + (place - start) + 1;
+            if slot.number >= end {
+                return (None, looked);
+            }
+            if let Some(item) = &slot.item {
+                return (Some((slot.number, item)), looked);
+            }
+        }
+        (None, looks + self.len().saturating_sub(start))
     }
 
     /// The first number under which something is filed, from another on.

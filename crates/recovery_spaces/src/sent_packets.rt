@@ -1,10 +1,10 @@
 //! The packets that a packet number space tracks (RFC 9002, A.1), by number.
 ghost use Rattle.std.specs.Prelude.{◌≡◌, Decides, ◌<◌, ◌≤◌, [], ◌∷◌, None, Some, IfSome, IfOk, OnOk, OnErr, IfNone, MatchOption, length, filter};
-ghost use Rattle.std.specs.Option.{is_some};
+ghost use Rattle.std.specs.Option.{is_some, option_copied};
 ghost use Rattle.recovery_base.specs.Units.{u64_limit};
 ghost use Rattle.recovery_spaces.specs.Packets.{Tracking, no_packets, packet_at, AreBelow, IsAboveLast, HasSize, HasEliciting, first_from, most_silent, is_above, least_number, silent_in, forgotten_number, forgotten_entry, after_sending, after_taking, after_carrying, contents_or};
 ghost use Rattle.recovery_queue.specs.Queues.{IsVoid};
-ghost use Rattle.recovery_queue.specs.Slots.{entries_in, is_from, AreFrom};
+ghost use Rattle.recovery_queue.specs.Slots.{entries_in, is_below, is_from, AreFrom};
 ghost use Rattle.recovery_spaces.specs.Places.{HasSlots, FindsPacket};
 ghost use Rattle.recovery_spaces.specs.Probes.{first_filled};
 ghost use Rattle.recovery_spaces.specs.Counts.{silent_count, size_count, elicits_count, AreAboveFrom, AreVoidBelow};
@@ -80,12 +80,29 @@ where
         self.packets.len()
     }
 
+    /// How many packets are tracked; their numbers fit 64 bits. Constant cost.
+    pub fn len(&self) -> usize
+        ensures count { result ≡ length self.now.packets }
+        ensures small { AreBelow self.now.packets u64_limit }
+    {
+        self.packets.filled()
+    }
+
     /// The place of the packet of a number among the slots, `None` where it is not tracked, and how many slots were
     /// looked at: at most as many as the count of slots has binary digits.
     pub fn find(&self, number: u64) -> (Option<usize>, u32)
         ensures { FindsPacket self.now.packets number result }
     {
         self.packets.find(number)
+    }
+
+    /// The tracked packet of a number. Cost: that of `find`.
+    pub fn get(&self, number: u64) -> Option<&SentPacket<Q>>
+        ensures { option_copied result ≡ packet_at self.now.packets number }
+    {
+        let place = self.packets.find(number).0?;
+        let (_, packet) = self.packets.get(place)?;
+        Some(packet)
     }
 
     /// The number of the last packet sent that elicits an ACK, tracked or not.
@@ -215,7 +232,8 @@ where
     }
 
     /// The first tracked packet at or above a number, with its number: so that the packets can be gone over by number,
-    /// upward (RFC 9002, 6.1). Cost: that of `find`, beside the empty slots that are passed over.
+    /// upward (RFC 9002, 6.1). It also passes over the empty slots that follow the number, up to the first packet or to
+    /// the last slot. `tracked_between` stops at an end. Cost: that of `find`, plus those empty slots.
     pub fn tracked_from(&self, number: u64) -> Option<(u64, &SentPacket<Q>)>
         ensures first { MatchOption result (first_from number self.now.packets ≡ None)
             (λ found. first_from number self.now.packets ≡ Some (found.0, found.1.now)) }
@@ -223,6 +241,27 @@ where
             (λ found. AreFrom found.0 (filter (is_from number) self.now.packets)) }
     {
         self.packets.entry_from(number)
+    }
+
+    /// The first tracked packet at or above a number and below an end, with its number. Cost: that of `find`, plus the
+    /// slots between the two numbers.
+    pub fn tracked_between(&self, from: u64, end: u64) -> Option<(u64, &SentPacket<Q>)>
+        ensures none { IfNone result (AreFrom end (filter (is_from from) self.now.packets)) }
+        ensures first { IfSome result (λ found. (found.0 < end)
+            × (first_from from self.now.packets ≡ Some (found.0, found.1.now))) }
+        ensures lowest { IfSome result
+            (λ found. AreFrom found.0 (filter (is_from from) self.now.packets)) }
+    {
+        self.packets.entry_between(from, end).0
+    }
+
+    /// How many packets with numbers below this one are tracked: at least as many, and no more than are tracked in all.
+    /// Cost: that of `find`.
+    pub fn count_below(&self, number: u64) -> usize
+        ensures enough { length (filter (is_below number) self.now.packets) ≤ result }
+        ensures most { result ≤ length self.now.packets }
+    {
+        self.packets.filled_below(number)
     }
 
     /// Whether some tracked packet elicits an ACK (RFC 9002, 2). Constant cost.
