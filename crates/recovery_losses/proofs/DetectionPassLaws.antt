@@ -61,6 +61,13 @@ rising_below first end (one ∷ numbers) number rising (inl is) =
 rising_below first end (one ∷ numbers) number rising (inr there) =
     rising_below (one + 1) end numbers number rising.1 there
 
+pub first_rises : (first end : ℕ) (numbers : List ℕ) (number : ℕ) → AreIncreasing first numbers end
+    → IsOneOf number numbers → first ≤ number
+first_rises first end [] number rising never = absurd never
+first_rises first end (one ∷ numbers) number rising (inl is) = omega (arith, is, rising.0)
+first_rises first end (one ∷ numbers) number rising (inr there) =
+    omega (arith, rising.0, first_rises (one + 1) end numbers number rising.1 there)
+
 -- ---- packets
 
 module _ {P M : Type 0} where
@@ -109,12 +116,12 @@ module _ {P M : Type 0} (look : LossPass) (packets : Packets P M) where
 
 -- ---- moments
 
-earlier_is : (time : Option ℕ) (due : ℕ) → (t : ℕ) × (earlier_of time (Some due) ≡ Some t) × (t ≤ due)
+pub earlier_is : (time : Option ℕ) (due : ℕ) → (t : ℕ) × (earlier_of time (Some due) ≡ Some t) × (t ≤ due)
     × ((s : ℕ) → time ≡ Some s → t ≤ s)
 earlier_is None due = (due, refl, omega arith, λ s none. absurd (none-some s none))
 earlier_is (Some s) due = (min s due, refl, omega arith, λ other is. omega (arith, same_Some s other is))
 
-earlier_from : (time : Option ℕ) (due least : ℕ) → earlier_of time (Some due) ≡ Some least
+pub earlier_from : (time : Option ℕ) (due least : ℕ) → earlier_of time (Some due) ≡ Some least
     → (least ≡ due) ⊎ (time ≡ Some least)
 earlier_from None due least is = inl (sym (same_Some due least is))
 earlier_from (Some s) due least is = elim (leb_tells s due) [

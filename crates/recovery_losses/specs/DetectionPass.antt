@@ -1,5 +1,5 @@
 -- What a look for losses found of the packets below a number.
-use Rattle.std.specs.Prelude.{◌≡◌, ℕ, ◌<◌, min, List, Some}
+use Rattle.std.specs.Prelude.{◌≡◌, ℕ, ◌<◌, min, List, Option, Some}
 use Rattle.std.specs.Option.{ForSome}
 use Rattle.recovery_base.specs.Units.{largest_u64}
 use Rattle.recovery_spaces.specs.Packets.{Packets}
@@ -19,3 +19,10 @@ pub record PassSoFar {P M : Type 0} (look : LossPass) (old : Packets P M) (end :
   -- the numbers that are lost now, one behind another
   pub run :
       IsLossRun (IsDeclaredLost numbers tally.probe) (IsEndAt look old numbers) look.skipped look.period end tally.run
+
+-- each packet below a number that is lost was tried once: it was declared lost, or allocation failed; the probe of the
+-- MTU is tried last
+pub record TriesEachLost {P M : Type 0} (look : LossPass) (old : Packets P M) (end : ℕ) (tried : List ℕ)
+    (probe : Option ℕ) : Type 0 where
+  pub lost : AreLost look old end tried
+  pub each : (number : ℕ) → IsLostBelow look old number → number < end → IsDeclaredLost tried probe number

@@ -1,10 +1,11 @@
 -- Which packets are lost, when the next one is, and what that comes to (RFC 9002, 6.1, 7.6 and A.10).
-use Rattle.std.specs.Prelude.{◌≡◌, ◌≢◌, ℕ, ◌+◌, ◌-◌, ◌<◌, ◌≤◌, ◌⊎◌, ◌&&◌, ◌||◌, ◌==◌, min, max, nat_lt, nat_le, Bool, false, List, [], ◌∷◌, Option, None, Some, if◌then◌else◌}
+use Rattle.std.specs.Prelude.{◌≡◌, ◌≢◌, ℕ, ◌+◌, ◌-◌, ◌<◌, ◌≤◌, ◌⊎◌, ◌&&◌, ◌||◌, ◌==◌, min, max, nat_lt, nat_le, Bool, true, false, List, [], ◌∷◌, filter, length, Option, None, Some, if◌then◌else◌}
 use Rattle.std.specs.Option.{ForSome, option_map_or}
 use Rattle.recovery_base.specs.declared.below.SpaceId.{SpaceId}
 use Rattle.recovery_base.specs.Spaces.{same_space}
 use Rattle.recovery_base.specs.Timers.{earlier_of}
 use Rattle.recovery_base.specs.Units.{largest_u64, last_time}
+use Rattle.recovery_queue.specs.Slots.{is_below}
 use Rattle.recovery_spaces.specs.Packets.{Packet, Packets, packet_at, without}
 use Rattle.recovery_losses.specs.declared.looks.Candidate.{Candidate}
 use Rattle.recovery_losses.specs.declared.looks.FirstSample.{FirstSample}
@@ -66,6 +67,10 @@ abbrev pub without_all : {P M : Type 0} → Packets P M → List ℕ → Packets
 without_all packets [] = packets
 without_all packets (number ∷ numbers) = without_all (without packets number) numbers
 
+-- how many packets are tracked below a number
+abbrev pub count_below : {P M : Type 0} → ℕ → Packets P M → ℕ
+count_below end packets = length (filter (is_below end) packets)
+
 module _ {P M : Type 0} (look : LossPass) (packets : Packets P M) where
   -- tracked below the largest acknowledged
   abbrev pub IsBelow : ℕ → Packet P M → Type 0
@@ -101,6 +106,13 @@ module _ {P M : Type 0} (look : LossPass) (packets : Packets P M) where
     pub least : (number : ℕ) (packet : Packet P M) (due : ℕ) → IsBelow number packet → number < end
         → (IsDeclaredLost number → ⊥) → IsDueAt look number packet.time_sent due → (t : ℕ) × (time ≡ Some t) × (t ≤ due)
 
+-- when the first of the packets that are tracked below a number was sent, if there is one
+pub record IsEarliestSent {P M : Type 0} (packets : Packets P M) (end : ℕ) (time : Option ℕ) : Type 0 where
+  pub one : ForSome time (λ least. (number : ℕ) × (packet : Packet P M) × (packet_at packets number ≡ Some packet)
+      × (number < end) × (packet.time_sent ≡ least))
+  pub least : (number : ℕ) (packet : Packet P M) → packet_at packets number ≡ Some packet → number < end
+      → (t : ℕ) × (time ≡ Some t) × (t ≤ packet.time_sent)
+
 -- these are told lost: rising, each of them lost, and no probe of the MTU
 pub record AreLost {P M : Type 0} (look : LossPass) (packets : Packets P M) (end : ℕ) (numbers : List ℕ) : Type 0 where
   pub rising : AreIncreasing 0 numbers end
@@ -133,6 +145,10 @@ NoneFrom {P} {M} look packets from =
 -- what the look found so far, where a packet waits until this moment
 abbrev pub waiting : ℕ → Tally → Tally
 waiting time tally = record tally { loss_time = earlier_of tally.loss_time (Some time) }
+
+-- what the look found so far, if allocation failed for a packet that is lost: it is to be looked at again at once
+abbrev pub cutting : LossPass → Tally → Tally
+cutting look tally = record (waiting look.at tally) { is_cut = true }
 
 -- a number continues a run: it comes right after the last one, or only the number that was skipped lies between
 abbrev pub follows : Option ℕ → Option ℕ → ℕ → Bool
@@ -181,4 +197,11 @@ abbrev pub no_run : Run
 no_run = record { previous = None; oldest = None; is_persistent = false }
 
 abbrev pub nothing_found : Tally
-nothing_found = record { loss_time = None; probe = None; last_sent = None; bytes = 0; run = no_run }
+nothing_found = record {
+  loss_time = None;
+  probe = None;
+  last_sent = None;
+  bytes = 0;
+  run = no_run;
+  is_cut = false;
+}

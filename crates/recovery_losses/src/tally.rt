@@ -1,6 +1,6 @@
 //! What a look for losses found so far, and whether congestion persists (RFC 9002, 7 and 7.6).
 ghost use Rattle.std.specs.Prelude.{◌≡◌, ◌+◌, ◌==◌, option_map};
-ghost use Rattle.recovery_losses.specs.Losses.{no_run, follows, going_on, ending, nothing_found, waiting, counting, finding_probe};
+ghost use Rattle.recovery_losses.specs.Losses.{no_run, follows, going_on, ending, nothing_found, waiting, counting, cutting, finding_probe};
 
 use crate::looks::{Candidate, LossPass};
 use recovery_base::time::Instant;
@@ -19,6 +19,8 @@ pub struct Tally {
     pub bytes: u64,
     /// The run of numbers that are lost.
     pub run: Run,
+    /// Whether allocation failed for a packet that is lost, so that it is still tracked.
+    pub is_cut: bool,
 }
 
 /// Whether one number comes right after another.
@@ -100,6 +102,7 @@ impl Tally {
             last_sent: None,
             bytes: 0,
             run: Run::new(),
+            is_cut: false,
         }
     }
 
@@ -118,6 +121,14 @@ impl Tally {
         ensures { self.new ≡ waiting time self.old }
     {
         self.loss_time = earlier(self.loss_time, Some(time));
+    }
+
+    /// A packet is lost, but allocation failed when it was declared so: it is still tracked, and due at once.
+    pub fn cuts(&mut self, look: &LossPass)
+        ensures { self.new ≡ cutting look.now self.old }
+    {
+        self.waits(look.at);
+        self.is_cut = true;
     }
 
     /// The probe of the MTU is lost.

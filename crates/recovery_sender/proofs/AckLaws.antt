@@ -8,15 +8,12 @@ use Rattle.recovery_spaces.proofs.PacketLaws.{some_of}
 use Rattle.recovery_queue.specs.Slots.{is_from, AreFrom}
 use Rattle.recovery_losses.specs.Losses.{AreIncreasing, IsOneOf}
 use Rattle.recovery_losses.proofs.DetectionPassLaws.{among_more, last_among, one_more, rising_more, rising_wider}
-use Rattle.recovery_losses.proofs.LossLaws.{found_from, lowest_from, none_from}
+use Rattle.recovery_losses.proofs.LossLaws.{found_from, lowest_from}
 use Rattle.recovery_sender.specs.Acks.{AreNewlyAcked, IsFirstIn, HasNoneTracked, HasAckEliciting, TrackedInRange}
 use Rattle.recovery_losses.proofs.FrameLaws.{AreFine}
 use Rattle.recovery_losses.specs.Frames.{IsInAckRanges}
 
 module _ {P M : Type 0} (from last : ℕ) (packets : Packets P M) where
-  pub none_in_range : first_from from packets ≡ None → HasNoneTracked packets from last
-  none_in_range none number packet there above below = none_from from packets none number packet there above
-
   pub none_of_range : (least : ℕ) → AreFrom least (filter (is_from from) packets) → last < least
       → HasNoneTracked packets from last
   none_of_range least all beyond number packet there above below =

@@ -1,5 +1,5 @@
 -- What an acknowledgement leaves of what is tracked.
-use Rattle.std.proofs.Common.{◌≡◌, ◌≢◌, ℕ, ◌+◌, ◌≤◌, ◌<◌, zero, suc, true, false, Bool, List, [], ◌∷◌, filter, length, take, get_or, Option, None, Some, Ok, Err, refl, sym, ap, ◌∙◌, inl, inr, arith}
+use Rattle.std.proofs.Common.{◌≡◌, ◌≢◌, ℕ, ◌+◌, ◌≤◌, ◌<◌, zero, suc, true, false, Bool, List, [], ◌∷◌, length, take, get_or, Option, None, Some, Ok, Err, refl, sym, ap, subst, ◌∙◌, inl, inr, arith}
 use Rattle.std.proofs.lemmas.Bool.Decides.{eqb_tells}
 use Rattle.std.proofs.lemmas.List.{map-append, take_more}
 use Rattle.recovery_base.specs.declared.below.SpaceId.{SpaceId}
@@ -9,12 +9,11 @@ use Rattle.recovery_events.specs.declared.event.Event.TheVariants.{Acked}
 use Rattle.recovery_events.specs.declared.event.Refusal.{Refusal}
 use Rattle.recovery_events.specs.declared.event.Refusal.TheVariants.{NoMemory, NotTracked, SpaceDiscarded}
 use Rattle.recovery_spaces.specs.Discarded.{is_discarded}
-use Rattle.recovery_spaces.specs.Packets.{Packet, Packets, packet_at, without, first_from}
+use Rattle.std.specs.Prelude.{if◌then◌else◌}
+use Rattle.recovery_spaces.specs.Packets.{Packet, packet_at, without, is_above}
 use Rattle.recovery_spaces.specs.Spaces.{space_of, packets_of}
-use Rattle.recovery_queue.specs.Slots.{is_from, AreFrom}
 use Rattle.recovery_losses.specs.Losses.{AreIncreasing, IsOneOf, without_all}
-use Rattle.recovery_losses.proofs.DetectionPassLaws.{all_other, without_more}
-use Rattle.recovery_losses.proofs.LossLaws.{lowest_from, none_from}
+use Rattle.recovery_losses.proofs.DetectionPassLaws.{all_other, first_rises, rising_below, without_more}
 use Rattle.quic_recovery.specs.declared.driver.Recovery.{Recovery}
 use Rattle.recovery_history.specs.History.{QueueModel, queue_model}
 use Rattle.recovery_history.specs.RecoveryState.{RecoveryState}
@@ -22,33 +21,12 @@ use Rattle.recovery_history.specs.Unlogged.{UnloggedState}
 use Rattle.recovery_history.specs.Transitions.{StateTransition}
 use Rattle.quic_recovery.specs.State.{ReadOnlyTransition, state_of}
 use Rattle.recovery_sender.specs.declared.sender.Sender.{Sender}
-use Rattle.recovery_sender.specs.Acking.{acking, sent_here}
+use Rattle.recovery_sender.specs.Acking.{IsWithin, acking, sent_here}
+use Rattle.recovery_sender.specs.Losses.{largest_in}
 use Rattle.recovery_sender.specs.Senders.{state_in}
 use Rattle.recovery_sender.specs.Spaces.{packets_in}
 use Rattle.recovery_sender.specs.Steps.{TakesSteps, occurs}
 use Rattle.recovery_sender.proofs.LeadLaws.{leads_on}
-
--- ---- look-ups
-
-module _ {P M : Type 0} (number : ℕ) (packets : Packets P M) where
-  never_there : ((packet : Packet P M) → packet_at packets number ≡ Some packet → ⊥) → packet_at packets number ≡ None
-  never_there never = by (packet_at packets number) refl
-    where
-      by : (found : Option (Packet P M)) → packet_at packets number ≡ found → packet_at packets number ≡ None
-      by None is = is
-      by (Some packet) is = absurd (never packet is)
-
-  pub absent_from : first_from number packets ≡ None → packet_at packets number ≡ None
-  absent_from none = never_there (λ packet is. none_from number packets none number packet is (omega arith))
-
-  pub absent_below : (least : ℕ) → AreFrom least (filter (is_from number) packets) → least ≢ number → number ≤ least
-      → packet_at packets number ≡ None
-  absent_below least all other above = never_there (λ packet is.
-      other (omega (arith, above, lowest_from number least packets all number packet is (omega arith))))
-
-pub at_same : {P M : Type 0} (packets : Packets P M) (found number : ℕ) (packet : Packet P M) → found ≡ number
-    → packet_at packets found ≡ Some packet → packet_at packets number ≡ Some packet
-at_same packets found number packet same is = ap (λ n. packet_at packets n) (sym same) ∙ is
 
 -- ---- a tracked packet is acknowledged, and is tracked no more
 
@@ -97,14 +75,41 @@ module _ {K Q S M P : Type 0} (queue : QueueModel Q S M P) where
       by_test true gone = absurd (tracked (grind (arith, gone)))
       by_test false kept = rw (same, kept) (taken_in space now number app_limited answer old new changes)
 
--- ---- numbers that rise, one after another
+  largest_taken : (space : SpaceId) (now number : ℕ) (app_limited : Bool) (answer : Answer Q)
+      (old new : RecoveryState K P M)
+      → StateTransition queue old (Acked space now number app_limited) (Ok answer) new
+      → (space_of space new.spaces).largest_acked_packet ≡ (if is_above
+      (space_of space old.spaces).largest_acked_packet number then Some number
+      else (space_of space old.spaces).largest_acked_packet)
+  largest_taken Initial now number app_limited answer old new changes =
+      ap (λ here. here.largest_acked_packet) (changes.steps.spaces Initial).others
+  largest_taken Handshake now number app_limited answer old new changes =
+      ap (λ here. here.largest_acked_packet) (changes.steps.spaces Handshake).others
+  largest_taken Data now number app_limited answer old new changes =
+      ap (λ here. here.largest_acked_packet) (changes.steps.spaces Data).others
 
-first_rises : (first end : ℕ) (numbers : List ℕ) (number : ℕ) → AreIncreasing first numbers end → IsOneOf number numbers
-    → first ≤ number
-first_rises first end [] number rising never = absurd never
-first_rises first end (one ∷ numbers) number rising (inl is) = omega (arith, is, rising.0)
-first_rises first end (one ∷ numbers) number rising (inr there) =
-    omega (arith, rising.0, first_rises (one + 1) end numbers number rising.1 there)
+  -- the largest number acknowledged is at most as large as it was, or this one
+  pub largest_within : (space : SpaceId) (now number : ℕ) (app_limited : Bool) (answer : Answer Q)
+      (old new : RecoveryState K P M)
+      → StateTransition queue old (Acked space now number app_limited) (Ok answer) new → (bound : ℕ)
+      → IsWithin bound (largest_in old space) → number ≤ bound → IsWithin bound (largest_in new space)
+  largest_within space now number app_limited answer old new changes bound within small =
+      by_test (is_discarded space old.discarded) refl
+    where
+      same : is_discarded space new.discarded ≡ is_discarded space old.discarded
+      same = ap (λ (plain : UnloggedState). is_discarded space plain.discarded) changes.plain
+
+      either : (test : Bool) (known : Option ℕ) → IsWithin bound known
+          → IsWithin bound (if test then Some number else known)
+      either true known is = small
+      either false known is = is
+
+      by_test : (test : Bool) → is_discarded space old.discarded ≡ test → IsWithin bound (largest_in new space)
+      by_test true gone = rw (same, gone) tt
+      by_test false kept = rw (same, kept, largest_taken space now number app_limited answer old new changes)
+          (either (is_above (space_of space old.spaces).largest_acked_packet number) _ (rw kept at within))
+
+-- ---- numbers that rise, one after another
 
 pub one_at : (numbers : List ℕ) (at : ℕ) → at < length numbers → IsOneOf (get_or numbers at 0) numbers
 one_at [] at within = absurd (omega (arith, within))
@@ -158,6 +163,19 @@ module _ {F Q R C K S M P : Type 0} {f : _} {c : _} {q : _} {m : _} {r : _} (spa
   still_tracked none = tracked number (one_at numbers at within)
       (sym (ap (λ there. packet_at there number) packets ∙ all_other (packets_in (state_in start) space)
       (take at numbers) number (not_before 0 rising.0 numbers at rising.1 within)) ∙ none)
+
+  pub largest_on : (new : Sender F Q R C K S M P f c q m r)
+      → TakesSteps (occurs (Acked space now number app_limited) ∷ []) between new
+      → ((bound : ℕ) → IsWithin bound (largest_in (state_in start) space) → AreIncreasing 0 numbers bound
+      → IsWithin bound (largest_in (state_in between) space))
+      → (bound : ℕ) → IsWithin bound (largest_in (state_in start) space) → AreIncreasing 0 numbers bound
+      → IsWithin bound (largest_in (state_in new) space)
+  largest_on new one so_far bound known below =
+      let leads = one.leads in
+      subst (λ recovery. IsWithin bound (largest_in recovery space)) (sym leads.4)
+      (largest_within (queue_model q.contents q.words q.blank) space now number app_limited leads.0 (state_in between)
+      leads.1 leads.2 bound (so_far bound known below)
+      (omega (arith, rising_below 0 bound numbers number below (one_at numbers at within))))
 
   pub acked_on : (new : Sender F Q R C K S M P f c q m r)
       → TakesSteps (acking space now app_limited (take at numbers)) start between

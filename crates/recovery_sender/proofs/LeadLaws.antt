@@ -1,5 +1,6 @@
 -- Steps of a sender, one after another, and what a loss leaves of what is tracked.
 use Rattle.std.proofs.Common.{◌≡◌, ◌≢◌, ℕ, true, false, Bool, List, [], ◌∷◌, ◌++◌, length, ◌==◌, Option, None, Some, Ok, refl, sym, ap, subst, ◌∙◌, true≢false, arith}
+use Rattle.std.specs.Option.{option_map_or}
 use Rattle.recovery_base.specs.declared.below.SpaceId.{SpaceId}
 use Rattle.recovery_base.specs.declared.below.SpaceId.TheVariants.{Initial, Handshake, Data}
 use Rattle.recovery_congestion.specs.Controllers.{ControllerSemantics}
@@ -15,7 +16,7 @@ use Rattle.recovery_history.specs.RecoveryState.{RecoveryState}
 use Rattle.recovery_history.specs.Unlogged.{UnloggedState, plain_of}
 use Rattle.recovery_history.specs.Transitions.{StateTransition}
 use Rattle.recovery_sender.specs.Senders.{state_in}
-use Rattle.recovery_sender.specs.Spaces.{packets_in}
+use Rattle.recovery_sender.specs.Spaces.{packets_in, space_in}
 use Rattle.recovery_sender.specs.declared.sender.Sender.{Sender}
 use Rattle.recovery_sender.specs.Detection.{ended, congested, is_reported}
 use Rattle.recovery_sender.specs.Steps.{SenderStep, StepsLeadTo, TakesSteps, told, occurs, loss_time, marked}
@@ -82,13 +83,19 @@ module _ {F Q R C K S M P : Type 0} {f : _} {c : _} {q : _} {m : _} {r : _} wher
 
 -- ---- what leaves the packets of the spaces as they are
 
+-- a space is as it was, if all are and none was discarded
+pub space_same : {K P M : Type 0} (space : SpaceId) (old new : RecoveryState K P M)
+    → ((at : SpaceId) → space_of at new.spaces ≡ space_of at old.spaces) → plain_of new ≡ plain_of old
+    → space_in new space ≡ space_in old space
+space_same space old new spaces plain =
+    let here = spaces space in let there = ap (λ (p : UnloggedState). is_discarded space p.discarded) plain in
+    grind (arith, here, there)
+
 module _ {K Q S M P : Type 0} (queue : QueueModel Q S M P) (space : SpaceId) (answer : Answer Q)
     (old new : RecoveryState K P M) where
   packets_same : ((at : SpaceId) → space_of at new.spaces ≡ space_of at old.spaces) → plain_of new ≡ plain_of old
       → packets_in new space ≡ packets_in old space
-  packets_same spaces plain =
-      let here = spaces space in let there = ap (λ (p : UnloggedState). is_discarded space p.discarded) plain in
-      grind (arith, here, there)
+  packets_same spaces plain = ap (λ here. option_map_or packets_of here []) (space_same space old new spaces plain)
 
   done_same : (now : ℕ) → StateTransition queue old (LossesDone now) (Ok answer) new
       → packets_in new space ≡ packets_in old space

@@ -1,3 +1,7 @@
+pub mod EventLaws
+pub mod RenewLaws
+pub mod AckRoomLaws
+pub mod AttemptLaws
 pub mod RetransmitAllLaws
 pub mod AckLaws
 pub mod AckedLaws

@@ -7,15 +7,18 @@ use Rattle.recovery_base.specs.declared.below.SpaceId.{SpaceId}
 use Rattle.recovery_spaces.specs.Discarded.{is_discarded}
 use Rattle.recovery_spaces.specs.Packets.{Packet, Packets, packet_at}
 use Rattle.recovery_losses.specs.declared.looks.LossPass.{LossPass}
-use Rattle.recovery_losses.specs.Losses.{IsLost, IsLostBelow, IsOneOf, IsDeclaredLost, without_all}
-use Rattle.recovery_losses.proofs.DetectionPassLaws.{all_other}
+use Rattle.recovery_losses.specs.Losses.{IsLost, IsLostBelow, IsOneOf, IsDeclaredLost}
 use Rattle.recovery_losses.specs.declared.frames.Ack.{Ack}
 use Rattle.recovery_sender.specs.declared.sender.acks.Acknowledged.{Acknowledged}
 use Rattle.recovery_sender.specs.declared.sender.acks.NewlyAcked.{NewlyAcked}
 use Rattle.recovery_sender.specs.declared.sender.losses.Losses.{Losses}
 use Rattle.recovery_sender.specs.declared.sender.Sender.{Sender}
 use Rattle.recovery_sender.specs.Acking.{IsAckAcceptable, ProcessesAck, ProcessesNewlyAcked}
+use Rattle.recovery_sender.specs.declared.sender.ends.Retransmitted.{Retransmitted}
 use Rattle.recovery_sender.specs.Acks.{AreNewlyAcked}
+use Rattle.recovery_sender.specs.Attempts.{LossAttempt, probe_attempts}
+use Rattle.recovery_sender.specs.RetransmitAll.{TriesAllTracked}
+use Rattle.recovery_sender.proofs.AttemptLaws.{all_declared, cut_first, declared_or_cut, declared_tried, probe_cut}
 use Rattle.recovery_sender.specs.Detection.{PassResult}
 use Rattle.recovery_sender.specs.Promises.Acked.{AcksTracked, LosesWholeSpace}
 use Rattle.recovery_sender.specs.Promises.Lost.{IsLostBy, LosesTracked}
@@ -118,26 +121,22 @@ module _ {F Q R C K S M P : Type 0} {f : _} {c : _} {q : _} {m : _} {r : _} (spa
         λ named. (newly.each number).1 (named.0, tracked.1 named.1),
       )
 
-  -- what is told lost where a space is abandoned
-  pub loses_all : (numbers : List ℕ)
-      → ((number : ℕ) → IsOneOf number numbers → packet_at (packets_in (state_in sender) space) number ≢ None)
-      → without_all (packets_in (state_in sender) space) numbers ≡ [] → ForEveryPast sender
-      (LosesWholeSpace space numbers)
-  loses_all numbers each none config start random past came number =
+  -- what is declared lost of what was sent in vain
+  pub loses_all : (all : Retransmitted) (new : Sender F Q R C K S M P f c q m r)
+      → TriesAllTracked space sender all.numbers.items all.is_cut new → ForEveryPast sender (LosesWholeSpace space all)
+  loses_all all new tries config start random past came number =
       let tracked = tracked_by sender config start random past came space kept number in (
-        (λ there. tracked.0 (each number there)),
-        λ is. elim (one_or_not number numbers) [
-          | inl there ↦ there
-          | inr other ↦ absurd (tracked.1 is (sym (all_other (packets_in (state_in sender) space) numbers number other)
-              ∙ ap (λ packets. packet_at packets number) none))
-        ],
+        (λ there. tracked.0 ((tries.each number).0 (declared_tried tries.attempts number
+            (subst (IsOneOf number) tries.declared there)))),
+        λ whole is. subst (IsOneOf number) (all_declared tries.attempts (sym tries.cut ∙ whole) ∙ sym tries.declared)
+            ((tries.each number).1 (tracked.1 is)),
       )
 
   -- what a look finds lost
-  pub loses_tracked : (look : LossPass) (losses : Losses) (time : Option ℕ) → look.space ≡ space
-      → PassResult look (packets_in (state_in sender) space) losses time
+  pub loses_tracked : (look : LossPass) (attempts : List LossAttempt) (losses : Losses) (time : Option ℕ)
+      → look.space ≡ space → PassResult look (packets_in (state_in sender) space) attempts losses time
       → ForEveryPast sender (LosesTracked look losses time)
-  loses_tracked look losses time here are config start random past came = record { told = told; all = all }
+  loses_tracked look attempts losses time here are config start random past came = record { told = told; all = all }
     where
       lost_by : (number : ℕ) → IsLostBelow look (packets_in (state_in sender) space) number → IsLostBy look past number
       lost_by number lost = rw here (
@@ -150,17 +149,28 @@ module _ {F Q R C K S M P : Type 0} {f : _} {c : _} {q : _} {m : _} {r : _} (spa
 
       told : (number : ℕ) → IsDeclaredLost losses.numbers.items losses.probe number → IsLostBy look past number
       told number (inl there) = lost_by number (are.lost.lost number there).0
-      told number (inr probed) = lost_by number (are.probe number probed).1
+      told number (inr probed) = lost_by number (are.is_found number (are.probe number probed)).1
+
+      -- what is lost and not declared so was cut
+      cut_by : (number : ℕ) → IsLostBelow look (packets_in (state_in sender) space) number
+          → (IsDeclaredLost losses.numbers.items losses.probe number → ⊥) → losses.is_cut ≡ true
+      cut_by number lost untold = are.cut ∙ elim (are.tries.each number lost lost.1.1) [
+        | inl there ↦ cut_first attempts (probe_attempts are.found losses.probe) (declared_or_cut attempts number there
+            (λ named. untold (inl (subst (IsOneOf number) (sym are.declared) named))))
+        | inr found ↦ probe_cut attempts are.found losses.probe number found (λ named. untold (inr named)) are.probe
+      ]
 
       all : (number : ℕ) → IsLostBy look past number → IsDeclaredLost losses.numbers.items losses.probe number
-          ⊎ (due : ℕ) × (time ≡ Some due) × (due ≤ look.at)
+          ⊎ (losses.is_cut ≡ true) × (due : ℕ) × (time ≡ Some due) × (due ≤ look.at)
       all number (tracked, below, lost) = elim (told_or_not losses.numbers.items losses.probe number) [
         | inl is ↦ inl is
         | inr untold ↦ (
             let found = found_or_not (packets_in (state_in sender) space) number
             ((tracked_by sender config start random past came space kept number).1 (rw here at tracked)) in
             let sent = sent_by_past sender config start random past came space kept number found.0 found.1 in
-            inr (are.earliest.least number found.0 look.at (found.1, below) below untold
-            (inr (subst (λ sent. IsLost look number sent) (sym sent) (rw here at lost), refl)))
+            let is_lost : IsLost look number found.0.time_sent =
+            subst (λ sent. IsLost look number sent) (sym sent) (rw here at lost) in
+            let due = are.earliest.least number found.0 look.at (found.1, below) below untold (inr (is_lost, refl)) in
+            inr (cut_by number (found.0, (found.1, below), is_lost) untold, due.0, due.1, due.2)
             )
       ]

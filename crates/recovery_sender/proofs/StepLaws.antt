@@ -1,9 +1,7 @@
 -- Steps behind steps are one list of them.
-use Rattle.std.proofs.Common.{◌≡◌, List, [], ◌∷◌, ◌++◌, Ok, sym, subst, ◌∙◌}
-use Rattle.recovery_events.specs.declared.event.Answer.{Answer}
+use Rattle.std.proofs.Common.{◌≡◌, List, [], ◌∷◌, ◌++◌, sym, subst, ◌∙◌}
 use Rattle.recovery_events.specs.declared.event.Event.{Event}
-use Rattle.recovery_history.specs.History.{queue_model}
-use Rattle.recovery_history.specs.Reachability.{StepFromAnyPast}
+use Rattle.recovery_history.specs.History.{Reply, queue_model}
 use Rattle.recovery_history.specs.Transitions.{StateTransition}
 use Rattle.recovery_sender.specs.declared.sender.Sender.{Sender}
 use Rattle.recovery_losses.specs.declared.variables.Variables.{Variables}
@@ -19,23 +17,26 @@ module _ {F Q R C K S M P : Type 0} {f : _} {c : _} {q : _} {m : _} {r : _} wher
     variables = later.variables ∙ goes.variables;
   }
 
-  -- the timer is set behind steps, with variables made of those that were there
+  -- the timer is set after steps
+  pub does_after : (kept : Variables) (steps : List (SenderStep Q S M P))
+      (old between new : Sender F Q R C K S M P f c q m r) → TakesSteps steps old between
+      → CompletesCall [] kept between new → CompletesCall steps kept old new
+  does_after kept steps old between new goes does = record {
+    between = does.between;
+    leads = subst (λ at. StepsLeadTo f.built c.words (queue_model q.contents q.words q.blank) steps (state_in old) at)
+        (sym does.leads) goes.leads;
+    sets = does.sets;
+    variables = does.variables;
+    timer = does.timer;
+    alive = does.alive;
+  }
+
+  -- with variables made of those that were there
   pub does_behind_with : (made : Variables → Variables) (steps : List (SenderStep Q S M P))
       (old between new : Sender F Q R C K S M P f c q m r) → TakesSteps steps old between
       → CompletesCall [] (made between.variables) between new → CompletesCall steps (made old.variables) old new
-  does_behind_with made steps old between new goes does =
-      let does : CompletesCall [] (made old.variables) between new =
-      subst (λ (kept : Variables). CompletesCall [] (made kept) between new) goes.variables does in
-      record {
-        between = does.between;
-        leads = subst (λ at. StepsLeadTo f.built c.words (queue_model q.contents q.words q.blank) steps
-            (state_in old) at)
-            (sym does.leads) goes.leads;
-        sets = does.sets;
-        variables = does.variables;
-        timer = does.timer;
-        alive = does.alive;
-      }
+  does_behind_with made steps old between new goes does = does_after (made old.variables) steps old between new goes
+      (subst (λ (kept : Variables). CompletesCall [] (made kept) between new) goes.variables does)
 
   pub does_behind : (steps : List (SenderStep Q S M P)) (old between new : Sender F Q R C K S M P f c q m r)
       → TakesSteps steps old between → CompletesCall [] between.variables between new
@@ -57,17 +58,10 @@ module _ {F Q R C K S M P : Type 0} {f : _} {c : _} {q : _} {m : _} {r : _} wher
         alive = does.alive;
       }
 
-  -- the timer is set behind an event
-  pub does_event : (event : Event Q S M P) (answer : Answer Q) (kept : Variables)
-      (old between new : Sender F Q R C K S M P f c q m r)
-      → StateTransition (queue_model q.contents q.words q.blank) (state_in old) event (Ok answer) (state_in between)
-      → StepFromAnyPast f.built c.words (queue_model q.contents q.words q.blank) (state_in old) event (Ok answer)
-      (state_in between) → CompletesCall [] kept between new → CompletesCall (told event (Ok answer) ∷ []) kept old new
-  does_event event answer kept old between new changes extends does = record {
-    between = does.between;
-    leads = (state_in between, changes, extends, does.leads);
-    sets = does.sets;
-    variables = does.variables;
-    timer = does.timer;
-    alive = does.alive;
-  }
+  -- what an event changes
+  pub told_changes : (event : Event Q S M P) (reply : Reply Q) (old new : Sender F Q R C K S M P f c q m r)
+      → TakesSteps (told event reply ∷ []) old new
+      → StateTransition (queue_model q.contents q.words q.blank) (state_in old) event reply (state_in new)
+  told_changes event reply old new goes =
+      subst (λ at. StateTransition (queue_model q.contents q.words q.blank) (state_in old) event reply at)
+      (sym goes.leads.3) goes.leads.1

@@ -1,6 +1,7 @@
 -- What an ACK frame comes to (RFC 9002, 5.1, 5.3, 6.2.1, A.7 and B.7; RFC 9000, 13.4.2.1), step after step.
-use Rattle.std.specs.Prelude.{◌≡◌, ℕ, ◌-◌, ◌||◌, ◌&&◌, ◌==◌, not, min, nat_lt, ◌⊎◌, Bool, true, false, List, [], ◌∷◌, length, map, Option, None, Some, option_map, is_some, Result, Ok, Err, if◌then◌else◌}
-use Rattle.std.specs.Option.{option_and_then}
+use Rattle.std.specs.Prelude.{◌≡◌, ℕ, ◌+◌, ◌-◌, ◌≤◌, ◌||◌, ◌&&◌, ◌==◌, not, max, min, nat_lt, ◌⊎◌, Bool, true, false, List, [], ◌∷◌, length, map, Option, None, Some, IfSome, option_map, is_some, Result, Ok, Err, if◌then◌else◌}
+use Rattle.std.specs.Option.{option_and_then, option_map_or}
+use Rattle.std.specs.Vec.{vec_capacity}
 use Rattle.recovery_base.specs.declared.below.SpaceId.{SpaceId}
 use Rattle.recovery_base.specs.declared.below.frames.EcnCounts.{EcnCounts}
 use Rattle.recovery_events.specs.declared.event.Answer.{Answer}
@@ -14,6 +15,7 @@ use Rattle.recovery_paths.specs.PathStates.{PathMarks}
 use Rattle.recovery_history.specs.RecoveryState.{RecoveryState}
 use Rattle.recovery_losses.specs.declared.frames.Ack.{Ack}
 use Rattle.recovery_losses.specs.Frames.{largest_of}
+use Rattle.recovery_losses.specs.Losses.{AreIncreasing, count_below, without_all}
 use Rattle.recovery_losses.specs.Variables.{ack_delay_in, heard_in, sampled_first}
 use Rattle.recovery_sender.specs.declared.sender.acks.Acknowledged.{Acknowledged}
 use Rattle.recovery_sender.specs.declared.sender.acks.EcnOutcome.{EcnOutcome}
@@ -34,6 +36,17 @@ use Rattle.recovery_sender.specs.Steps.{SenderStep, CompletesCall, TakesSteps, m
 -- each of these is acknowledged
 abbrev pub acking : {Q S M P : Type 0} → SpaceId → ℕ → Bool → List ℕ → List (SenderStep Q S M P)
 acking space now app_limited numbers = map (λ number. occurs (Acked space now number app_limited)) numbers
+
+-- a number is at most so large, if there is one
+abbrev pub IsWithin : ℕ → Option ℕ → Type 0
+IsWithin bound number = IfSome number (λ n. n ≤ bound)
+
+-- these are no longer tracked, and the largest number that was acknowledged is one of them or as it was
+pub record AreAcked {F Q R C K S M P : Type 0} {f : _} {c : _} {q : _} {m : _} {r : _} (space : SpaceId)
+    (numbers : List ℕ) (old new : Sender F Q R C K S M P f c q m r) : Type 0 where
+  pub packets : packets_in (state_in new) space ≡ without_all (packets_in (state_in old) space) numbers
+  pub largest : (bound : ℕ) → IsWithin bound (largest_in (state_in old) space) → AreIncreasing 0 numbers bound
+      → IsWithin bound (largest_in (state_in new) space)
 
 module _ {K P M : Type 0} (recovery : RecoveryState K P M) where
   -- when a tracked packet was sent, where that was on the path in use (RFC 9000, 9.4)
@@ -155,9 +168,21 @@ pub record Acknowledges {F Q R C K S M P : Type 0} {f : _} {c : _} {q : _} {m : 
 
 -- ---- a frame
 
+-- the end of the numbers below which packets may be lost once a frame is taken: the largest number that was
+-- acknowledged, or the one after the largest of the frame
+abbrev pub loss_end : Option ℕ → Option ℕ → ℕ
+loss_end before largest = max (option_map_or (λ known. known) before 0) (option_map_or (λ n. n + 1) largest 0)
+
 -- it may be taken, and this is what it newly acknowledges; or it is refused
 module _ {F Q R C K S M P : Type 0} {f : _} {c : _} {q : _} {m : _} {r : _} (space : SpaceId) (ranges : List (ℕ × ℕ))
     (sender : Sender F Q R C K S M P f c q m r) where
+  -- there is room for the numbers of all packets that may be lost once it is taken
+  pub record HasRoomForLosses (found : NewlyAcked) : Type 0 where
+    pub none : found.lost.items ≡ []
+    pub below : AreIncreasing 0 found.numbers.items (loss_end (largest_in (state_in sender) space) (largest_of ranges))
+    pub room : count_below (loss_end (largest_in (state_in sender) space) (largest_of ranges))
+        (packets_in (state_in sender) space) ≤ vec_capacity found.lost + length found.numbers.items
+
   pub record IsAckAcceptable (found : NewlyAcked) : Type 0 where
     pub whole : IsAckWellFormed space ranges sender.recovery.recovery
     pub sent : WereSent space ranges sender.recovery.recovery
@@ -165,6 +190,7 @@ module _ {F Q R C K S M P : Type 0} {f : _} {c : _} {q : _} {m : _} {r : _} (spa
     pub newly : AreNewlyAcked (packets_in (state_in sender) space) ranges 0 found.numbers.items found.elicits
     -- that is what the events before say
     pub tracked : ForEveryPast sender (AcksTracked space ranges found.numbers.items)
+    pub room : HasRoomForLosses found
 
   abbrev pub IsNewly : Result NewlyAcked SenderError → Type 0
   IsNewly (Ok newly) = IsAckAcceptable newly

@@ -70,7 +70,8 @@ CallReply (calls.Ack frame) old new (Ok (replies.Acknowledged acked)) =
     AckResult frame.space frame.now frame.ranges.items frame.ack old new (Ok acked)
 CallReply (calls.Ack frame) old new (Err refusal) =
     AckResult frame.space frame.now frame.ranges.items frame.ack old new (Err refusal)
-CallReply (calls.Timeout now) old new (Ok (replies.Timeout timeout)) = TimeoutResult now old new timeout
+CallReply (calls.Timeout now) old new (Ok (replies.Timeout timeout)) = TimeoutResult now old new (Ok timeout)
+CallReply (calls.Timeout now) old new (Err refusal) = TimeoutResult now old new (Err refusal)
 CallReply (calls.Probe asking) old new (Ok (replies.Probe queue)) =
     ProbeResult asking.space asking.immediate_ack asking.streams old new (Ok queue)
 CallReply (calls.Probe asking) old new (Err refusal) =
@@ -87,8 +88,8 @@ CallReply (calls.PeerDelay span) old new (Ok replies.Done) =
     CompletesCall [] (record old.variables { max_ack_delay = span }) old new
 CallReply (calls.Discard space now) old new (Ok replies.Done) = DiscardCall old new space now (Ok (tt {0}))
 CallReply (calls.Discard space now) old new (Err refusal) = DiscardCall old new space now (Err refusal)
-CallReply (calls.Abandon space now) old new (Ok (replies.Abandoned numbers)) = DeclaresAllLost space old now new
-    (Ok numbers)
+CallReply (calls.Abandon space now) old new (Ok (replies.Retransmitted all)) = DeclaresAllLost space old now new
+    (Ok all)
 CallReply (calls.Abandon space now) old new (Err refusal) = DeclaresAllLost space old now new (Err refusal)
 CallReply (calls.Event event) old new (Ok (replies.Answer answer)) = IsPassedThrough event × EventResult event old new
     (Ok answer)

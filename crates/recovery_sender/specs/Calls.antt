@@ -32,7 +32,9 @@ use Rattle.recovery_losses.specs.declared.variables.Variables.{Variables}
 use Rattle.recovery_losses.specs.Variables.{based, fresh, is_server, is_probe_due, probed, thresholds_of}
 use Rattle.recovery_losses.specs.declared.thresholds.Thresholds.{Thresholds}
 use Rattle.recovery_sender.specs.Senders.{state_in}
-use Rattle.recovery_sender.specs.Steps.{SenderStep, told, TakesSteps, CompletesCall}
+use Rattle.recovery_base.specs.declared.below.SpaceId.TheVariants.{Initial, Handshake, Data}
+use Rattle.recovery_sender.specs.Losses.{IsNextLoss}
+use Rattle.recovery_sender.specs.Steps.{SenderStep, loss_time, told, TakesSteps, CompletesCall}
 use Rattle.recovery_sender.specs.Timer.{due_of}
 
 -- window and pacer are asked for what counts in flight, if no probe is due in the space (RFC 9002, 7.5 and 7.7)
@@ -97,6 +99,18 @@ backdated (events.NewPath now remote is_fresh) = events.NewPath (now - 1) remote
 backdated (events.ResetPath now) = events.ResetPath (now - 1)
 backdated event = event
 
+-- an event by which another path is in use, or the path in use begins anew: with it another RTT
+abbrev pub changes_path : {Q S M P : Type 0} → Event Q S M P → Bool
+changes_path (events.NewPath now remote is_fresh) = true
+changes_path (events.ResetPath now) = true
+changes_path events.RevertPath = true
+changes_path event = false
+
+-- the loss times of all spaces are these
+abbrev pub renewing : {Q S M P : Type 0} → (SpaceId → Option ℕ) → List (SenderStep Q S M P)
+renewing times = loss_time Initial (times Initial) ∷ loss_time Handshake (times Handshake)
+    ∷ loss_time Data (times Data) ∷ []
+
 -- when an event is to send what counts in flight
 abbrev pub to_send : {Q S M P : Type 0} → Event Q S M P → Option ℕ
 to_send (events.Send space now size eliciting largest queue frames) = if nat_lt 0 size then Some now else None
@@ -132,14 +146,46 @@ abbrev pub discard_reply : {K P M : Type 0} → RecoveryState K P M → SpaceId 
 discard_reply recovery space =
     if is_discarded space recovery.discarded then Err (refused.Event SpaceDiscarded) else Ok (tt {0})
 
+-- they are found again by the RTT of the path in use
+pub record RenewsLossTimes {F Q R C K S M P : Type 0} {f : _} {c : _} {q : _} {m : _} {r : _}
+    (old new : Sender F Q R C K S M P f c q m r) : Type 0 where
+  pub times : SpaceId → Option ℕ
+  pub next : (space : SpaceId) → IsNextLoss (state_in old) old.variables space (times space)
+  pub goes : TakesSteps (renewing times) old new
+
 module _ {F Q R C K S M P : Type 0} {f : _} {c : _} {q : _} {m : _} {r : _} (event : Event Q S M P)
     (old new : Sender F Q R C K S M P f c q m r) where
-  -- the event is answered so, and the timer set; or it is refused so, and all else stays
-  abbrev pub EventResult : Result (Answer Q) SenderError → Type 0
-  EventResult (Ok answer) = CompletesCall (told (backdated event) (Ok answer) ∷ [])
-      (after_event (backdated event) answer old.variables) old new
-  EventResult (Err (refused.Event refusal)) = TakesSteps (told (backdated event) (Err refusal) ∷ []) old new
-  EventResult (Err refused.Unsent) = ⊥
+  -- the path in use is another, or begins anew: the loss times go by its RTT from now on
+  pub record ChangesPath (answer : Answer Q) : Type 0 where
+    pub between : Sender F Q R C K S M P f c q m r
+    pub renewed : Sender F Q R C K S M P f c q m r
+    pub goes : TakesSteps (told event (Ok answer) ∷ []) old between
+    pub renews : RenewsLossTimes between renewed
+    pub does : CompletesCall [] renewed.variables renewed new
+
+  abbrev pub PathEventResult : Result (Answer Q) SenderError → Type 0
+  PathEventResult (Ok answer) = ChangesPath answer
+  PathEventResult (Err (refused.Event refusal)) = TakesSteps (told event (Err refusal) ∷ []) old new
+  PathEventResult (Err refused.Unsent) = ⊥
+
+module _ {F Q R C K S M P : Type 0} {f : _} {c : _} {q : _} {m : _} {r : _} (event : Event Q S M P)
+    (old new : Sender F Q R C K S M P f c q m r) where
+  -- the event is answered so, and the timer set; if it changes the path in use, the loss times are found again
+  abbrev pub IsAnsweredEvent : Answer Q → Bool → Type 0
+  IsAnsweredEvent answer true = ChangesPath event old new answer
+  IsAnsweredEvent answer false =
+      CompletesCall (told event (Ok answer) ∷ []) (after_event event answer old.variables) old new
+
+  -- or it is refused so, and all else stays
+  abbrev pub IsEventResult : Result (Answer Q) SenderError → Type 0
+  IsEventResult (Ok answer) = IsAnsweredEvent answer (changes_path event)
+  IsEventResult (Err (refused.Event refusal)) = TakesSteps (told event (Err refusal) ∷ []) old new
+  IsEventResult (Err refused.Unsent) = ⊥
+
+-- so it is of an event that passes, as it takes effect
+abbrev pub EventResult : {F Q R C K S M P : Type 0} {f : _} {c : _} {q : _} {m : _} {r : _} → Event Q S M P
+    → Sender F Q R C K S M P f c q m r → Sender F Q R C K S M P f c q m r → Result (Answer Q) SenderError → Type 0
+EventResult event = IsEventResult (backdated event)
 
 -- ---- events that pass
 

@@ -1,21 +1,22 @@
 -- What becomes of the packets that a look for losses goes over, one after another.
-use Rattle.std.specs.Prelude.{◌≡◌, ◌≢◌, ℕ, ◌-◌, ◌<◌, ◌⊎◌, Decides, min, List, [], ◌∷◌, ◌++◌, Bool, false, Option, None, Some, option_map, map, Ok, if◌then◌else◌}
+use Rattle.std.specs.Prelude.{◌≡◌, ◌≢◌, ℕ, ◌-◌, ◌<◌, ◌⊎◌, Decides, min, List, [], ◌∷◌, ◌++◌, Bool, false, Option, None, Some, option_map, Ok, if◌then◌else◌}
 use Rattle.std.specs.Option.{ForSome}
 use Rattle.recovery_base.specs.declared.below.SpaceId.{SpaceId}
 use Rattle.recovery_base.specs.Units.{largest_u64, last_time}
 use Rattle.recovery_events.specs.declared.event.Answer.{Answer}
 use Rattle.recovery_events.specs.declared.event.Answer.TheVariants.{BlackHole}
-use Rattle.recovery_events.specs.declared.event.Event.TheVariants.{Lost, LossesDone, Congestion}
+use Rattle.recovery_events.specs.declared.event.Event.TheVariants.{LossesDone, Congestion}
 use Rattle.recovery_spaces.specs.Packets.{Packet, Packets, packet_at}
 use Rattle.recovery_losses.specs.declared.looks.Candidate.{Candidate}
 use Rattle.recovery_losses.specs.declared.looks.LossPass.{LossPass}
 use Rattle.recovery_losses.specs.declared.tally.Tally.{Tally}
-use Rattle.recovery_losses.specs.Losses.{AreLost, IsDueAt, IsEarliest, IsLost, IsLostBelow, IsDeclaredLost, bytes_counted, counting, finding_probe, last_counted, waiting}
-use Rattle.recovery_losses.specs.DetectionPass.{PassSoFar}
+use Rattle.recovery_losses.specs.Losses.{AreLost, IsEarliest, IsLost, IsLostBelow, IsDeclaredLost, bytes_counted, counting, cutting, finding_probe, last_counted, lost_at, waiting}
+use Rattle.recovery_losses.specs.DetectionPass.{PassSoFar, TriesEachLost}
 use Rattle.recovery_losses.specs.PersistentCongestion.{IsEndAt, IsPersistentCongestion}
 use Rattle.recovery_history.specs.RecoveryState.{RecoveryState}
 use Rattle.recovery_sender.specs.declared.sender.losses.Losses.{Losses}
 use Rattle.recovery_sender.specs.declared.sender.Sender.{Sender}
+use Rattle.recovery_sender.specs.Attempts.{LossAttempt, declared_in, is_cut_in, probe_attempts, tried_in, trying}
 use Rattle.recovery_sender.specs.Losses.{largest_in, look_of, IsEmptyLosses}
 use Rattle.recovery_sender.specs.Promises.Lost.{LosesTracked}
 use Rattle.recovery_sender.specs.Promises.Pasts.{ForEveryPast}
@@ -23,22 +24,17 @@ use Rattle.recovery_sender.specs.Senders.{state_in}
 use Rattle.recovery_sender.specs.Spaces.{packets_in}
 use Rattle.recovery_sender.specs.Steps.{SenderStep, loss_time, occurs, told, TakesSteps}
 
--- each of these is told lost
-abbrev pub losing : {Q S M P : Type 0} → SpaceId → List ℕ → List (SenderStep Q S M P)
-losing space numbers = map (λ number. occurs (Lost space number)) numbers
-
 module _ {F Q R C K S M P : Type 0} {f : _} {c : _} {q : _} {m : _} {r : _} (look : LossPass) (packet : Candidate)
     (old : Sender F Q R C K S M P f c q m r) (before : List ℕ) (found : Tally) (new : Sender F Q R C K S M P f c q m r)
     (behind : List ℕ) (now : Tally) where
-  -- it waits: it is not lost yet, or memory was refused
+  -- it is not lost yet
   pub record IsNotYetLost : Type 0 where
     pub goes : TakesSteps [] old new
     pub numbers : behind ≡ before
-    pub due : ℕ
-    pub is_due : IsDueAt look packet.number packet.time_sent due
-    pub tally : now ≡ waiting due found
+    pub kept : ¬ IsLost look packet.number packet.time_sent
+    pub tally : now ≡ waiting (lost_at look packet.time_sent) found
 
-  -- it is the probe of the MTU, which is told last
+  -- it is the probe of the MTU, which is tried last
   pub record IsLostMtuProbe : Type 0 where
     pub goes : TakesSteps [] old new
     pub numbers : behind ≡ before
@@ -46,24 +42,28 @@ module _ {F Q R C K S M P : Type 0} {f : _} {c : _} {q : _} {m : _} {r : _} (loo
     pub probe : look.probe ≡ Some packet.number
     pub tally : now ≡ finding_probe look packet found
 
-  -- it is told lost
-  pub record DeclaresLost : Type 0 where
-    pub goes : TakesSteps (occurs (Lost look.space packet.number) ∷ []) old new
-    pub numbers : behind ≡ before ++ packet.number ∷ []
+  -- it is declared lost, or allocation fails
+  pub record IsTried (is_refused : Bool) : Type 0 where
+    pub goes : TakesSteps (trying look.space ((packet.number, is_refused) ∷ [])) old new
+    pub numbers : behind ≡ (if is_refused then before else before ++ packet.number ∷ [])
     pub lost : IsLost look packet.number packet.time_sent
     pub other : look.probe ≢ Some packet.number
-    pub tally : now ≡ counting look packet found
+    pub tally : now ≡ (if is_refused then cutting look found else counting look packet found)
 
   abbrev pub ClassifiesPacket : Type 0
-  ClassifiesPacket = IsNotYetLost ⊎ (IsLostMtuProbe ⊎ DeclaresLost)
+  ClassifiesPacket = IsNotYetLost ⊎ (IsLostMtuProbe ⊎ (is_refused : Bool) × IsTried is_refused)
 
--- the packets below a number were gone over
+-- the packets below a number were gone over: each that is lost was tried once, but the probe of the MTU
 pub record HasScanned {F Q R C K S M P : Type 0} {f : _} {c : _} {q : _} {m : _} {r : _} (look : LossPass)
     (start : Sender F Q R C K S M P f c q m r) (end : ℕ) (numbers : List ℕ) (found : Tally)
     (now : Sender F Q R C K S M P f c q m r) : Type 0 where
   pub looked : PassSoFar look (packets_in (state_in start) look.space) end numbers found
       (packets_in (state_in now) look.space)
-  pub goes : TakesSteps (losing look.space numbers) start now
+  pub attempts : List LossAttempt
+  pub tries : TriesEachLost look (packets_in (state_in start) look.space) end (tried_in attempts) found.probe
+  pub declared : numbers ≡ declared_in attempts
+  pub cut : found.is_cut ≡ is_cut_in attempts
+  pub goes : TakesSteps (trying look.space attempts) start now
 
 -- ---- behind them
 
@@ -88,39 +88,41 @@ congested now persistent bytes None = []
 congested now persistent bytes (Some sent) =
     occurs (Congestion (min now latest_start) (if persistent then last_time else sent) persistent bytes) ∷ []
 
-abbrev pub one_of : Option ℕ → List ℕ
-one_of None = []
-one_of (Some number) = number ∷ []
-
 -- ---- a look as a whole
 
 -- what a look comes to, and when the next one is due
-pub record PassResult {P M : Type 0} (look : LossPass) (packets : Packets P M) (losses : Losses)
-    (time : Option ℕ) : Type 0
+pub record PassResult {P M : Type 0} (look : LossPass) (packets : Packets P M) (attempts : List LossAttempt)
+    (losses : Losses) (time : Option ℕ) : Type 0
   where
-    -- the probe of the MTU, where it is lost: told so last, unless memory was refused
+    -- the probe of the MTU, if it is lost
     pub found : Option ℕ
+    -- each packet that is lost is tried once, in the order of the numbers, and that probe last
+    pub tries : TriesEachLost look packets look.largest (tried_in attempts) found
+    pub declared : losses.numbers.items ≡ declared_in attempts
     pub is_found : ForSome found (λ number. (look.probe ≡ Some number) × IsLostBelow look packets number)
     pub lost : AreLost look packets look.largest losses.numbers.items
-    pub probe : ForSome losses.probe (λ number. (look.probe ≡ Some number) × IsLostBelow look packets number)
-    -- each that is lost was told so, unless memory was refused: then the next look is due at once
+    pub probe : ForSome losses.probe (λ number. found ≡ Some number)
+    -- it is cut exactly if allocation failed for one of them
+    pub cut : losses.is_cut ≡ is_cut_in (attempts ++ probe_attempts found losses.probe)
+    -- the next look is due when the next packet is lost by its age, or at once if the look is cut
     pub earliest : IsEarliest look packets look.largest (IsDeclaredLost losses.numbers.items losses.probe) time
     -- whether congestion is persistent (RFC 9002, 7.6)
     pub persistent : Decides losses.is_persistent (IsPersistentCongestion (IsDeclaredLost losses.numbers.items found)
         (IsEndAt look packets losses.numbers.items) look.skipped look.period)
-    -- the bytes of those that count, where there is one
+    -- the bytes of those that count, if there is one
     pub congestion : losses.congestion
         ≡ option_map (λ sent. min (bytes_counted look packets losses.numbers.items) largest_u64)
         (last_counted look packets losses.numbers.items)
-    -- where nothing was told lost, no black hole is reported
+    -- if nothing was declared lost, no black hole is reported
     pub black_hole : losses.numbers.items ≡ [] → losses.is_black_hole ≡ false
 
 -- what is told, in its order (RFC 9002, A.10; RFC 9000, 14.4)
-abbrev pub detecting : {Q S M P : Type 0} → LossPass → Losses → Bool → ℕ → Option ℕ → Option ℕ → List
-    (SenderStep Q S M P)
-detecting look losses persistent bytes sent time = losing look.space losses.numbers.items
-    ++ (ended look.at losses.is_black_hole losses.numbers.items ++ (congested look.at persistent bytes sent
-    ++ (losing look.space (one_of losses.probe) ++ loss_time look.space time ∷ [])))
+abbrev pub detecting : {Q S M P : Type 0} → LossPass → List LossAttempt → Option ℕ → Losses → ℕ → Option ℕ
+    → Option ℕ → List (SenderStep Q S M P)
+detecting look attempts found losses bytes sent time = trying look.space attempts
+    ++ (ended look.at losses.is_black_hole losses.numbers.items
+    ++ (congested look.at losses.is_persistent bytes sent
+    ++ (trying look.space (probe_attempts found losses.probe) ++ loss_time look.space time ∷ [])))
 
 -- nothing was acknowledged, or nothing is tracked below what was
 abbrev pub HasNoGap : {K P M : Type 0} → RecoveryState K P M → SpaceId → Type 0
@@ -133,10 +135,11 @@ pub record DetectsLosses {F Q R C K S M P : Type 0} {f : _} {c : _} {q : _} {m :
     (new : Sender F Q R C K S M P f c q m r) : Type 0 where
   pub looks : (largest : ℕ) → largest_in (state_in old) space ≡ Some largest →
       (let look : LossPass = look_of (state_in old) old.variables space now due_to_ack largest in
-      (time : Option ℕ) × PassResult look (packets_in (state_in old) space) losses time
-      × ForEveryPast old (LosesTracked look losses time)
-      × TakesSteps (detecting look losses losses.is_persistent
-      (min (bytes_counted look (packets_in (state_in old) space) losses.numbers.items) largest_u64)
-      (last_counted look (packets_in (state_in old) space) losses.numbers.items) time) old new)
+      let packets = packets_in (state_in old) space in
+      (attempts : List LossAttempt) × (time : Option ℕ)
+      × (result : PassResult look packets attempts losses time) × ForEveryPast old (LosesTracked look losses time)
+      × TakesSteps (detecting look attempts result.found losses
+      (min (bytes_counted look packets losses.numbers.items) largest_u64)
+      (last_counted look packets losses.numbers.items) time) old new)
   pub none : largest_in (state_in old) space ≡ None
       → IsEmptyLosses losses × TakesSteps (loss_time space None ∷ []) old new

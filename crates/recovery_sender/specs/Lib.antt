@@ -1,5 +1,6 @@
 pub mod Acking
 pub mod Acks
+pub mod Attempts
 pub mod CallReplies
 pub mod Calls
 pub mod Detection

@@ -1,5 +1,7 @@
 -- What a look for losses goes by, as a sender is, and where it finds nothing (RFC 9002, 6.1, 7.6 and A.10).
-use Rattle.std.specs.Prelude.{◌≡◌, ℕ, ◌+◌, ◌*◌, Bool, false, [], Option, None, if◌then◌else◌}
+use Rattle.std.specs.Prelude.{◌≡◌, ℕ, ◌+◌, ◌*◌, ◌≤◌, Bool, false, [], Option, None, Some, option_map, if◌then◌else◌}
+use Rattle.std.specs.Global.{Vec}
+use Rattle.std.specs.Vec.{vec_capacity}
 use Rattle.std.specs.Option.{option_and_then}
 use Rattle.recovery_base.specs.declared.below.SpaceId.{SpaceId}
 use Rattle.recovery_base.specs.declared.below.SpaceId.TheVariants.{Data}
@@ -8,12 +10,15 @@ use Rattle.recovery_congestion.specs.Rtt.{rtt_get, pto_base_of}
 use Rattle.recovery_losses.specs.Timeouts.{loss_delay_of}
 use Rattle.recovery_mtud.specs.Discovery.{probe_of}
 use Rattle.recovery_losses.specs.declared.looks.LossPass.{LossPass}
-use Rattle.recovery_losses.specs.Losses.{first_sample_in}
+use Rattle.recovery_losses.specs.Losses.{count_below, first_sample_in, IsEarliestSent}
 use Rattle.recovery_losses.specs.declared.looks.FirstSample.TheVariants.{Missing}
 use Rattle.recovery_history.specs.RecoveryState.{RecoveryState}
 use Rattle.recovery_sender.specs.declared.sender.losses.Losses.{Losses}
 use Rattle.recovery_losses.specs.declared.variables.Variables.{Variables}
-use Rattle.recovery_sender.specs.Spaces.{space_in}
+use Rattle.recovery_sender.specs.declared.sender.Sender.{Sender}
+use Rattle.recovery_sender.specs.Senders.{state_in}
+use Rattle.recovery_sender.specs.Spaces.{packets_in, space_in}
+use Rattle.recovery_sender.specs.Timer.{behind}
 
 -- nothing was lost
 pub record IsEmptyLosses (losses : Losses) : Type 0 where
@@ -22,10 +27,25 @@ pub record IsEmptyLosses (losses : Losses) : Type 0 where
   pub congestion : losses.congestion ≡ None
   pub persistent : losses.is_persistent ≡ false
   pub black_hole : losses.is_black_hole ≡ false
+  pub cut : losses.is_cut ≡ false
 
 -- the largest number that was acknowledged in a space
 abbrev pub largest_in : {K P M : Type 0} → RecoveryState K P M → SpaceId → Option ℕ
 largest_in recovery space = option_and_then (λ here. here.largest_acked_packet) (space_in recovery space)
+
+-- how long after its sending a packet is lost, by the RTT of the path in use (RFC 9002, 6.1.2)
+abbrev pub loss_delay_in : {K P M : Type 0} → RecoveryState K P M → Variables → ℕ
+loss_delay_in recovery variables = let rtt = recovery.paths.current.state.rtt in
+    loss_delay_of variables.thresholds.time (rtt_get rtt) rtt.latest
+
+-- when the next packet of a space is lost by its age, by the RTT of the path in use, if something was acknowledged
+-- there and a packet is tracked below the largest acknowledged (RFC 9002, 6.1.2 and A.10)
+abbrev pub IsNextLoss : {K P M : Type 0} → RecoveryState K P M → Variables → SpaceId → Option ℕ → Type 0
+IsNextLoss recovery variables space time = (sent : Option ℕ)
+    × (time ≡ option_map (λ first. behind first (loss_delay_in recovery variables)) sent)
+    × ((largest : ℕ) → largest_in recovery space ≡ Some largest
+    → IsEarliestSent (packets_in recovery space) largest sent)
+    × (largest_in recovery space ≡ None → sent ≡ None)
 
 -- what a look goes by, at a space whose largest acknowledged number is this; only one that is due to an ACK finds
 -- persistent congestion
@@ -35,7 +55,7 @@ look_of recovery variables space now due_to_ack largest = let path = recovery.pa
   at = now;
   largest = largest;
   packet_threshold = variables.thresholds.packets;
-  delay = loss_delay_of variables.thresholds.time (rtt_get path.state.rtt) path.state.rtt.latest;
+  delay = loss_delay_in recovery variables;
   probe = (if same_space space Data then probe_of path.state.discovery else None);
   generation = path.ledger.generation;
   first_sample = (if due_to_ack then first_sample_in path.marks.first_after_sample variables.sampled space
@@ -43,3 +63,9 @@ look_of recovery variables space now due_to_ack largest = let path = recovery.pa
   skipped = (if same_space space Data then recovery.skipping.filter.last else None);
   period = variables.thresholds.persistent * (pto_base_of path.state.rtt + variables.max_ack_delay);
 }
+
+-- there is room for the numbers of the packets that a space tracks below the largest number acknowledged
+abbrev pub HasRoomBelowLargest : {F Q R C K S M P : Type 0} {f : _} {c : _} {q : _} {m : _} {r : _} → SpaceId
+    → Sender F Q R C K S M P f c q m r → Vec ℕ → Type 0
+HasRoomBelowLargest space sender room = (largest : ℕ) → largest_in (state_in sender) space ≡ Some largest
+    → count_below largest (packets_in (state_in sender) space) ≤ vec_capacity room

@@ -1,6 +1,9 @@
 -- What comes of the timer for losses (RFC 9002, 6.2 and A.9).
-use Rattle.std.specs.Prelude.{◌≡◌, ℕ, false, ◌⊎◌, [], None, Some}
+use Rattle.std.specs.Prelude.{◌≡◌, ℕ, false, ◌⊎◌, [], None, Some, Result, Ok, Err}
 use Rattle.recovery_base.specs.declared.below.SpaceId.{SpaceId}
+use Rattle.recovery_events.specs.declared.event.Refusal.TheVariants.{NoMemory}
+use Rattle.recovery_sender.specs.declared.sender.SenderError.{SenderError}
+use Rattle.recovery_sender.specs.declared.sender.SenderError.TheVariants as refused
 use Rattle.recovery_sender.specs.declared.sender.losses.Losses.{Losses}
 use Rattle.recovery_sender.specs.declared.sender.probes.Timeout.{Timeout}
 use Rattle.recovery_sender.specs.declared.sender.probes.Timeout.TheVariants.{Nothing, Lost, Probe}
@@ -20,15 +23,25 @@ module _ {F Q R C K S M P : Type 0} {f : _} {c : _} {q : _} {m : _} {r : _} wher
     pub detects : DetectsLosses space now false old losses behind
     pub does : CompletesCall [] (record old.variables { base = now }) behind new
 
+  -- so it is, or there is no room for the numbers of what may be lost: then nothing changes
+  abbrev pub SearchesByTime : SpaceId → ℕ → Sender F Q R C K S M P f c q m r → Sender F Q R C K S M P f c q m r
+      → Result Timeout SenderError → Type 0
+  SearchesByTime space now old new (Ok (Lost found losses)) = (found ≡ space) × DetectsByTime space now old losses new
+  SearchesByTime space now old new (Ok timeout) = ⊥
+  SearchesByTime space now old new (Err refusal) = (refusal ≡ refused.Event NoMemory) × (new ≡ old)
+
 module _ {F Q R C K S M P : Type 0} {f : _} {c : _} {q : _} {m : _} {r : _} (now : ℕ)
     (old new : Sender F Q R C K S M P f c q m r) where
   -- what is due now happens: a space is searched for losses, or probes are due, two of them, or one against a deadlock
-  -- (RFC 9002, 6.2.4 and A.9); before its time the timer does nothing
-  abbrev pub TimeoutResult : Timeout → Type 0
-  TimeoutResult Nothing = (due_now now (state_in old) old.variables ≡ None) × (new ≡ old)
-  TimeoutResult (Lost space losses) =
+  -- (RFC 9002, 6.2.4 and A.9); before its time the timer does nothing, and neither does a search without memory
+  abbrev pub TimeoutResult : Result Timeout SenderError → Type 0
+  TimeoutResult (Ok Nothing) = (due_now now (state_in old) old.variables ≡ None) × (new ≡ old)
+  TimeoutResult (Ok (Lost space losses)) =
       (due_now now (state_in old) old.variables ≡ Some (losses_due space)) × DetectsByTime space now old losses new
-  TimeoutResult (Probe space count) =
+  TimeoutResult (Ok (Probe space count)) =
       ((due_now now (state_in old) old.variables ≡ Some (Probes space)) × (count ≡ 2)
       ⊎ (due_now now (state_in old) old.variables ≡ Some (AntiDeadlock space)) × (count ≡ 1))
       × CompletesCall [] (timed_out space count now old.variables) old new
+  TimeoutResult (Err refusal) = ((space : SpaceId)
+      × (due_now now (state_in old) old.variables ≡ Some (losses_due space)))
+      × (refusal ≡ refused.Event NoMemory) × (new ≡ old)

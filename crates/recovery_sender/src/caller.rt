@@ -83,7 +83,10 @@ where
     fn expire(&mut self, now: Instant) -> Result<CallReplyValue<Q>, SenderError>
         ensures { CallReply (Call.Timeout now) self.old.sender self.new.sender result }
     {
-        Ok(CallReplyValue::Timeout(self.sender.on_timeout(now)))
+        match self.sender.on_timeout(now) {
+            Ok(timeout) => Ok(CallReplyValue::Timeout(timeout)),
+            Err(refused) => Err(refused),
+        }
     }
 
     fn probe(&mut self, asking: Asking<Q>) -> Result<CallReplyValue<Q>, SenderError>
@@ -148,7 +151,7 @@ where
         ensures { CallReply (Call.Abandon space now) self.old.sender self.new.sender result }
     {
         match self.sender.retransmit_all(space, now) {
-            Ok(numbers) => Ok(CallReplyValue::Abandoned(numbers)),
+            Ok(retransmitted) => Ok(CallReplyValue::Retransmitted(retransmitted)),
             Err(refused) => Err(refused),
         }
     }

@@ -1,5 +1,5 @@
 //! Calls, and what they come to.
-use crate::sender::{Acknowledged, SenderError, Timeout, Transmission};
+use crate::sender::{Acknowledged, Retransmitted, SenderError, Timeout, Transmission};
 use recovery_base::below::SpaceId;
 use recovery_base::time::{Duration, Instant};
 use recovery_events::event::{Answer, Event};
@@ -83,8 +83,8 @@ pub enum CallReplyValue<Q> {
     Timeout(Timeout),
     /// What a probe carries.
     Probe(Q),
-    /// The numbers that are lost with a space.
-    Abandoned(Vec<u64>),
+    /// What was declared lost with a space.
+    Retransmitted(Retransmitted),
     /// What an event is answered.
     Answer(Answer<Q>),
     /// The sender decides the event itself; nothing is done.

@@ -12,8 +12,8 @@ pub use caller::Caller;
 pub use calls::{Asking, Call, CallRecord, CallReplyValue, Datagram, Frame};
 pub use runs::{run, run_over};
 pub use sender::{
-    Acknowledged, EcnOutcome, Losses, NewlyAcked, Sender, SenderError, Timeout, Transmission,
-    passes,
+    Acknowledged, EcnOutcome, Losses, NewlyAcked, Retransmitted, Sender, SenderError, Timeout,
+    Transmission, passes,
 };
 
 // For users outside this repository, as `recovery_embedding` shows: the types of another crate that its calls take.

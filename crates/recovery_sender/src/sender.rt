@@ -21,6 +21,7 @@ mod probes;
 mod timer;
 
 pub use acks::{Acknowledged, EcnOutcome, NewlyAcked};
+pub use ends::Retransmitted;
 pub use events::passes;
 pub use losses::Losses;
 pub use packets::Transmission;

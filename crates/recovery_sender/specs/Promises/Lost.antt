@@ -1,6 +1,6 @@
--- Lost (RFC 9002, 6.1 and A.10): a look at a space tells lost exactly the packets that are tracked there by the events
--- before it, below the largest number acknowledged, three numbers or so long a time behind; but for one for which
--- memory is refused: then the next look is due at once.
+-- Lost (RFC 9002, 6.1 and A.10): a pass declares lost exactly the packets that are tracked in its space by the events
+-- before it, below the largest number acknowledged, so many numbers or so long a time earlier. If allocation failed for
+-- one, the pass says that it is cut, and the next one is due at once.
 use Rattle.std.specs.Prelude.{◌≡◌, ℕ, ◌<◌, ◌≤◌, ◌⊎◌, ◌==◌, ◌&&◌, true, [], ◌∷◌, Option, Some, Ok, if◌then◌else◌}
 use Rattle.recovery_base.specs.declared.below.SpaceId.{SpaceId}
 use Rattle.recovery_base.specs.declared.below.SpaceId.TheVariants.{Data}
@@ -32,4 +32,4 @@ module _ {Q S M P : Type 0} where
   pub record LosesTracked (look : LossPass) (losses : Losses) (time : Option ℕ) (past : History Q S M P) : Type 0 where
     pub told : (number : ℕ) → IsDeclaredLost losses.numbers.items losses.probe number → IsLostBy look past number
     pub all : (number : ℕ) → IsLostBy look past number → IsDeclaredLost losses.numbers.items losses.probe number
-        ⊎ (due : ℕ) × (time ≡ Some due) × (due ≤ look.at)
+        ⊎ (losses.is_cut ≡ true) × (due : ℕ) × (time ≡ Some due) × (due ≤ look.at)

@@ -12,7 +12,7 @@ ghost use Rattle.recovery_sender.specs.Promises.Acked.{AcksTracked};
 ghost use Rattle.recovery_sender.specs.Promises.Pasts.{ForEveryPast};
 ghost use Rattle.recovery_sender.specs.Senders.{state_in};
 ghost use Rattle.recovery_sender.specs.Spaces.{packets_in, space_in};
-ghost use Rattle.recovery_sender.specs.Acking.{IsNewly, AckResult, ProcessesNewlyAcked, acking, first_marked, is_first_sample, is_limited, is_marked, is_raised, largest_sent, marks_now, rtt_of, sent_on, unmarked, with_marks_now, Acknowledges, EcnCompared, EcnResult, SamplesRtt};
+ghost use Rattle.recovery_sender.specs.Acking.{IsNewly, AckResult, AreAcked, HasRoomForLosses, ProcessesNewlyAcked, acking, first_marked, is_first_sample, is_limited, is_marked, is_raised, largest_sent, loss_end, marks_now, rtt_of, sent_on, unmarked, with_marks_now, Acknowledges, EcnCompared, EcnResult, SamplesRtt};
 ghost use Rattle.recovery_sender.specs.Steps.{marked, occurs, CompletesCall, TakesSteps};
 ghost use Rattle.recovery_spaces.specs.Discarded.{is_discarded};
 ghost use Rattle.recovery_spaces.specs.Packets.{packet_at};
@@ -59,6 +59,8 @@ pub struct NewlyAcked {
     pub numbers: Vec<u64>,
     /// Whether one of them elicits an ACK.
     pub elicits: bool,
+    /// Room for the numbers of the packets that may be lost once these are acknowledged.
+    pub lost: Vec<u64>,
 }
 
 /// Whether the largest number that was acknowledged rises.
@@ -69,6 +71,19 @@ fn is_raised(before: Option<u64>, after: Option<u64>) -> bool
         (_, None) => false,
         (None, Some(_)) => true,
         (Some(before), Some(after)) => before < after,
+    }
+}
+
+/// The end of the numbers below which packets may be lost in a space, once a frame is taken: the largest number that
+/// was acknowledged, or the one after the largest of the frame.
+fn loss_end(before: Option<u64>, largest: Option<u64>) -> u64
+    requires small { IfSome largest (λ largest. largest + 1 < u64_limit) }
+    ensures { result ≡ loss_end before largest }
+{
+    let known = before.unwrap_or(0);
+    match largest {
+        Some(largest) => known.max(largest + 1),
+        None => known,
     }
 }
 
@@ -144,7 +159,16 @@ where
         if let Err(refused) = self.check_ack(space, ranges) {
             return Err(refused);
         }
-        self.find_newly(space, ranges, room)
+        let mut newly = match self.find_newly(space, ranges, room) {
+            Ok(newly) => newly,
+            Err(refused) => return Err(refused),
+        };
+        let end = loss_end(self.largest_acked(space), largest_of(ranges));
+        newly.lost = match self.room_below(space, end, newly.numbers.len()) {
+            Ok(room) => room,
+            Err(refused) => return Err(refused),
+        };
+        Ok(newly)
     }
 
     /// The second half of [`Sender::on_ack`], with what [`Sender::newly_acked`] says of the frame now.
@@ -158,6 +182,7 @@ where
     ) -> Acknowledged
         requires newly { AreNewlyAcked (packets_in (state_in self.old) space) ranges.now 0
             newly.numbers.items newly.elicits }
+        requires room { HasRoomForLosses space ranges.now self.old newly }
         ensures { ProcessesNewlyAcked space now ranges.now ack self.old self.new newly result }
     {
         if newly.numbers.is_empty() {
@@ -211,18 +236,13 @@ where
 
     /// The first tracked number from one on, up to another, and whether its packet elicits an ACK.
     fn first_in(&self, space: SpaceId, from: u64, last: u64) -> Option<(u64, bool)>
+        requires small { last + 1 < u64_limit }
         ensures { MatchOption result
             (HasNoneTracked (packets_in (state_in self.now) space) from last)
             (λ found. IsFirstIn (packets_in (state_in self.now) space) from last found) }
     {
-        if from > last {
-            return None;
-        }
         let here = self.space(space)?;
-        let (number, packet) = here.sent_packets.tracked_from(from)?;
-        if number > last {
-            return None;
-        }
+        let (number, packet) = here.sent_packets.tracked_between(from, last + 1)?;
         Some((number, packet.ack_eliciting))
     }
 
@@ -277,6 +297,7 @@ where
         let mut newly = NewlyAcked {
             numbers,
             elicits: false,
+            lost: Vec::new(self.alloc),
         };
         let mut at = ranges.len();
         while at > 0 {
@@ -294,7 +315,8 @@ where
         requires tracked { (number : ℕ) → IsOneOf number numbers.now
             → packet_at (packets_in (state_in self.old) space) number ≢ None }
         requires rising { (end : ℕ) × AreIncreasing 0 numbers.now end }
-        ensures { TakesSteps (acking space now app_limited numbers.now) self.old self.new }
+        ensures acks { TakesSteps (acking space now app_limited numbers.now) self.old self.new }
+        ensures left { AreAcked space numbers.now self.old self.new }
     {
         for number in numbers {
             self.tell(Event::Acked {
@@ -311,11 +333,7 @@ where
         ensures { option_copied result ≡ packet_at (packets_in (state_in self.now) space) number }
     {
         let here = self.space(space)?;
-        let (found, packet) = here.sent_packets.tracked_from(number)?;
-        if found != number {
-            return None;
-        }
-        Some(packet)
+        here.sent_packets.get(number)
     }
 
     /// When a tracked packet was sent, where that was on the path in use (RFC 9000, 9.4).
@@ -372,20 +390,48 @@ where
         ensures { TakesSteps (marked (with_marks_now (state_in self.old) sending_ecn first) ∷ [])
             self.old self.new }
     {
-        let blank = PathMarks {
+        let path = self.path();
+        let challenge = path.challenge;
+        let pending = path.challenge_pending;
+        self.mark(sending_ecn, challenge, pending, first);
+    }
+
+    /// Keeps these marks with the path in use; its PATH_RESPONSE frames stay.
+    pub(super) fn mark(
+        &mut self,
+        sending_ecn: bool,
+        challenge: Option<u64>,
+        challenge_pending: bool,
+        first_packet_after_rtt_sample: Option<(SpaceId, u64)>,
+    )
+        ensures { TakesSteps (marked (record (marks_now (state_in self.old)) {
+          sending_ecn = sending_ecn;
+          challenge = challenge;
+          challenge_pending = challenge_pending;
+          first_after_sample = first_packet_after_rtt_sample;
+        }) ∷ []) self.old self.new }
+    {
+        let marks = PathMarks {
             sending_ecn,
-            challenge: None,
-            challenge_pending: false,
+            challenge,
+            challenge_pending,
             path_responses: PathResponses::new(),
-            first_packet_after_rtt_sample: first,
+            first_packet_after_rtt_sample,
         };
         self.is_timer_current = false;
-        let Some(mut marks) = self.recovery.set_marks(PathName::Current, blank) else {
+        let Some(before) = self.recovery.set_marks(PathName::Current, marks) else {
             unreachable!();
         };
-        marks.sending_ecn = sending_ecn;
-        marks.first_packet_after_rtt_sample = first;
-        self.recovery.set_marks(PathName::Current, marks);
+        self.recovery.set_marks(
+            PathName::Current,
+            PathMarks {
+                sending_ecn,
+                challenge,
+                challenge_pending,
+                path_responses: before.path_responses,
+                first_packet_after_rtt_sample,
+            },
+        );
     }
 
     /// The counts of ECN of a frame (RFC 9002, A.7 and B.7; RFC 9000, 13.4.2.1).
@@ -423,13 +469,11 @@ where
     ) -> EcnOutcome
         ensures { EcnCompared space now newly_acked self.old self.new counts result }
     {
-        self.is_timer_current = false;
-        let Ok(answer) = self.recovery.apply(Event::Ecn {
+        let Ok(answer) = self.apply(Event::Ecn {
             space,
             newly_acked,
             counts,
-        })
-        else {
+        }) else {
             self.stop_ecn();
             return EcnOutcome::Failed;
         };
@@ -450,7 +494,7 @@ where
     }
 
     /// The largest number acknowledged in a space, if any.
-    fn largest_acked(&self, space: SpaceId) -> Option<u64>
+    pub(super) fn largest_acked(&self, space: SpaceId) -> Option<u64>
         ensures { result ≡ largest_in (state_in self.now) space }
     {
         self.space(space)?.largest_acked_packet
@@ -513,6 +557,7 @@ where
     ) -> Acknowledged
         requires newly { AreNewlyAcked (packets_in (state_in self.old) space) ranges.now 0
             newly.numbers.items newly.elicits }
+        requires room { HasRoomForLosses space ranges.now self.old newly }
         ensures numbers { result.numbers.items ≡ newly.numbers.items }
         ensures stages { Acknowledges space now ranges.now ack newly.elicits
             self.old result self.new }
@@ -521,17 +566,17 @@ where
         let rtt = self.rtt_of(space, now, ranges, newly.elicits);
         let is_first = self.is_first_sample(&rtt);
         let is_limited = self.is_limited(ack.app_limited);
-        let numbers: &[u64] = &newly.numbers;
+        let NewlyAcked { numbers, lost, .. } = newly;
         let count = numbers.len() as u64;
-        self.tell_acked(space, now, is_limited, numbers);
+        self.tell_acked(space, now, is_limited, &numbers);
         self.end_acks(space, now, is_limited);
         self.sample(space, ack.delay, rtt);
-        let losses = self.detect_and_remove_lost_packets(space, now, true);
+        let losses = self.detect_and_remove_lost_packets(space, now, true, lost);
         let is_raised = is_raised(before, self.largest_acked(space));
         let ecn = self.process_ecn(space, now, count, ack.ecn, is_raised);
         self.hear(space, now, is_first);
         Acknowledged {
-            numbers: newly.numbers,
+            numbers,
             losses,
             ecn,
         }
@@ -542,11 +587,7 @@ where
         ensures { CompletesCall []
             (heard_in space now (sampled_first is_first now self.old.variables)) self.old self.new }
     {
-        self.is_timer_current = false;
-        self.variables = self
-            .variables
-            .sampled_first(is_first, now)
-            .heard(space, now);
-        self.set_loss_detection_timer();
+        let sampled = self.variables.sampled_first(is_first, now);
+        self.complete(sampled.heard(space, now));
     }
 }

@@ -1,9 +1,12 @@
 //! Spaces that end, and what was sent in vain (RFC 9002, 6.2.2, 6.3 and 6.4).
-ghost use Rattle.std.specs.Prelude.{◌≡◌, ◌∷◌, [], true, false, Ok, OnOk, OnErr, IfSome, IfNone};
+ghost use Rattle.std.specs.Prelude.{◌≡◌, ◌≤◌, ◌∷◌, [], true, false, length, Ok, IfOk, IfErr, OnOk, OnErr, MatchOption};
+ghost use Rattle.std.specs.Vec.{vec_capacity};
+ghost use Rattle.recovery_base.specs.Units.{u64_limit};
 ghost use Rattle.recovery_spaces.specs.Discarded.{is_discarded};
+ghost use Rattle.recovery_spaces.specs.Packets.{AreBelow};
 ghost use Rattle.recovery_losses.specs.Variables.{begun_anew};
 ghost use Rattle.recovery_sender.specs.Calls.{discard_reply};
-ghost use Rattle.recovery_sender.specs.RetransmitAll.{DeclaresAllLost, DeclaresFirstLost, IsLeast};
+ghost use Rattle.recovery_sender.specs.RetransmitAll.{DeclaresAllLost, HasNoneFrom, IsLeastFrom, TriesAllTracked};
 ghost use Rattle.recovery_sender.specs.Senders.{state_in};
 ghost use Rattle.recovery_sender.specs.Spaces.{packets_in};
 ghost use Rattle.recovery_sender.specs.Steps.{told, TakesSteps, CompletesCall};
@@ -15,6 +18,15 @@ use recovery_base::time::Instant;
 use recovery_congestion::congestion::ControllerFactory;
 use recovery_events::event::{Answer, Event, Refusal};
 use recovery_queue::queue::RetransmitQueue;
+
+/// What was declared lost in a space, all of which was sent in vain.
+#[derive(Drop)]
+pub struct Retransmitted {
+    /// The numbers of the packets that are lost, increasing.
+    pub numbers: Vec<u64>,
+    /// Whether allocation failed for a packet, which is still tracked then.
+    pub is_cut: bool,
+}
 
 impl<F, Q, R> Sender<F, Q, R>
 where
@@ -59,54 +71,80 @@ where
     pub(super) fn begin_anew(&mut self, space: SpaceId, now: Instant)
         ensures { CompletesCall [] (begun_anew space now self.old.variables) self.old self.new }
     {
-        self.is_timer_current = false;
-        self.variables = self.variables.begun_anew(space, now);
-        self.set_loss_detection_timer();
+        self.complete(self.variables.begun_anew(space, now));
     }
 
-    /// What a space tracks was sent in vain: behind a Retry (RFC 9002, 6.3), or where 0-RTT is refused (RFC 9002, 6.4).
-    /// Each packet is told lost, which is no sign of congestion, so that its contents wait to be sent again; probe
-    /// timeouts are counted anew. Hands out the numbers, rising. Refused by `SpaceDiscarded`: then nothing changes; and
-    /// by `NoMemory`: what was told lost by then is lost, and the same call goes on with the rest. It costs what is
-    /// tracked, each packet with a logarithm.
-    pub fn retransmit_all(&mut self, space: SpaceId, now: Instant) -> Result<Vec<u64>, SenderError>
+    /// What a space tracks was sent in vain: before a Retry (RFC 9002, 6.3), or if 0-RTT is rejected (RFC 9002, 6.4).
+    /// Declares each packet lost, which is no sign of congestion, so that its contents wait to be sent again. Probe
+    /// timeouts are counted from zero. If a retransmission queue cannot take the contents of a packet, that packet
+    /// stays tracked, the others are lost all the same, and `is_cut` says so: the same call goes on with the rest.
+    /// It costs what is tracked, each packet with a logarithm.
+    ///
+    /// # Errors
+    /// `SpaceDiscarded`, or `NoMemory` if there is no room for the numbers. Then nothing has changed.
+    pub fn retransmit_all(
+        &mut self,
+        space: SpaceId,
+        now: Instant,
+    ) -> Result<Retransmitted, SenderError>
         ensures { DeclaresAllLost space self.old now self.new result }
     {
         if self.is_discarded(space) {
             return Err(SenderError::Event(Refusal::SpaceDiscarded));
         }
-        let mut numbers = Vec::new(self.alloc);
-        if !self.lose_all(space, &mut numbers) {
-            self.set_loss_detection_timer();
-            return Err(SenderError::Event(Refusal::NoMemory));
-        }
-        self.is_timer_current = false;
-        self.recovery.set_loss_time(space, None);
+        let mut numbers = match self.room_for_all(space) {
+            Ok(room) => room,
+            Err(refused) => return Err(refused),
+        };
+        let is_cut = self.lose_all(space, &mut numbers);
+        self.set_loss_time(space, None);
         self.begin_anew(space, now);
-        Ok(numbers)
+        Ok(Retransmitted { numbers, is_cut })
     }
 
-    /// Each packet that a space tracks is told lost, the least number first; false, where memory is refused.
+    /// Room for the numbers of all packets that a space tracks.
+    fn room_for_all(&self, space: SpaceId) -> Result<Vec<u64>, SenderError>
+        ensures none { IfOk result (λ room. room.items ≡ []) }
+        ensures room { IfOk result (λ room.
+            length (packets_in (state_in self.now) space) ≤ vec_capacity room) }
+        ensures small { AreBelow (packets_in (state_in self.now) space) u64_limit }
+        ensures memory { IfErr result (λ refused. refused ≡ SenderError.Event Refusal.NoMemory) }
+    {
+        let count = match self.space(space) {
+            Some(here) => here.sent_packets.len(),
+            None => 0,
+        };
+        self.room_for(count)
+    }
+
+    /// Declares each packet lost that a space tracks, the smallest number first. Returns whether allocation failed for
+    /// one.
     fn lose_all(&mut self, space: SpaceId, numbers: &mut Vec<u64>) -> bool
         requires none { numbers.old.items ≡ [] }
-        ensures lost { DeclaresFirstLost space self.old numbers.new.items self.new }
-        ensures all { result ≡ true → packets_in (state_in self.new) space ≡ [] }
+        requires room { length (packets_in (state_in self.old) space) ≤ vec_capacity numbers.old }
+        requires small { AreBelow (packets_in (state_in self.old) space) u64_limit }
+        ensures { TriesAllTracked space self.old numbers.new.items result self.new }
     {
-        while let Some(number) = self.first_tracked(space) {
-            if !self.lose(space, number, numbers) {
-                return false;
-            }
+        let mut is_cut = false;
+        let mut from = 0;
+        while let Some(number) = self.first_tracked(space, from) {
+            is_cut |= !self.lose(space, number, numbers);
+            let Some(next) = number.checked_add(1) else {
+                break;
+            };
+            from = next;
         }
-        true
+        is_cut
     }
 
-    /// The least number that a space tracks.
-    fn first_tracked(&self, space: SpaceId) -> Option<u64>
-        ensures none { IfNone result (packets_in (state_in self.now) space ≡ []) }
-        ensures some { IfSome result (IsLeast (packets_in (state_in self.now) space)) }
+    /// The smallest number that a space tracks, from another on.
+    fn first_tracked(&self, space: SpaceId, from: u64) -> Option<u64>
+        ensures { MatchOption result
+            (HasNoneFrom (packets_in (state_in self.now) space) from)
+            (IsLeastFrom (packets_in (state_in self.now) space) from) }
     {
         let here = self.space(space)?;
-        let (number, _) = here.sent_packets.tracked_from(0)?;
+        let (number, _) = here.sent_packets.tracked_from(from)?;
         Some(number)
     }
 }

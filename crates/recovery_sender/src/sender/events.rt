@@ -2,7 +2,7 @@
 ghost use Rattle.std.specs.Prelude.{◌≡◌, true, ◌<◌, ◌≤◌, ◌+◌, ◌-◌, ◌∷◌, [], Ok, IfOk, OnOk, OnErr, Decides};
 ghost use Rattle.recovery_base.specs.Units.{number_limit, u64_limit};
 ghost use Rattle.recovery_packet_numbers.specs.Skips.{IsSkips};
-ghost use Rattle.recovery_sender.specs.Calls.{backdated, challenged, config_of, datagram_reply, elicits_in, thresholds_in, to_send, IsNewSender, IsPassedThrough, EventResult};
+ghost use Rattle.recovery_sender.specs.Calls.{backdated, challenged, changes_path, config_of, datagram_reply, elicits_in, thresholds_in, to_send, IsNewSender, IsPassedThrough, EventResult, PathEventResult};
 ghost use Rattle.recovery_sender.specs.TimerUnchanged.{leaves_timer};
 ghost use Rattle.recovery_sender.specs.Senders.{state_in};
 ghost use Rattle.recovery_sender.specs.Steps.{marked, told, TakesSteps, CompletesCall};
@@ -21,8 +21,6 @@ use recovery_events::event::{Answer, Event, Refusal};
 use recovery_history::RecoveryConfig;
 use recovery_losses::{Side, Thresholds, Variables};
 use recovery_paths::path_pair::PathName;
-use recovery_paths::paths::PathMarks;
-use recovery_paths::responses::PathResponses;
 use recovery_queue::queue::RetransmitQueue;
 use std::alloc::Global;
 
@@ -64,6 +62,17 @@ fn backdate<Q: RetransmitQueue>(event: &mut Event<Q>)
         Event::NewPath { now, .. } => *now = nanosecond_before(*now),
         Event::ResetPath { now } => *now = nanosecond_before(*now),
         _ => {}
+    }
+}
+
+/// Whether by an event another path is in use, or the path in use begins anew.
+#[inline(always)]
+fn changes_path<Q: RetransmitQueue>(event: &Event<Q>) -> bool
+    ensures { result ≡ changes_path event.now }
+{
+    match event {
+        Event::NewPath { .. } | Event::ResetPath { .. } | Event::RevertPath => true,
+        _ => false,
     }
 }
 
@@ -209,7 +218,8 @@ where
 
     /// An event that passes, [`Event::Send`] and [`Event::PollMtu`] among them, as [`LiveRecovery::apply`] does it; and
     /// it is refused as there. [`Event::NewPath`] and [`Event::ResetPath`] take effect a nanosecond earlier, as
-    /// [`Sender::new`] does.
+    /// [`Sender::new`] does. After these and [`Event::RevertPath`] the loss time of each space is found again by the
+    /// RTT of the path then in use, which costs what is tracked below the largest acknowledged.
     #[inline(always)]
     pub fn on_event(&mut self, event: Event<Q>) -> Result<Answer<Q>, SenderError>
         requires passes { IsPassedThrough event }
@@ -217,13 +227,29 @@ where
     {
         let mut event = event;
         backdate(&mut event);
+        if changes_path(&event) {
+            return self.change_path(event);
+        }
         let was_timed = self.is_left_by(&event);
         let time = to_send(&event);
         let elicits = elicits_in(&event);
-        self.is_timer_current = false;
-        match self.recovery.apply(event) {
+        match self.apply(event) {
             Ok(answer) => {
                 self.goes_on(time, elicits, &answer, was_timed);
+                Ok(answer)
+            }
+            Err(refusal) => Err(SenderError::Event(refusal)),
+        }
+    }
+
+    /// An event by which another path is in use, or the path in use begins anew: the loss times go by its RTT then.
+    fn change_path(&mut self, event: Event<Q>) -> Result<Answer<Q>, SenderError>
+        ensures { PathEventResult event self.old self.new result }
+    {
+        match self.apply(event) {
+            Ok(answer) => {
+                self.renew_loss_times();
+                self.set_loss_detection_timer();
                 Ok(answer)
             }
             Err(refusal) => Err(SenderError::Event(refusal)),
@@ -292,20 +318,10 @@ where
         ensures { TakesSteps (marked (challenged (state_in self.old) challenge pending) ∷ [])
             self.old self.new }
     {
-        let blank = PathMarks {
-            sending_ecn: false,
-            challenge,
-            challenge_pending: pending,
-            path_responses: PathResponses::new(),
-            first_packet_after_rtt_sample: None,
-        };
-        self.is_timer_current = false;
-        let Some(mut marks) = self.recovery.set_marks(PathName::Current, blank) else {
-            unreachable!();
-        };
-        marks.challenge = challenge;
-        marks.challenge_pending = pending;
-        self.recovery.set_marks(PathName::Current, marks);
+        let path = self.path();
+        let sending_ecn = path.sending_ecn;
+        let first = path.first_packet_after_rtt_sample;
+        self.mark(sending_ecn, challenge, pending, first);
     }
 
     /// A datagram came in of which the total has room.

@@ -6,6 +6,7 @@ use super::Sender;
 use rand_core::Rng;
 use recovery_base::time::Duration;
 use recovery_congestion::congestion::ControllerFactory;
+use recovery_losses::Variables;
 use recovery_queue::queue::RetransmitQueue;
 
 impl<F, Q, R> Sender<F, Q, R>
@@ -19,9 +20,10 @@ where
         ensures { CompletesCall [] (record self.old.variables { has_handshake_keys = true })
             self.old self.new }
     {
-        self.is_timer_current = false;
-        self.variables.has_handshake_keys = true;
-        self.set_loss_detection_timer();
+        self.complete(Variables {
+            has_handshake_keys: true,
+            ..self.variables
+        });
     }
 
     /// The handshake is confirmed (RFC 9001, 4.1.2): packets of 1-RTT keys are probed for from now on, and a client
@@ -32,10 +34,11 @@ where
           is_address_known = true;
         }) self.old self.new }
     {
-        self.is_timer_current = false;
-        self.variables.is_handshake_confirmed = true;
-        self.variables.is_address_known = true;
-        self.set_loss_detection_timer();
+        self.complete(Variables {
+            is_handshake_confirmed: true,
+            is_address_known: true,
+            ..self.variables
+        });
     }
 
     /// The peer delays its ACKs of 1-RTT packets at most so long (RFC 9000, 18.2: max_ack_delay).
@@ -43,8 +46,9 @@ where
         ensures { CompletesCall [] (record self.old.variables { max_ack_delay = span })
             self.old self.new }
     {
-        self.is_timer_current = false;
-        self.variables.max_ack_delay = span;
-        self.set_loss_detection_timer();
+        self.complete(Variables {
+            max_ack_delay: span,
+            ..self.variables
+        });
     }
 }

@@ -1,23 +1,26 @@
 //! Which packets are lost (RFC 9002, 6.1, 7.6 and A.10).
-ghost use Rattle.std.specs.Prelude.{◌≡◌, ◌≢◌, ℕ, ◌+◌, ◌-◌, ◌*◌, min, ◌<◌, ◌≤◌, ◌++◌, ◌∷◌, [], true, false, None, Some, Decides, MatchOption, IfSome, IfNone, ◌⊎◌, option_map, if◌then◌else◌};
+ghost use Rattle.std.specs.Prelude.{◌≡◌, ◌≢◌, ℕ, ◌+◌, ◌-◌, ◌*◌, min, not, ◌<◌, ◌≤◌, ◌++◌, ◌∷◌, [], true, false, None, Some, Decides, MatchOption, IfSome, IfNone, IfOk, IfErr, IsOk, ◌⊎◌, option_map, if◌then◌else◌};
+ghost use Rattle.std.specs.Vec.{vec_capacity, vec_len};
 ghost use Rattle.std.specs.Option.{ForSome};
 ghost use Rattle.recovery_base.specs.Times.{span_limit};
 ghost use Rattle.recovery_base.specs.Units.{last_time, u64_limit};
-ghost use Rattle.recovery_events.specs.declared.event.Event.TheVariants.{Lost};
 ghost use Rattle.recovery_spaces.specs.Packets.{packet_at};
-ghost use Rattle.recovery_losses.specs.Losses.{waiting, IsNextLossCandidate, NoneFrom};
+ghost use Rattle.recovery_losses.specs.Losses.{count_below, cutting, IsEarliestSent, IsNextLossCandidate, NoneFrom};
 ghost use Rattle.recovery_sender.specs.Senders.{state_in};
 ghost use Rattle.recovery_sender.specs.Spaces.{packets_in};
-ghost use Rattle.recovery_sender.specs.Steps.{occurs, TakesSteps};
-ghost use Rattle.recovery_sender.specs.Losses.{look_of, largest_in, IsEmptyLosses};
-ghost use Rattle.recovery_sender.specs.Detection.{latest_start, ClassifiesPacket, HasScanned, DetectsLosses, HasNoGap, congested, ended, is_reported, losing, one_of};
+ghost use Rattle.recovery_sender.specs.Attempts.{probe_attempts, trying};
+ghost use Rattle.recovery_sender.specs.Calls.{RenewsLossTimes};
+ghost use Rattle.recovery_sender.specs.Steps.{TakesSteps};
+ghost use Rattle.recovery_sender.specs.Losses.{look_of, largest_in, HasRoomBelowLargest, IsEmptyLosses, IsNextLoss};
+ghost use Rattle.recovery_sender.specs.Detection.{latest_start, ClassifiesPacket, HasScanned, DetectsLosses, HasNoGap, congested, ended, is_reported};
 
-use super::Sender;
+use super::{Sender, SenderError};
 use rand_core::Rng;
 use recovery_base::below::SpaceId;
 use recovery_base::time::Instant;
+use recovery_base::timer::earlier;
 use recovery_congestion::congestion::ControllerFactory;
-use recovery_events::event::{Answer, Event};
+use recovery_events::event::{Answer, Event, Refusal};
 use recovery_losses::{Candidate, FirstSample, LossPass, Tally, Variables, loss_delay};
 use recovery_queue::queue::RetransmitQueue;
 use std::alloc::Global;
@@ -64,6 +67,9 @@ pub struct Losses {
     pub is_persistent: bool,
     /// Whether a black hole was reported (RFC 8899, 4.3).
     pub is_black_hole: bool,
+    /// Whether allocation failed for a packet that is lost: its contents could not join the retransmission queue. It is
+    /// still tracked, and the timer is due at once, so that the next timeout declares it lost.
+    pub is_cut: bool,
 }
 
 impl Losses {
@@ -77,6 +83,7 @@ impl Losses {
             congestion: None,
             is_persistent: false,
             is_black_hole: false,
+            is_cut: false,
         }
     }
 }
@@ -136,6 +143,45 @@ where
         }
     }
 
+    /// When the next packet of a space is lost by its age, by the RTT of the path in use. It costs what is tracked
+    /// below the largest acknowledged, each packet with a logarithm.
+    fn next_loss(&self, space: SpaceId) -> Option<Instant>
+        ensures { IsNextLoss (state_in self.now) self.now.variables space result }
+    {
+        let largest = self.largest_acked(space)?;
+        // No packet is judged, so the time of the pass does not matter.
+        let look = self.look(space, Instant::from_nanos(0), false, largest);
+        let sent = self.earliest_sent(&look)?;
+        Some(sent + look.delay)
+    }
+
+    /// When the first of the packets was sent that lie below the largest acknowledged.
+    fn earliest_sent(&self, look: &LossPass) -> Option<Instant>
+        ensures { IsEarliestSent (packets_in (state_in self.now) look.now.space) look.now.largest
+            result }
+    {
+        let mut earliest = None;
+        let mut from = 0;
+        while let Some(packet) = self.candidate(look, from) {
+            earliest = earlier(earliest, Some(packet.time_sent));
+            from = packet.number + 1;
+        }
+        earliest
+    }
+
+    /// Keeps with each space when its next packet is lost, by the RTT of the path in use: by that of another path the
+    /// time may lie seconds ahead, and while one is set no probe is due (RFC 9002, 6.2.1 and A.8).
+    pub(super) fn renew_loss_times(&mut self)
+        ensures { RenewsLossTimes self.old self.new }
+    {
+        let initial = self.next_loss(SpaceId::Initial);
+        let handshake = self.next_loss(SpaceId::Handshake);
+        let data = self.next_loss(SpaceId::Data);
+        self.set_loss_time(SpaceId::Initial, initial);
+        self.set_loss_time(SpaceId::Handshake, handshake);
+        self.set_loss_time(SpaceId::Data, data);
+    }
+
     /// The first tracked packet from a number on that lies below the largest acknowledged.
     fn candidate(&self, look: &LossPass, from: u64) -> Option<Candidate>
         ensures fits { IfSome result (λ found. found.number + 1 < u64_limit) }
@@ -145,10 +191,7 @@ where
             from found) }
     {
         let here = self.space(look.space)?;
-        let (number, packet) = here.sent_packets.tracked_from(from)?;
-        if number >= look.largest {
-            return None;
-        }
+        let (number, packet) = here.sent_packets.tracked_between(from, look.largest)?;
         Some(Candidate {
             number,
             time_sent: packet.time_sent,
@@ -158,34 +201,64 @@ where
         })
     }
 
-    /// A tracked packet is told lost; false, and nothing, where memory is refused.
+    /// Declares a tracked packet lost. Returns false if allocation failed: then it is still tracked, with its contents.
     fn declare_lost(&mut self, space: SpaceId, number: u64) -> bool
         requires tracked { packet_at (packets_in (state_in self.old) space) number ≢ None }
-        ensures lost { result ≡ true
-            → TakesSteps (occurs (Lost space number) ∷ []) self.old self.new }
-        ensures refused { result ≡ false → TakesSteps [] self.old self.new }
+        ensures { TakesSteps (trying space ((number, not result) ∷ [])) self.old self.new }
     {
-        self.is_timer_current = false;
-        let Ok(_answer) = self.recovery.apply(Event::Lost { space, number }) else {
+        let Ok(_answer) = self.apply(Event::Lost { space, number }) else {
             return false;
         };
         true
     }
 
-    /// The same, and its number is put behind the others.
+    /// Declares a tracked packet lost, and appends its number to others. Returns false, and appends nothing, if
+    /// allocation failed.
     pub(super) fn lose(&mut self, space: SpaceId, number: u64, numbers: &mut Vec<u64>) -> bool
         requires tracked { packet_at (packets_in (state_in self.old) space) number ≢ None }
-        ensures lost { result ≡ true
-            → TakesSteps (occurs (Lost space number) ∷ []) self.old self.new
-            × (numbers.new.items ≡ numbers.old.items ++ number ∷ []) }
-        ensures refused { result ≡ false → TakesSteps [] self.old self.new
-            × (numbers.new.items ≡ numbers.old.items) }
+        requires room { vec_len numbers.old < vec_capacity numbers.old }
+        ensures tries { TakesSteps (trying space ((number, not result) ∷ [])) self.old self.new }
+        ensures numbers { numbers.new.items
+            ≡ (if result then numbers.old.items ++ number ∷ [] else numbers.old.items) }
+        ensures room { vec_capacity numbers.new ≡ vec_capacity numbers.old }
     {
-        if numbers.reserve(1).is_err() || !self.declare_lost(space, number) {
+        if !self.declare_lost(space, number) {
             return false;
         }
         numbers.push_reserved(number);
         true
+    }
+
+    /// Room for so many numbers.
+    pub(super) fn room_for(&self, count: usize) -> Result<Vec<u64>, SenderError>
+        ensures none { IfOk result (λ room. room.items ≡ []) }
+        ensures room { IfOk result (λ room. count ≤ vec_capacity room) }
+        ensures memory { IfErr result (λ refused. refused ≡ SenderError.Event Refusal.NoMemory) }
+        ensures succeeds { count ≡ 0 → IsOk result }
+    {
+        match Vec::with_capacity(self.alloc, count) {
+            Ok(room) => Ok(room),
+            Err(_) => Err(SenderError::Event(Refusal::NoMemory)),
+        }
+    }
+
+    /// Room for the numbers of the packets that a space tracks below a number, but for so many of them.
+    pub(super) fn room_below(
+        &self,
+        space: SpaceId,
+        end: u64,
+        taken: usize,
+    ) -> Result<Vec<u64>, SenderError>
+        ensures none { IfOk result (λ room. room.items ≡ []) }
+        ensures room { IfOk result (λ room.
+            count_below end (packets_in (state_in self.now) space) ≤ vec_capacity room + taken) }
+        ensures memory { IfErr result (λ refused. refused ≡ SenderError.Event Refusal.NoMemory) }
+    {
+        let count = match self.space(space) {
+            Some(here) => here.sent_packets.count_below(end),
+            None => 0,
+        };
+        self.room_for(count.saturating_sub(taken))
     }
 
     /// What becomes of a packet below the largest acknowledged.
@@ -199,8 +272,10 @@ where
         requires below { packet.now.number < look.now.largest }
         requires tracked { packet_at (packets_in (state_in self.old) look.now.space)
             packet.now.number ≢ None }
-        ensures { ClassifiesPacket look.now packet.now self.old numbers.old.items tally.old
+        requires room { vec_len numbers.old < vec_capacity numbers.old }
+        ensures becomes { ClassifiesPacket look.now packet.now self.old numbers.old.items tally.old
             self.new numbers.new.items tally.new }
+        ensures room { vec_capacity numbers.new ≡ vec_capacity numbers.old }
     {
         if !look.is_lost(packet) {
             tally.waits(look.lost_at(packet));
@@ -209,14 +284,16 @@ where
         } else if self.lose(look.space, packet.number, numbers) {
             tally.counts(look, packet);
         } else {
-            tally.waits(look.at);
+            tally.cuts(look);
         }
     }
 
-    /// The packets of a space are gone over upward, below the largest acknowledged: each that is lost is told so, but
-    /// for the probe of the MTU.
+    /// Goes over the packets of a space, below the largest acknowledged: each that is lost is declared so, except the
+    /// probe of the MTU.
     fn find_lost(&mut self, look: &LossPass, numbers: &mut Vec<u64>) -> Tally
         requires none { numbers.old.items ≡ [] }
+        requires room { count_below look.now.largest
+            (packets_in (state_in self.old) look.now.space) ≤ vec_capacity numbers.old }
         ensures { HasScanned look.now self.old look.now.largest numbers.new.items result self.new }
     {
         let mut tally = Tally::new();
@@ -262,21 +339,22 @@ where
         }
     }
 
-    /// The probe of the MTU is told lost, where it is: where memory is refused, it waits.
+    /// Declares the probe of the MTU lost, if it is. If allocation fails, it is still tracked, and due at once.
     fn lose_probe(&mut self, look: &LossPass, tally: &mut Tally) -> Option<u64>
         requires tracked { ForSome tally.old.probe (λ number.
             packet_at (packets_in (state_in self.old) look.now.space) number ≢ None) }
-        ensures told { IfSome result (λ number. (tally.old.probe ≡ Some number)
+        ensures lost { IfSome result (λ number. (tally.old.probe ≡ Some number)
             × (tally.new ≡ tally.old)) }
-        ensures waits { IfNone result ((tally.old.probe ≡ None) × (tally.new ≡ tally.old)
-            ⊎ (tally.old.probe ≢ None) × (tally.new ≡ waiting look.now.at tally.old)) }
-        ensures goes { TakesSteps (losing look.now.space (one_of result)) self.old self.new }
+        ensures kept { IfNone result ((tally.old.probe ≡ None) × (tally.new ≡ tally.old)
+            ⊎ (tally.old.probe ≢ None) × (tally.new ≡ cutting look.now tally.old)) }
+        ensures tries { TakesSteps (trying look.now.space (probe_attempts tally.old.probe result))
+            self.old self.new }
     {
         let number = tally.probe?;
         if self.declare_lost(look.space, number) {
             return Some(number);
         }
-        tally.waits(look.at);
+        tally.cuts(look);
         None
     }
 
@@ -288,42 +366,44 @@ where
     {
         let here = self.space(space)?;
         let largest = here.largest_acked_packet?;
-        let (first, _) = here.sent_packets.tracked_from(0)?;
-        if first < largest { Some(largest) } else { None }
+        here.sent_packets.tracked_between(0, largest)?;
+        Some(largest)
     }
 
-    /// Which packets of a space are lost now is told, and when the next one is (RFC 9002, A.10:
-    /// DetectAndRemoveLostPackets). Only a look that is due to an ACK finds persistent congestion. It costs what is
+    /// Declares lost the packets of a space that are lost now, and keeps when the next one is (RFC 9002, A.10:
+    /// DetectAndRemoveLostPackets). Only a pass that is due to an ACK finds persistent congestion. It costs what is
     /// lost and what is tracked below the largest acknowledged, each with a logarithm.
     pub(super) fn detect_and_remove_lost_packets(
         &mut self,
         space: SpaceId,
         now: Instant,
         due_to_ack: bool,
+        room: Vec<u64>,
     ) -> Losses
+        requires none { room.items ≡ [] }
+        requires room { HasRoomBelowLargest space self.old room }
         ensures { DetectsLosses space now due_to_ack self.old result self.new }
     {
+        let mut numbers = room;
         let Some(largest) = self.gap(space) else {
-            self.is_timer_current = false;
-            self.recovery.set_loss_time(space, None);
+            self.set_loss_time(space, None);
             return Losses::none(self.alloc);
         };
         let look = self.look(space, now, due_to_ack, largest);
-        let mut numbers = Vec::new(self.alloc);
         let mut tally = self.find_lost(&look, &mut numbers);
         let is_black_hole = self.losses_done(now, &numbers);
         let is_persistent = tally.run.is_persistent;
         let congestion = tally.congestion();
         self.congested(now, tally.last_sent, is_persistent, tally.bytes);
         let probe = self.lose_probe(&look, &mut tally);
-        self.is_timer_current = false;
-        self.recovery.set_loss_time(space, tally.loss_time);
+        self.set_loss_time(space, tally.loss_time);
         Losses {
             numbers,
             probe,
             congestion,
             is_persistent,
             is_black_hole,
+            is_cut: tally.is_cut,
         }
     }
 }

@@ -127,8 +127,7 @@ where
             (Event.Send space now size ack_eliciting largest_acked queue stream_frames)
             self.old self.new result }
     {
-        self.is_timer_current = false;
-        let sent = self.recovery.apply(Event::Send {
+        let sent = self.apply(Event::Send {
             space,
             now,
             size,

@@ -7,7 +7,8 @@ ghost use Rattle.recovery_sender.specs.Calls.{done_of, due_now, space_due, Probe
 ghost use Rattle.recovery_losses.specs.Variables.{timed_out};
 ghost use Rattle.recovery_sender.specs.Senders.{state_in};
 ghost use Rattle.recovery_sender.specs.Steps.{told, TakesSteps, CompletesCall};
-ghost use Rattle.recovery_sender.specs.Timeouts.{DetectsByTime, TimeoutResult};
+ghost use Rattle.recovery_sender.specs.Losses.{HasRoomBelowLargest};
+ghost use Rattle.recovery_sender.specs.Timeouts.{DetectsByTime, SearchesByTime, TimeoutResult};
 
 use super::{Losses, Sender, SenderError};
 use rand_core::Rng;
@@ -15,7 +16,7 @@ use recovery_base::below::SpaceId;
 use recovery_base::time::Instant;
 use recovery_congestion::congestion::ControllerFactory;
 use recovery_events::event::{Answer, Event, Refusal};
-use recovery_losses::Due;
+use recovery_losses::{Due, Variables};
 use recovery_queue::queue::RetransmitQueue;
 
 /// What a timeout results in.
@@ -58,24 +59,25 @@ where
     /// The timer for losses may be due (RFC 9002, A.9: OnLossDetectionTimeout). Before its time nothing happens. If a
     /// space may have lost packets, they are declared lost. Otherwise two probes are due in the space whose timer
     /// expired, or one against a deadlock, in place of those that were due before; for each the caller asks
-    /// [`Sender::transmit`], takes its contents by [`Sender::probe`] and sends it by [`Sender::send`]. It is never
-    /// refused. It costs what is lost and what is tracked below the largest acknowledged, each with a logarithm.
-    pub fn on_timeout(&mut self, now: Instant) -> Timeout
+    /// [`Sender::transmit`], takes its contents by [`Sender::probe`] and sends it by [`Sender::send`]. It costs what is
+    /// lost and what is tracked below the largest acknowledged, each with a logarithm.
+    ///
+    /// # Errors
+    /// `NoMemory` if there is no room for the numbers of the packets that may be lost. Then nothing has changed. A
+    /// timeout that asks for probes takes no memory.
+    pub fn on_timeout(&mut self, now: Instant) -> Result<Timeout, SenderError>
         ensures { TimeoutResult now self.old self.new result }
     {
         match self.due_now(now) {
-            None => Timeout::Nothing,
-            Some(Due::Losses(space)) => Timeout::Lost {
-                space,
-                losses: self.find_losses(space, now),
-            },
+            None => Ok(Timeout::Nothing),
+            Some(Due::Losses(space)) => self.time_losses_out(space, now),
             Some(Due::Probes(space)) => {
                 self.time_out(space, 2, now);
-                Timeout::Probe { space, count: 2 }
+                Ok(Timeout::Probe { space, count: 2 })
             }
             Some(Due::AntiDeadlock(space)) => {
                 self.time_out(space, 1, now);
-                Timeout::Probe { space, count: 1 }
+                Ok(Timeout::Probe { space, count: 1 })
             }
         }
     }
@@ -106,14 +108,30 @@ where
         Ok(queue)
     }
 
-    /// Packets of a space may be lost: they are looked for.
-    fn find_losses(&mut self, space: SpaceId, now: Instant) -> Losses
+    /// Packets of a space may be lost: they are looked for, if there is room for their numbers.
+    fn time_losses_out(&mut self, space: SpaceId, now: Instant) -> Result<Timeout, SenderError>
+        ensures { SearchesByTime space now self.old self.new result }
+    {
+        let end = self.largest_acked(space).unwrap_or(0);
+        let room = match self.room_below(space, end, 0) {
+            Ok(room) => room,
+            Err(refused) => return Err(refused),
+        };
+        let losses = self.find_losses(space, now, room);
+        Ok(Timeout::Lost { space, losses })
+    }
+
+    /// Packets of a space may be lost: they are looked for. The timer against a deadlock runs from now on.
+    fn find_losses(&mut self, space: SpaceId, now: Instant, room: Vec<u64>) -> Losses
+        requires none { room.items ≡ [] }
+        requires room { HasRoomBelowLargest space self.old room }
         ensures { DetectsByTime space now self.old result self.new }
     {
-        let losses = self.detect_and_remove_lost_packets(space, now, false);
-        self.is_timer_current = false;
-        self.variables.base = now;
-        self.set_loss_detection_timer();
+        let losses = self.detect_and_remove_lost_packets(space, now, false, room);
+        self.complete(Variables {
+            base: now,
+            ..self.variables
+        });
         losses
     }
 
@@ -139,13 +157,11 @@ where
         requires there { is_discarded space (state_in self.old).discarded ≡ false }
         ensures { QueuesProbe space immediate_ack streams self.old self.new result }
     {
-        let event = Event::QueueProbe {
+        done(self.apply(Event::QueueProbe {
             space,
             immediate_ack,
             streams,
-        };
-        self.is_timer_current = false;
-        done(self.recovery.apply(event))
+        }))
     }
 
     /// Hands out what waits in a space that is not discarded.
@@ -165,8 +181,6 @@ where
         ensures { CompletesCall [] (timed_out space count now self.old.variables) self.old
             self.new }
     {
-        self.is_timer_current = false;
-        self.variables = self.variables.timed_out(space, count, now);
-        self.set_loss_detection_timer();
+        self.complete(self.variables.timed_out(space, count, now));
     }
 }

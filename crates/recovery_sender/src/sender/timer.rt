@@ -8,7 +8,7 @@ ghost use Rattle.quic_recovery.specs.State.{ReadOnlyTransition};
 ghost use Rattle.recovery_sender.specs.Senders.{state_in};
 ghost use Rattle.recovery_sender.specs.Spaces.{space_in};
 ghost use Rattle.recovery_sender.specs.Timer.{TimerIsSet, due_of, has_eliciting, loss_due, probe_due, probe_in, deadlock_due, deadlock_space, may_deadlock, pto_of, tracks_eliciting};
-ghost use Rattle.recovery_sender.specs.Steps.{told, timer_event, TakesSteps, CompletesCall};
+ghost use Rattle.recovery_sender.specs.Steps.{told, loss_time, timer_event, TakesSteps, CompletesCall};
 
 use super::Sender;
 use rand_core::Rng;
@@ -16,8 +16,8 @@ use recovery_base::below::SpaceId;
 use recovery_base::time::{Duration, Instant};
 use recovery_base::timer::Timer;
 use recovery_congestion::congestion::ControllerFactory;
-use recovery_events::event::{Answer, Event};
-use recovery_losses::{Due, sooner};
+use recovery_events::event::{Answer, Event, Refusal};
+use recovery_losses::{Due, Variables, sooner};
 use recovery_paths::paths::PathData;
 use recovery_queue::queue::RetransmitQueue;
 use recovery_spaces::spaces::PacketSpace;
@@ -247,10 +247,35 @@ where
             → ¬ ReadOnlyTransition event self.old.recovery.recovery (Err refusal) }
         ensures { TakesSteps (told event (Ok result) ∷ []) self.old self.new }
     {
-        self.is_timer_current = false;
-        match self.recovery.apply(event) {
+        match self.apply(event) {
             Ok(answer) => answer,
             Err(_) => unreachable!(),
         }
+    }
+
+    /// An event of the recovery, with its reply. It may move the timer.
+    #[inline(always)]
+    pub(super) fn apply(&mut self, event: Event<Q>) -> Result<Answer<Q>, Refusal>
+        ensures { TakesSteps (told event result ∷ []) self.old self.new }
+    {
+        self.is_timer_current = false;
+        self.recovery.apply(event)
+    }
+
+    /// Keeps with a space when its next packet is lost (RFC 9002, A.3: loss_time). It may move the timer.
+    pub(super) fn set_loss_time(&mut self, space: SpaceId, time: Option<Instant>)
+        ensures { TakesSteps (loss_time space time ∷ []) self.old self.new }
+    {
+        self.is_timer_current = false;
+        self.recovery.set_loss_time(space, time);
+    }
+
+    /// Ends a call with these variables: the timer is set by them.
+    pub(super) fn complete(&mut self, variables: Variables)
+        ensures { CompletesCall [] variables self.old self.new }
+    {
+        self.is_timer_current = false;
+        self.variables = variables;
+        self.set_loss_detection_timer();
     }
 }

@@ -2,9 +2,17 @@ use Rattle.std.proofs.Common.{[], subst, ◌∙◌}
 use Rattle.recovery_losses.specs.declared.variables.Variables.{Variables}
 use Rattle.recovery_losses.specs.Variables.{heard_in, sampled_first}
 use Rattle.recovery_sender.specs.Steps.{CompletesCall}
+use Rattle.recovery_sender.proofs.AckRoomLaws.{has_room}
 use Rattle.recovery_sender.proofs.DetectLaws.{variables_kept}
 use Rattle.recovery_sender.proofs.KeptLaws.{ecn_keeps, sample_keeps}
 use Rattle.recovery_sender.proofs.sender.Sender.acknowledge.Goals as goal
+
+pub detect_and_remove_lost_packets-losses-requires-clause-room
+    : goal.detect_and_remove_lost_packets-losses-requires-clause-room
+detect_and_remove_lost_packets-losses-requires-clause-room g c =
+    has_room c.args.space c.args.ranges.now c.args.self.now c.tell_acked.new.self c.end_acks.new.self
+    c.sample.new.self c.args.newly c.requires.room (λ number there. ((c.requires.newly.each number).0 there).1)
+    (rw c.deref.ensures.value at c.tell_acked.ensures.left) _ _ _ _ _ c.end_acks.ensures c.sample.ensures
 
 pub returns-clause-stages : goal.returns-clause-stages
 returns-clause-stages g c = record {
@@ -13,12 +21,13 @@ returns-clause-stages g c = record {
   sampled = c.sample.new.self;
   looked = c.detect_and_remove_lost_packets-losses.new.self;
   heard = c.process_ecn-ecn.new.self;
-  acks = rw (← c.deref-numbers.ensures.value, ← c.is_limited-is_limited.ensures) c.tell_acked.ensures;
+  acks = rw (← c.deref.ensures.value, ← c.is_limited-is_limited.ensures) c.tell_acked.ensures.acks;
   ends = rw (← c.is_limited-is_limited.ensures) c.end_acks.ensures;
   samples = rw (← c.rtt_of-rtt.ensures) c.sample.ensures;
   detects = c.detect_and_remove_lost_packets-losses.ensures;
   compares = rw (
-    ← c.deref-numbers.ensures.value,
+    ← c.args.newly.numbers.ok.0,
+    ← c.len-count.ensures,
     ← c.largest_acked-before.ensures,
     ← c.largest_acked.ensures,
     ← c.is_raised-is_raised.ensures,
@@ -28,6 +37,6 @@ returns-clause-stages g c = record {
       (sampled_first c.is_first_sample-is_first.result c.args.now variables))
       c.process_ecn-ecn.new.self c.hear.new.self) (ecn_keeps _ _ _ _ _ _ _ _ _ c.process_ecn-ecn.ensures
       ∙ variables_kept _ _ _ _ _ _ c.detect_and_remove_lost_packets-losses.ensures
-      ∙ sample_keeps _ _ _ _ _ c.sample.ensures ∙ c.end_acks.ensures.variables ∙ c.tell_acked.ensures.variables)
+      ∙ sample_keeps _ _ _ _ _ c.sample.ensures ∙ c.end_acks.ensures.variables ∙ c.tell_acked.ensures.acks.variables)
       c.hear.ensures);
 }

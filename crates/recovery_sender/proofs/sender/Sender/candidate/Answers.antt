@@ -1,20 +1,14 @@
-use Rattle.std.proofs.Common.{[], ap, ◌∙◌}
+use Rattle.std.proofs.Common.{[], ap, ◌∙◌, arith}
 use Rattle.std.specs.Option.{option_map_or}
 use Rattle.recovery_spaces.specs.Spaces.{packets_of}
-use Rattle.recovery_losses.proofs.LossLaws.{next_in, none_below, none_in}
+use Rattle.recovery_losses.proofs.LossLaws.{next_in, none_below}
 use Rattle.recovery_sender.proofs.sender.Sender.candidate.Goals as goal
 
 pub returns-in_err-number-clause-next : goal.returns-in_err-number-clause-next
 returns-in_err-number-clause-next g c =
     let same = ap packets_of c.here.view_is ∙ ap (λ there. option_map_or packets_of there []) c.in_ok-here.ensures in
-    rw (c.from_residual-in_err-number.ensures, ← same) (none_in c.args.look.now c.args.from _
-    c.in_err-number.ensures.first)
-
-pub returns-then-number-look-clause-next : goal.returns-then-number-look-clause-next
-returns-then-number-look-clause-next g c =
-    let same = ap packets_of c.here.view_is ∙ ap (λ there. option_map_or packets_of there []) c.in_ok-here.ensures in
-    rw (← same) (none_below c.args.look.now c.args.from _ c.in_ok-number.number c.in_ok-number.ensures.lowest
-    c.if-number-look.true)
+    rw (c.from_residual-in_err-number.ensures, ← same) (none_below c.args.look.now c.args.from _
+    c.args.look.now.largest c.in_err-number.ensures.none (omega arith))
 
 pub returns-clause-next : goal.returns-clause-next
 returns-clause-next g c =
@@ -25,4 +19,4 @@ returns-clause-next g c =
       size = ap (λ packet. packet.size) is;
       ack_eliciting = ap (λ packet. packet.ack_eliciting) is;
       path_generation = ap (λ packet. packet.path_generation) is;
-    }) c.in_ok-number.ensures.first c.in_ok-number.ensures.lowest c.if-number-look.false)
+    }) c.in_ok-number.ensures.first.1 c.in_ok-number.ensures.lowest c.in_ok-number.ensures.first.0)

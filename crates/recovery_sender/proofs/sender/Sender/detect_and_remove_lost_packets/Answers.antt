@@ -7,7 +7,11 @@ use Rattle.recovery_sender.proofs.sender.Sender.detect_and_remove_lost_packets.G
 
 pub returns-in_default : goal.returns-in_default
 returns-in_default g c = detects_none c.args.space c.args.now c.args.due_to_ack c.args.self.now c.none.result _
-    c.in_default.ensures.none c.none.ensures c.set_loss_time.ensures.after refl
+    c.in_default.ensures.none c.none.ensures c.set_loss_time.ensures
+
+pub find_lost-tally-requires-clause-room : goal.find_lost-tally-requires-clause-room
+find_lost-tally-requires-clause-room g c =
+    rw c.look-look.ensures (c.requires.room c.in-Some.largest c.in-Some.ensures.some)
 
 pub lose_probe-probe-requires : goal.lose_probe-probe-requires
 lose_probe-probe-requires g c =
@@ -30,6 +34,6 @@ returns g c =
     c.lose_probe-probe.new.tally (rw is_look at c.find_lost-tally.ensures)
     (rw c.deref.ensures.value at c.losses_done-is_black_hole.ensures.goes)
     (rw c.deref.ensures.value at c.losses_done-is_black_hole.ensures.none) c.congested.ensures
-    c.lose_probe-probe.ensures.told (rw is_look at c.lose_probe-probe.ensures.waits)
-    (rw is_look at c.lose_probe-probe.ensures.goes) c.set_loss_time-2.ensures.after refl
-    c.congestion-congestion.ensures refl)
+    c.lose_probe-probe.ensures.lost (rw is_look at c.lose_probe-probe.ensures.kept)
+    (rw is_look at c.lose_probe-probe.ensures.tries) c.set_loss_time-2.ensures c.congestion-congestion.ensures refl
+    refl)

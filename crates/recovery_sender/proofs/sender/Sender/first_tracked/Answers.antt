@@ -4,15 +4,13 @@ use Rattle.recovery_spaces.specs.Spaces.{packets_of}
 use Rattle.recovery_sender.proofs.RetransmitAllLaws.{least_tracked, none_tracked}
 use Rattle.recovery_sender.proofs.sender.Sender.first_tracked.Goals as goal
 
-pub returns-in_err-number-clause-none : goal.returns-in_err-number-clause-none
-returns-in_err-number-clause-none g c =
+pub returns-in_err-number : goal.returns-in_err-number
+returns-in_err-number g c =
     let same = ap packets_of c.here.view_is ∙ ap (λ there. option_map_or packets_of there []) c.in_ok-here.ensures in
-    rw (c.from_residual-in_err-number.ensures, ← same) (none_tracked _ c.in_err-number.ensures.first)
+    rw (c.from_residual-in_err-number.ensures, ← same) (none_tracked _ c.args.from c.in_err-number.ensures.first)
 
 pub returns : goal.returns
 returns g c =
     let same = ap packets_of c.here.view_is ∙ ap (λ there. option_map_or packets_of there []) c.in_ok-here.ensures in
-    rw (← same) (record {
-      none = tt {0};
-      some = least_tracked _ c.in_ok-number.number _ c.in_ok-number.ensures.first c.in_ok-number.ensures.lowest;
-    })
+    rw (← same) (least_tracked _ c.args.from c.in_ok-number.number _ c.in_ok-number.ensures.first
+    c.in_ok-number.ensures.lowest)

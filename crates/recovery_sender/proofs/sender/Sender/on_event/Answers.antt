@@ -1,24 +1,30 @@
-use Rattle.std.proofs.Common.{refl}
+use Rattle.std.proofs.Common.{Ok, ◌∷◌, []}
 use Rattle.recovery_history.specs.History.{queue_model}
+use Rattle.recovery_sender.specs.Calls.{after_event}
 use Rattle.recovery_sender.specs.Senders.{state_in}
+use Rattle.recovery_sender.specs.Steps.{told}
+use Rattle.recovery_sender.proofs.EventLaws.{event_answered, path_changed}
 use Rattle.recovery_sender.proofs.TimerKeptLaws.{event_left}
-use Rattle.recovery_sender.proofs.StepLaws.{does_event}
+use Rattle.recovery_sender.proofs.StepLaws.{does_behind_with, told_changes}
 use Rattle.recovery_sender.proofs.sender.Sender.on_event.Goals as goal
+
+pub returns-then-changes_path : goal.returns-then-changes_path
+returns-then-changes_path g c = rw (← c.backdate.ensures) (path_changed c.backdate.new.event c.args.self.now _
+    c.if-changes_path.ensures c.change_path.result c.change_path.ensures)
 
 pub returns-in-Ok : goal.returns-in-Ok
 returns-in-Ok g c =
-    rw (← c.backdate.ensures) (does_event _ _ _ _ _ _ c.in-Ok.ensures.changes c.in-Ok.ensures.extends
-    (rw (c.to_send-time.ensures, c.elicits_in-elicits.ensures) at c.goes_on.ensures))
+    rw (← c.backdate.ensures) (event_answered c.backdate.new.event c.args.self.now _ c.if-changes_path.ensures
+    c.in-Ok.answer (does_behind_with (after_event c.backdate.new.event c.in-Ok.answer)
+    (told c.backdate.new.event (Ok c.in-Ok.answer) ∷ []) c.args.self.now _ _ c.in-Ok.ensures
+    (rw (c.to_send-time.ensures, c.elicits_in-elicits.ensures) at c.goes_on.ensures)))
 
 pub goes_on-requires : goal.goes_on-requires
 goes_on-requires g c = λ was. let known = c.is_left_by-was_timed.ensures in
-    rw (c.to_send-time.ensures, c.elicits_in-elicits.ensures) (event_left
+    rw (c.to_send-time.ensures, c.elicits_in-elicits.ensures, c.in-Ok.ensures.variables) (event_left
     (queue_model g.Q.RetransmitQueue.contents g.Q.RetransmitQueue.words g.Q.RetransmitQueue.blank)
     c.args.self.now.variables (state_in c.args.self.now) _ c.backdate.new.event c.in-Ok.answer (known.leaves was)
-    c.in-Ok.ensures.changes (known.timed was))
+    (told_changes _ _ _ _ c.in-Ok.ensures) (known.timed was))
 
 pub returns-in-Err : goal.returns-in-Err
-returns-in-Err g c = rw (← c.backdate.ensures) record {
-  leads = (_, c.in-Err.ensures.changes, c.in-Err.ensures.extends, refl);
-  variables = refl;
-}
+returns-in-Err g c = rw (← c.backdate.ensures) c.in-Err.ensures

@@ -1,4 +1,4 @@
-use Rattle.recovery_sender.proofs.AckedLaws.{acked_answered, acked_on, still_tracked}
+use Rattle.recovery_sender.proofs.AckedLaws.{acked_answered, acked_on, largest_on, still_tracked}
 use Rattle.recovery_sender.proofs.LeadLaws.{occurred}
 use Rattle.recovery_sender.proofs.sender.Sender.tell_acked.Goals as goal
 
@@ -18,4 +18,10 @@ loop-number-preserved g c =
     let on = acked_on c.args.space c.args.now c.args.app_limited c.args.numbers.now c.args.self.now c.loop-number.self
     c.loop-number.number-index c.loop-number-test.true c.requires.tracked c.requires.rising i.packets c.tell.new.self
     i.goes (occurred _ _ _ _ c.tell.ensures) in
-    record { goes = on.0; packets = on.1 }
+    record {
+      goes = on.0;
+      packets = on.1;
+      largest = largest_on c.args.space c.args.now c.args.app_limited c.args.numbers.now c.args.self.now
+          c.loop-number.self c.loop-number.number-index c.loop-number-test.true c.requires.tracked c.requires.rising
+          i.packets c.tell.new.self (occurred _ _ _ _ c.tell.ensures) i.largest;
+    }

@@ -1,6 +1,0 @@
-use Rattle.std.proofs.Common.{refl}
-use Rattle.recovery_sender.proofs.StepLaws.{does_as}
-use Rattle.recovery_sender.proofs.sender.Sender.time_out.Goals as goal
-
-pub returns : goal.returns
-returns g c = does_as _ _ _ _ _ refl c.timed_out-self.ensures c.set_loss_detection_timer.ensures
