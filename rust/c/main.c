@@ -4,7 +4,7 @@
 #include <stdio.h>
 
 static void tell(struct recovery_handle *recovery) {
-    struct recovery_pathview path = recovery_ffi_path(recovery, false);
+    struct recovery_path_view path = recovery_ffi_path(recovery, false);
     printf("window %" PRIu64 ", in flight %" PRIu64 " bytes, MTU %u\n", path.window, path.in_flight, path.mtu);
 }
 
@@ -18,12 +18,12 @@ int main(void) {
         return 1;
     }
     uint64_t items[2] = {7, 8};
-    struct recovery_encodedreply sent = recovery_ffi_send(&recovery, RECOVERY_SPACE_DATA, 0, 1200, true, false, 0, items, 2);
+    struct recovery_encoded_reply sent = recovery_ffi_send(&recovery, RECOVERY_SPACE_DATA, 0, 1200, true, false, 0, items, 2);
     printf("sent %d, as number %" PRIu64 "\n", sent.kind == RECOVERY_ANSWER_SENT, sent.first);
     tell(&recovery);
-    struct recovery_encodedreply lost = recovery_ffi_lost(&recovery, RECOVERY_SPACE_DATA, sent.first);
+    struct recovery_encoded_reply lost = recovery_ffi_lost(&recovery, RECOVERY_SPACE_DATA, sent.first);
     printf("lost %d\n", lost.kind == RECOVERY_ANSWER_LOST);
-    struct recovery_encodedreply again = recovery_ffi_lost(&recovery, RECOVERY_SPACE_DATA, sent.first);
+    struct recovery_encoded_reply again = recovery_ffi_lost(&recovery, RECOVERY_SPACE_DATA, sent.first);
     printf("lost again: refused %d, by number %u\n", again.kind == RECOVERY_ANSWER_REFUSED, again.refusal);
     if (recovery_ffi_take_pending(&recovery, RECOVERY_SPACE_DATA).kind == RECOVERY_ANSWER_QUEUE) {
         uint64_t taken[8];

@@ -18,10 +18,10 @@ public:
     Recovery &operator=(const Recovery &) = delete;
     ~Recovery() { recovery_ffi_drop(&handle); }
 
-    recovery_encodedreply received(std::uint64_t now, std::uint64_t number) {
+    recovery_encoded_reply received(std::uint64_t now, std::uint64_t number) {
         return recovery_ffi_received(&handle, RECOVERY_SPACE_DATA, now, number, true);
     }
-    recovery_spaceview space() { return recovery_ffi_space(&handle, RECOVERY_SPACE_DATA); }
+    recovery_space_view space() { return recovery_ffi_space(&handle, RECOVERY_SPACE_DATA); }
 
 private:
     recovery_handle handle{};

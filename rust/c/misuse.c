@@ -12,7 +12,7 @@ static void expect(const char *what, bool holds) {
     }
 }
 
-static void refused(const char *what, struct recovery_encodedreply reply, unsigned refusal) {
+static void refused(const char *what, struct recovery_encoded_reply reply, unsigned refusal) {
     expect(what, reply.kind == RECOVERY_ANSWER_REFUSED && reply.refusal == refusal);
 }
 
@@ -83,6 +83,8 @@ static void nothing(struct recovery_handle *none) {
     expect("no timer", !recovery_ffi_timer(none, 0).some && !recovery_ffi_next_id_timeout(none).some);
     expect("no ids", recovery_ffi_ids(none).issued == 0);
     expect("nothing was taken", recovery_ffi_last_items(none, out, 1) == 0 && out[0] == 9);
+    struct recovery_tracked_view tracked = recovery_ffi_tracked(none, RECOVERY_SPACE_DATA);
+    expect("nothing is tracked", tracked.packets == 0 && !tracked.has_loss_time);
     uint8_t token[16] = {1}, zeros[16] = {0};
     expect("no token", !recovery_ffi_is_token(none, zeros));
     recovery_ffi_token(none, token);
@@ -93,14 +95,14 @@ static void nothing(struct recovery_handle *none) {
 // Calls of a sender where a recovery stands alone, and events that a sender decides itself.
 static void senders(struct recovery_handle *alone) {
     const unsigned none = RECOVERY_REFUSAL_NO_SENDER, bad = RECOVERY_REFUSAL_BAD_ARGUMENT;
-    const struct recovery_ackframe frame = {0}, slow = {.delay_nanos = 1000000000};
-    const struct recovery_ackrange range = {.first = 0, .last = 0};
+    const struct recovery_ack_frame frame = {0}, slow = {.delay_nanos = 1000000000};
+    const struct recovery_ack_range range = {.first = 0, .last = 0};
     refused("a datagram", recovery_ffi_sender_transmit(alone, 0, 1200, 2, true), none);
     refused("an ACK", recovery_ffi_sender_ack(alone, 2, 0, &frame, &range, 1), none);
     refused("a timeout", recovery_ffi_sender_on_timeout(alone, 0), none);
     refused("a probe", recovery_ffi_sender_probe(alone, 2, false), none);
     refused("a discarded space", recovery_ffi_sender_discard(alone, 0, 0), none);
-    refused("an abandoned space", recovery_ffi_sender_abandon(alone, 0, 0), none);
+    refused("all packets of a space", recovery_ffi_sender_retransmit_all(alone, 0, 0), none);
     refused("keys", recovery_ffi_sender_handshake_keys(alone), none);
     refused("a delay", recovery_ffi_sender_peer_delay(alone, 1, 0), none);
     expect("no probe timeout", recovery_ffi_pto_count(alone) == 0);
@@ -138,7 +140,7 @@ int main(void) {
     expect("none is made over it", made(&recovery, recovery_ffi_default_settings(), 8) == RECOVERY_NEW_HELD);
     arguments(&recovery);
     senders(&recovery);
-    struct recovery_encodedreply sent = recovery_ffi_send(&recovery, RECOVERY_SPACE_DATA, 0, 100, true, false, 0, NULL, 0);
+    struct recovery_encoded_reply sent = recovery_ffi_send(&recovery, RECOVERY_SPACE_DATA, 0, 100, true, false, 0, NULL, 0);
     expect("the first packet goes out after all that", sent.kind == RECOVERY_ANSWER_SENT && sent.first == 0);
     recovery_ffi_drop(&recovery);
     expect("nothing is held then", recovery.ptr == NULL);

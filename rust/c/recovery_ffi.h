@@ -62,6 +62,8 @@ enum recovery_answer {
     RECOVERY_ANSWER_LOSSES = 131,
     // Probes are to be sent.
     RECOVERY_ANSWER_PROBES = 132,
+    // The caller has too little room for what an ACK frame results in: nothing is done.
+    RECOVERY_ANSWER_NEEDS_ROOM = 133,
     // The event is refused. It lies far from the answers, so that further ones do not move it.
     RECOVERY_ANSWER_REFUSED = 255,
 };
@@ -252,7 +254,7 @@ struct recovery_id {
 };
 
 // The congestion window of the path in use, in bytes.
-struct recovery_windowview {
+struct recovery_window_view {
     // How many bytes may be in flight (RFC 9002, 7); 0 where there is no recovery.
     uint64_t window;
     // How many are (RFC 9002, B.2).
@@ -260,12 +262,23 @@ struct recovery_windowview {
 };
 
 // The round-trip time of the path in use, in nanoseconds, which stop at `u64::MAX`.
-struct recovery_rttview {
+struct recovery_rtt_view {
     // The best estimate: the smoothed one, or the initial one before the first sample (RFC 9002, 5.3); 0 where there
     // is no recovery.
     uint64_t rtt;
     // The probe timeout without the peer's delay of ACKs (RFC 9002, 6.2.1).
     uint64_t pto_base;
+};
+
+// What a packet number space tracks.
+struct recovery_tracked_view {
+    // How many packets; 0 if there is no such space, or if it is discarded.
+    uint64_t packets;
+    // When a sender declares the next of them lost by its age, in nanoseconds (RFC 9002, 6.1.2 and A.3); 0 if there is
+    // no such time.
+    uint64_t loss_time;
+    // Whether there is such a time.
+    bool has_loss_time;
 };
 
 // What a caller holds a recovery by. It begins as all zeros, which holds none; from then on it is the library's own.
@@ -296,7 +309,7 @@ struct recovery_marks {
 };
 
 // What is known of an MTU.
-struct recovery_mtuview {
+struct recovery_mtu_view {
     // The number of the probe in flight, where there is one; otherwise 0.
     uint64_t probe;
     // The MTU in use, in bytes.
@@ -311,7 +324,7 @@ struct recovery_mtuview {
 
 // What a caller holds an MTU discovery by. It begins as all zeros, which holds none; from then on it is the library's
 // own.
-struct recovery_mtuhandle {
+struct recovery_mtu_handle {
     void *ptr;
     bool holds;
 };
@@ -331,7 +344,7 @@ struct recovery_bucket {
 };
 
 // What an ACK frame says beside its ranges, and what the stack knows at its arrival.
-struct recovery_ackframe {
+struct recovery_ack_frame {
     // How long the peer says that it delayed the ACK, in whole seconds.
     uint64_t delay_secs;
     // The count of ECT(0), where the frame has counts (RFC 9000, 19.3.2).
@@ -340,24 +353,32 @@ struct recovery_ackframe {
     uint64_t ect1;
     // The count of ECN-CE.
     uint64_t ce;
+    // If `is_limited`: how many words of `recovery_ffi_told_packets` the caller has room for.
+    uint64_t packets_room;
+    // If `is_limited`: how many lost numbers of `recovery_ffi_told_numbers` it has room for.
+    uint64_t lost_room;
     // The nanoseconds of that delay beside its seconds, below 10^9.
     uint32_t delay_nanos;
     // Whether the frame has counts of ECN.
     bool has_ecn;
     // Whether the sender had too little to send to fill its window (RFC 9002, 7.8).
     bool app_limited;
+    // Whether the frame is taken only if the caller has room for all that it may read of the outcome. If not, the
+    // caller reads the outcome in its own time.
+    bool is_limited;
 };
 
 // A range of numbers that an ACK frame acknowledges (RFC 9000, 19.3.1).
-struct recovery_ackrange {
+struct recovery_ack_range {
     // The first number.
     uint64_t first;
     // The last number.
     uint64_t last;
 };
 
-// What was told last: of an ACK frame, of a timeout that found losses, or of an abandoned space.
-struct recovery_outcomeview {
+// The last outcome: of an ACK frame, of a timeout that searched for losses, or of a space whose packets were all
+// declared lost.
+struct recovery_outcome_view {
     // How many numbers the frame newly acknowledged; else 0.
     uint64_t acked;
     // How many numbers were found lost, without that of the MTU's probe.
@@ -376,6 +397,9 @@ struct recovery_outcomeview {
     bool is_persistent;
     // Whether a black hole was reported (RFC 8899, 4.3).
     bool is_black_hole;
+    // Whether allocation failed for a lost packet, which is then still tracked: the next timeout, or the same call for
+    // the space, declares it lost.
+    bool is_cut;
 };
 
 // The settings: times are in nanoseconds, and sizes in bytes.
@@ -438,31 +462,32 @@ struct recovery_settings {
 };
 
 // What an event was replied, in numbers.
-struct recovery_encodedreply {
+struct recovery_encoded_reply {
     // Which answer, or that it was refused.
     uint8_t kind;
     // The number of the refusal, or 0; of one by ECN `first` is the number of the fault.
     uint8_t refusal;
     // New: whether to start the timer for a late ACK. Sent: whether a silent packet was forgotten for it. Acked, lost:
     // whether it was the probe of the path's MTU. Retire: whether numbers are to be retired. Flag: yes or no. Timeout:
-    // whether a timer is set. Black hole: whether one was reported. Sendable: whether an ACK is to be sent. Otherwise
-    // false.
+    // whether a timer is set. Black hole: whether one was reported. Sendable: whether an ACK is to be sent.
+    // Acknowledged: whether the outcome has more than the two numbers. Otherwise false.
     bool flag;
     // Sendable: whether there is something else to be sent. Otherwise false.
     bool other;
     // Probe: its size in bytes. Otherwise 0.
     uint16_t size;
     // Sent, probe: the number that it was given. Retire: the first number. Timeout, delayed: the moment, in
-    // nanoseconds. In flight: the bytes. Acknowledged: how many numbers are so newly. Losses of a timeout, probes: the
-    // space. Otherwise 0.
+    // nanoseconds. In flight: the bytes. Acknowledged: how many numbers are so newly. Needs room: how many words of
+    // packets. Losses of a timeout, probes: the space. Otherwise 0.
     uint64_t first;
     // Sent: the number that was forgotten. Retire: one above the last number. In flight: how many packets elicit an
-    // ACK. Acknowledged: how many numbers are lost. Probes: how many are due. Otherwise 0.
+    // ACK. Acknowledged: how many numbers are lost. Needs room: how many lost numbers. Probes: how many are due.
+    // Otherwise 0.
     uint64_t second;
 };
 
 // What is kept for a path: times in nanoseconds, which stop at `u64::MAX`, and sizes in bytes.
-struct recovery_pathview {
+struct recovery_path_view {
     // How many bytes may be in flight (RFC 9002, 7).
     uint64_t window;
     // The bytes in flight (RFC 9002, B.2).
@@ -503,7 +528,7 @@ struct recovery_pathview {
 };
 
 // What a packet number space has to send, and what is to be acknowledged in it.
-struct recovery_spaceview {
+struct recovery_space_view {
     // The largest packet number received; 0 before the first.
     uint64_t largest_received;
     // How many ranges of numbers are to be acknowledged.
@@ -519,7 +544,7 @@ struct recovery_spaceview {
 };
 
 // A range of numbers, from the first to one above the last.
-struct recovery_rangeview {
+struct recovery_range_view {
     // The first number.
     uint64_t start;
     // One above the last number.
@@ -529,7 +554,7 @@ struct recovery_rangeview {
 };
 
 // A moment, or a span, if there is one.
-struct recovery_timeview {
+struct recovery_time_view {
     // In nanoseconds.
     uint64_t nanos;
     // Whether there is one; if not, all else is 0.
@@ -537,7 +562,7 @@ struct recovery_timeview {
 };
 
 // The ids of both ends, and how late ACKs may be.
-struct recovery_idsview {
+struct recovery_ids_view {
     // The number of the peer's id in use.
     uint64_t active;
     // How many ids this end has issued.
@@ -558,28 +583,28 @@ uint8_t recovery_ffi_new(struct recovery_handle *handle, const struct recovery_s
 void recovery_ffi_drop(struct recovery_handle *handle);
 
 // An ACK_FREQUENCY frame came in: the event `AckFrequencyIn`; its numbers lie below 2^62.
-struct recovery_encodedreply recovery_ffi_ack_frequency(struct recovery_handle *handle, uint64_t sequence, uint64_t threshold, uint64_t micros, uint64_t reordering);
+struct recovery_encoded_reply recovery_ffi_ack_frequency(struct recovery_handle *handle, uint64_t sequence, uint64_t threshold, uint64_t micros, uint64_t reordering);
 
 // An ACK frame was sent (RFC 9000, 13.2.1): the event `AcksSent`.
-struct recovery_encodedreply recovery_ffi_acks_sent(struct recovery_handle *handle, uint8_t space);
+struct recovery_encoded_reply recovery_ffi_acks_sent(struct recovery_handle *handle, uint8_t space);
 
 // The timer for a late ACK expired: the event `AckDelayTimeout`.
-struct recovery_encodedreply recovery_ffi_ack_delay_timeout(struct recovery_handle *handle, uint8_t space);
+struct recovery_encoded_reply recovery_ffi_ack_delay_timeout(struct recovery_handle *handle, uint8_t space);
 
 // Is a probe of the MTU due (RFC 9000, 14.3)? The event `PollMtu`.
-struct recovery_encodedreply recovery_ffi_poll_mtu(struct recovery_handle *handle, uint64_t now);
+struct recovery_encoded_reply recovery_ffi_poll_mtu(struct recovery_handle *handle, uint64_t now);
 
 // The peer takes datagrams of at most so many bytes (RFC 9000, 18.2): the event `PeerLimit`.
-struct recovery_encodedreply recovery_ffi_peer_limit(struct recovery_handle *handle, uint16_t size);
+struct recovery_encoded_reply recovery_ffi_peer_limit(struct recovery_handle *handle, uint16_t size);
 
 // All packets that were found lost together were told: the event `LossesDone`.
-struct recovery_encodedreply recovery_ffi_losses_done(struct recovery_handle *handle, uint64_t now);
+struct recovery_encoded_reply recovery_ffi_losses_done(struct recovery_handle *handle, uint64_t now);
 
 // Window and bytes in flight of the path in use.
-struct recovery_windowview recovery_ffi_window(struct recovery_handle *handle);
+struct recovery_window_view recovery_ffi_window(struct recovery_handle *handle);
 
 // The round-trip time of the path in use.
-struct recovery_rttview recovery_ffi_rtt(struct recovery_handle *handle);
+struct recovery_rtt_view recovery_ffi_rtt(struct recovery_handle *handle);
 
 // The number of the peer's id in use (RFC 9000, 5.1.1); 0 where there is no recovery.
 uint64_t recovery_ffi_active_id(struct recovery_handle *handle);
@@ -587,23 +612,26 @@ uint64_t recovery_ffi_active_id(struct recovery_handle *handle);
 // Whether a packet that counts in flight is tracked in a space (RFC 9002, 2), by whichever path it went.
 bool recovery_ffi_has_in_flight(struct recovery_handle *handle, uint8_t space);
 
+// How many packets a space tracks, and when a sender declares the next of them lost by its age.
+struct recovery_tracked_view recovery_ffi_tracked(struct recovery_handle *handle, uint8_t space);
+
 // A NEW_CONNECTION_ID frame came in (RFC 9000, 19.15): the event `NewId`; an id has at most 20 bytes.
-struct recovery_encodedreply recovery_ffi_new_id(struct recovery_handle *handle, uint64_t sequence, uint64_t retire_prior_to, const uint8_t *id, size_t id_len, const uint8_t *token);
+struct recovery_encoded_reply recovery_ffi_new_id(struct recovery_handle *handle, uint64_t sequence, uint64_t retire_prior_to, const uint8_t *id, size_t id_len, const uint8_t *token);
 
 // The next id of the peer is to be used: the event `NextId`.
-struct recovery_encodedreply recovery_ffi_next_id(struct recovery_handle *handle);
+struct recovery_encoded_reply recovery_ffi_next_id(struct recovery_handle *handle);
 
 // The server chose another id (RFC 9000, 7.2): the event `InitialId`; an id has at most 20 bytes.
-struct recovery_encodedreply recovery_ffi_initial_id(struct recovery_handle *handle, const uint8_t *id, size_t id_len);
+struct recovery_encoded_reply recovery_ffi_initial_id(struct recovery_handle *handle, const uint8_t *id, size_t id_len);
 
 // This end issues these ids (RFC 9000, 5.1.1): the event `IssueIds`; an id has at most 20 bytes.
-struct recovery_encodedreply recovery_ffi_issue_ids(struct recovery_handle *handle, uint64_t now, const struct recovery_id *given, size_t given_len);
+struct recovery_encoded_reply recovery_ffi_issue_ids(struct recovery_handle *handle, uint64_t now, const struct recovery_id *given, size_t given_len);
 
 // The timer for new ids expired: the event `IdTimeout`.
-struct recovery_encodedreply recovery_ffi_id_timeout(struct recovery_handle *handle);
+struct recovery_encoded_reply recovery_ffi_id_timeout(struct recovery_handle *handle);
 
 // A RETIRE_CONNECTION_ID frame came in (RFC 9000, 19.16): the event `PeerRetired`.
-struct recovery_encodedreply recovery_ffi_peer_retired(struct recovery_handle *handle, uint64_t sequence, uint64_t limit);
+struct recovery_encoded_reply recovery_ffi_peer_retired(struct recovery_handle *handle, uint64_t sequence, uint64_t limit);
 
 // Writes the bytes of the token that was answered last; all zeros before there was one, and where no recovery is held.
 void recovery_ffi_token(struct recovery_handle *handle, uint8_t *out);
@@ -621,38 +649,38 @@ bool recovery_ffi_set_marks(struct recovery_handle *handle, bool previous, const
 // Makes an MTU discovery, as a path of these settings has it: by `initial_mtu`, `min_mtu`, `allow_mtud` and what they
 // say of the search. The peer takes datagrams of at most `limit` bytes; 0 says that it did not tell. The answer is
 // `RECOVERY_NEW_MADE`, or the number of what is wrong; the handle then holds what it held.
-uint8_t recovery_ffi_mtu_new(struct recovery_mtuhandle *mtu, const struct recovery_settings *settings, uint16_t limit);
+uint8_t recovery_ffi_mtu_new(struct recovery_mtu_handle *mtu, const struct recovery_settings *settings, uint16_t limit);
 
 // Frees a discovery. The handle holds none then; one that holds none stays so.
-void recovery_ffi_mtu_drop(struct recovery_mtuhandle *mtu);
+void recovery_ffi_mtu_drop(struct recovery_mtu_handle *mtu);
 
 // What is known.
-struct recovery_mtuview recovery_ffi_mtu(struct recovery_mtuhandle *mtu);
+struct recovery_mtu_view recovery_ffi_mtu(struct recovery_mtu_handle *mtu);
 
 // Is a probe due? Its size is that of the answer (`RECOVERY_ANSWER_PROBE`, otherwise `RECOVERY_ANSWER_NO_PROBE`), and it is sent as the
 // packet of this number.
-struct recovery_encodedreply recovery_ffi_mtu_poll(struct recovery_mtuhandle *mtu, uint64_t now, uint64_t number);
+struct recovery_encoded_reply recovery_ffi_mtu_poll(struct recovery_mtu_handle *mtu, uint64_t now, uint64_t number);
 
 // The peer takes datagrams of at most so many bytes. Refused where they are none, and while a search runs: the limit
 // is told before the first poll.
-struct recovery_encodedreply recovery_ffi_mtu_limit(struct recovery_mtuhandle *mtu, uint16_t size);
+struct recovery_encoded_reply recovery_ffi_mtu_limit(struct recovery_mtu_handle *mtu, uint16_t size);
 
 // A packet of so many bytes was acknowledged (`RECOVERY_ANSWER_ACKED`): the flag says whether it was the probe in flight, whose
 // size is then the MTU.
-struct recovery_encodedreply recovery_ffi_mtu_acked(struct recovery_mtuhandle *mtu, uint64_t number, uint16_t bytes);
+struct recovery_encoded_reply recovery_ffi_mtu_acked(struct recovery_mtu_handle *mtu, uint64_t number, uint16_t bytes);
 
 // The probe in flight was lost. Where none is, nothing changes.
-struct recovery_encodedreply recovery_ffi_mtu_probe_lost(struct recovery_mtuhandle *mtu);
+struct recovery_encoded_reply recovery_ffi_mtu_probe_lost(struct recovery_mtu_handle *mtu);
 
 // A packet of so many bytes was lost that is no probe in flight. Numbers of one moment are told upward, and then
 // `recovery_ffi_mtu_losses_done`.
-struct recovery_encodedreply recovery_ffi_mtu_lost(struct recovery_mtuhandle *mtu, uint64_t number, uint16_t bytes);
+struct recovery_encoded_reply recovery_ffi_mtu_lost(struct recovery_mtu_handle *mtu, uint64_t number, uint16_t bytes);
 
 // All losses of a moment were told: the flag says whether they are a black hole, which leaves the least MTU.
-struct recovery_encodedreply recovery_ffi_mtu_losses_done(struct recovery_mtuhandle *mtu, uint64_t now);
+struct recovery_encoded_reply recovery_ffi_mtu_losses_done(struct recovery_mtu_handle *mtu, uint64_t now);
 
 // All begins anew, with these sizes; refused where one is zero. The peer's limit stays.
-struct recovery_encodedreply recovery_ffi_mtu_reset(struct recovery_mtuhandle *mtu, uint16_t size, uint16_t least);
+struct recovery_encoded_reply recovery_ffi_mtu_reset(struct recovery_mtu_handle *mtu, uint16_t size, uint16_t least);
 
 // A full bucket at the moment `now`, by the RTT (nanoseconds), the congestion window and the MTU (bytes). Of a window
 // or an MTU of 0 it is all zeros, which is none.
@@ -660,102 +688,102 @@ struct recovery_bucket recovery_ffi_pacer(uint64_t rtt, uint64_t window, uint16_
 
 // A packet of so many bytes was sent (`RECOVERY_ANSWER_TRANSMITTED`): it takes tokens, as far as they go. Refused where the
 // bucket is none.
-struct recovery_encodedreply recovery_ffi_pacer_transmit(struct recovery_bucket *bucket, uint16_t bytes);
+struct recovery_encoded_reply recovery_ffi_pacer_transmit(struct recovery_bucket *bucket, uint16_t bytes);
 
 // May so many bytes be sent at the moment `now` (`RECOVERY_ANSWER_READY`), or when is it to be asked again (`RECOVERY_ANSWER_DELAYED`)?
 // By the RTT (nanoseconds), the MTU and the congestion window (bytes) of that moment. Refused where the window or the
 // MTU is 0, or the bucket is none.
-struct recovery_encodedreply recovery_ffi_pacer_delay(struct recovery_bucket *bucket, uint64_t rtt, uint64_t bytes, uint16_t mtu, uint64_t window, uint64_t now);
+struct recovery_encoded_reply recovery_ffi_pacer_delay(struct recovery_bucket *bucket, uint64_t rtt, uint64_t bytes, uint16_t mtu, uint64_t window, uint64_t now);
 
 // A packet came in (RFC 9000, 12.3): the event `Received`.
-struct recovery_encodedreply recovery_ffi_received(struct recovery_handle *handle, uint8_t space, uint64_t now, uint64_t number, bool ack_eliciting);
+struct recovery_encoded_reply recovery_ffi_received(struct recovery_handle *handle, uint8_t space, uint64_t now, uint64_t number, bool ack_eliciting);
 
 // A packet with these items goes out (RFC 9002, A.5): the event `Send`.
-struct recovery_encodedreply recovery_ffi_send(struct recovery_handle *handle, uint8_t space, uint64_t now, uint16_t size, bool ack_eliciting, bool has_largest, uint64_t largest, const uint64_t *items, size_t items_len);
+struct recovery_encoded_reply recovery_ffi_send(struct recovery_handle *handle, uint8_t space, uint64_t now, uint16_t size, bool ack_eliciting, bool has_largest, uint64_t largest, const uint64_t *items, size_t items_len);
 
 // A packet that was sent is acknowledged (RFC 9002, A.7): the event `Acked`.
-struct recovery_encodedreply recovery_ffi_acked(struct recovery_handle *handle, uint8_t space, uint64_t now, uint64_t number, bool app_limited);
+struct recovery_encoded_reply recovery_ffi_acked(struct recovery_handle *handle, uint8_t space, uint64_t now, uint64_t number, bool app_limited);
 
 // A packet that was sent is declared lost (RFC 9002, A.10): the event `Lost`.
-struct recovery_encodedreply recovery_ffi_lost(struct recovery_handle *handle, uint8_t space, uint64_t number);
+struct recovery_encoded_reply recovery_ffi_lost(struct recovery_handle *handle, uint8_t space, uint64_t number);
 
 // The keys of a space are dropped (RFC 9002, 6.4): the event `DiscardSpace`.
-struct recovery_encodedreply recovery_ffi_discard(struct recovery_handle *handle, uint8_t space);
+struct recovery_encoded_reply recovery_ffi_discard(struct recovery_handle *handle, uint8_t space);
 
 // How many items the queue that was taken last has; they are written where there is room for all. None, before one was
 // taken.
 size_t recovery_ffi_last_items(struct recovery_handle *handle, uint64_t *out, size_t out_len);
 
 // What is in flight on a path? The event `InFlight`.
-struct recovery_encodedreply recovery_ffi_in_flight(struct recovery_handle *handle, bool previous);
+struct recovery_encoded_reply recovery_ffi_in_flight(struct recovery_handle *handle, bool previous);
 
 // A sample of the round-trip time (RFC 9002, 5): the event `Sample`; nanoseconds are below 10^9.
-struct recovery_encodedreply recovery_ffi_sample(struct recovery_handle *handle, uint64_t delay_secs, uint32_t delay_nanos, uint64_t rtt_secs, uint32_t rtt_nanos);
+struct recovery_encoded_reply recovery_ffi_sample(struct recovery_handle *handle, uint64_t delay_secs, uint32_t delay_nanos, uint64_t rtt_secs, uint32_t rtt_nanos);
 
 // A datagram came in on a path (RFC 9000, 8.1): the event `DatagramIn`.
-struct recovery_encodedreply recovery_ffi_datagram_in(struct recovery_handle *handle, bool previous, uint64_t bytes);
+struct recovery_encoded_reply recovery_ffi_datagram_in(struct recovery_handle *handle, bool previous, uint64_t bytes);
 
 // The peer was seen to receive at the address of a path (RFC 9000, 8): the event `Validated`.
-struct recovery_encodedreply recovery_ffi_validated(struct recovery_handle *handle, bool previous);
+struct recovery_encoded_reply recovery_ffi_validated(struct recovery_handle *handle, bool previous);
 
 // A datagram is to be transmitted on the current path: the event `Transmit`.
-struct recovery_encodedreply recovery_ffi_transmit(struct recovery_handle *handle, uint64_t now, uint16_t bytes, bool checked);
+struct recovery_encoded_reply recovery_ffi_transmit(struct recovery_handle *handle, uint64_t now, uint16_t bytes, bool checked);
 
 // May so many bytes be transmitted (RFC 9002, 7.7)? The event `PacerCheck`.
-struct recovery_encodedreply recovery_ffi_pacer_check(struct recovery_handle *handle, uint64_t now, uint64_t bytes);
+struct recovery_encoded_reply recovery_ffi_pacer_check(struct recovery_handle *handle, uint64_t now, uint64_t bytes);
 
 // Packets of the current path were lost, or marked (RFC 9002, 7.3): the event `Congestion`.
-struct recovery_encodedreply recovery_ffi_congestion(struct recovery_handle *handle, uint64_t now, uint64_t sent, bool persistent, uint64_t bytes);
+struct recovery_encoded_reply recovery_ffi_congestion(struct recovery_handle *handle, uint64_t now, uint64_t sent, bool persistent, uint64_t bytes);
 
 // All packets that one ACK newly acknowledges were told: the event `EndAcks`.
-struct recovery_encodedreply recovery_ffi_end_acks(struct recovery_handle *handle, uint64_t now, bool app_limited, bool has_largest, uint64_t largest);
+struct recovery_encoded_reply recovery_ffi_end_acks(struct recovery_handle *handle, uint64_t now, bool app_limited, bool has_largest, uint64_t largest);
 
 // Another path is used from now on (RFC 9000, 9.3): the event `NewPath`.
-struct recovery_encodedreply recovery_ffi_new_path(struct recovery_handle *handle, uint64_t now, const struct recovery_address *remote, bool fresh);
+struct recovery_encoded_reply recovery_ffi_new_path(struct recovery_handle *handle, uint64_t now, const struct recovery_address *remote, bool fresh);
 
 // The current path begins anew (RFC 9000, 9.4): the event `ResetPath`.
-struct recovery_encodedreply recovery_ffi_reset_path(struct recovery_handle *handle, uint64_t now);
+struct recovery_encoded_reply recovery_ffi_reset_path(struct recovery_handle *handle, uint64_t now);
 
 // The previous path is dropped (RFC 9000, 9.3.3): the event `DropPrevious`.
-struct recovery_encodedreply recovery_ffi_drop_previous(struct recovery_handle *handle);
+struct recovery_encoded_reply recovery_ffi_drop_previous(struct recovery_handle *handle);
 
 // The previous path is used again, and the current one is dropped (RFC 9000, 9.3.2): the event `RevertPath`.
-struct recovery_encodedreply recovery_ffi_revert_path(struct recovery_handle *handle);
+struct recovery_encoded_reply recovery_ffi_revert_path(struct recovery_handle *handle);
 
 // The counts of ECN of an ACK frame (RFC 9000, 13.4.2): the event `Ecn`.
-struct recovery_encodedreply recovery_ffi_ecn(struct recovery_handle *handle, uint8_t space, uint64_t newly_acked, uint64_t ect0, uint64_t ect1, uint64_t ce);
+struct recovery_encoded_reply recovery_ffi_ecn(struct recovery_handle *handle, uint8_t space, uint64_t newly_acked, uint64_t ect0, uint64_t ect1, uint64_t ce);
 
 // An ACK frame acknowledges a range of numbers (RFC 9000, 13.1): the event `CheckAck`.
-struct recovery_encodedreply recovery_ffi_check_ack(struct recovery_handle *handle, uint8_t space, uint64_t low, uint64_t high);
+struct recovery_encoded_reply recovery_ffi_check_ack(struct recovery_handle *handle, uint8_t space, uint64_t low, uint64_t high);
 
 // A probe packet is to be sent (RFC 9002, 6.2.4): the event `QueueProbe`.
-struct recovery_encodedreply recovery_ffi_queue_probe(struct recovery_handle *handle, uint8_t space, bool immediate_ack);
+struct recovery_encoded_reply recovery_ffi_queue_probe(struct recovery_handle *handle, uint8_t space, bool immediate_ack);
 
 // What waits to be sent again is handed out, to be read by `recovery_ffi_last_items`: the event `TakePending`.
-struct recovery_encodedreply recovery_ffi_take_pending(struct recovery_handle *handle, uint8_t space);
+struct recovery_encoded_reply recovery_ffi_take_pending(struct recovery_handle *handle, uint8_t space);
 
 // What is kept for a path.
-struct recovery_pathview recovery_ffi_path(struct recovery_handle *handle, bool previous);
+struct recovery_path_view recovery_ffi_path(struct recovery_handle *handle, bool previous);
 
 // What a space has to send; of one that there is not what is said of a discarded one.
-struct recovery_spaceview recovery_ffi_space(struct recovery_handle *handle, uint8_t space);
+struct recovery_space_view recovery_ffi_space(struct recovery_handle *handle, uint8_t space);
 
 // One of the ranges of numbers that are to be acknowledged in a space, in ascending order.
-struct recovery_rangeview recovery_ffi_range(struct recovery_handle *handle, uint8_t space, size_t index);
+struct recovery_range_view recovery_ffi_range(struct recovery_handle *handle, uint8_t space, size_t index);
 
 // How long ago the largest packet of a space came, which an ACK frame tells (RFC 9000, 13.2.5): zero before the first,
 // none where there is no such space or it is discarded.
-struct recovery_timeview recovery_ffi_ack_delay(struct recovery_handle *handle, uint8_t space, uint64_t now);
+struct recovery_time_view recovery_ffi_ack_delay(struct recovery_handle *handle, uint8_t space, uint64_t now);
 
 // When a timer expires.
-struct recovery_timeview recovery_ffi_timer(struct recovery_handle *handle, uint8_t timer);
+struct recovery_time_view recovery_ffi_timer(struct recovery_handle *handle, uint8_t timer);
 
 // The ids of both ends, and how late ACKs may be.
-struct recovery_idsview recovery_ffi_ids(struct recovery_handle *handle);
+struct recovery_ids_view recovery_ffi_ids(struct recovery_handle *handle);
 
 // When the oldest of this end's ids is to be retired (RFC 9000, 5.1.2), where they end: what `RECOVERY_TIMER_PUSH_NEW_CID` is
 // set to.
-struct recovery_timeview recovery_ffi_next_id_timeout(struct recovery_handle *handle);
+struct recovery_time_view recovery_ffi_next_id_timeout(struct recovery_handle *handle);
 
 // Makes a recovery of a sender, of the client or else of the server, whose peer is at this address and has this id of
 // at most 20 bytes. A client's first path is validated, whatever the settings say (RFC 9000, 8.1). The answer is
@@ -773,63 +801,67 @@ uint8_t recovery_ffi_sender_established(struct recovery_handle *handle, bool cli
 // 9002, 7); `RECOVERY_ANSWER_DELAYED` by the pacer, until `first` (RFC 9002, 7.7). Where nothing in it counts in flight, or a
 // probe is due in the space, the limit alone is asked. The packets in it are told by `recovery_ffi_send` before the
 // next datagram is asked for. Refused by `RECOVERY_REFUSAL_SPACE_DISCARDED`, then by `RECOVERY_REFUSAL_OVERFLOW`.
-struct recovery_encodedreply recovery_ffi_sender_transmit(struct recovery_handle *handle, uint64_t now, uint16_t bytes, uint8_t space, bool in_flight);
+struct recovery_encoded_reply recovery_ffi_sender_transmit(struct recovery_handle *handle, uint64_t now, uint16_t bytes, uint8_t space, bool in_flight);
 
 // An ACK frame came in (RFC 9002, A.7), with its ranges, the highest first, as on the wire: `RECOVERY_ANSWER_ACKNOWLEDGED`,
-// with how many numbers it newly acknowledges in `first`, how many are found lost in `second`, and in `flag` whether
-// `recovery_ffi_last_outcome` says more than that; `recovery_ffi_told_numbers` says which they are. Refused, and
-// nothing
-// changes, by `RECOVERY_REFUSAL_SPACE_DISCARDED`, by `RECOVERY_REFUSAL_BAD_RANGE` where there is no range, one ends before it begins, or
-// two have no number between them (RFC 9000, 19.3.1), by `RECOVERY_REFUSAL_UNSENT`, by `RECOVERY_REFUSAL_SKIPPED_ACKED` (RFC 9000,
-// 21.4), or by `RECOVERY_REFUSAL_NO_MEMORY`.
-struct recovery_encodedreply recovery_ffi_sender_ack(struct recovery_handle *handle, uint8_t space, uint64_t now, const struct recovery_ackframe *frame, const struct recovery_ackrange *ranges, size_t ranges_len);
+// with how many numbers it newly acknowledges in `first`, how many packets it declares lost in `second`, and in `flag`
+// whether `recovery_ffi_last_outcome` has more than that. `recovery_ffi_told_numbers` and `recovery_ffi_told_packets`
+// say which they are. Nothing changes if the answer is an error: `RECOVERY_REFUSAL_SPACE_DISCARDED`; `RECOVERY_REFUSAL_BAD_RANGE` if
+// there is no range, one ends before it begins, or two have no number between them (RFC 9000, 19.3.1);
+// `RECOVERY_REFUSAL_UNSENT`; `RECOVERY_REFUSAL_SKIPPED_ACKED` (RFC 9000, 21.4); or `RECOVERY_REFUSAL_NO_MEMORY`. Nothing changes either at
+// `RECOVERY_ANSWER_NEEDS_ROOM`: the caller limits its room (`is_limited`), and has too little. `first` is then how many words
+// of packets, and `second` how many lost numbers, it needs room for.
+struct recovery_encoded_reply recovery_ffi_sender_ack(struct recovery_handle *handle, uint8_t space, uint64_t now, const struct recovery_ack_frame *frame, const struct recovery_ack_range *ranges, size_t ranges_len);
 
 // The timer for losses may be due (RFC 9002, A.9): `RECOVERY_ANSWER_NOTHING` if it is not; `RECOVERY_ANSWER_LOSSES` if a space was
 // searched for lost packets, with the space in `first`, and `recovery_ffi_last_outcome` and
 // `recovery_ffi_told_numbers` say which are lost; or `RECOVERY_ANSWER_PROBES`, with the space in `first` and in `second` how
 // many probes are due there, 1 or 2. For each of them the caller asks `recovery_ffi_sender_transmit`, takes its
-// contents by `recovery_ffi_sender_probe`, and sends it by `recovery_ffi_send`. No sender refuses it.
-struct recovery_encodedreply recovery_ffi_sender_on_timeout(struct recovery_handle *handle, uint64_t now);
+// contents by `recovery_ffi_sender_probe`, and sends it by `recovery_ffi_send`. The error is `RECOVERY_REFUSAL_NO_MEMORY`, if
+// there is no room for the numbers of the packets that may be lost; then nothing has changed. A timeout that asks for
+// probes takes no memory.
+struct recovery_encoded_reply recovery_ffi_sender_on_timeout(struct recovery_handle *handle, uint64_t now);
 
 // Hands out what a probe of a space carries (RFC 9002, 6.2.4), to be read by `recovery_ffi_last_items`: what waits
 // there to be sent again, or else the contents of the first packet in flight that has any: `RECOVERY_ANSWER_QUEUE`. A queue
 // without items asks for a PING frame. `immediate_ack` asks for an IMMEDIATE_ACK frame in it. Refused by
 // `RECOVERY_REFUSAL_SPACE_DISCARDED`, then by `RECOVERY_REFUSAL_NO_MEMORY`; then nothing changed.
-struct recovery_encodedreply recovery_ffi_sender_probe(struct recovery_handle *handle, uint8_t space, bool immediate_ack);
+struct recovery_encoded_reply recovery_ffi_sender_probe(struct recovery_handle *handle, uint8_t space, bool immediate_ack);
 
 // The keys of a space are dropped, and with them all that it tracks; probe timeouts are counted anew (RFC 9002, 6.2.2,
 // 6.4 and A.11): `RECOVERY_ANSWER_DONE`. Refused by `RECOVERY_REFUSAL_SPACE_DISCARDED`.
-struct recovery_encodedreply recovery_ffi_sender_discard(struct recovery_handle *handle, uint8_t space, uint64_t now);
+struct recovery_encoded_reply recovery_ffi_sender_discard(struct recovery_handle *handle, uint8_t space, uint64_t now);
 
-// What a space tracks was sent in vain, behind a Retry or where 0-RTT is refused (RFC 9002, 6.3 and 6.4): each packet
-// is lost, which is no congestion, and probe timeouts are counted anew: `RECOVERY_ANSWER_LOSSES`, and
-// `recovery_ffi_told_numbers` says which. Refused by `RECOVERY_REFUSAL_SPACE_DISCARDED`; by `RECOVERY_REFUSAL_NO_MEMORY`, where the same
-// call goes on with what is tracked still.
-struct recovery_encodedreply recovery_ffi_sender_abandon(struct recovery_handle *handle, uint8_t space, uint64_t now);
+// What a space tracks was sent in vain, before a Retry or if 0-RTT is rejected (RFC 9002, 6.3 and 6.4). Each packet is
+// declared lost, which is no congestion, and probe timeouts are counted from zero: `RECOVERY_ANSWER_LOSSES`, and
+// `recovery_ffi_told_numbers` says which. With `is_cut` in `recovery_ffi_last_outcome` allocation failed for some
+// packets, which are still tracked, and the same call goes on with them. The errors are `RECOVERY_REFUSAL_SPACE_DISCARDED` and
+// `RECOVERY_REFUSAL_NO_MEMORY`; then nothing has changed.
+struct recovery_encoded_reply recovery_ffi_sender_retransmit_all(struct recovery_handle *handle, uint8_t space, uint64_t now);
 
 // There are keys of Handshake packets (RFC 9002, A.8): `RECOVERY_ANSWER_DONE`.
-struct recovery_encodedreply recovery_ffi_sender_handshake_keys(struct recovery_handle *handle);
+struct recovery_encoded_reply recovery_ffi_sender_handshake_keys(struct recovery_handle *handle);
 
 // The handshake is confirmed (RFC 9001, 4.1.2): packets of 1-RTT keys are probed for from now on, and a client knows
 // its address validated (RFC 9002, 6.2.1 and 6.2.2.1): `RECOVERY_ANSWER_DONE`.
-struct recovery_encodedreply recovery_ffi_sender_handshake_confirmed(struct recovery_handle *handle);
+struct recovery_encoded_reply recovery_ffi_sender_handshake_confirmed(struct recovery_handle *handle);
 
 // The peer delays its ACKs of 1-RTT packets at most so long (RFC 9000, 18.2: max_ack_delay): `RECOVERY_ANSWER_DONE`. There are
 // fewer than 10^9 nanoseconds.
-struct recovery_encodedreply recovery_ffi_sender_peer_delay(struct recovery_handle *handle, uint64_t secs, uint32_t nanos);
+struct recovery_encoded_reply recovery_ffi_sender_peer_delay(struct recovery_handle *handle, uint64_t secs, uint32_t nanos);
 
 // A PATH_CHALLENGE frame with this content is open on the path in use, where `is_open`, and one is to be sent, where
 // `pending` (RFC 9000, 8.2.1): `RECOVERY_ANSWER_DONE`. While one is open the window does not grow: what is acknowledged may
 // have gone by the path before it (RFC 9000, 9.4).
-struct recovery_encodedreply recovery_ffi_sender_challenge(struct recovery_handle *handle, uint64_t content, bool is_open, bool pending);
+struct recovery_encoded_reply recovery_ffi_sender_challenge(struct recovery_handle *handle, uint64_t content, bool is_open, bool pending);
 
 // How many probe timeouts expired in a row, by which the next one is doubled (RFC 9002, 6.2.1); 0 where there is no
 // sender.
 uint32_t recovery_ffi_pto_count(struct recovery_handle *handle);
 
-// What was told last: by an ACK frame that was not refused, by a timeout that looked for losses, or by an abandoned
-// space. Nothing before it, and where there is no sender.
-struct recovery_outcomeview recovery_ffi_last_outcome(struct recovery_handle *handle);
+// The last outcome: of an ACK frame that was taken, of a timeout that searched for losses, or of a space whose packets
+// were all declared lost. It is empty before the first, and if there is no sender.
+struct recovery_outcome_view recovery_ffi_last_outcome(struct recovery_handle *handle);
 
 // How many numbers were newly acknowledged as something was told last, or, with `lost`, how many were found lost,
 // without that of the MTU's probe; they are written, rising, where there is room for all.
@@ -845,16 +877,16 @@ size_t recovery_ffi_told_packets(struct recovery_handle *handle, uint64_t *out, 
 struct recovery_settings recovery_ffi_default_settings(void);
 
 // A timer is set to a moment in nanoseconds: the event `SetTimer`.
-struct recovery_encodedreply recovery_ffi_set_timer(struct recovery_handle *handle, uint8_t timer, uint64_t time);
+struct recovery_encoded_reply recovery_ffi_set_timer(struct recovery_handle *handle, uint8_t timer, uint64_t time);
 
 // A timer is stopped: the event `StopTimer`.
-struct recovery_encodedreply recovery_ffi_stop_timer(struct recovery_handle *handle, uint8_t timer);
+struct recovery_encoded_reply recovery_ffi_stop_timer(struct recovery_handle *handle, uint8_t timer);
 
 // When does the next timer expire? The event `NextTimeout`.
-struct recovery_encodedreply recovery_ffi_next_timeout(struct recovery_handle *handle);
+struct recovery_encoded_reply recovery_ffi_next_timeout(struct recovery_handle *handle);
 
 // Does nothing; a library of another layout does not have it, and a program with this header does not link with that one.
-void recovery_ffi_layout(void) __asm__("recovery_ffi_layout_e5525016");
+void recovery_ffi_layout(void) __asm__("recovery_ffi_layout_59e0df3d");
 __attribute__((used)) static void (*const recovery_ffi_has_this_layout)(void) = recovery_ffi_layout;
 
 #ifdef __cplusplus

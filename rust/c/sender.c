@@ -1,6 +1,6 @@
 // A sender from C: four packets go out, the last one is acknowledged, and the others are lost: the first by its number, two by
 // their age (RFC 9002, 6.1). What they carried is to be sent again. No ACK comes for a fifth packet: two probes go out, and the
-// first carries what the packet did (RFC 9002, 6.2.4). In the end all of them are abandoned (RFC 9002, 6.4).
+// first carries what the packet did (RFC 9002, 6.2.4). In the end all of them are declared lost (RFC 9002, 6.4).
 #include "recovery_ffi.h"
 #include <inttypes.h>
 #include <stdio.h>
@@ -29,7 +29,7 @@ static void packets(struct recovery_handle *sender) {
 }
 
 static void timer(struct recovery_handle *sender) {
-    struct recovery_timeview time = recovery_ffi_timer(sender, RECOVERY_TIMER_LOSS_DETECTION);
+    struct recovery_time_view time = recovery_ffi_timer(sender, RECOVERY_TIMER_LOSS_DETECTION);
     if (time.some) {
         printf(", timer %" PRIu64 "\n", time.nanos);
     } else {
@@ -37,21 +37,21 @@ static void timer(struct recovery_handle *sender) {
     }
 }
 
-static void tell(struct recovery_handle *sender, struct recovery_encodedreply reply) {
+static void tell(struct recovery_handle *sender, struct recovery_encoded_reply reply) {
     printf("%u:", reply.kind);
     if (reply.kind == RECOVERY_ANSWER_ACKNOWLEDGED || reply.kind == RECOVERY_ANSWER_LOSSES) {
-        struct recovery_outcomeview told = recovery_ffi_last_outcome(sender);
+        struct recovery_outcome_view told = recovery_ffi_last_outcome(sender);
         numbers(sender, "acked", false);
         packets(sender);
         numbers(sender, "lost", true);
-        printf(" of %" PRIu64 " bytes", told.has_congestion ? told.congestion : 0);
+        printf(" of %" PRIu64 " bytes%s", told.has_congestion ? told.congestion : 0, told.is_cut ? ", and not all" : "");
     }
     timer(sender);
 }
 
 // The timer expires at this time: for each probe that is due the datagram is asked for, then what it carries, and it goes out.
 static void probe(struct recovery_handle *sender, uint64_t now) {
-    struct recovery_encodedreply due = recovery_ffi_sender_on_timeout(sender, now);
+    struct recovery_encoded_reply due = recovery_ffi_sender_on_timeout(sender, now);
     if (due.kind != RECOVERY_ANSWER_PROBES) {
         printf("no probe is due\n");
         return;
@@ -83,9 +83,18 @@ int main(void) {
         uint64_t now = number * 1000000, item = number + 1;
         tell(&sender, recovery_ffi_send(&sender, space, now, 1000, true, false, 0, &item, 1));
     }
-    struct recovery_ackframe frame = {.delay_secs = 0};
-    struct recovery_ackrange ranges[1] = {{.first = 3, .last = 3}};
+    struct recovery_ack_frame frame = {.delay_secs = 0};
+    struct recovery_ack_range ranges[1] = {{.first = 3, .last = 3}};
+    frame.is_limited = true;
+    frame.packets_room = 2;
+    struct recovery_encoded_reply needed = recovery_ffi_sender_ack(&sender, space, 103000000, &frame, ranges, 1);
+    if (needed.kind == RECOVERY_ANSWER_NEEDS_ROOM) {
+        printf("room is needed for %" PRIu64 " words and %" PRIu64 " numbers\n", needed.first, needed.second);
+        frame.packets_room = needed.first;
+        frame.lost_room = needed.second;
+    }
     tell(&sender, recovery_ffi_sender_ack(&sender, space, 103000000, &frame, ranges, 1));
+    printf("%" PRIu64 " packets are tracked\n", recovery_ffi_tracked(&sender, space).packets);
     tell(&sender, recovery_ffi_sender_on_timeout(&sender, 113499999));
     tell(&sender, recovery_ffi_sender_on_timeout(&sender, 113500000));
     tell(&sender, recovery_ffi_sender_on_timeout(&sender, 114500000));
@@ -97,7 +106,7 @@ int main(void) {
     uint64_t item = 5;
     tell(&sender, recovery_ffi_send(&sender, space, 120000000, 1000, true, false, 0, &item, 1));
     probe(&sender, 445000000);
-    tell(&sender, recovery_ffi_sender_abandon(&sender, space, 446000000));
+    tell(&sender, recovery_ffi_sender_retransmit_all(&sender, space, 446000000));
     recovery_ffi_drop(&sender);
     return 0;
 }

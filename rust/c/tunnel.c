@@ -4,9 +4,9 @@
 #include <stdio.h>
 
 // Probes over a link that carries so many bytes, from a packet number on; the number behind them.
-static uint64_t search(struct recovery_mtuhandle *mtu, uint16_t link, uint64_t number) {
+static uint64_t search(struct recovery_mtu_handle *mtu, uint16_t link, uint64_t number) {
     for (;;) {
-        struct recovery_encodedreply probe = recovery_ffi_mtu_poll(mtu, 0, number);
+        struct recovery_encoded_reply probe = recovery_ffi_mtu_poll(mtu, 0, number);
         if (probe.kind != RECOVERY_ANSWER_PROBE) {
             return number;
         }
@@ -22,7 +22,7 @@ static uint64_t search(struct recovery_mtuhandle *mtu, uint16_t link, uint64_t n
 
 int main(void) {
     struct recovery_settings settings = recovery_ffi_default_settings();
-    struct recovery_mtuhandle mtu = {0};
+    struct recovery_mtu_handle mtu = {0};
     printf("without a discovery: refused by %u\n", recovery_ffi_mtu_poll(&mtu, 0, 0).refusal);
     if (recovery_ffi_mtu_new(&mtu, &settings, 0) != RECOVERY_NEW_MADE) {
         printf("no discovery was made\n");
@@ -42,7 +42,7 @@ int main(void) {
     uint64_t rtt = 333000000;
     struct recovery_bucket pacer = recovery_ffi_pacer(rtt, 12000, 1200, 0);
     int sent = 0;
-    struct recovery_encodedreply reply = recovery_ffi_pacer_delay(&pacer, rtt, 1200, 1200, 12000, 0);
+    struct recovery_encoded_reply reply = recovery_ffi_pacer_delay(&pacer, rtt, 1200, 1200, 12000, 0);
     while (reply.kind == RECOVERY_ANSWER_READY) {
         recovery_ffi_pacer_transmit(&pacer, 1200);
         sent += 1;

@@ -240,6 +240,7 @@ impl Sender {
             _ => (false, false),
         };
         let goes_back = matches!(event, Event::RevertPath);
+        let changes_path = goes_back || matches!(event, Event::NewPath { .. } | Event::ResetPath { .. });
         let holds_skipped = match event {
             Event::CheckAck { space, low, high } => self.is_skipped(space, &[(low, high)]),
             _ => false,
@@ -268,6 +269,9 @@ impl Sender {
         }
         if goes_back {
             (self.first_behind_sample, self.sending_ecn) = self.previous;
+        }
+        if changes_path {
+            SPACES.iter().for_each(|space| self.renew_loss_time(*space));
         }
         if holds_skipped { Err(SKIPPED_ACKED) } else { Ok(answer) }
     }
@@ -432,6 +436,15 @@ impl Sender {
             found.numbers.push(packet.number);
         }
         Ok(found)
+    }
+
+    /// When the next packet of a space is lost by its age, by the RTT of the path in use (6.1.2).
+    fn renew_loss_time(&mut self, space: Space) {
+        let here = &self.recovery.spaces[space as usize];
+        let delay = loss_delay(&self.recovery.current.rtt, self.settings.time);
+        let below = (here.packets.first..here.largest_acked.unwrap_or(0)).zip(&here.packets.slots);
+        let sent = below.filter_map(|(_, slot)| Some(slot.as_ref()?.time_sent)).min();
+        self.loss_times[space as usize] = sent.map(|sent| later(sent, delay));
     }
 
     /// The packets that are lost, rising; and the moment of the next look, for those that are not lost yet.

@@ -3,7 +3,7 @@ use crate::connection::Connection;
 use quic_recovery::below::{EcnCounts, SpaceId};
 use quic_recovery::time::{Duration, Instant};
 use recovery_queue::items::ItemQueue;
-use recovery_sender::{Ack, Acknowledged, SenderError, Timeout};
+use recovery_sender::{Ack, Acknowledged, Retransmitted, SenderError, Timeout};
 
 impl Connection {
     /// An ACK frame comes in: its ranges, the largest first (RFC 9000, 19.3), how long the peer says that it waited,
@@ -26,11 +26,16 @@ impl Connection {
     }
 
     /// The timer for losses expired: the space in which probes are to go out, and how many. If none, packets were
-    /// found lost, and wait to be sent again.
-    pub fn loss_timer_expired(&mut self, now: Instant) -> Option<(SpaceId, u8)> {
+    /// declared lost, and their contents wait to be sent again. If allocation failed for some, the timer is due at
+    /// once.
+    pub fn loss_timer_expired(
+        &mut self,
+        now: Instant,
+    ) -> Result<Option<(SpaceId, u8)>, SenderError> {
         match self.sender.on_timeout(now) {
-            Timeout::Probe { space, count } => Some((space, count)),
-            _ => None,
+            Ok(Timeout::Probe { space, count }) => Ok(Some((space, count))),
+            Ok(_) => Ok(None),
+            Err(refused) => Err(refused),
         }
     }
 
@@ -39,13 +44,15 @@ impl Connection {
         self.sender.probe(space, false, ())
     }
 
-    /// What went out in a space was sent in vain, as a Retry came, or the server refuses 0-RTT (RFC 9002, 6.3 and 6.4):
-    /// how many packets. What was in them waits to be sent again.
-    pub fn sent_in_vain(&mut self, space: SpaceId, now: Instant) -> Result<usize, SenderError> {
-        match self.sender.retransmit_all(space, now) {
-            Ok(numbers) => Ok(numbers.len()),
-            Err(refused) => Err(refused),
-        }
+    /// What went out in a space was sent in vain, as a Retry came, or the server rejects 0-RTT (RFC 9002, 6.3 and 6.4).
+    /// The contents of these packets wait to be sent again. If allocation failed for some, `is_cut` says so, and the
+    /// same call goes on with them.
+    pub fn sent_in_vain(
+        &mut self,
+        space: SpaceId,
+        now: Instant,
+    ) -> Result<Retransmitted, SenderError> {
+        self.sender.retransmit_all(space, now)
     }
 
     /// The handshake is confirmed, and with it the keys of Handshake packets go (RFC 9001, 4.9.2).

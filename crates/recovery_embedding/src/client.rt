@@ -64,7 +64,7 @@ fn say_hello(report: &mut Report, client: &mut Connection) -> Result<u64, Sender
 /// Another connection: the first packet goes out, and a Retry comes (RFC 9000, 8.1.2).
 pub fn try_again(report: &mut Report, client: &mut Connection) -> Result<(), SenderError> {
     say_hello(report, client)?;
-    let packets = client.sent_in_vain(SpaceId::Initial, at(40))?;
+    let packets = client.sent_in_vain(SpaceId::Initial, at(40))?.numbers.len();
     let items = client.pending(SpaceId::Initial)?;
     report.pair(
         "a Retry: ",
@@ -302,7 +302,7 @@ fn probe(report: &mut Report, client: &mut Connection) -> Result<(), SenderError
     report.wake(client)?;
     let is_over = client.has_expired(Timer::LossDetection, at(12_000));
     report.value("the timer expired", &is_over);
-    if let Some((space, count)) = client.loss_timer_expired(at(12_000)) {
+    if let Some((space, count)) = client.loss_timer_expired(at(12_000))? {
         send_probes(report, client, space, count)?;
     }
     report.window(client, "the probes arrive, and the other packet is lost");
@@ -409,7 +409,7 @@ fn send_both(
     let arrived = client.send(SpaceId::Data, at(millis), 1200, small)?;
     let back = millis.saturating_add(40);
     ack(client, SpaceId::Data, back, (arrived, arrived), None)?;
-    client.loss_timer_expired(at(millis.saturating_add(46)));
+    client.loss_timer_expired(at(millis.saturating_add(46)))?;
     Ok(())
 }
 

@@ -1,5 +1,5 @@
 -- The recovery that a stack keeps: one that stands alone, or one of a sender.
-use Rattle.std.specs.Prelude.{◌≡◌, ℕ, Bool, IsFalse, List, [], ◌∷◌, ◌++◌, length, None, is_some, Result, Ok, Err, if◌then◌else◌}
+use Rattle.std.specs.Prelude.{◌≡◌, ℕ, Bool, false, IsFalse, List, [], ◌∷◌, ◌++◌, length, None, is_some, Result, Ok, Err, if◌then◌else◌}
 use Rattle.std.specs.Option.{option_map_or}
 use Rattle.rand_core.specs.Stream.{Stream}
 use Rattle.recovery_events.specs.declared.event.Answer.{Answer}
@@ -95,6 +95,9 @@ pub record IsEmptyOutcome (told : LastOutcome) : Type 0 where
   pub lost : told.acked.losses.numbers.items ≡ []
   pub probe : told.acked.losses.probe ≡ None
   pub congestion : told.acked.losses.congestion ≡ None
+  pub persistent : told.acked.losses.is_persistent ≡ false
+  pub black_hole : told.acked.losses.is_black_hole ≡ false
+  pub cut : told.acked.losses.is_cut ≡ false
   pub ecn : told.acked.ecn ≡ Quiet
   pub packets : told.packets.items ≡ []
 

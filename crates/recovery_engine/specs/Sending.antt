@@ -1,13 +1,13 @@
 -- What a call of a sender comes to, in numbers.
-use Rattle.std.specs.Prelude.{◌≡◌, ◌⊎◌, ℕ, ◌+◌, ◌<◌, ◌≤◌, ◌||◌, not, Bool, true, false, List, [], length, map, Option, None, is_some, Result, Ok, Err, IfOk, OnOk, OnErr, Vec, ◌∷◌}
-use Rattle.std.specs.Global.{Global}
+use Rattle.std.specs.Prelude.{◌≡◌, ◌⊎◌, ℕ, ◌+◌, ◌<◌, ◌≤◌, ◌||◌, not, Bool, true, false, List, [], length, map, Option, None, is_some, Result, Ok, Err, IfOk, OnOk, OnErr, ◌∷◌}
 use Rattle.std.specs.Option.{option_map_or}
+use Rattle.std.specs.Vec.{vec_capacity}
 use Rattle.recovery_base.specs.declared.below.SpaceId.{SpaceId}
 use Rattle.recovery_events.specs.declared.event.Answer.TheVariants.{Done}
 use Rattle.recovery_events.specs.declared.event.Event.TheVariants.{DiscardSpace}
 use Rattle.recovery_spaces.specs.Packets.{Packets}
 use Rattle.recovery_sender.specs.RetransmitAll.{DeclaresAllLost}
-use Rattle.recovery_sender.specs.Acking.{AckResult}
+use Rattle.recovery_sender.specs.Acking.{AckResult, IsAckAcceptable}
 use Rattle.recovery_losses.specs.Variables.{begun_anew, is_probe_due}
 use Rattle.recovery_sender.specs.Calls.{bytes_in_flight, challenged, discard_reply, is_checked, transmit_reply, transmit_steps, window_of, ProbeResult}
 use Rattle.recovery_sender.specs.Senders.{state_in}
@@ -19,6 +19,8 @@ use Rattle.recovery_losses.specs.declared.frames.Ack.{Ack}
 use Rattle.recovery_sender.specs.declared.sender.acks.Acknowledged.{Acknowledged}
 use Rattle.recovery_sender.specs.declared.sender.acks.EcnOutcome.{EcnOutcome}
 use Rattle.recovery_sender.specs.declared.sender.acks.EcnOutcome.TheVariants.{Quiet, Marked, Failed}
+use Rattle.recovery_sender.specs.declared.sender.acks.NewlyAcked.{NewlyAcked}
+use Rattle.recovery_sender.specs.declared.sender.ends.Retransmitted.{Retransmitted}
 use Rattle.recovery_sender.specs.declared.sender.losses.Losses.{Losses}
 use Rattle.recovery_sender.specs.declared.sender.packets.Transmission.{Transmission}
 use Rattle.recovery_sender.specs.declared.sender.packets.Transmission.TheVariants.{Transmitted, Blocked, Full, Delayed}
@@ -32,10 +34,11 @@ use Rattle.recovery_engine.specs.Kept.{packets_listed, HasLossesOnly}
 use Rattle.recovery_engine.specs.Replies.{no_memory, no_sender, plain, refusal_spelled, space_number}
 use Rattle.recovery_engine.specs.declared.kept.Engine.{Engine}
 use Rattle.recovery_engine.specs.declared.kept.Engine.TheVariants.{Alone, Sends}
-use Rattle.recovery_engine.specs.declared.numbers.TheConstants.{ANSWER_ACKNOWLEDGED, ANSWER_BLOCKED, ANSWER_DELAYED, ANSWER_DONE, ANSWER_FULL, ANSWER_LOSSES, ANSWER_NOTHING, ANSWER_PROBES, ANSWER_REFUSED, ANSWER_TRANSMITTED, ECN_FAILED, ECN_MARKED, ECN_QUIET, REFUSAL_UNSENT}
+use Rattle.recovery_engine.specs.declared.numbers.TheConstants.{ANSWER_ACKNOWLEDGED, ANSWER_BLOCKED, ANSWER_DELAYED, ANSWER_DONE, ANSWER_FULL, ANSWER_LOSSES, ANSWER_NEEDS_ROOM, ANSWER_NOTHING, ANSWER_PROBES, ANSWER_REFUSED, ANSWER_TRANSMITTED, ECN_FAILED, ECN_MARKED, ECN_QUIET, REFUSAL_UNSENT}
 use Rattle.recovery_engine.specs.declared.sending.AckRange.{AckRange}
+use Rattle.recovery_engine.specs.declared.sending.AckRoom.{AckRoom}
 use Rattle.recovery_engine.specs.declared.sending.Call.{Call}
-use Rattle.recovery_engine.specs.declared.sending.Call.TheVariants.{Transmit, TakeAck, Expire, Discard, Abandon, HandshakeKeys, HandshakeConfirmed, PeerDelay, Challenge}
+use Rattle.recovery_engine.specs.declared.sending.Call.TheVariants.{Transmit, TakeAck, Expire, Discard, RetransmitAll, HandshakeKeys, HandshakeConfirmed, PeerDelay, Challenge}
 use Rattle.recovery_engine.specs.declared.sending.Sending.{Sending}
 use Rattle.recovery_engine.specs.declared.sending.LastOutcome.{LastOutcome}
 use Rattle.recovery_engine.specs.declared.sending.OutcomeView.{OutcomeView}
@@ -72,7 +75,7 @@ is_quiet end = false
 
 abbrev pub tells_more : Acknowledged → Bool
 tells_more told = is_some told.losses.probe || is_some told.losses.congestion || told.losses.is_black_hole
-    || not (is_quiet told.ecn)
+    || told.losses.is_cut || not (is_quiet told.ecn)
 
 abbrev pub acknowledged_spelled : Acknowledged → EncodedReply
 acknowledged_spelled told = record (plain ANSWER_ACKNOWLEDGED) {
@@ -104,13 +107,40 @@ IsOutcomeOfAck packets (Ok acked) old new =
     (new.acked ≡ acked) × (new.packets.items ≡ packets_listed packets acked.numbers.items)
 IsOutcomeOfAck packets (Err refusal) old new = new ≡ old
 
-pub record AckReply (space : SpaceId) (now : ℕ) (ranges : List (ℕ × ℕ)) (ack : Ack) (old : Sending)
+-- the caller has room for the words of these packets, and for all numbers that may be lost then
+abbrev pub HasRoomFor : AckRoom → NewlyAcked → List ℕ → Type 0
+HasRoomFor room newly packets = (length packets ≤ room.packets) × (vec_capacity newly.lost ≤ room.lost)
+
+-- the sender takes it, if there is that room, or rejects it and nothing changes
+pub record IsTaken (space : SpaceId) (now : ℕ) (ranges : List (ℕ × ℕ)) (ack : Ack) (room : AckRoom) (old : Sending)
     (spelling : EncodedReply)
     (new : Sending) : Type 0 where
   pub reply : Result Acknowledged SenderError
   pub comes : AckResult space now ranges ack old.sender new.sender reply
+  pub fits : IfOk reply (λ acked. (newly : NewlyAcked) × IsAckAcceptable space ranges old.sender newly
+      × HasRoomFor room newly (packets_listed (packets_in (state_in old.sender) space) acked.numbers.items))
   pub spells : spelling ≡ spelled_by acknowledged_spelled reply
   pub told : IsOutcomeOfAck (packets_in (state_in old.sender) space) reply old.told new.told
+
+abbrev pub room_spelled : NewlyAcked → List ℕ → EncodedReply
+room_spelled newly packets =
+    record (plain ANSWER_NEEDS_ROOM) { first = length packets; second = vec_capacity newly.lost }
+
+-- it has too little room for a frame that may be taken: nothing changes, and the reply is how much it needs
+pub record NeedsRoom (space : SpaceId) (ranges : List (ℕ × ℕ)) (room : AckRoom) (old : Sending)
+    (spelling : EncodedReply)
+    (new : Sending) : Type 0 where
+  pub newly : NewlyAcked
+  pub acceptable : IsAckAcceptable space ranges old.sender newly
+  pub lacks : ¬ HasRoomFor room newly (packets_listed (packets_in (state_in old.sender) space) newly.numbers.items)
+  pub spells : spelling
+      ≡ room_spelled newly (packets_listed (packets_in (state_in old.sender) space) newly.numbers.items)
+  pub sender : new.sender ≡ old.sender
+  pub told : new.told ≡ old.told
+
+abbrev pub AckReply : SpaceId → ℕ → List (ℕ × ℕ) → Ack → AckRoom → Sending → EncodedReply → Sending → Type 0
+AckReply space now ranges ack room old spelling new =
+    IsTaken space now ranges ack room old spelling new ⊎ NeedsRoom space ranges room old spelling new
 
 -- with its ranges as they are given, or there is no memory to hand them in
 abbrev pub range_given : AckRange → ℕ × ℕ
@@ -123,20 +153,20 @@ pub record LacksRangeMemory (given : List AckRange) (old : Sending) (spelling : 
   pub sender : new.sender ≡ old.sender
   pub told : new.told ≡ old.told
 
-abbrev pub AckFrameReply : SpaceId → ℕ → List AckRange → Ack → Sending → EncodedReply → Sending → Type 0
-AckFrameReply space now given ack old spelling new =
-    AckReply space now (map range_given given) ack old spelling new ⊎ LacksRangeMemory given old spelling new
+abbrev pub AckFrameReply : SpaceId → ℕ → List AckRange → Ack → AckRoom → Sending → EncodedReply → Sending → Type 0
+AckFrameReply space now given ack room old spelling new =
+    AckReply space now (map range_given given) ack room old spelling new ⊎ LacksRangeMemory given old spelling new
 
 -- a timeout: so are losses that it finds (RFC 9002, A.9)
-abbrev pub IsOutcomeOfTimeout : Timeout → LastOutcome → LastOutcome → Type 0
-IsOutcomeOfTimeout (Lost space losses) old new = HasLossesOnly losses new
-IsOutcomeOfTimeout timeout old new = new ≡ old
+abbrev pub IsOutcomeOfTimeout : Result Timeout SenderError → LastOutcome → LastOutcome → Type 0
+IsOutcomeOfTimeout (Ok (Lost space losses)) old new = HasLossesOnly losses new
+IsOutcomeOfTimeout reply old new = new ≡ old
 
 pub record TimeoutReply (now : ℕ) (old : Sending) (spelling : EncodedReply) (new : Sending) : Type 0 where
-  pub timeout : Timeout
-  pub comes : TimeoutResult now old.sender new.sender timeout
-  pub spells : spelling ≡ timeout_spelled timeout
-  pub told : IsOutcomeOfTimeout timeout old.told new.told
+  pub reply : Result Timeout SenderError
+  pub comes : TimeoutResult now old.sender new.sender reply
+  pub spells : spelling ≡ spelled_by timeout_spelled reply
+  pub told : IsOutcomeOfTimeout reply old.told new.told
 
 -- what a probe carries is given, or in numbers why it is refused (RFC 9002, 6.2.4)
 abbrev pub probe_given : Result (List ℕ) SenderError → Result (List ℕ) EncodedReply
@@ -163,24 +193,25 @@ pub record DiscardReply (space : SpaceId) (now : ℕ) (old : Sending) (spelling 
   pub told : new.told ≡ old.told
 
 -- what a space tracks is lost, all of it or what memory lets: so are these numbers kept (RFC 9002, 6.3 and 6.4)
-abbrev pub lost_alone : Vec ℕ Global → Losses
-lost_alone numbers = record {
-  numbers = numbers;
+abbrev pub lost_alone : Retransmitted → Losses
+lost_alone all = record {
+  numbers = all.numbers;
   probe = None;
   congestion = None;
   is_persistent = false;
   is_black_hole = false;
+  is_cut = all.is_cut;
 }
 
-abbrev pub ReportsLost : Result (Vec ℕ Global) SenderError → LastOutcome → LastOutcome → Type 0
-ReportsLost (Ok numbers) old new = HasLossesOnly (lost_alone numbers) new
+abbrev pub ReportsLost : Result Retransmitted SenderError → LastOutcome → LastOutcome → Type 0
+ReportsLost (Ok all) old new = HasLossesOnly (lost_alone all) new
 ReportsLost (Err refusal) old new = new ≡ old
 
 pub record RetransmitAllReply (space : SpaceId) (now : ℕ) (old : Sending) (spelling : EncodedReply)
     (new : Sending) : Type 0 where
-  pub reply : Result (Vec ℕ Global) SenderError
+  pub reply : Result Retransmitted SenderError
   pub comes : DeclaresAllLost space old.sender now new.sender reply
-  pub spells : spelling ≡ spelled_by (λ numbers. plain ANSWER_LOSSES) reply
+  pub spells : spelling ≡ spelled_by (λ all. plain ANSWER_LOSSES) reply
   pub told : ReportsLost reply old.told new.told
 
 -- something is said of the connection, and the timer set
@@ -216,10 +247,11 @@ pub record ChallengeReply (content : Option ℕ) (pending : Bool) (old : Sending
 abbrev pub SenderCallReply : Call → List AckRange → Sending → EncodedReply → Sending → Type 0
 SenderCallReply (Transmit now bytes space in_flight) given old spelling new =
     TransmitReply now bytes space in_flight old spelling new
-SenderCallReply (TakeAck space now ack) given old spelling new = AckFrameReply space now given ack old spelling new
+SenderCallReply (TakeAck space now ack room) given old spelling new =
+    AckFrameReply space now given ack room old spelling new
 SenderCallReply (Expire now) given old spelling new = TimeoutReply now old spelling new
 SenderCallReply (Discard space now) given old spelling new = DiscardReply space now old spelling new
-SenderCallReply (Abandon space now) given old spelling new = RetransmitAllReply space now old spelling new
+SenderCallReply (RetransmitAll space now) given old spelling new = RetransmitAllReply space now old spelling new
 SenderCallReply HandshakeKeys given old spelling new = UpdatesVariables keyed old spelling new
 SenderCallReply HandshakeConfirmed given old spelling new = UpdatesVariables confirmed old spelling new
 SenderCallReply (PeerDelay span) given old spelling new = UpdatesVariables (delayed_by span) old spelling new
@@ -257,6 +289,7 @@ told_shown told = record {
   has_congestion = is_some told.losses.congestion;
   is_persistent = told.losses.is_persistent;
   is_black_hole = told.losses.is_black_hole;
+  is_cut = told.losses.is_cut;
 }
 
 abbrev pub no_told : OutcomeView
@@ -270,6 +303,7 @@ no_told = record {
   has_congestion = false;
   is_persistent = false;
   is_black_hole = false;
+  is_cut = false;
 }
 
 abbrev pub told_view : Engine → OutcomeView

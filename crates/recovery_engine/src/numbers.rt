@@ -50,6 +50,8 @@ pub const ANSWER_NOTHING: u8 = 130;
 pub const ANSWER_LOSSES: u8 = 131;
 /// Probes are to be sent.
 pub const ANSWER_PROBES: u8 = 132;
+/// The caller has too little room for what an ACK frame results in: nothing is done.
+pub const ANSWER_NEEDS_ROOM: u8 = 133;
 /// The event is refused. It lies far from the answers, so that further ones do not move it.
 pub const ANSWER_REFUSED: u8 = 255;
 

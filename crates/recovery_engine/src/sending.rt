@@ -1,24 +1,26 @@
 //! A sender, and what it told last.
-ghost use Rattle.std.specs.Prelude.{◌≡◌, ◌<◌, ◌++◌, ◌∷◌, [], length, map, true, false};
+ghost use Rattle.std.specs.Prelude.{◌≡◌, ◌<◌, ◌++◌, ◌∷◌, [], length, map, true, false, Decides};
 ghost use Rattle.recovery_sender.specs.declared.sender.probes.Timeout.TheVariants.{Probe};
 ghost use Rattle.recovery_sender.specs.Senders.{state_in};
 ghost use Rattle.recovery_sender.specs.Spaces.{packets_in};
 ghost use Rattle.recovery_engine.specs.Kept.{items_of, numbers_of, packets_listed, IsEmptyOutcome, HasLossesOnly};
 ghost use Rattle.recovery_engine.specs.Replies.{plain};
-ghost use Rattle.recovery_engine.specs.Sending.{acknowledged_spelled, confirmed, delayed_by, ecn_number, is_quiet, keyed, lost_alone, no_told, losses_spelled, range_given, refused_spelled, timeout_spelled, tells_more, told_shown, transmission_spelled, AckReply, ChallengeReply, DiscardReply, ProbeReply, TimeoutReply, RetransmitAllReply, UpdatesVariables, SenderCallReply, AckFrameReply, TransmitReply};
+ghost use Rattle.recovery_engine.specs.Sending.{acknowledged_spelled, confirmed, delayed_by, ecn_number, is_quiet, keyed, lost_alone, no_told, losses_spelled, range_given, refused_spelled, room_spelled, timeout_spelled, tells_more, told_shown, transmission_spelled, AckReply, ChallengeReply, DiscardReply, HasRoomFor, ProbeReply, TimeoutReply, RetransmitAllReply, UpdatesVariables, SenderCallReply, AckFrameReply, TransmitReply};
 
 use crate::kept::ItemSender;
 use crate::numbers::{
     ANSWER_ACKNOWLEDGED, ANSWER_BLOCKED, ANSWER_DELAYED, ANSWER_DONE, ANSWER_FULL, ANSWER_LOSSES,
-    ANSWER_NOTHING, ANSWER_PROBES, ANSWER_REFUSED, ANSWER_TRANSMITTED, ECN_FAILED, ECN_MARKED,
-    ECN_QUIET, REFUSAL_UNSENT,
+    ANSWER_NEEDS_ROOM, ANSWER_NOTHING, ANSWER_PROBES, ANSWER_REFUSED, ANSWER_TRANSMITTED,
+    ECN_FAILED, ECN_MARKED, ECN_QUIET, REFUSAL_UNSENT,
 };
 use crate::spelling::{EncodedReply, encode_number, encode_refusal, space_number};
 use recovery_base::below::SpaceId;
 use recovery_base::time::{Duration, Instant};
 use recovery_losses::Ack;
 use recovery_queue::items::ItemQueue;
-use recovery_sender::{Acknowledged, EcnOutcome, Losses, SenderError, Timeout, Transmission};
+use recovery_sender::{
+    Acknowledged, EcnOutcome, Losses, NewlyAcked, Retransmitted, SenderError, Timeout, Transmission,
+};
 use std::alloc::Global;
 use std::mem;
 
@@ -44,7 +46,8 @@ pub struct LastOutcome {
 #[derive(Drop)]
 pub struct Sending {
     pub sender: ItemSender,
-    /// What the last ACK frame, timeout or abandoned space came to that told something; nothing before the first.
+    /// The outcome of the last ACK frame, of the last timeout that searched for losses, or of the last space whose
+    /// packets were all declared lost, whichever came last; nothing before the first.
     pub told: LastOutcome,
     /// What takes the ranges of an ACK frame, kept for its memory.
     pub ranges: Vec<(u64, u64)>,
@@ -54,7 +57,16 @@ pub struct Sending {
     pub packets_room: Vec<u64>,
 }
 
-/// A call of a sender; the ranges of an ACK frame stand beside it.
+/// The room that a caller has for what an ACK frame results in. If it is too little, nothing is done.
+#[derive(Clone, Copy)]
+pub struct AckRoom {
+    /// How many words of newly acknowledged packets it takes.
+    pub packets: u64,
+    /// How many lost numbers it takes.
+    pub lost: u64,
+}
+
+/// A call of a sender; the ranges of an ACK frame are passed next to it.
 #[derive(Clone, Copy)]
 pub enum Call {
     /// A datagram is to go out.
@@ -69,6 +81,7 @@ pub enum Call {
         space: SpaceId,
         now: Instant,
         ack: Ack,
+        room: AckRoom,
     },
     /// The timer for losses may be due.
     Expire(Instant),
@@ -78,7 +91,7 @@ pub enum Call {
         now: Instant,
     },
     /// What a space tracks was sent in vain.
-    Abandon {
+    RetransmitAll {
         space: SpaceId,
         now: Instant,
     },
@@ -95,7 +108,8 @@ pub enum Call {
     },
 }
 
-/// What was told last: of an ACK frame, of a timeout that found losses, or of an abandoned space.
+/// The last outcome: of an ACK frame, of a timeout that searched for losses, or of a space whose packets were all
+/// declared lost.
 #[repr(C)]
 #[derive(Clone, Copy)]
 pub struct OutcomeView {
@@ -117,41 +131,42 @@ pub struct OutcomeView {
     pub is_persistent: bool,
     /// Whether a black hole was reported (RFC 8899, 4.3).
     pub is_black_hole: bool,
+    /// Whether allocation failed for a lost packet, which is then still tracked: the next timeout, or the same call for
+    /// the space, declares it lost.
+    pub is_cut: bool,
 }
 
-/// Of a timeout, or of an abandoned space: what is lost.
-fn told_lost(alloc: Global, losses: Losses) -> LastOutcome
-    ensures { HasLossesOnly losses result }
+/// All packets of a space are lost, without congestion.
+fn lost_alone(all: Retransmitted) -> Losses
+    ensures { result ≡ lost_alone all }
 {
+    Losses {
+        numbers: all.numbers,
+        probe: None,
+        congestion: None,
+        is_persistent: false,
+        is_black_hole: false,
+        is_cut: all.is_cut,
+    }
+}
+
+/// There was no outcome yet. It takes no memory.
+fn no_outcome(alloc: Global) -> LastOutcome
+    ensures { IsEmptyOutcome result }
+{
+    let none = Retransmitted {
+        numbers: Vec::new(alloc),
+        is_cut: false,
+    };
     let acked = Acknowledged {
         numbers: Vec::new(alloc),
-        losses,
+        losses: lost_alone(none),
         ecn: EcnOutcome::Quiet,
     };
     LastOutcome {
         acked,
         packets: Vec::new(alloc),
     }
-}
-
-/// These are lost, and nothing more is said of them.
-fn lost_alone(numbers: Vec<u64>) -> Losses
-    ensures { result ≡ lost_alone numbers }
-{
-    Losses {
-        numbers,
-        probe: None,
-        congestion: None,
-        is_persistent: false,
-        is_black_hole: false,
-    }
-}
-
-/// Nothing was told yet. It takes no memory.
-fn no_outcome(alloc: Global) -> LastOutcome
-    ensures { IsEmptyOutcome result }
-{
-    told_lost(alloc, lost_alone(Vec::new(alloc)))
 }
 
 fn ecn_number(ecn: EcnOutcome) -> u8
@@ -180,6 +195,7 @@ impl OutcomeView {
             has_congestion: losses.congestion.is_some(),
             is_persistent: losses.is_persistent,
             is_black_hole: losses.is_black_hole,
+            is_cut: losses.is_cut,
         }
     }
 
@@ -197,6 +213,7 @@ impl OutcomeView {
             has_congestion: false,
             is_persistent: false,
             is_black_hole: false,
+            is_cut: false,
         }
     }
 }
@@ -218,6 +235,7 @@ fn tells_more(told: &Acknowledged) -> bool
     losses.probe.is_some()
         || losses.congestion.is_some()
         || losses.is_black_hole
+        || losses.is_cut
         || !is_quiet(told.ecn)
 }
 
@@ -328,6 +346,24 @@ fn list_packets(
     true
 }
 
+/// Whether a caller has room for these packets, and for all numbers that may be lost then.
+fn has_room_for(room: &AckRoom, newly: &NewlyAcked, packets: &[u64]) -> bool
+    ensures { Decides result (HasRoomFor room.now newly.now packets.now) }
+{
+    packets.len() as u64 <= room.packets && newly.lost.capacity() as u64 <= room.lost
+}
+
+/// How much room a caller needs for these packets, and for all numbers that may be lost then.
+fn spell_room(newly: &NewlyAcked, packets: &[u64]) -> EncodedReply
+    ensures { result ≡ room_spelled newly.now packets.now }
+{
+    EncodedReply {
+        first: packets.len() as u64,
+        second: newly.lost.capacity() as u64,
+        ..EncodedReply::plain(ANSWER_NEEDS_ROOM)
+    }
+}
+
 impl Sending {
     /// This sender, which told nothing yet. It takes no memory.
     pub fn new(alloc: Global, sender: ItemSender) -> Sending
@@ -366,10 +402,15 @@ impl Sending {
                 space,
                 in_flight,
             } => self.transmit(now, bytes, space, in_flight),
-            Call::TakeAck { space, now, ack } => self.take_frame(alloc, space, now, ranges, ack),
-            Call::Expire(now) => self.expire(alloc, now),
+            Call::TakeAck {
+                space,
+                now,
+                ack,
+                room,
+            } => self.take_frame(alloc, space, now, ranges, ack, room),
+            Call::Expire(now) => self.expire(now),
             Call::Discard { space, now } => self.discard(space, now),
-            Call::Abandon { space, now } => self.retransmit_all(alloc, space, now),
+            Call::RetransmitAll { space, now } => self.retransmit_all(space, now),
             Call::HandshakeKeys => self.handshake_keys(),
             Call::HandshakeConfirmed => self.handshake_confirmed(),
             Call::PeerDelay(span) => self.peer_delay(span),
@@ -399,19 +440,20 @@ impl Sending {
         now: Instant,
         given: &[AckRange],
         ack: Ack,
+        room: AckRoom,
     ) -> EncodedReply
-        ensures { AckFrameReply space now given.now ack self.old result self.new }
+        ensures { AckFrameReply space now given.now ack room self.old result self.new }
     {
         if !fill(&mut self.ranges, given) {
             return EncodedReply::no_memory();
         }
         let ranges = mem::replace(&mut self.ranges, Vec::new(alloc));
-        let reply = self.take_ack(alloc, space, now, &ranges, ack);
+        let reply = self.take_ack(alloc, space, now, &ranges, ack, room);
         self.ranges = ranges;
         reply
     }
 
-    /// A frame with these ranges.
+    /// A frame with these ranges. All memory is taken before the sender changes.
     fn take_ack(
         &mut self,
         alloc: Global,
@@ -419,17 +461,24 @@ impl Sending {
         now: Instant,
         ranges: &[(u64, u64)],
         ack: Ack,
+        room: AckRoom,
     ) -> EncodedReply
-        ensures { AckReply space now ranges.now ack self.old result self.new }
+        ensures { AckReply space now ranges.now ack room self.old result self.new }
     {
-        let room = mem::replace(&mut self.numbers_room, Vec::new(alloc));
-        let newly = match self.sender.newly_acked(space, ranges, room) {
+        let numbers = mem::replace(&mut self.numbers_room, Vec::new(alloc));
+        let newly = match self.sender.newly_acked(space, ranges, numbers) {
             Ok(newly) => newly,
             Err(refused) => return spell_refused(refused),
         };
         let mut packets = mem::replace(&mut self.packets_room, Vec::new(alloc));
         if !list_packets(&self.sender, space, &newly.numbers, &mut packets) {
+            self.take_back(newly, packets);
             return EncodedReply::no_memory();
+        }
+        if !has_room_for(&room, &newly, &packets) {
+            let needed = spell_room(&newly, &packets);
+            self.take_back(newly, packets);
+            return needed;
         }
         let acked = self.sender.on_newly_acked(space, now, ranges, ack, newly);
         let reply = spell_acknowledged(&acked);
@@ -437,7 +486,16 @@ impl Sending {
         reply
     }
 
-    /// This was told last; what was before it is kept for its memory.
+    /// Keeps the lists of a frame that is not taken, for their memory.
+    fn take_back(&mut self, newly: NewlyAcked, packets: Vec<u64>)
+        ensures told { self.new.told ≡ self.old.told }
+        ensures sender { self.new.sender ≡ self.old.sender }
+    {
+        self.numbers_room = newly.numbers;
+        self.packets_room = packets;
+    }
+
+    /// Keeps the outcome of an ACK frame, and the lists of the one before for their memory.
     fn keep(&mut self, told: LastOutcome)
         ensures told { self.new.told ≡ told }
         ensures sender { self.new.sender ≡ self.old.sender }
@@ -447,16 +505,28 @@ impl Sending {
         self.packets_room = packets;
     }
 
-    fn expire(&mut self, alloc: Global, now: Instant) -> EncodedReply
+    /// Keeps the losses of a timeout, or of a space whose packets are all declared lost. It takes no memory.
+    fn keep_losses(&mut self, losses: Losses)
+        ensures told { HasLossesOnly losses self.new.told }
+        ensures sender { self.new.sender ≡ self.old.sender }
+    {
+        self.told.acked.numbers.clear();
+        self.told.acked.losses = losses;
+        self.told.acked.ecn = EcnOutcome::Quiet;
+        self.told.packets.clear();
+    }
+
+    fn expire(&mut self, now: Instant) -> EncodedReply
         ensures { TimeoutReply now self.old result self.new }
     {
         match self.sender.on_timeout(now) {
-            Timeout::Nothing => EncodedReply::plain(ANSWER_NOTHING),
-            Timeout::Lost { space, losses } => {
-                self.told = told_lost(alloc, losses);
+            Ok(Timeout::Nothing) => EncodedReply::plain(ANSWER_NOTHING),
+            Ok(Timeout::Lost { space, losses }) => {
+                self.keep_losses(losses);
                 spell_losses(space)
             }
-            Timeout::Probe { space, count } => spell_probes(space, count),
+            Ok(Timeout::Probe { space, count }) => spell_probes(space, count),
+            Err(refused) => spell_refused(refused),
         }
     }
 
@@ -479,12 +549,12 @@ impl Sending {
         }
     }
 
-    fn retransmit_all(&mut self, alloc: Global, space: SpaceId, now: Instant) -> EncodedReply
+    fn retransmit_all(&mut self, space: SpaceId, now: Instant) -> EncodedReply
         ensures { RetransmitAllReply space now self.old result self.new }
     {
         match self.sender.retransmit_all(space, now) {
-            Ok(numbers) => {
-                self.told = told_lost(alloc, lost_alone(numbers));
+            Ok(all) => {
+                self.keep_losses(lost_alone(all));
                 EncodedReply::plain(ANSWER_LOSSES)
             }
             Err(refused) => spell_refused(refused),

@@ -26,19 +26,20 @@ pub struct EncodedReply {
     pub refusal: u8,
     /// New: whether to start the timer for a late ACK. Sent: whether a silent packet was forgotten for it. Acked, lost:
     /// whether it was the probe of the path's MTU. Retire: whether numbers are to be retired. Flag: yes or no. Timeout:
-    /// whether a timer is set. Black hole: whether one was reported. Sendable: whether an ACK is to be sent. Otherwise
-    /// false.
+    /// whether a timer is set. Black hole: whether one was reported. Sendable: whether an ACK is to be sent.
+    /// Acknowledged: whether the outcome has more than the two numbers. Otherwise false.
     pub flag: bool,
     /// Sendable: whether there is something else to be sent. Otherwise false.
     pub other: bool,
     /// Probe: its size in bytes. Otherwise 0.
     pub size: u16,
     /// Sent, probe: the number that it was given. Retire: the first number. Timeout, delayed: the moment, in
-    /// nanoseconds. In flight: the bytes. Acknowledged: how many numbers are so newly. Losses of a timeout, probes: the
-    /// space. Otherwise 0.
+    /// nanoseconds. In flight: the bytes. Acknowledged: how many numbers are so newly. Needs room: how many words of
+    /// packets. Losses of a timeout, probes: the space. Otherwise 0.
     pub first: u64,
     /// Sent: the number that was forgotten. Retire: one above the last number. In flight: how many packets elicit an
-    /// ACK. Acknowledged: how many numbers are lost. Probes: how many are due. Otherwise 0.
+    /// ACK. Acknowledged: how many numbers are lost. Needs room: how many lost numbers. Probes: how many are due.
+    /// Otherwise 0.
     pub second: u64,
 }
 

@@ -1,13 +1,13 @@
 //! Readings of a few instructions, for a stack that reads more often than it changes: of the path in use, of the id in
-//! use, and of what a space has in flight.
+//! use, and of what a space tracks.
 ghost use Rattle.std.specs.Prelude.{◌≡◌, false, Decides};
 ghost use Rattle.recovery_ids.specs.CidQueue.{active_of};
 ghost use Rattle.recovery_stack.specs.Answers.{ReadsHandle};
 ghost use Rattle.recovery_engine.specs.Kept.{parts_kept};
 ghost use Rattle.recovery_stack.specs.Views.{space_named};
-ghost use Rattle.recovery_stack.specs.Stats.{no_rtt, no_window, rtt_shown, window_shown, HasInFlight};
+ghost use Rattle.recovery_stack.specs.Stats.{no_rtt, no_tracked, no_window, rtt_shown, tracked_in, window_shown, HasInFlight};
 
-use recovery_stack::glances::{RttView, WindowView};
+use recovery_stack::glances::{RttView, TrackedView, WindowView};
 use recovery_stack::handle::Handle;
 use std::alloc::Global;
 
@@ -46,4 +46,13 @@ pub extern "C" fn recovery_ffi_has_in_flight(alloc: Global, handle: &mut Handle,
         (result ≡ false) }
 {
     handle.has_in_flight(alloc, space)
+}
+
+/// How many packets a space tracks, and when a sender declares the next of them lost by its age.
+#[unsafe(no_mangle)]
+pub extern "C" fn recovery_ffi_tracked(alloc: Global, handle: &mut Handle, space: u8) -> TrackedView
+    ensures { ReadsHandle handle.old.slot.held handle.new.slot.held (λ stack.
+        result ≡ tracked_in (space_named space (parts_kept stack.kept))) (result ≡ no_tracked) }
+{
+    handle.tracked(alloc, space)
 }

@@ -5,11 +5,11 @@ ghost use Rattle.recovery_stack.specs.Answers.{ReadsHandle};
 ghost use Rattle.recovery_stack.specs.Codes.{maybe, side_coded, space_coded, span};
 ghost use Rattle.recovery_engine.specs.Kept.{numbers_told, packets_told, pto_count_of};
 ghost use Rattle.recovery_stack.specs.Made.{NewOr};
-ghost use Rattle.recovery_stack.specs.SenderCalls.{frame_given, CallsSender, AsksAck, CallsSenderTo, ProbesIn};
+ghost use Rattle.recovery_stack.specs.SenderCalls.{frame_given, room_given, CallsSender, AsksAck, CallsSenderTo, ProbesIn};
 ghost use Rattle.recovery_engine.specs.declared.kept.Form.TheVariants.{Handshaking, Established};
 ghost use Rattle.recovery_engine.specs.Sending.{no_told, told_view};
 ghost use Rattle.recovery_engine.specs.Replies.{IsWritten};
-ghost use Rattle.recovery_engine.specs.declared.sending.Call.TheVariants.{Transmit, Expire, Discard, Abandon, HandshakeKeys, HandshakeConfirmed, PeerDelay, Challenge};
+ghost use Rattle.recovery_engine.specs.declared.sending.Call.TheVariants.{Transmit, Expire, Discard, RetransmitAll, HandshakeKeys, HandshakeConfirmed, PeerDelay, Challenge};
 
 use recovery_base::time::Instant;
 use recovery_engine::kept::Form;
@@ -109,12 +109,13 @@ pub extern "C" fn recovery_ffi_sender_transmit(
 }
 
 /// An ACK frame came in (RFC 9002, A.7), with its ranges, the highest first, as on the wire: `ANSWER_ACKNOWLEDGED`,
-/// with how many numbers it newly acknowledges in `first`, how many are found lost in `second`, and in `flag` whether
-/// `recovery_ffi_last_outcome` says more than that; `recovery_ffi_told_numbers` says which they are. Refused, and
-/// nothing
-/// changes, by `REFUSAL_SPACE_DISCARDED`, by `REFUSAL_BAD_RANGE` where there is no range, one ends before it begins, or
-/// two have no number between them (RFC 9000, 19.3.1), by `REFUSAL_UNSENT`, by `REFUSAL_SKIPPED_ACKED` (RFC 9000,
-/// 21.4), or by `REFUSAL_NO_MEMORY`.
+/// with how many numbers it newly acknowledges in `first`, how many packets it declares lost in `second`, and in `flag`
+/// whether `recovery_ffi_last_outcome` has more than that. `recovery_ffi_told_numbers` and `recovery_ffi_told_packets`
+/// say which they are. Nothing changes if the answer is an error: `REFUSAL_SPACE_DISCARDED`; `REFUSAL_BAD_RANGE` if
+/// there is no range, one ends before it begins, or two have no number between them (RFC 9000, 19.3.1);
+/// `REFUSAL_UNSENT`; `REFUSAL_SKIPPED_ACKED` (RFC 9000, 21.4); or `REFUSAL_NO_MEMORY`. Nothing changes either at
+/// `ANSWER_NEEDS_ROOM`: the caller limits its room (`is_limited`), and has too little. `first` is then how many words
+/// of packets, and `second` how many lost numbers, it needs room for.
 #[unsafe(no_mangle)]
 pub extern "C" fn recovery_ffi_sender_ack(
     alloc: Global,
@@ -124,7 +125,7 @@ pub extern "C" fn recovery_ffi_sender_ack(
     frame: &AckFrame,
     ranges: &[AckRange],
 ) -> EncodedReply
-    ensures { AsksAck (frame_given space frame.now) now ranges.now
+    ensures { AsksAck (frame_given space frame.now) now (room_given frame.now) ranges.now
         handle.old.slot.held result handle.new.slot.held }
 {
     handle.take_ack(alloc, space, now, frame, ranges)
@@ -134,7 +135,9 @@ pub extern "C" fn recovery_ffi_sender_ack(
 /// searched for lost packets, with the space in `first`, and `recovery_ffi_last_outcome` and
 /// `recovery_ffi_told_numbers` say which are lost; or `ANSWER_PROBES`, with the space in `first` and in `second` how
 /// many probes are due there, 1 or 2. For each of them the caller asks `recovery_ffi_sender_transmit`, takes its
-/// contents by `recovery_ffi_sender_probe`, and sends it by `recovery_ffi_send`. No sender refuses it.
+/// contents by `recovery_ffi_sender_probe`, and sends it by `recovery_ffi_send`. The error is `REFUSAL_NO_MEMORY`, if
+/// there is no room for the numbers of the packets that may be lost; then nothing has changed. A timeout that asks for
+/// probes takes no memory.
 #[unsafe(no_mangle)]
 pub extern "C" fn recovery_ffi_sender_on_timeout(
     alloc: Global,
@@ -190,18 +193,19 @@ pub extern "C" fn recovery_ffi_sender_discard(
     )
 }
 
-/// What a space tracks was sent in vain, behind a Retry or where 0-RTT is refused (RFC 9002, 6.3 and 6.4): each packet
-/// is lost, which is no congestion, and probe timeouts are counted anew: `ANSWER_LOSSES`, and
-/// `recovery_ffi_told_numbers` says which. Refused by `REFUSAL_SPACE_DISCARDED`; by `REFUSAL_NO_MEMORY`, where the same
-/// call goes on with what is tracked still.
+/// What a space tracks was sent in vain, before a Retry or if 0-RTT is rejected (RFC 9002, 6.3 and 6.4). Each packet is
+/// declared lost, which is no congestion, and probe timeouts are counted from zero: `ANSWER_LOSSES`, and
+/// `recovery_ffi_told_numbers` says which. With `is_cut` in `recovery_ffi_last_outcome` allocation failed for some
+/// packets, which are still tracked, and the same call goes on with them. The errors are `REFUSAL_SPACE_DISCARDED` and
+/// `REFUSAL_NO_MEMORY`; then nothing has changed.
 #[unsafe(no_mangle)]
-pub extern "C" fn recovery_ffi_sender_abandon(
+pub extern "C" fn recovery_ffi_sender_retransmit_all(
     alloc: Global,
     handle: &mut Handle,
     space: u8,
     now: u64,
 ) -> EncodedReply
-    ensures { CallsSenderTo (space_coded space) (λ space. Abandon space now)
+    ensures { CallsSenderTo (space_coded space) (λ space. RetransmitAll space now)
         handle.old.slot.held result handle.new.slot.held }
 {
     let Some(space) = space_coded(space) else {
@@ -209,7 +213,7 @@ pub extern "C" fn recovery_ffi_sender_abandon(
     };
     handle.call_sender(
         alloc,
-        Call::Abandon {
+        Call::RetransmitAll {
             space,
             now: Instant::from_nanos(now),
         },
@@ -285,8 +289,8 @@ pub extern "C" fn recovery_ffi_pto_count(alloc: Global, handle: &mut Handle) -> 
     handle.pto_count(alloc)
 }
 
-/// What was told last: by an ACK frame that was not refused, by a timeout that looked for losses, or by an abandoned
-/// space. Nothing before it, and where there is no sender.
+/// The last outcome: of an ACK frame that was taken, of a timeout that searched for losses, or of a space whose packets
+/// were all declared lost. It is empty before the first, and if there is no sender.
 #[unsafe(no_mangle)]
 pub extern "C" fn recovery_ffi_last_outcome(alloc: Global, handle: &mut Handle) -> OutcomeView
     ensures { ReadsHandle handle.old.slot.held handle.new.slot.held (λ stack.

@@ -212,18 +212,23 @@ where
         self.teller.expires(now)?;
         let at = Instant::from_nanos(now);
         match self.sender.on_timeout(at) {
-            Timeout::Lost { losses, .. } => self.look(now, &losses),
-            Timeout::Probe { count, .. } => {
+            Ok(Timeout::Lost { losses, .. }) => self.look(now, &losses),
+            Ok(Timeout::Probe { count, .. }) => {
                 self.figures.probes = self.figures.probes.saturating_add(u64::from(count));
                 self.tell_state(now)?;
                 Ok(false)
             }
-            Timeout::Nothing => Ok(false),
+            Ok(Timeout::Nothing) => Ok(false),
+            Err(refused) => Err(Ending::from(refused)),
         }
     }
 
-    /// What was found lost is counted and told: whether there is something.
+    /// What was found lost is counted and told: whether there is something. If allocation failed for a packet, the
+    /// transfer ends.
     fn look(&mut self, now: u64, losses: &Losses) -> Result<bool, Ending> {
+        if losses.is_cut {
+            return Err(Ending::OutOfMemory);
+        }
         self.settle(&losses.numbers);
         let count = losses.numbers.len() as u64;
         self.figures.lost = self.figures.lost.saturating_add(count);

@@ -6,8 +6,8 @@ use recovery_events::event::{Answer, Refusal};
 use recovery_queue::items::ItemQueue;
 use recovery_script_syntax::answers::write_reply;
 use recovery_sender::{
-    Acknowledged, CallRecord, CallReplyValue, EcnOutcome, Losses, SenderError, Timeout,
-    Transmission,
+    Acknowledged, CallRecord, CallReplyValue, EcnOutcome, Losses, Retransmitted, SenderError,
+    Timeout, Transmission,
 };
 use std::alloc::{AllocError, Global};
 
@@ -26,6 +26,11 @@ fn push_numbers(text: &mut String, numbers: &[u64]) -> Result<(), AllocError> {
 /// Whether nothing is lost.
 fn is_none(losses: &Losses) -> bool {
     losses.numbers.is_empty() && losses.probe.is_none()
+}
+
+/// Whether an ACK frame's answer names losses: a packet is lost, or allocation failed for one that is.
+fn tells_losses(losses: &Losses) -> bool {
+    losses.is_cut || !is_none(losses)
 }
 
 fn push_congestion(text: &mut String, losses: &Losses) -> Result<(), AllocError> {
@@ -47,18 +52,27 @@ fn push_lost(text: &mut String, losses: &Losses) -> Result<(), AllocError> {
     }
     push_congestion(text, losses)?;
     if losses.is_black_hole {
-        return text.push_str(" black-hole");
+        text.push_str(" black-hole")?;
+    }
+    push_cut(text, losses.is_cut)
+}
+
+/// Says so if allocation failed for a packet that is lost.
+fn push_cut(text: &mut String, is_cut: bool) -> Result<(), AllocError> {
+    if is_cut {
+        return text.push_str(" cut");
     }
     Ok(())
 }
 
 /// What is lost with a space.
-fn push_abandoned(text: &mut String, numbers: &[u64]) -> Result<(), AllocError> {
-    if numbers.is_empty() {
-        return text.push_str("lost none");
-    }
+fn push_retransmitted(text: &mut String, all: &Retransmitted) -> Result<(), AllocError> {
     text.push_str("lost")?;
-    push_numbers(text, numbers)
+    push_numbers(text, &all.numbers)?;
+    if all.numbers.is_empty() {
+        text.push_str(" none")?;
+    }
+    push_cut(text, all.is_cut)
 }
 
 fn push_ecn(text: &mut String, ecn: EcnOutcome) -> Result<(), AllocError> {
@@ -75,7 +89,7 @@ fn push_acknowledged(text: &mut String, acknowledged: &Acknowledged) -> Result<(
     }
     text.push_str("acked")?;
     push_numbers(text, &acknowledged.numbers)?;
-    if !is_none(&acknowledged.losses) {
+    if tells_losses(&acknowledged.losses) {
         text.push_str(" ")?;
         push_lost(text, &acknowledged.losses)?;
     }
@@ -142,7 +156,7 @@ fn push_reply(
         CallReplyValue::Acknowledged(acknowledged) => push_acknowledged(text, &acknowledged),
         CallReplyValue::Timeout(timeout) => push_timeout(text, &timeout),
         CallReplyValue::Probe(queue) => push_answer(alloc, text, &Ok(Answer::Queue(queue))),
-        CallReplyValue::Abandoned(numbers) => push_abandoned(text, &numbers),
+        CallReplyValue::Retransmitted(all) => push_retransmitted(text, &all),
         CallReplyValue::Answer(answer) => push_answer(alloc, text, &Ok(answer)),
         CallReplyValue::Done => text.push_str("done"),
         CallReplyValue::Decided => text.push_str("decided"),

@@ -7,7 +7,9 @@ use recovery_base::below::SpaceId;
 use recovery_base::time::Duration;
 use recovery_congestion::congestion::NewRenoConfig;
 use recovery_losses::{Ack, Side};
-use recovery_sender::{Acknowledged, Losses, Sender, SenderError, Timeout, Transmission, passes};
+use recovery_sender::{
+    Acknowledged, Losses, Retransmitted, Sender, SenderError, Timeout, Transmission, passes,
+};
 use std::alloc::Global;
 use std::process::Abort;
 
@@ -25,7 +27,7 @@ enum Call {
     Confirmed,
     PeerMaxAckDelay(u64),
     Discard(u64, SpaceId),
-    Abandon(u64, SpaceId),
+    RetransmitAll(u64, SpaceId),
     Received(SpaceId, u64),
     /// A frame of 1-RTT packets that acknowledges one number.
     Ack(u64, u64),
@@ -109,18 +111,19 @@ fn acked(reply: &Result<Acknowledged, SenderError>) -> Said {
     }
 }
 
-fn abandoned(reply: &Result<Vec<u64>, SenderError>) -> Said {
+fn retransmitted(reply: &Result<Retransmitted, SenderError>) -> Said {
     match reply {
-        Ok(numbers) => Said::Lost(first(numbers), None),
+        Ok(all) => Said::Lost(first(&all.numbers), None),
         Err(given) => refused(given),
     }
 }
 
-fn timed_out(timeout: &Timeout) -> Said {
-    match timeout {
-        Timeout::Nothing => Said::Nothing,
-        Timeout::Lost { losses, .. } => lost(losses),
-        Timeout::Probe { count, .. } => Said::ProbesDue(*count),
+fn timed_out(reply: &Result<Timeout, SenderError>) -> Said {
+    match reply {
+        Ok(Timeout::Nothing) => Said::Nothing,
+        Ok(Timeout::Lost { losses, .. }) => lost(losses),
+        Ok(Timeout::Probe { count, .. }) => Said::ProbesDue(*count),
+        Err(given) => refused(given),
     }
 }
 
@@ -160,9 +163,9 @@ fn play(sender: &mut Reno, given: Call) -> Said {
             let reply = sender.discard(space, at(now));
             done(&reply)
         }
-        Call::Abandon(now, space) => {
+        Call::RetransmitAll(now, space) => {
             let reply = sender.retransmit_all(space, at(now));
-            abandoned(&reply)
+            retransmitted(&reply)
         }
         Call::Ack(now, number) => on_ack(sender, now, number),
         Call::Timeout(now) => {
@@ -272,7 +275,7 @@ fn a_retry(rt: HostRuntime) {
             Some(1_998_000_000),
         ),
         (
-            Call::Abandon(1_000_000_000, initial),
+            Call::RetransmitAll(1_000_000_000, initial),
             Said::Lost(Some(0), None),
             Some(1_999_000_000),
         ),
@@ -282,12 +285,12 @@ fn a_retry(rt: HostRuntime) {
             Some(1_999_000_000),
         ),
         (
-            Call::Abandon(1_010_000_000, data),
+            Call::RetransmitAll(1_010_000_000, data),
             Said::Lost(Some(0), None),
             Some(1_999_000_000),
         ),
         (
-            Call::Abandon(1_010_000_000, data),
+            Call::RetransmitAll(1_010_000_000, data),
             Said::Lost(None, None),
             Some(1_999_000_000),
         ),

@@ -4,4 +4,10 @@
 #[cfg(test)]
 mod calls;
 #[cfg(test)]
+mod failing;
+#[cfg(test)]
+mod many;
+#[cfg(test)]
+mod memory;
+#[cfg(test)]
 mod run;

@@ -9,6 +9,7 @@ use Rattle.recovery_base.specs.declared.below.SpaceId.{SpaceId}
 use Rattle.recovery_losses.specs.declared.frames.Ack.{Ack}
 use Rattle.recovery_stack.specs.SenderCalls.{AsksAck, AsksStack, AsksWith, ProbesHandle, ProbesStack}
 use Rattle.recovery_engine.specs.declared.sending.AckRange.{AckRange}
+use Rattle.recovery_engine.specs.declared.sending.AckRoom.{AckRoom}
 use Rattle.recovery_engine.specs.declared.sending.Call.{Call}
 use Rattle.recovery_engine.specs.declared.sending.Call.TheVariants.{TakeAck}
 use Rattle.recovery_engine.specs.declared.spelling.EncodedReply.{EncodedReply}
@@ -45,10 +46,11 @@ marks_held {name} {marks} {is_set} {given} {old} {new} was is gives held holds c
     (record { is = is; holds = holds; changes = changes }))
 
 pub frame_taken : {named : Option (SpaceId × Ack)} {space : SpaceId} {ack : Ack} {moment now : ℕ}
-    (given : List AckRange) (old : Option Stack) (spelling : EncodedReply) (new : Option Stack) → Some (space, ack)
-    ≡ named
-    → moment ≡ now → AsksWith old (TakeAck space moment ack) given spelling new
-    → AsksAck named now given old spelling new
-frame_taken {named} {space} {ack} {moment} {now} given old spelling new is at asks =
-    subst (λ (n : Option (SpaceId × Ack)). AsksAck n now given old spelling new) is
-    (subst (λ (m : ℕ). AsksWith old (TakeAck space m ack) given spelling new) at asks)
+    {room limit : AckRoom} (given : List AckRange) (old : Option Stack) (spelling : EncodedReply) (new : Option Stack)
+    → Some (space, ack) ≡ named → moment ≡ now → room ≡ limit
+    → AsksWith old (TakeAck space moment ack room) given spelling new
+    → AsksAck named now limit given old spelling new
+frame_taken {named} {space} {ack} {moment} {now} {room} {limit} given old spelling new is at has asks =
+    subst (λ (n : Option (SpaceId × Ack)). AsksAck n now limit given old spelling new) is
+    (subst (λ (m : ℕ). AsksWith old (TakeAck space m ack limit) given spelling new) at
+    (subst (λ (r : AckRoom). AsksWith old (TakeAck space moment ack r) given spelling new) has asks))

@@ -1,11 +1,13 @@
 -- What a call of a sender comes to, of what a handle holds.
 use Rattle.std.specs.Prelude.{◌≡◌, ℕ, Bool, List, [], Option, None, Some, Result, Ok, Err, option_map, option_and_then, if◌then◌else◌}
 use Rattle.recovery_base.specs.declared.below.SpaceId.{SpaceId}
+use Rattle.recovery_base.specs.Units.{largest_u64}
 use Rattle.recovery_losses.specs.declared.frames.Ack.{Ack}
 use Rattle.recovery_engine.specs.Replies.{no_recovery, plain}
 use Rattle.recovery_engine.specs.Sending.{ProbeUnlessNoSender, UnlessNoSender}
 use Rattle.recovery_engine.specs.declared.numbers.TheConstants.{ANSWER_QUEUE}
 use Rattle.recovery_engine.specs.declared.sending.AckRange.{AckRange}
+use Rattle.recovery_engine.specs.declared.sending.AckRoom.{AckRoom}
 use Rattle.recovery_engine.specs.declared.sending.Call.{Call}
 use Rattle.recovery_engine.specs.declared.sending.Call.TheVariants.{TakeAck}
 use Rattle.recovery_engine.specs.declared.spelling.EncodedReply.{EncodedReply}
@@ -94,6 +96,13 @@ abbrev pub frame_given : ℕ → AckFrame → Option (SpaceId × Ack)
 frame_given space frame =
     option_and_then (λ space. option_map (λ ack. (space, ack)) (ack_given frame)) (space_coded space)
 
-abbrev pub AsksAck : Option (SpaceId × Ack) → ℕ → List AckRange → Option Stack → EncodedReply → Option Stack → Type 0
-AsksAck None now given old spelling new = IsBadArgument old spelling new
-AsksAck (Some named) now given old spelling new = AsksWith old (TakeAck named.0 now named.1) given spelling new
+-- the room that the caller has for the outcome: room for all, if it does not limit it
+abbrev pub room_given : AckFrame → AckRoom
+room_given frame = if frame.is_limited then record { packets = frame.packets_room; lost = frame.lost_room }
+    else record { packets = largest_u64; lost = largest_u64 }
+
+abbrev pub AsksAck : Option (SpaceId × Ack) → ℕ → AckRoom → List AckRange → Option Stack → EncodedReply → Option Stack
+    → Type 0
+AsksAck None now room given old spelling new = IsBadArgument old spelling new
+AsksAck (Some named) now room given old spelling new =
+    AsksWith old (TakeAck named.0 now named.1 room) given spelling new

@@ -1,5 +1,6 @@
 -- What of a recovery can be read in a few instructions, in numbers.
-use Rattle.std.specs.Prelude.{Option, None, Some}
+use Rattle.std.specs.Prelude.{false, length, is_some, Option, None, Some}
+use Rattle.std.specs.Option.{option_map_or}
 use Rattle.recovery_congestion.specs.Rtt.{rtt_get, pto_base_of}
 use Rattle.recovery_spaces.specs.Packets.{HasSize}
 use Rattle.recovery_spaces.specs.Paths.{counters_of}
@@ -9,6 +10,7 @@ use Rattle.recovery_stack.specs.Codes.{nanos_shown}
 use Rattle.recovery_engine.specs.Controllers.{window_of}
 use Rattle.recovery_engine.specs.declared.controllers.Chosen.{Chosen}
 use Rattle.recovery_stack.specs.declared.glances.RttView.{RttView}
+use Rattle.recovery_stack.specs.declared.glances.TrackedView.{TrackedView}
 use Rattle.recovery_stack.specs.declared.glances.WindowView.{WindowView}
 
 abbrev pub window_shown : Path Chosen → WindowView
@@ -29,3 +31,15 @@ no_rtt = record { rtt = 0; pto_base = 0 }
 abbrev pub HasInFlight : {P M : Type 0} → Option (Space P M) → Type 0
 HasInFlight None = ⊥
 HasInFlight (Some space) = HasSize (packets_of space)
+
+-- how many packets a space tracks, and when the next of them is lost by its age
+abbrev pub no_tracked : TrackedView
+no_tracked = record { packets = 0; loss_time = 0; has_loss_time = false }
+
+abbrev pub tracked_in : {P M : Type 0} → Option (Space P M) → TrackedView
+tracked_in None = no_tracked
+tracked_in (Some space) = record {
+  packets = length (packets_of space);
+  loss_time = option_map_or (λ time. time) space.loss_time 0;
+  has_loss_time = is_some space.loss_time;
+}

@@ -1,15 +1,15 @@
 //! Readings of a few instructions, for a stack that reads more often than it changes: of the path in use, of the id in
-//! use, and of what a space has in flight.
-ghost use Rattle.std.specs.Prelude.{◌≡◌, false, Decides};
+//! use, and of what a space tracks.
+ghost use Rattle.std.specs.Prelude.{◌≡◌, false, Some, Decides};
 ghost use Rattle.recovery_ids.specs.CidQueue.{active_of};
 ghost use Rattle.recovery_stack.specs.Answers.{ReadsHandle};
 ghost use Rattle.recovery_engine.specs.Kept.{parts_kept};
 ghost use Rattle.recovery_stack.specs.Views.{space_named};
-ghost use Rattle.recovery_stack.specs.Stats.{no_rtt, no_window, rtt_shown, window_shown, HasInFlight};
+ghost use Rattle.recovery_stack.specs.Stats.{no_rtt, no_tracked, no_window, rtt_shown, tracked_in, window_shown, HasInFlight};
 
 use crate::codes::nanos_shown;
 use crate::handle::Handle;
-use crate::stack::Stack;
+use crate::stack::{ItemSpace, Stack};
 use recovery_congestion::congestion::Controller;
 use std::alloc::Global;
 
@@ -32,6 +32,48 @@ pub struct RttView {
     pub rtt: u64,
     /// The probe timeout without the peer's delay of ACKs (RFC 9002, 6.2.1).
     pub pto_base: u64,
+}
+
+/// What a packet number space tracks.
+#[repr(C)]
+#[derive(Clone, Copy)]
+pub struct TrackedView {
+    /// How many packets; 0 if there is no such space, or if it is discarded.
+    pub packets: u64,
+    /// When a sender declares the next of them lost by its age, in nanoseconds (RFC 9002, 6.1.2 and A.3); 0 if there is
+    /// no such time.
+    pub loss_time: u64,
+    /// Whether there is such a time.
+    pub has_loss_time: bool,
+}
+
+impl TrackedView {
+    fn none() -> TrackedView
+        ensures { result ≡ no_tracked }
+    {
+        TrackedView {
+            packets: 0,
+            loss_time: 0,
+            has_loss_time: false,
+        }
+    }
+
+    fn of(space: &ItemSpace) -> TrackedView
+        ensures { result ≡ tracked_in (Some space.now) }
+    {
+        let packets = space.sent_packets.len() as u64;
+        match space.loss_time {
+            Some(time) => TrackedView {
+                packets,
+                loss_time: time.as_nanos(),
+                has_loss_time: true,
+            },
+            None => TrackedView {
+                packets,
+                ..TrackedView::none()
+            },
+        }
+    }
 }
 
 impl Stack {
@@ -67,6 +109,15 @@ impl Stack {
         match self.named(space) {
             Some(space) => space.sent_packets.has_size(),
             None => false,
+        }
+    }
+
+    fn tracked(&self, space: u8) -> TrackedView
+        ensures { result ≡ tracked_in (space_named space (parts_kept self.now.kept)) }
+    {
+        match self.named(space) {
+            Some(space) => TrackedView::of(space),
+            None => TrackedView::none(),
         }
     }
 }
@@ -129,5 +180,18 @@ impl Handle {
         let has = stack.has_in_flight(space);
         self.put(stack);
         has
+    }
+
+    /// What a space tracks.
+    pub fn tracked(&mut self, alloc: Global, space: u8) -> TrackedView
+        ensures { ReadsHandle self.old.slot.held self.new.slot.held (λ stack.
+            result ≡ tracked_in (space_named space (parts_kept stack.kept))) (result ≡ no_tracked) }
+    {
+        let Some(stack) = self.take(alloc) else {
+            return TrackedView::none();
+        };
+        let view = stack.tracked(space);
+        self.put(stack);
+        view
     }
 }

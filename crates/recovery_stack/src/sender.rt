@@ -4,14 +4,14 @@ ghost use Rattle.recovery_engine.specs.Kept.{numbers_told, packets_told, pto_cou
 ghost use Rattle.recovery_engine.specs.Replies.{IsWritten};
 ghost use Rattle.recovery_engine.specs.Sending.{no_told, told_view};
 ghost use Rattle.recovery_stack.specs.Answers.{ReadsHandle};
-ghost use Rattle.recovery_stack.specs.SenderCalls.{ack_given, frame_given, AsksAck};
+ghost use Rattle.recovery_stack.specs.SenderCalls.{ack_given, frame_given, room_given, AsksAck};
 ghost use Rattle.recovery_stack.specs.Codes.{side_coded};
 
 use crate::codes::{space_coded, span};
 use crate::handle::Handle;
 use recovery_base::below::{EcnCounts, SpaceId};
 use recovery_base::time::Instant;
-use recovery_engine::sending::{AckRange, Call, OutcomeView};
+use recovery_engine::sending::{AckRange, AckRoom, Call, OutcomeView};
 use recovery_engine::spelling::EncodedReply;
 use recovery_losses::{Ack, Side};
 use std::alloc::Global;
@@ -28,12 +28,19 @@ pub struct AckFrame {
     pub ect1: u64,
     /// The count of ECN-CE.
     pub ce: u64,
+    /// If `is_limited`: how many words of `recovery_ffi_told_packets` the caller has room for.
+    pub packets_room: u64,
+    /// If `is_limited`: how many lost numbers of `recovery_ffi_told_numbers` it has room for.
+    pub lost_room: u64,
     /// The nanoseconds of that delay beside its seconds, below 10^9.
     pub delay_nanos: u32,
     /// Whether the frame has counts of ECN.
     pub has_ecn: bool,
     /// Whether the sender had too little to send to fill its window (RFC 9002, 7.8).
     pub app_limited: bool,
+    /// Whether the frame is taken only if the caller has room for all that it may read of the outcome. If not, the
+    /// caller reads the outcome in its own time.
+    pub is_limited: bool,
 }
 
 /// What a frame says, where its delay has fewer nanoseconds than a second.
@@ -60,6 +67,23 @@ fn frame_of(space: u8, given: &AckFrame) -> Option<(SpaceId, Ack)>
     Some((space_coded(space)?, ack_of(given)?))
 }
 
+/// The room that the caller has for the outcome.
+fn room_of(given: &AckFrame) -> AckRoom
+    ensures { result ≡ room_given given.now }
+{
+    if given.is_limited {
+        AckRoom {
+            packets: given.packets_room,
+            lost: given.lost_room,
+        }
+    } else {
+        AckRoom {
+            packets: u64::MAX,
+            lost: u64::MAX,
+        }
+    }
+}
+
 /// The end of a connection that a sender is of.
 pub fn side_of(client: bool) -> Side
     ensures { result ≡ side_coded client }
@@ -68,8 +92,9 @@ pub fn side_of(client: bool) -> Side
 }
 
 impl Handle {
-    /// An ACK frame came in (RFC 9002, A.7), with its ranges, the highest first, as on the wire; refused where there is
-    /// no such space, and where its delay has the nanoseconds of a second.
+    /// An ACK frame came in (RFC 9002, A.7), with its ranges, the highest first, as on the wire. It is rejected if
+    /// there is no such space, or if its delay has the nanoseconds of a second. Nothing is done if the caller has too
+    /// little room.
     pub fn take_ack(
         &mut self,
         alloc: Global,
@@ -78,7 +103,7 @@ impl Handle {
         frame: &AckFrame,
         ranges: &[AckRange],
     ) -> EncodedReply
-        ensures { AsksAck (frame_given space frame.now) now ranges.now
+        ensures { AsksAck (frame_given space frame.now) now (room_given frame.now) ranges.now
             self.old.slot.held result self.new.slot.held }
     {
         let Some((space, ack)) = frame_of(space, frame) else {
@@ -90,6 +115,7 @@ impl Handle {
                 space,
                 now: Instant::from_nanos(now),
                 ack,
+                room: room_of(frame),
             },
             ranges,
         )
@@ -108,7 +134,7 @@ impl Handle {
         count
     }
 
-    /// What was told last; nothing before it, and where there is no sender.
+    /// The last outcome; an empty one before the first, or if there is no sender.
     pub fn last_outcome(&mut self, alloc: Global) -> OutcomeView
         ensures { ReadsHandle self.old.slot.held self.new.slot.held (λ stack.
             result ≡ told_view stack.kept) (result ≡ no_told) }

@@ -50,6 +50,8 @@ pub const ANSWER_NOTHING: u8 = 130;
 pub const ANSWER_LOSSES: u8 = 131;
 /// Probes are to be sent.
 pub const ANSWER_PROBES: u8 = 132;
+/// The caller has too little room for what an ACK frame results in: nothing is done.
+pub const ANSWER_NEEDS_ROOM: u8 = 133;
 /// The event is refused. It lies far from the answers, so that further ones do not move it.
 pub const ANSWER_REFUSED: u8 = 255;
 
@@ -239,6 +241,19 @@ pub struct RttView {
     pub pto_base: u64,
 }
 
+/// What a packet number space tracks.
+#[repr(C)]
+#[derive(Clone, Copy, Debug, PartialEq, Eq)]
+pub struct TrackedView {
+    /// How many packets; 0 if there is no such space, or if it is discarded.
+    pub packets: u64,
+    /// When a sender declares the next of them lost by its age, in nanoseconds (RFC 9002, 6.1.2 and A.3); 0 if there is
+    /// no such time.
+    pub loss_time: u64,
+    /// Whether there is such a time.
+    pub has_loss_time: bool,
+}
+
 /// What a caller holds a recovery by. It begins as all zeros, which holds none; from then on it is the library's own.
 #[repr(C)]
 pub struct Handle {
@@ -321,12 +336,19 @@ pub struct AckFrame {
     pub ect1: u64,
     /// The count of ECN-CE.
     pub ce: u64,
+    /// If `is_limited`: how many words of `recovery_ffi_told_packets` the caller has room for.
+    pub packets_room: u64,
+    /// If `is_limited`: how many lost numbers of `recovery_ffi_told_numbers` it has room for.
+    pub lost_room: u64,
     /// The nanoseconds of that delay beside its seconds, below 10^9.
     pub delay_nanos: u32,
     /// Whether the frame has counts of ECN.
     pub has_ecn: bool,
     /// Whether the sender had too little to send to fill its window (RFC 9002, 7.8).
     pub app_limited: bool,
+    /// Whether the frame is taken only if the caller has room for all that it may read of the outcome. If not, the
+    /// caller reads the outcome in its own time.
+    pub is_limited: bool,
 }
 
 /// A range of numbers that an ACK frame acknowledges (RFC 9000, 19.3.1).
@@ -339,7 +361,8 @@ pub struct AckRange {
     pub last: u64,
 }
 
-/// What was told last: of an ACK frame, of a timeout that found losses, or of an abandoned space.
+/// The last outcome: of an ACK frame, of a timeout that searched for losses, or of a space whose packets were all
+/// declared lost.
 #[repr(C)]
 #[derive(Clone, Copy, Debug, PartialEq, Eq)]
 pub struct OutcomeView {
@@ -361,6 +384,9 @@ pub struct OutcomeView {
     pub is_persistent: bool,
     /// Whether a black hole was reported (RFC 8899, 4.3).
     pub is_black_hole: bool,
+    /// Whether allocation failed for a lost packet, which is then still tracked: the next timeout, or the same call for
+    /// the space, declares it lost.
+    pub is_cut: bool,
 }
 
 /// The settings: times are in nanoseconds, and sizes in bytes.
@@ -434,19 +460,20 @@ pub struct EncodedReply {
     pub refusal: u8,
     /// New: whether to start the timer for a late ACK. Sent: whether a silent packet was forgotten for it. Acked, lost:
     /// whether it was the probe of the path's MTU. Retire: whether numbers are to be retired. Flag: yes or no. Timeout:
-    /// whether a timer is set. Black hole: whether one was reported. Sendable: whether an ACK is to be sent. Otherwise
-    /// false.
+    /// whether a timer is set. Black hole: whether one was reported. Sendable: whether an ACK is to be sent.
+    /// Acknowledged: whether the outcome has more than the two numbers. Otherwise false.
     pub flag: bool,
     /// Sendable: whether there is something else to be sent. Otherwise false.
     pub other: bool,
     /// Probe: its size in bytes. Otherwise 0.
     pub size: u16,
     /// Sent, probe: the number that it was given. Retire: the first number. Timeout, delayed: the moment, in
-    /// nanoseconds. In flight: the bytes. Acknowledged: how many numbers are so newly. Losses of a timeout, probes: the
-    /// space. Otherwise 0.
+    /// nanoseconds. In flight: the bytes. Acknowledged: how many numbers are so newly. Needs room: how many words of
+    /// packets. Losses of a timeout, probes: the space. Otherwise 0.
     pub first: u64,
     /// Sent: the number that was forgotten. Retire: one above the last number. In flight: how many packets elicit an
-    /// ACK. Acknowledged: how many numbers are lost. Probes: how many are due. Otherwise 0.
+    /// ACK. Acknowledged: how many numbers are lost. Needs room: how many lost numbers. Probes: how many are due.
+    /// Otherwise 0.
     pub second: u64,
 }
 
@@ -551,7 +578,7 @@ pub struct IdsView {
 
 unsafe extern "C" {
     /// Does nothing; a library of another layout does not have it.
-    #[link_name = "recovery_ffi_layout_e5525016"]
+    #[link_name = "recovery_ffi_layout_59e0df3d"]
     pub fn recovery_ffi_layout();
 
     /// Makes a recovery, whose peer is at this address and has this id of at most 20 bytes. The answer is `NEW_MADE`, or
@@ -603,6 +630,9 @@ unsafe extern "C" {
 
     /// Whether a packet that counts in flight is tracked in a space (RFC 9002, 2), by whichever path it went.
     pub fn recovery_ffi_has_in_flight(handle: *mut Handle, space: u8) -> bool;
+
+    /// How many packets a space tracks, and when a sender declares the next of them lost by its age.
+    pub fn recovery_ffi_tracked(handle: *mut Handle, space: u8) -> TrackedView;
 
     /// A NEW_CONNECTION_ID frame came in (RFC 9000, 19.15): the event `NewId`; an id has at most 20 bytes.
     pub fn recovery_ffi_new_id(
@@ -913,12 +943,13 @@ unsafe extern "C" {
     ) -> EncodedReply;
 
     /// An ACK frame came in (RFC 9002, A.7), with its ranges, the highest first, as on the wire: `ANSWER_ACKNOWLEDGED`,
-    /// with how many numbers it newly acknowledges in `first`, how many are found lost in `second`, and in `flag` whether
-    /// `recovery_ffi_last_outcome` says more than that; `recovery_ffi_told_numbers` says which they are. Refused, and
-    /// nothing
-    /// changes, by `REFUSAL_SPACE_DISCARDED`, by `REFUSAL_BAD_RANGE` where there is no range, one ends before it begins, or
-    /// two have no number between them (RFC 9000, 19.3.1), by `REFUSAL_UNSENT`, by `REFUSAL_SKIPPED_ACKED` (RFC 9000,
-    /// 21.4), or by `REFUSAL_NO_MEMORY`.
+    /// with how many numbers it newly acknowledges in `first`, how many packets it declares lost in `second`, and in `flag`
+    /// whether `recovery_ffi_last_outcome` has more than that. `recovery_ffi_told_numbers` and `recovery_ffi_told_packets`
+    /// say which they are. Nothing changes if the answer is an error: `REFUSAL_SPACE_DISCARDED`; `REFUSAL_BAD_RANGE` if
+    /// there is no range, one ends before it begins, or two have no number between them (RFC 9000, 19.3.1);
+    /// `REFUSAL_UNSENT`; `REFUSAL_SKIPPED_ACKED` (RFC 9000, 21.4); or `REFUSAL_NO_MEMORY`. Nothing changes either at
+    /// `ANSWER_NEEDS_ROOM`: the caller limits its room (`is_limited`), and has too little. `first` is then how many words
+    /// of packets, and `second` how many lost numbers, it needs room for.
     pub fn recovery_ffi_sender_ack(
         handle: *mut Handle,
         space: u8,
@@ -932,7 +963,9 @@ unsafe extern "C" {
     /// searched for lost packets, with the space in `first`, and `recovery_ffi_last_outcome` and
     /// `recovery_ffi_told_numbers` say which are lost; or `ANSWER_PROBES`, with the space in `first` and in `second` how
     /// many probes are due there, 1 or 2. For each of them the caller asks `recovery_ffi_sender_transmit`, takes its
-    /// contents by `recovery_ffi_sender_probe`, and sends it by `recovery_ffi_send`. No sender refuses it.
+    /// contents by `recovery_ffi_sender_probe`, and sends it by `recovery_ffi_send`. The error is `REFUSAL_NO_MEMORY`, if
+    /// there is no room for the numbers of the packets that may be lost; then nothing has changed. A timeout that asks for
+    /// probes takes no memory.
     pub fn recovery_ffi_sender_on_timeout(handle: *mut Handle, now: u64) -> EncodedReply;
 
     /// Hands out what a probe of a space carries (RFC 9002, 6.2.4), to be read by `recovery_ffi_last_items`: what waits
@@ -949,11 +982,16 @@ unsafe extern "C" {
     /// 6.4 and A.11): `ANSWER_DONE`. Refused by `REFUSAL_SPACE_DISCARDED`.
     pub fn recovery_ffi_sender_discard(handle: *mut Handle, space: u8, now: u64) -> EncodedReply;
 
-    /// What a space tracks was sent in vain, behind a Retry or where 0-RTT is refused (RFC 9002, 6.3 and 6.4): each packet
-    /// is lost, which is no congestion, and probe timeouts are counted anew: `ANSWER_LOSSES`, and
-    /// `recovery_ffi_told_numbers` says which. Refused by `REFUSAL_SPACE_DISCARDED`; by `REFUSAL_NO_MEMORY`, where the same
-    /// call goes on with what is tracked still.
-    pub fn recovery_ffi_sender_abandon(handle: *mut Handle, space: u8, now: u64) -> EncodedReply;
+    /// What a space tracks was sent in vain, before a Retry or if 0-RTT is rejected (RFC 9002, 6.3 and 6.4). Each packet is
+    /// declared lost, which is no congestion, and probe timeouts are counted from zero: `ANSWER_LOSSES`, and
+    /// `recovery_ffi_told_numbers` says which. With `is_cut` in `recovery_ffi_last_outcome` allocation failed for some
+    /// packets, which are still tracked, and the same call goes on with them. The errors are `REFUSAL_SPACE_DISCARDED` and
+    /// `REFUSAL_NO_MEMORY`; then nothing has changed.
+    pub fn recovery_ffi_sender_retransmit_all(
+        handle: *mut Handle,
+        space: u8,
+        now: u64,
+    ) -> EncodedReply;
 
     /// There are keys of Handshake packets (RFC 9002, A.8): `ANSWER_DONE`.
     pub fn recovery_ffi_sender_handshake_keys(handle: *mut Handle) -> EncodedReply;
@@ -984,8 +1022,8 @@ unsafe extern "C" {
     /// sender.
     pub fn recovery_ffi_pto_count(handle: *mut Handle) -> u32;
 
-    /// What was told last: by an ACK frame that was not refused, by a timeout that looked for losses, or by an abandoned
-    /// space. Nothing before it, and where there is no sender.
+    /// The last outcome: of an ACK frame that was taken, of a timeout that searched for losses, or of a space whose packets
+    /// were all declared lost. It is empty before the first, and if there is no sender.
     pub fn recovery_ffi_last_outcome(handle: *mut Handle) -> OutcomeView;
 
     /// How many numbers were newly acknowledged as something was told last, or, with `lost`, how many were found lost,

@@ -70,8 +70,8 @@ pub use mtud::{InvalidArgument, MtuDiscovery};
 pub use pacing::Pacer;
 pub use recovery::{IdStats, PacerStats, PathStats, Recovery, RttEstimate, SpaceStats};
 pub use sender::{
-    Ack, Acknowledged, EcnOutcome, Losses, MtuProbe, Packets, Sender, SenderError, Sent, Side,
-    Timeout, Transmission,
+    Ack, Acknowledged, EcnOutcome, Losses, MtuProbe, Packets, Retransmitted, Sender, SenderError,
+    Sent, Side, Timeout, Transmission,
 };
 pub use timer::Timer;
 pub use types::{

@@ -18,7 +18,7 @@ pub enum Side {
     Server,
 }
 
-/// Why a call of a sender is refused; after it all is as it was before, but as [`Sender::retransmit_all`] says.
+/// Why a call of a sender fails. [`Sender`] says what such a call leaves.
 #[derive(Clone, Copy, Debug, PartialEq, Eq, Hash)]
 #[non_exhaustive]
 pub enum SenderError {
@@ -115,6 +115,9 @@ pub struct Losses {
     pub is_persistent: bool,
     /// Whether a black hole was reported (RFC 8899, 4.3).
     pub is_black_hole: bool,
+    /// Whether allocation failed for a packet that is lost: its items could not join those that wait to be sent again. It
+    /// is still tracked, and the timer is due at once, so that the next [`Sender::on_timeout`] declares it lost.
+    pub is_cut: bool,
 }
 
 impl Losses {
@@ -125,7 +128,17 @@ impl Losses {
         self.congestion = None;
         self.is_persistent = false;
         self.is_black_hole = false;
+        self.is_cut = false;
     }
+}
+
+/// What was declared lost in a space, all of which was sent in vain.
+#[derive(Clone, Debug, Default, PartialEq, Eq)]
+pub struct Retransmitted {
+    /// The numbers of the packets that are lost, increasing.
+    pub numbers: Vec<u64>,
+    /// Whether allocation failed for a packet, which is still tracked then: the same call goes on with the rest.
+    pub is_cut: bool,
 }
 
 /// What an ACK frame comes to.
@@ -159,6 +172,26 @@ impl Acknowledged {
         self.numbers = numbers;
         room.map_err(|_| Refusal::NoMemory)
     }
+
+    /// For how many words of packets there is room: a packet has two and its items, and its number.
+    fn packets_room(&self) -> usize {
+        self.words.capacity().min(2 * self.numbers.capacity())
+    }
+
+    /// Makes room for so many words of packets, with the numbers of the packets, and for so many lost numbers.
+    fn make_room(&mut self, packets: u64, lost: u64) -> Result<(), Refusal> {
+        let count = |it| usize::try_from(it).map_err(|_| Refusal::NoMemory);
+        let (packets, lost) = (count(packets)?, count(lost)?);
+        make_room(&mut self.words, packets)?;
+        make_room(&mut self.numbers, packets.div_ceil(2))?;
+        make_room(&mut self.losses.numbers, lost)
+    }
+}
+
+/// Makes room for so many numbers in place of those that a vector holds.
+fn make_room(numbers: &mut Vec<u64>, count: usize) -> Result<(), Refusal> {
+    numbers.clear();
+    numbers.try_reserve(count).map_err(|_| Refusal::NoMemory)
 }
 
 /// Packets that an ACK frame newly acknowledges, each with its items.
@@ -203,10 +236,10 @@ pub enum Timeout {
 /// datagram may go out. It holds one [`Recovery`], of which all can be read, and decides what that leaves to the layer
 /// above. One call takes an ACK frame, one the timer.
 ///
-/// What a call answers and does is proved, and all that is promised of a recovery holds too. A refused call changes
-/// nothing, but for the number of an ACK_FREQUENCY frame that is refused by `DelayTooSmall`, which is kept. After each
-/// call [`Sender::timer`] is when [`Sender::on_timeout`] is to be called. Sums of moments and spans stop at their
-/// greatest values.
+/// What a call answers and does is proved, and all that is promised of a recovery holds too. A call that fails changes
+/// nothing, except where its documentation says so; memory for an answer is taken first. After each call
+/// [`Sender::timer`] is when [`Sender::on_timeout`] is to be called. Sums of moments and spans stop at their greatest
+/// values.
 #[derive(Debug)]
 pub struct Sender {
     /// Its handle holds the recovery of a sender.
@@ -355,13 +388,15 @@ impl Sender {
     }
 
     /// An ACK frame came in (RFC 9002, A.7), with the first and last number of each of its ranges, the highest range
-    /// first, as on the wire. What it newly acknowledges is told, the round-trip time sampled, and losses are looked for.
+    /// first, as on the wire. The sender acknowledges the packets, samples the round-trip time, and declares packets lost.
+    /// It costs its ranges, what it newly acknowledges and what is lost or lies below the largest acknowledged, each with
+    /// a logarithm.
     ///
-    /// Refused by `SpaceDiscarded`; by `BadRange` where there is no range, one ends before it begins, or two have no
-    /// number between them (RFC 9000, 19.3.1); by [`SenderError::Unsent`] where a number was never sent (RFC 9000, 13.1); by
-    /// `SkippedAcked` where it holds the number that was skipped last (RFC 9000, 21.4); by `NoMemory`. Where memory is
-    /// missing for the answer alone, the frame is taken: then [`Sender::last_outcome`] says what it came to. It costs its ranges,
-    /// what it newly acknowledges and what is lost or lies below the largest acknowledged, each with a logarithm.
+    /// # Errors
+    /// `SpaceDiscarded`; `BadRange` if there is no range, one ends before it begins, or two have no number between them
+    /// (RFC 9000, 19.3.1); [`SenderError::Unsent`] if a number was never sent (RFC 9000, 13.1); `SkippedAcked` if the frame
+    /// holds the number that was skipped last (RFC 9000, 21.4); `NoMemory` if there is no room for the answer. Then nothing
+    /// has changed.
     pub fn on_ack(
         &mut self,
         space: SpaceId,
@@ -370,12 +405,15 @@ impl Sender {
         ranges: &[(u64, u64)],
     ) -> Result<Acknowledged, SenderError> {
         let mut told = Acknowledged::default();
+        told.make_room(16, 0)?;
         self.on_ack_into(space, now, ack, ranges, &mut told)?;
         Ok(told)
     }
 
-    /// As [`Sender::on_ack`], into vectors that the caller keeps: they are filled anew, and take memory only where they
-    /// grow.
+    /// As [`Sender::on_ack`], into vectors that the caller keeps: they are filled anew, and take memory only if they grow.
+    ///
+    /// # Errors
+    /// Those of [`Sender::on_ack`]. Then nothing has changed, except that the vectors may be empty.
     pub fn on_ack_into(
         &mut self,
         space: SpaceId,
@@ -392,27 +430,11 @@ impl Sender {
             .iter()
             .map(|&(first, last)| ffi::AckRange { first, last });
         self.ranges.extend(given);
-        let counts = ack.ecn.unwrap_or_default();
-        let frame = ffi::AckFrame {
-            delay_secs: ack.delay.as_secs(),
-            ect0: counts.ect0,
-            ect1: counts.ect1,
-            ce: counts.ce,
-            delay_nanos: ack.delay.subsec_nanos(),
-            has_ecn: ack.ecn.is_some(),
-            app_limited: ack.app_limited,
-        };
-        // SAFETY: the handle holds a recovery, `self` is borrowed alone, and the ranges are a slice.
-        let reply = unsafe {
-            ffi::recovery_ffi_sender_ack(
-                self.recovery.handle(),
-                space as u8,
-                now.as_nanos(),
-                &frame,
-                self.ranges.as_ptr(),
-                self.ranges.len(),
-            )
-        };
+        let mut reply = self.frame(space, now, ack, told);
+        if reply.kind == ffi::ANSWER_NEEDS_ROOM {
+            told.make_room(reply.first, reply.second)?;
+            reply = self.frame(space, now, ack, told);
+        }
         let reply = of_kind(ffi::ANSWER_ACKNOWLEDGED, reply)?;
         if reply.second > 0 || reply.flag {
             self.last_outcome(told)?;
@@ -424,22 +446,71 @@ impl Sender {
         Ok(())
     }
 
+    /// A frame with the ranges that are kept. It is taken if the answer fits.
+    fn frame(
+        &mut self,
+        space: SpaceId,
+        now: Instant,
+        ack: &Ack,
+        told: &Acknowledged,
+    ) -> ffi::EncodedReply {
+        let counts = ack.ecn.unwrap_or_default();
+        let frame = ffi::AckFrame {
+            delay_secs: ack.delay.as_secs(),
+            ect0: counts.ect0,
+            ect1: counts.ect1,
+            ce: counts.ce,
+            packets_room: told.packets_room() as u64,
+            lost_room: told.losses.numbers.capacity() as u64,
+            delay_nanos: ack.delay.subsec_nanos(),
+            has_ecn: ack.ecn.is_some(),
+            app_limited: ack.app_limited,
+            is_limited: true,
+        };
+        // SAFETY: the handle holds a recovery, `self` is borrowed alone, and the ranges are a slice.
+        unsafe {
+            ffi::recovery_ffi_sender_ack(
+                self.recovery.handle(),
+                space as u8,
+                now.as_nanos(),
+                &frame,
+                self.ranges.as_ptr(),
+                self.ranges.len(),
+            )
+        }
+    }
+
+    /// What a space tracks.
+    fn tracked(&self, space: SpaceId) -> ffi::TrackedView {
+        // SAFETY: the handle holds a recovery, and no other call runs.
+        unsafe { ffi::recovery_ffi_tracked(self.recovery.handle(), space as u8) }
+    }
+
+    /// The most numbers that a timeout declares lost: those of one space, if its packets may be lost by now.
+    fn may_lose(&self, now: Instant) -> u64 {
+        let spaces = SpaceId::VALUES.into_iter().map(|it| self.tracked(it));
+        let due = spaces.filter(|it| it.has_loss_time && it.loss_time <= now.as_nanos());
+        due.map(|it| it.packets).max().unwrap_or(0)
+    }
+
     /// The timer for losses may be due (RFC 9002, A.9). Before its time nothing happens. If a space may have lost packets,
     /// they are declared lost. Otherwise probes are due in the space whose timer expired, in place of those that were due
     /// before. For each of them the caller asks [`Sender::transmit`], takes its contents by [`Sender::probe`] and sends it
-    /// by [`Sender::send`], in this order.
+    /// by [`Sender::send`], in this order. It costs what is lost and what is tracked below the largest acknowledged, each
+    /// with a logarithm.
     ///
     /// # Errors
-    /// `NoMemory` alone, if the answer's vector finds no memory: the call is done then, and [`Sender::last_outcome`] says
-    /// what was lost.
+    /// `NoMemory` if there is no room for the numbers of the packets that may be lost. Then nothing has changed. A timeout
+    /// that asks for probes takes no memory.
     pub fn on_timeout(&mut self, now: Instant) -> Result<Timeout, SenderError> {
+        let mut told = Acknowledged::default();
+        told.make_room(0, self.may_lose(now))?;
         let (handle, now) = (self.recovery.handle(), now.as_nanos());
         // SAFETY: the handle holds a recovery, and `self` is borrowed alone.
         let reply = taken(unsafe { ffi::recovery_ffi_sender_on_timeout(handle, now) })?;
         Ok(match reply.kind {
             ffi::ANSWER_NOTHING => Timeout::Nothing,
             ffi::ANSWER_LOSSES => {
-                let mut told = Acknowledged::default();
                 self.last_outcome(&mut told)?;
                 Timeout::Lost {
                     space: space_of(reply.first),
@@ -527,22 +598,42 @@ impl Sender {
         Ok(())
     }
 
-    /// What a space tracks was sent in vain, behind a Retry or where 0-RTT is refused (RFC 9002, 6.3 and 6.4): each packet
-    /// is lost, which is no congestion, what it carried waits to be sent again, and probe timeouts are counted anew. The
-    /// numbers, rising. Refused by `SpaceDiscarded`; by `NoMemory`, where the same call goes on with what is tracked still.
-    /// Where memory is missing for the answer alone, [`Sender::last_outcome`] says what was lost.
+    /// What a space tracks was sent in vain, before a Retry or if 0-RTT is rejected (RFC 9002, 6.3 and 6.4): each packet is
+    /// declared lost, which is no congestion, its items wait to be sent again, and probe timeouts are counted from zero. If
+    /// allocation fails for a packet, it is still tracked, the others are lost all the same, and `is_cut` says so: the same
+    /// call goes on with the rest. It costs what is tracked, each packet with a logarithm.
+    ///
+    /// ```no_run
+    /// # use quic_recovery::*;
+    /// # fn on_retry(sender: &mut Sender, now: Instant) -> Result<(), SenderError> {
+    /// // A Retry packet came in: the first Initial packets were sent in vain.
+    /// let lost = sender.retransmit_all(SpaceId::Initial, now)?;
+    /// println!("{} packets are lost", lost.numbers.len());
+    /// if lost.is_cut {
+    ///     println!("others are still tracked: call it again once there is memory");
+    /// }
+    /// # Ok(())
+    /// # }
+    /// ```
+    ///
+    /// # Errors
+    /// `SpaceDiscarded`, or `NoMemory` if there is no room for the numbers. Then nothing has changed.
     pub fn retransmit_all(
         &mut self,
         space: SpaceId,
         now: Instant,
-    ) -> Result<Vec<u64>, SenderError> {
+    ) -> Result<Retransmitted, SenderError> {
+        let mut told = Acknowledged::default();
+        told.make_room(0, self.tracked(space).packets)?;
         let (handle, now) = (self.recovery.handle(), now.as_nanos());
         // SAFETY: the handle holds a recovery, and `self` is borrowed alone.
-        let reply = unsafe { ffi::recovery_ffi_sender_abandon(handle, space as u8, now) };
+        let reply = unsafe { ffi::recovery_ffi_sender_retransmit_all(handle, space as u8, now) };
         of_kind(ffi::ANSWER_LOSSES, reply)?;
-        let mut told = Acknowledged::default();
         self.last_outcome(&mut told)?;
-        Ok(told.losses.numbers)
+        Ok(Retransmitted {
+            numbers: told.losses.numbers,
+            is_cut: told.losses.is_cut,
+        })
     }
 
     /// An event, as [`Recovery::apply`] does it, and it is refused as there. The sender decides itself what is acknowledged
@@ -555,9 +646,11 @@ impl Sender {
         Ok(self.recovery.read(reply)?)
     }
 
-    /// What was told last, by an ACK frame that was not refused, by a timeout that looked for losses, or by an abandoned
-    /// space; nothing before.
-    /// Refused by `NoMemory` alone, where the vectors have to grow.
+    /// Reads the last outcome: of an ACK frame that was taken, of a timeout that searched for losses, or of a space whose
+    /// packets were all declared lost. It is empty before the first.
+    ///
+    /// # Errors
+    /// `NoMemory` if the vectors cannot grow.
     pub fn last_outcome(&self, into: &mut Acknowledged) -> Result<(), Refusal> {
         // SAFETY: the handle holds a recovery, and no other call runs.
         let view = unsafe { ffi::recovery_ffi_last_outcome(self.recovery.handle()) };
@@ -567,6 +660,7 @@ impl Sender {
         into.losses.congestion = view.has_congestion.then_some(view.congestion);
         into.losses.is_persistent = view.is_persistent;
         into.losses.is_black_hole = view.is_black_hole;
+        into.losses.is_cut = view.is_cut;
         into.ecn = match view.ecn {
             ffi::ECN_QUIET => EcnOutcome::Quiet,
             ffi::ECN_MARKED => EcnOutcome::Marked,

@@ -29,17 +29,17 @@ fn lost(losses: &Losses) -> String {
     text += &losses
         .congestion
         .map_or(String::new(), |it| format!(" {kind} {it}"));
-    text + if losses.is_black_hole {
-        " black-hole"
-    } else {
-        ""
+    if losses.is_black_hole {
+        text += " black-hole";
     }
+    text + if losses.is_cut { " cut" } else { "" }
 }
 
 /// What was lost with its space.
-fn abandoned(numbers: Vec<u64>) -> String {
+fn retransmitted(all: Retransmitted) -> String {
     lost(&Losses {
-        numbers,
+        numbers: all.numbers,
+        is_cut: all.is_cut,
         ..Losses::default()
     })
 }
@@ -49,7 +49,7 @@ fn acked(found: &Acknowledged) -> String {
         return "acked none".into();
     }
     let mut text = format!("acked{}", numbers(&found.numbers));
-    if !found.losses.numbers.is_empty() || found.losses.probe.is_some() {
+    if !found.losses.numbers.is_empty() || found.losses.probe.is_some() || found.losses.is_cut {
         text += &format!(" {}", lost(&found.losses));
     }
     text + match found.ecn {
@@ -152,7 +152,7 @@ fn called(sender: &mut Sender, line: &Line) -> Result<String, SenderError> {
         "discard" => sender.discard(line.space(1), line.moment(2)).map(done),
         "abandon" => sender
             .retransmit_all(line.space(1), line.moment(2))
-            .map(abandoned),
+            .map(retransmitted),
         _ => sender.on_event(line.event()).map(|it| written(&Ok(it))),
     }
 }
@@ -347,6 +347,25 @@ fn losses_by_time() {
         panic!("packet 0 is lost by now");
     };
     assert_eq!((space, losses.numbers), (SpaceId::Data, vec![0]));
+}
+
+/// All that a space tracks is lost, and is to be sent again; a space that is discarded has nothing.
+#[test]
+fn all_packets_of_a_space() {
+    let (mut sender, space) = (with_packets(3), SpaceId::Data);
+    let all = Retransmitted {
+        numbers: vec![0, 1, 2],
+        is_cut: false,
+    };
+    assert_eq!(sender.retransmit_all(space, at(5)), Ok(all));
+    assert_eq!(sender.timer(), None);
+    let pending = sender.on_event(Event::TakePending { space });
+    assert_eq!(pending, Ok(Answer::Queue(vec![0, 1, 2])));
+    let none = sender.retransmit_all(space, at(6));
+    assert_eq!(none, Ok(Retransmitted::default()));
+    assert_eq!(sender.discard(SpaceId::Initial, at(7)), Ok(()));
+    let gone = SenderError::Event(Refusal::SpaceDiscarded);
+    assert_eq!(sender.retransmit_all(SpaceId::Initial, at(8)), Err(gone));
 }
 
 /// A sender that is made established sends and probes for 1-RTT packets alone.

@@ -1,6 +1,6 @@
 //! CUBIC (RFC 9438).
-use crate::{acknowledge, recovery_for, since};
-use quic_recovery::{Congestion, Event, Instant as Moment, Recovery};
+use crate::{since, Alone};
+use quic_recovery::{Congestion, Instant as Moment};
 use quinn_proto::congestion::{Controller, ControllerFactory};
 use quinn_proto::RttEstimator;
 use std::any::Any;
@@ -25,10 +25,10 @@ impl Default for CubicConfig {
     }
 }
 
-/// The controller of a path. It holds a recovery for its controller alone, as [`NewReno`](crate::NewReno) does.
+/// The controller of a path. Idle time does not count (RFC 9438, 5.8).
 #[derive(Debug)]
 pub struct Cubic {
-    recovery: Recovery,
+    alone: Alone,
     config: CubicConfig,
     /// The moment that the library knows as its nanosecond 0.
     epoch: Instant,
@@ -40,7 +40,7 @@ impl Cubic {
     fn new(config: CubicConfig, epoch: Instant, initial_window: u64) -> Self {
         let cubic = quic_recovery::CubicConfig { initial_window };
         Cubic {
-            recovery: recovery_for(Congestion::Cubic(cubic), config.max_datagram_size),
+            alone: Alone::new(Congestion::Cubic(cubic), config.max_datagram_size),
             config,
             epoch,
             has_fallen: false,
@@ -48,12 +48,7 @@ impl Cubic {
     }
 
     fn congested(&mut self, now: Moment, sent: Moment, persistent: bool, bytes: u64) {
-        let _ = self.recovery.apply(Event::Congestion {
-            now,
-            sent,
-            persistent,
-            bytes,
-        });
+        self.alone.congested(now, sent, persistent, bytes);
         self.has_fallen = true;
     }
 
@@ -78,6 +73,10 @@ impl ControllerFactory for CubicConfig {
 }
 
 impl Controller for Cubic {
+    fn on_sent(&mut self, now: Instant, _: u64, _: u64) {
+        self.alone.sent = since(self.epoch, now);
+    }
+
     fn on_ack(
         &mut self,
         now: Instant,
@@ -87,7 +86,18 @@ impl Controller for Cubic {
         _: &RttEstimator,
     ) {
         let (now, sent) = (since(self.epoch, now), since(self.epoch, sent));
-        acknowledge(&mut self.recovery, now, sent, bytes, app_limited);
+        self.alone.acknowledge(now, sent, bytes, app_limited);
+    }
+
+    fn on_end_acks(
+        &mut self,
+        now: Instant,
+        in_flight: u64,
+        app_limited: bool,
+        largest: Option<u64>,
+    ) {
+        let now = since(self.epoch, now);
+        self.alone.end_acks(now, in_flight, app_limited, largest);
     }
 
     fn on_congestion_event(&mut self, now: Instant, sent: Instant, persistent: bool, bytes: u64) {
@@ -96,7 +106,7 @@ impl Controller for Cubic {
     }
 
     fn window(&self) -> u64 {
-        self.recovery.window_and_flight().0
+        self.alone.recovery.window_and_flight().0
     }
 
     fn clone_box(&self) -> Box<dyn Controller> {
@@ -109,5 +119,40 @@ impl Controller for Cubic {
 
     fn into_any(self: Box<Self>) -> Box<dyn Any> {
         self
+    }
+}
+
+#[cfg(test)]
+mod tests {
+    use super::*;
+
+    fn at(millis: u64) -> Moment {
+        Moment::from_nanos(millis * 1_000_000)
+    }
+
+    /// The window after a reduction at 1 s and 40 packets, one in flight at a time, 100 ms each, of which 20 are sent after
+    /// a pause. In the pause the endpoint sends ACKs alone.
+    fn window_after(pause: u64) -> u64 {
+        let epoch = Instant::now();
+        let mut cubic = Cubic::new(CubicConfig::default(), epoch, 24_000);
+        cubic.congested(at(1000), at(900), false, 1200);
+        for packet in 0..40 {
+            let sent = at(1000 + 100 * packet + if packet < 20 { 0 } else { pause });
+            let heard = Moment::from_nanos(sent.as_nanos() + 100_000_000);
+            cubic.alone.sent = sent;
+            cubic.alone.acknowledge(heard, sent, 1200, false);
+            cubic.alone.end_acks(heard, 0, false, None);
+            cubic.alone.sent = heard;
+        }
+        cubic.window()
+    }
+
+    #[test]
+    fn idle_time_does_not_count() {
+        let wanted = window_after(0);
+        assert!(wanted > 24_000, "{wanted}");
+        for pause in [1, 1000, 100_000] {
+            assert_eq!(window_after(pause), wanted, "a pause of {pause} ms");
+        }
     }
 }

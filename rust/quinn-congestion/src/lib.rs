@@ -39,11 +39,10 @@ impl Default for NewRenoConfig {
     }
 }
 
-/// The controller of a path. It holds a recovery for its controller alone: quinn tells of no packet numbers, so that
-/// each packet that is acknowledged is handed in twice, as sent at its moment, and as acknowledged now.
+/// The controller of a path.
 #[derive(Debug)]
 pub struct NewReno {
-    recovery: Recovery,
+    alone: Alone,
     config: NewRenoConfig,
     /// The moment that the library knows as its nanosecond 0.
     epoch: Instant,
@@ -76,23 +75,80 @@ fn since(epoch: Instant, moment: Instant) -> Moment {
     Moment::from_nanos(u64::try_from(nanos).unwrap_or(u64::MAX))
 }
 
-/// A packet is acknowledged: it is handed in as sent, and as acknowledged.
-fn acknowledge(recovery: &mut Recovery, now: Moment, sent: Moment, bytes: u64, app_limited: bool) {
-    let space = SpaceId::Data;
-    let packet = Event::Send {
-        space,
-        now: sent,
-        size: u16::try_from(bytes).unwrap_or(u16::MAX),
-        ack_eliciting: true,
-        largest_acked: None,
-        queue: &[],
-    };
-    if let Ok(Answer::Sent { number, .. }) = recovery.apply(packet) {
-        let _ = recovery.apply(Event::Acked {
-            space,
+/// A recovery of which the controller alone is used. quinn tells it no packet numbers, so each packet is passed in when
+/// it is acknowledged: as sent at its time, and as acknowledged now.
+///
+/// A packet that was sent ends idle time, which CUBIC leaves out (RFC 9438, 5.8). quinn calls `on_sent` also for
+/// datagrams that hold ACKs alone, and these do not end it. So the time of a datagram is passed on only once something
+/// is known to be in flight.
+#[derive(Debug)]
+struct Alone {
+    recovery: Recovery,
+    /// When the last datagram was sent.
+    sent: Moment,
+    /// The number of a packet that is in flight here as long as anything is in quinn.
+    in_flight: Option<u64>,
+}
+
+impl Alone {
+    fn new(congestion: Congestion, max_datagram_size: u16) -> Self {
+        Alone {
+            recovery: recovery_for(congestion, max_datagram_size),
+            sent: Moment::from_nanos(0),
+            in_flight: None,
+        }
+    }
+
+    fn send(&mut self, now: Moment, bytes: u64) -> Option<u64> {
+        let packet = Event::Send {
+            space: SpaceId::Data,
             now,
-            number,
+            size: u16::try_from(bytes).unwrap_or(u16::MAX),
+            ack_eliciting: true,
+            largest_acked: None,
+            queue: &[],
+        };
+        match self.recovery.apply(packet) {
+            Ok(Answer::Sent { number, .. }) => Some(number),
+            _ => None,
+        }
+    }
+
+    fn acknowledge(&mut self, now: Moment, sent: Moment, bytes: u64, app_limited: bool) {
+        let space = SpaceId::Data;
+        if let Some(number) = self.send(sent, bytes) {
+            let _ = self.recovery.apply(Event::Acked {
+                space,
+                now,
+                number,
+                app_limited,
+            });
+        }
+    }
+
+    fn end_acks(&mut self, now: Moment, in_flight: u64, app_limited: bool, largest: Option<u64>) {
+        let space = SpaceId::Data;
+        match (self.in_flight, in_flight) {
+            (None, 1..) => self.in_flight = self.send(self.sent.min(now), 1),
+            (Some(number), 0) => {
+                let _ = self.recovery.apply(Event::Lost { space, number });
+                self.in_flight = None;
+            }
+            _ => {}
+        }
+        let _ = self.recovery.apply(Event::EndAcks {
+            now,
             app_limited,
+            largest,
+        });
+    }
+
+    fn congested(&mut self, now: Moment, sent: Moment, persistent: bool, bytes: u64) {
+        let _ = self.recovery.apply(Event::Congestion {
+            now,
+            sent,
+            persistent,
+            bytes,
         });
     }
 }
@@ -105,7 +161,7 @@ impl NewReno {
         });
         let since = Moment::from_nanos(0);
         NewReno {
-            recovery: recovery_for(congestion, config.max_datagram_size),
+            alone: Alone::new(congestion, config.max_datagram_size),
             config,
             epoch,
             window,
@@ -120,7 +176,7 @@ impl NewReno {
     }
 
     fn acked(&mut self, now: Moment, sent: Moment, bytes: u64, app_limited: bool) {
-        acknowledge(&mut self.recovery, now, sent, bytes, app_limited);
+        self.alone.acknowledge(now, sent, bytes, app_limited);
         let before = self.window;
         self.read();
         let is_counted = !app_limited && sent > self.since;
@@ -142,12 +198,7 @@ impl NewReno {
     }
 
     fn congested(&mut self, now: Moment, sent: Moment, persistent: bool, bytes: u64) {
-        let _ = self.recovery.apply(Event::Congestion {
-            now,
-            sent,
-            persistent,
-            bytes,
-        });
+        self.alone.congested(now, sent, persistent, bytes);
         self.read();
         if sent > self.since {
             self.since = now;
@@ -155,7 +206,7 @@ impl NewReno {
     }
 
     fn read(&mut self) {
-        if let Some(path) = self.recovery.path(PathName::Current) {
+        if let Some(path) = self.alone.recovery.path(PathName::Current) {
             self.window = path.window;
             self.ssthresh = path.ssthresh.unwrap_or(u64::MAX);
         }
@@ -194,6 +245,10 @@ impl ControllerFactory for NewRenoConfig {
 }
 
 impl Controller for NewReno {
+    fn on_sent(&mut self, now: Instant, _: u64, _: u64) {
+        self.alone.sent = self.at(now);
+    }
+
     fn on_ack(
         &mut self,
         now: Instant,
@@ -203,6 +258,17 @@ impl Controller for NewReno {
         _: &RttEstimator,
     ) {
         self.acked(self.at(now), self.at(sent), bytes, app_limited);
+    }
+
+    fn on_end_acks(
+        &mut self,
+        now: Instant,
+        in_flight: u64,
+        app_limited: bool,
+        largest: Option<u64>,
+    ) {
+        let now = self.at(now);
+        self.alone.end_acks(now, in_flight, app_limited, largest);
     }
 
     fn on_congestion_event(&mut self, now: Instant, sent: Instant, persistent: bool, bytes: u64) {

@@ -80,7 +80,7 @@ pub(super) struct Sender {
 
 impl Sender {
     pub fn new(side: qr::Side, config: &qr::RecoveryConfig, now: qr::Instant) -> Result<Self, qr::ConfigError> {
-        Ok(Sender { sender: qr::Sender::new(side, config, now)?, own: Own::new(side, config) })
+        Ok(Sender { sender: qr::Sender::new(side, config, now)?, own: Own::new(side, config, now) })
     }
 
     pub fn recovery(&self) -> &Recovery {
@@ -163,11 +163,11 @@ impl Sender {
         Ok(())
     }
 
-    pub fn retransmit_all(&mut self, space: qr::SpaceId, now: qr::Instant) -> Result<Vec<u64>, SenderError> {
-        let numbers = self.compare().retransmit_all(space, now)?;
-        self.own.abandoned(space, &numbers);
+    pub fn retransmit_all(&mut self, space: qr::SpaceId, now: qr::Instant) -> Result<qr::Retransmitted, SenderError> {
+        let all = self.compare().retransmit_all(space, now)?;
+        self.own.sent_in_vain(space, &all.numbers);
         self.own.begin_anew(now);
-        Ok(numbers)
+        Ok(all)
     }
 
     pub fn on_datagram(&mut self, bytes: u64) -> Result<(), SenderError> {
@@ -197,9 +197,15 @@ impl Sender {
     }
 }
 
+/// A path and ids begin a nanosecond earlier, so that what is sent at this time counts as sent after a recovery's start
+fn before(now: Instant) -> Instant {
+    now.checked_sub(Duration::from_nanos(1)).unwrap_or(now)
+}
+
 impl Own {
-    fn new(side: qr::Side, config: &qr::RecoveryConfig) -> Self {
-        let (transport, now) = (&config.transport, Instant::now());
+    fn new(side: qr::Side, config: &qr::RecoveryConfig, now: qr::Instant) -> Self {
+        let (transport, epoch) = (&config.transport, Instant::now());
+        let now = epoch + Duration::from_nanos(now.as_nanos());
         let qr::Congestion::NewReno(given) = transport.congestion else {
             panic!("another controller than NewReno");
         };
@@ -208,7 +214,7 @@ impl Own {
         reno.initial_window(given.initial_window).max_datagram_size(mtu.into()).minimum_window(2 * u64::from(mtu));
         let none = 0u32.into();
         let mut this = Own {
-            epoch: now,
+            epoch,
             reno: Arc::new(reno),
             initial_rtt: transport.initial_rtt,
             initial_mtu: mtu,
@@ -228,7 +234,7 @@ impl Own {
             previous: None,
             sent_on: BTreeMap::new(),
             rem_cids: CidQueue::new(ConnectionId::new(&config.initial_cid)),
-            local_cids: CidState::new(config.cid_len.into(), config.cid_lifetime, now),
+            local_cids: CidState::new(config.cid_len.into(), config.cid_lifetime, before(now)),
             streams: StreamsState::new(Side::Client, none, none, 0, none, none),
             counts: BTreeMap::new(),
         };
@@ -246,15 +252,13 @@ impl Own {
             Some(path) if !fresh => (path.rtt, path.congestion.clone_box(), path.mtu),
             _ => {
                 let rtt = RttEstimator::new(self.initial_rtt);
-                // What is sent at its very time counts as sent after the start of a recovery
-                let start = now.checked_sub(Duration::from_nanos(1)).unwrap_or(now);
-                (rtt, self.reno.build(start), self.initial_mtu.min(self.limit))
+                (rtt, self.reno.build(before(now)), self.initial_mtu.min(self.limit))
             }
         };
         self.previous = (!self.paths.is_empty()).then_some(self.current);
         self.current = self.paths.len();
         self.paths.push(Path {
-            pacing: Pacer::new(rtt.get(), congestion.window(), mtu, now),
+            pacing: Pacer::new(rtt.get(), congestion.window(), mtu, before(now)),
             rtt,
             congestion,
             mtu,
@@ -367,9 +371,9 @@ impl Own {
         self.discarded[space as usize] = true;
     }
 
-    fn abandoned(&mut self, space: qr::SpaceId, told: &[u64]) {
+    fn sent_in_vain(&mut self, space: qr::SpaceId, told: &[u64]) {
         let own = self.tracked(space);
-        self.same("abandoned", &own[..], told);
+        self.same("sent in vain", &own[..], told);
         for number in own {
             self.loses(space, number);
         }

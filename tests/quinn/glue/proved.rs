@@ -148,6 +148,7 @@ pub(super) fn settings(
                 initial_window: window,
                 loss_reduction_factor: (1, 2),
             }),
+            ..qr::TransportConfig::default()
         },
         allow_mtud: false,
         issued: 1,
@@ -168,10 +169,12 @@ impl Deref for Proved {
 impl Proved {
     pub fn new(side: Side, config: qr::RecoveryConfig, now: Instant) -> Self {
         let side = [qr::Side::Client, qr::Side::Server][usize::from(side.is_server())];
-        let sender = Sender::new(side, &config, qr::Instant::from_nanos(0));
+        // The recovery begins a nanosecond before what is sent now, so that losses of this count
+        let epoch = now.checked_sub(Duration::from_nanos(1)).unwrap_or(now);
+        let sender = Sender::new(side, &config, qr::Instant::from_nanos((now - epoch).as_nanos() as u64));
         Self {
             sender: sender.expect("sound settings, and memory"),
-            epoch: now,
+            epoch,
             told: qr::Acknowledged::default(),
             heard: Vec::new(),
             rem_ids: vec![(0, ConnectionId::new(&config.initial_cid))],
@@ -379,7 +382,7 @@ impl Proved {
     }
 
     /// What is tracked in the space was sent in vain
-    pub fn abandon(&mut self, space: SpaceId, now: Instant) {
+    pub fn retransmit_all(&mut self, space: SpaceId, now: Instant) {
         let now = self.at(now);
         let _ = self.sender.retransmit_all(space_of(space), now);
         self.take_pending(space);

@@ -40,6 +40,17 @@ impl Both {
 }
 
 impl Controller for Both {
+    fn on_sent(&mut self, now: Instant, bytes: u64, last: u64) {
+        self.proved.on_sent(now, bytes, last);
+        self.own.on_sent(now, bytes, last);
+    }
+
+    fn on_end_acks(&mut self, now: Instant, in_flight: u64, app_limited: bool, largest: Option<u64>) {
+        self.proved.on_end_acks(now, in_flight, app_limited, largest);
+        self.own.on_end_acks(now, in_flight, app_limited, largest);
+        self.compare();
+    }
+
     fn on_ack(&mut self, now: Instant, sent: Instant, bytes: u64, app_limited: bool, rtt: &RttEstimator) {
         self.proved.on_ack(now, sent, bytes, app_limited, rtt);
         self.own.on_ack(now, sent, bytes, app_limited, rtt);

@@ -5,4 +5,4 @@ pub returns : goal.returns
 returns c =
     frame_taken c.args.ranges.now c.args.self.now.slot.held c.call_sender_with.result
     c.call_sender_with.new.self.slot.held
-    c.in-Some.ensures c.from_nanos.ensures c.call_sender_with.ensures
+    c.in-Some.ensures c.from_nanos.ensures c.room_of.ensures c.call_sender_with.ensures
