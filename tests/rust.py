@@ -1,7 +1,7 @@
 #!/usr/bin/env python3
 """Passes what stands on the static library recovery_ffi: the declarations in Rust and C beside its exports, the Rust crate's
-tests, its documentation, clippy and rustfmt, with little memory, without the library and with one of another layout, and the programs in C and
-C++.
+tests, its documentation, clippy and rustfmt, with little memory, without the library and with one of another layout, the cost of
+hostile ACK frames, and the programs in C and C++.
 
     tests/rust.py            passes all of it; where the library is not built, it is proved and built first, with all that it stands on
     tests/rust.py --declared passes what needs no library: the declarations, the toolchain's logic, rustfmt, cargo check and cargo doc
@@ -107,6 +107,10 @@ def snake(name):
     return re.sub(r"(?<=[a-z0-9])(?=[A-Z])", "_", name).upper()
 
 
+def struct_in_c(name):
+    return f"struct recovery_{snake(name).lower()}"
+
+
 def variants(path, name):
     """The variants of an enum, each with its documentation."""
     body = re.search(rf"^pub enum {name}(?:<.*?>)? \{{\n(.*?)^\}}", (ROOT / "crates" / path).read_text(), re.M | re.S).group(1)
@@ -183,7 +187,7 @@ def crossing(name, kind, in_c):
     of = slice_of or array_of or plain
     if in_c:
         of, _, size = of.partition("; ")
-        of = NUMBERS.get(of) or f"struct recovery_{of.lower()}"
+        of = NUMBERS.get(of) or struct_in_c(of)
         pointed = f"{of} *{name}" if how == "&mut " else f"const {of} *{name}"
         first = pointed if how else f"{of} {name}"
         return [first, f"size_t {name}_len"] if slice_of else [first]
@@ -250,7 +254,7 @@ def declared_in_c():
     for docs, name, fields in structs():
         yield ""
         yield from (f"// {it}" for it in in_c_words(docs))
-        yield f"struct recovery_{name.lower()} {{"
+        yield f"{struct_in_c(name)} {{"
         for more, it, kind in fields:
             yield from (f"    // {line}" for line in in_c_words(more))
             of, _, size = kind.strip("[]").partition("; ")
@@ -261,7 +265,7 @@ def declared_in_c():
         yield ""
         yield from (f"// {it}" for it in in_c_words(docs))
         given = ", ".join(word for it, kind in parameters for word in crossing(it, kind, True))
-        result = NUMBERS.get(result) or (f"struct recovery_{result.lower()}" if result else "void")
+        result = NUMBERS.get(result) or (struct_in_c(result) if result else "void")
         yield f"{result} {name}({given or 'void'});"
     yield ""
     yield "// Does nothing; a library of another layout does not have it, and a program with this header does not link with that one."
@@ -557,6 +561,12 @@ def cargo(folder):
     ran("a second of random events", [examples / "fuzz", "1"])
 
 
+def hostile(folder):
+    """Hostile ACK frames keep their linear bound, if valgrind is there to count instructions."""
+    if shutil.which("valgrind"):
+        ran("the cost of hostile ACK frames", [ROOT / "bench" / "frames.py", "--quick"], **cargo_with(folder))
+
+
 def without_library():
     """Where there is no library the crate is checked and documented, and says what a program needs to link."""
     with tempfile.TemporaryDirectory() as target, tempfile.TemporaryDirectory() as empty:
@@ -565,6 +575,7 @@ def without_library():
         check = subprocess.run(["cargo", "check", "--all-targets", "--offline"], stderr=subprocess.PIPE, text=True, **how)
         expect("cargo check without the library", check.returncode == 0 and missing in check.stderr, check.stderr)
         ran("cargo doc without the library", ["cargo", "doc", "--no-deps", "--offline"], **how)
+        ran("hostile ACK frames fit the crate", [ROOT / "bench" / "frames.py", "--check"], **how)
         said = ran("no program links without it", ["cargo", "build", "--example", "memory", "--offline"], fails=True, **how)
         expect("the remedy is named", said is not None and "tests/rust.py --library" in said, said or "")
 
@@ -592,6 +603,7 @@ def frames(folder):
 
 def layout():
     ran("cargo fmt", ["cargo", "fmt", "--check"], cwd=RUST)
+    ran("rustfmt of bench/", ["rustfmt", "--edition", "2021", "--check", ROOT / "bench" / "frames.rs"])
 
 
 def ranges():
@@ -622,7 +634,7 @@ def in_c(folder, source, program):
 
 def programs_in_c(folder, made):
     """The programs in C and C++: each prints what stands beside it."""
-    for source in "main.c", "misuse.c", "sender.c", "tunnel.c", "main.cpp":
+    for source in "main.c", "misuse.c", "sender.c", "transfer.c", "tunnel.c", "main.cpp":
         program = made / source.replace(".", "_")
         if ran(f"{source} is compiled", in_c(folder, source, program)) is not None:
             found = ran(f"{source} ends well", [program])
@@ -663,6 +675,7 @@ def main():
             shutil.copy(tree.kit() / "c" / "liblibc_c.a", folder)
             frames(folder)
             cargo(folder)
+            hostile(folder)
             programs_in_c(folder, made)
             older(folder, made)
     tests.end()
