@@ -19,10 +19,7 @@ abbrev pub IsPositive : ControllerCall → Type 0
 IsPositive (takes_mtu mtu) = 0 < mtu
 IsPositive call = ⊤
 
--- when a call happens; a change of the MTU has no time
-abbrev pub call_time : ControllerCall → ℕ
-call_time (sends now bytes number) = now
-call_time (acks now sent bytes limited rtt) = now
-call_time (ends_acks now in_flight limited largest) = now
-call_time (congests now sent persistent lost) = now
-call_time (takes_mtu mtu) = 0
+-- when congestion is found, and 0 for any other call
+abbrev pub congestion_time : ControllerCall → ℕ
+congestion_time (congests now sent persistent lost) = now
+congestion_time call = 0

@@ -1,6 +1,6 @@
 -- What a congestion controller's calls do to its content, and the laws that they keep (RFC 9002, 7).
 use Rattle.std.specs.Prelude.{◌≡◌, ℕ, ◌<◌, ◌≤◌, max, Bool, true}
-use Rattle.recovery_congestion.specs.Calls.{ControllerCall, congests, IsPositive, call_time}
+use Rattle.recovery_congestion.specs.Calls.{ControllerCall, congests, IsPositive, congestion_time}
 use Rattle.recovery_congestion.specs.declared.congestion.ControllerMetrics.{ControllerMetrics}
 
 -- what a call leaves of the content K of a controller, and what it shows
@@ -21,9 +21,9 @@ pub record ControllerLaws {K : Type 0} (words : ControllerSemantics K) (IsSound 
   -- every call keeps a content sound, as long as MTUs are above zero, and a sound content has a window above zero
   pub after : (call : ControllerCall) (k : K) → IsPositive call → IsSound k → IsSound (words.after call k)
   pub window : (k : K) → IsSound k → 0 < words.window k
-  -- no call moves the start of the recovery past its own time
+  -- only congestion moves the start of the recovery, at most to the time at which it is found
   pub start : (call : ControllerCall) (k : K)
-      → words.recovery_start (words.after call k) ≤ max (words.recovery_start k) (call_time call)
+      → words.recovery_start (words.after call k) ≤ max (words.recovery_start k) (congestion_time call)
   -- persistent congestion leaves the least window, if the last packet was sent after that start (RFC 9002, 7.6.2)
   pub persistent : (now sent lost : ℕ) (k : K) → words.recovery_start k < sent
       → HasLeastWindow words (words.after (congests now sent true lost) k)

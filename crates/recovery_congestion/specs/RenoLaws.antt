@@ -3,7 +3,7 @@ use Rattle.std.specs.Prelude.{ℕ, ◌-◌, ◌*◌, ◌/◌, ◌<◌, min, max,
 use Rattle.std.proofs.Common.{arith, refl}
 use Rattle.recovery_base.specs.Units.{largest_u64}
 use Rattle.recovery_congestion.specs.declared.congestion.new_reno.NewReno.{NewReno}
-use Rattle.recovery_congestion.specs.Calls.{ControllerCall, acks, congests, takes_mtu, IsPositive, ends_acks, sends, call_time}
+use Rattle.recovery_congestion.specs.Calls.{ControllerCall, acks, congests, takes_mtu, IsPositive, ends_acks, sends, congestion_time}
 use Rattle.recovery_congestion.specs.Controllers.{ControllerLaws, HasLeastWindow}
 use Rattle.recovery_congestion.specs.NewReno.{sum_to_most, is_ignored, slow_started, avoided, reno_grown, reno_acked, reno_recovering, reno_congested, IsRenoSound, reno_words, minimum_window}
 use Rattle.std.proofs.Math.Nat.{div-le_of_le-mul, mul-le-mul_left}
@@ -70,10 +70,10 @@ same-start-grown bytes reno =
     ]
 
 start-after : (call : ControllerCall) (reno : NewReno)
-    → (reno_words.after call reno).recovery_start_time ≤ max reno.recovery_start_time (call_time call)
+    → (reno_words.after call reno).recovery_start_time ≤ max reno.recovery_start_time (congestion_time call)
 start-after (acks now sent bytes limited rtt) reno =
     elim (is_ignored sent limited reno) as
-    (λ b. (if b then reno else reno_grown bytes reno).recovery_start_time ≤ max reno.recovery_start_time now)
+    (λ b. (if b then reno else reno_grown bytes reno).recovery_start_time ≤ max reno.recovery_start_time 0)
     [ true ↦ omega arith | false ↦ omega (arith, same-start-grown bytes reno) ]
 start-after (congests now sent persistent lost) reno =
     elim (nat_le sent reno.recovery_start_time) as (λ b. (if b then reno

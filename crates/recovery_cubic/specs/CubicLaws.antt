@@ -2,7 +2,7 @@
 use Rattle.std.specs.Prelude.{◌≡◌, ℕ, ◌*◌, ◌/◌, ◌<◌, ◌≤◌, max, Bool, true, false, nat_eq, nat_le, nat_lt, if◌then◌else◌}
 use Rattle.std.proofs.Common.{arith, refl}
 use Rattle.std.proofs.lemmas.Bool.Decides.{nat_tests}
-use Rattle.recovery_congestion.specs.Calls.{ControllerCall, acks, congests, ends_acks, sends, takes_mtu, IsPositive, call_time}
+use Rattle.recovery_congestion.specs.Calls.{ControllerCall, acks, congests, ends_acks, sends, takes_mtu, IsPositive, congestion_time}
 use Rattle.recovery_congestion.specs.Controllers.{ControllerLaws, HasLeastWindow}
 use Rattle.recovery_cubic.specs.declared.cubic.Cubic.{Cubic}
 use Rattle.recovery_cubic.specs.Stage.{uncounted}
@@ -61,21 +61,21 @@ sound-after (takes_mtu mtu) cubic positive sound = omega (arith, sound)
 start-acked : (now bytes : ℕ) (limited slow : Bool) (cubic : Cubic)
     → (if limited then record cubic { stage = uncounted now cubic.stage }
     else if slow then slow_started now bytes cubic else avoided now bytes cubic).recovery_start_time
-    ≤ max cubic.recovery_start_time now
+    ≤ max cubic.recovery_start_time 0
 start-acked now bytes true slow cubic = omega arith
 start-acked now bytes false true cubic = omega arith
 start-acked now bytes false false cubic = omega arith
 
 start-after : (call : ControllerCall) (cubic : Cubic)
-    → (cubic_words.after call cubic).recovery_start_time ≤ max cubic.recovery_start_time (call_time call)
+    → (cubic_words.after call cubic).recovery_start_time ≤ max cubic.recovery_start_time (congestion_time call)
 start-after (sends now bytes number) cubic =
     elim (nat_eq bytes 0) as (λ b. (if b then cubic else cubic_resumed now cubic).recovery_start_time
-    ≤ max cubic.recovery_start_time now)
+    ≤ max cubic.recovery_start_time 0)
     [ true ↦ omega arith | false ↦ omega arith ]
 start-after (acks now sent bytes limited rtt) cubic =
     elim (nat_le sent cubic.recovery_start_time) as (λ b. (if b then cubic
     else if limited then record cubic { stage = uncounted now cubic.stage }
-    else cubic_grown now bytes cubic).recovery_start_time ≤ max cubic.recovery_start_time now)
+    else cubic_grown now bytes cubic).recovery_start_time ≤ max cubic.recovery_start_time 0)
     [ true ↦ omega arith | false ↦ start-acked now bytes limited (nat_lt cubic.window cubic.ssthresh) cubic ]
 start-after (congests now sent persistent lost) cubic =
     elim (nat_le sent cubic.recovery_start_time) as (λ b. (if b then cubic

@@ -2,7 +2,7 @@
 use Rattle.std.specs.Prelude.{◌≡◌, ℕ, ◌<◌, ◌≤◌, max, Bool, true, None, refl}
 use Rattle.std.proofs.Common.{zero-le}
 use Rattle.std.proofs.Math.Nat.{le_refl}
-use Rattle.recovery_congestion.specs.Calls.{ControllerCall, congests, IsPositive, call_time}
+use Rattle.recovery_congestion.specs.Calls.{ControllerCall, congests, IsPositive, congestion_time}
 use Rattle.recovery_congestion.specs.Controllers.{ControllerSemantics, ControllerLaws, HasLeastWindow}
 use Rattle.recovery_congestion.specs.NewReno.{reno_made, reno_words, IsRenoSound}
 use Rattle.recovery_congestion.specs.RenoLaws.{reno_laws}
@@ -77,7 +77,7 @@ positive (Fixed window) sound = sound
 positive (Cubic cubic) sound = cubic_laws.window cubic sound
 
 start : (call : ControllerCall) (chosen : Chosen)
-    → recovery_start_of (chosen_after call chosen) ≤ max (recovery_start_of chosen) (call_time call)
+    → recovery_start_of (chosen_after call chosen) ≤ max (recovery_start_of chosen) (congestion_time call)
 start call (Reno reno) = reno_laws.start call reno
 start call (Fixed window) = zero-le
 start call (Cubic cubic) = cubic_laws.start call cubic

@@ -7,7 +7,7 @@ use Rattle.recovery_base.specs.declared.below.SpaceId.TheVariants.{Data}
 use Rattle.recovery_base.specs.Spaces.{same_space}
 use Rattle.recovery_spaces.specs.Packets.{Packet, packet_at}
 use Rattle.recovery_spaces.specs.SpaceLog.{SpaceEntry, heard, heard_again, sends, acknowledged, loses, probes, takes_pending, feeds_back, emptied, ack_goes, ack_is_late, asked}
-use Rattle.recovery_congestion.specs.Calls.{ControllerCall}
+use Rattle.recovery_congestion.specs.Calls.{ControllerCall, congests}
 use Rattle.recovery_mtud.specs.Discovery.{reports}
 use Rattle.recovery_mtud.specs.DiscoveryLog.{MtuCall, is_limited, losses_end, acks as acks_packet, loses as loses_packet, loses_probe}
 use Rattle.recovery_paths.specs.declared.path_pair.PathName.TheVariants.{Current, Previous}
@@ -57,7 +57,7 @@ keeps_packets kind = true
 -- the search sees a packet leave, takes a limit, or sees something else; and what happens on the previous path is
 -- elsewhere
 pub data PathKind : Type 0 where
-  receiving validating sampling telling departing limiting searching : PathKind
+  receiving validating sampling telling congesting departing limiting searching : PathKind
   asking transmitting passing resetting moving dropping returning elsewhere : PathKind
 
 abbrev pub call_kind : MtuCall → PathKind
@@ -67,12 +67,17 @@ call_kind loses_probe = departing
 call_kind (is_limited limit) = limiting
 call_kind call = searching
 
+-- the controller is told of congestion, or of something else
+abbrev pub tell_kind : ControllerCall → PathKind
+tell_kind (congests now sent persistent lost) = congesting
+tell_kind call = telling
+
 abbrev pub path_kind : PathsEntry → PathKind
 path_kind (on name (receives bytes)) = receiving
 path_kind (on name is_validated) = validating
 path_kind (on Previous entry) = elsewhere
 path_kind (on Current (samples delay rtt)) = sampling
-path_kind (on Current (tells call)) = telling
+path_kind (on Current (tells call)) = tell_kind call
 path_kind (on Current (searches call)) = call_kind call
 path_kind (on Current (asks now bytes)) = asking
 path_kind (on Current (transmits bytes)) = transmitting
@@ -110,7 +115,7 @@ module _ {Q S M P : Type 0} where
   is_by is (Sample delay rtt) = is sampling
   is_by is (Transmit now bytes checked) = is transmitting && (is passing && is asking)
   is_by is (PacerCheck now bytes) = is asking
-  is_by is (Congestion now sent persistent bytes) = is telling
+  is_by is (Congestion now sent persistent bytes) = is congesting
   is_by is (EndAcks now app_limited largest) = is telling
   is_by is (PollMtu now) = is telling && is searching
   is_by is (PeerLimit size) = is limiting
@@ -147,7 +152,7 @@ module _ {K Q S M P : Type 0} (q : QueueModel Q S M P) (known : ReplyInputs K P 
     (is : PathKind → Bool) (none : IsKept [])
     (each : (entry : PathsEntry) (earlier : List PathsEntry) → is (path_kind entry) ≡ true → IsKept earlier
     → IsKept (entry ∷ earlier)) where
-  told : (call : ControllerCall) (earlier : List PathsEntry) → is telling ≡ true → IsKept earlier
+  told : (call : ControllerCall) (earlier : List PathsEntry) → is (tell_kind call) ≡ true → IsKept earlier
       → IsKept (on_current (tells call) ∷ earlier)
   told call earlier quiet kept = each _ earlier quiet kept
 
@@ -159,7 +164,8 @@ module _ {K Q S M P : Type 0} (q : QueueModel Q S M P) (known : ReplyInputs K P 
   changed true call quiet sees = told _ _ quiet (one _ sees)
   changed false call quiet sees = one _ sees
 
-  told_if : (own : Bool) (call : ControllerCall) (earlier : List PathsEntry) → is telling ≡ true → IsKept earlier
+  told_if : (own : Bool) (call : ControllerCall) (earlier : List PathsEntry) → is (tell_kind call) ≡ true
+      → IsKept earlier
       → IsKept (cond own (on_current (tells call) ∷ []) [] ++ earlier)
   told_if own call earlier quiet kept = grind (arith, told call earlier quiet kept, kept)
 

@@ -14,6 +14,7 @@ pub mod AckDutyLaws
 pub mod EcnLaws
 pub mod EnteredLaws
 pub mod EntryKinds
+pub mod EventBoundLaws
 pub mod SearchOutcomeLaws
 pub mod ProbeCountLaws
 pub mod FieldLaws

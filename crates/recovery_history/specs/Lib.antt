@@ -2,6 +2,7 @@ pub mod CallerState
 pub mod Transitions
 pub mod Config
 pub mod Entries
+pub mod EventBounds
 pub mod History
 pub mod IdReplies
 pub mod ReplyInputs

@@ -1,12 +1,13 @@
 -- The run of numbers that are lost goes on from number to number (RFC 9002, 7.6).
-use Rattle.std.proofs.Common.{◌≡◌, ℕ, ◌+◌, ◌-◌, ◌<◌, ◌≤◌, ◌⊎◌, ◌||◌, min, nat_lt, true, false, Bool, Decides, true≢false, ltb-true, lt-ltb, Option, None, Some, if◌then◌else◌, refl, sym, ap, subst, ◌∙◌, inl, inr, arith}
+use Rattle.std.proofs.Common.{◌≡◌, ℕ, ◌+◌, ◌-◌, ◌<◌, ◌≤◌, ◌⊎◌, ◌||◌, ◌≢◌, ◌↔◌, IsTrue, option_map, List, [], ◌∷◌, max, min, nat_lt, true, false, Bool, Decides, true≢false, ltb-true, lt-ltb, Option, None, Some, if◌then◌else◌, refl, sym, ap, subst, ◌∙◌, inl, inr, arith}
 use Rattle.std.specs.Option.{option_map_or}
 use Rattle.std.proofs.lemmas.Bool.Decides.{nat_tests}
 use Rattle.std.proofs.lemmas.Bool.Decides.{eqb_tells, leb_tells}
 use Rattle.std.proofs.lemmas.Option.{none-some, same_Some}
 use Rattle.recovery_losses.specs.declared.looks.LossPass.{LossPass}
 use Rattle.recovery_losses.specs.declared.tally.Run.{Run}
-use Rattle.recovery_losses.specs.Losses.{ending, follows, going_on, no_run}
+use Rattle.recovery_spaces.specs.Packets.{Packet, Packets, packet_at}
+use Rattle.recovery_losses.specs.Losses.{HasCounted, IsOneOf, ending, follows, going_on, is_counted, last_counted, later_of, no_run, sent_counted}
 use Rattle.recovery_losses.specs.PersistentCongestion.{IsInRun, IsLostOrSkipped, IsPersistentCongestion, IsLossRun}
 
 -- ---- what comes right after a number, but for one that was skipped
@@ -372,3 +373,62 @@ module _ (IsLostNow : ℕ → Type 0) (IsEnd EndThen : ℕ → ℕ → Type 0) (
       ],
     );
   }
+
+-- ---- a packet that counts was sent last
+
+module _ {P M : Type 0} (look : LossPass) (packets : Packets P M) where
+  later_left : (one : ℕ) (other : Option ℕ) → later_of (Some one) other ≢ None
+  later_left one None none = none-some one (sym none)
+  later_left one (Some other) none = none-some (max one other) (sym none)
+
+  later_right : (one other : Option ℕ) → other ≢ None → later_of one other ≢ None
+  later_right None other some = some
+  later_right (Some one) other some = later_left one other
+
+  -- if one of these packets counts, one of those that count was sent last
+  pub one_counted : (numbers : List ℕ) (number : ℕ) (packet : Packet P M) → IsOneOf number numbers
+      → packet_at packets number ≡ Some packet → IsTrue (is_counted look packet.size packet.path_generation)
+      → last_counted look packets numbers ≢ None
+  one_counted [] number packet there is counts = absurd there
+  one_counted (first ∷ numbers) number packet (inl here) is counts =
+      rw (here, is, counts) (later_left packet.time_sent (last_counted look packets numbers))
+  one_counted (first ∷ numbers) number packet (inr there) is counts =
+      later_right (sent_counted look packets (packet_at packets first)) (last_counted look packets numbers)
+      (one_counted numbers number packet there is counts)
+
+  -- and only then
+  counted_one : (numbers : List ℕ) → last_counted look packets numbers ≢ None → HasCounted look packets numbers
+  counted_one [] some = absurd (some refl)
+  counted_one (first ∷ numbers) some = by (counted_one numbers) (packet_at packets first) refl
+    where
+      behind : (last_counted look packets numbers ≢ None → HasCounted look packets numbers)
+          → last_counted look packets numbers ≢ None → HasCounted look packets (first ∷ numbers)
+      behind rest last = let found = rest last in (found.0, found.1, inr found.2, found.3, found.4)
+
+      by_count : (last_counted look packets numbers ≢ None → HasCounted look packets numbers)
+          → (packet : Packet P M) → packet_at packets first ≡ Some packet → (counts : Bool)
+          → is_counted look packet.size packet.path_generation ≡ counts → HasCounted look packets (first ∷ numbers)
+      by_count rest packet is true counts = (first, packet, inl refl, is, counts)
+      by_count rest packet is false counts = behind rest (rw (is, counts) at some)
+
+      by : (last_counted look packets numbers ≢ None → HasCounted look packets numbers)
+          → (packet : Option (Packet P M)) → packet_at packets first ≡ packet
+          → HasCounted look packets (first ∷ numbers)
+      by rest None none = behind rest (rw none at some)
+      by rest (Some packet) is =
+          by_count rest packet is (is_counted look packet.size packet.path_generation) refl
+
+  -- so congestion is reported exactly if one counts
+  pub reports_counted : (numbers : List ℕ) (bytes : ℕ) (congestion : Option ℕ)
+      → congestion ≡ option_map (λ sent. bytes) (last_counted look packets numbers)
+      → (congestion ≢ None) ↔ HasCounted look packets numbers
+  reports_counted numbers bytes congestion is = (
+    λ some. counted_one numbers (λ none. some (is ∙ ap (λ (last : Option ℕ). option_map (λ sent. bytes) last) none)),
+    λ counted none. by (last_counted look packets numbers) refl counted (sym none ∙ is),
+  )
+    where
+      by : (last : Option ℕ) → last_counted look packets numbers ≡ last → HasCounted look packets numbers
+          → None ≡ option_map (λ sent. bytes) last → ⊥
+      by None none counted never =
+          one_counted numbers counted.0 counted.1 counted.2 counted.3 counted.4 none
+      by (Some last) some counted never = none-some bytes never

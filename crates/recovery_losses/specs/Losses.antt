@@ -99,6 +99,11 @@ module _ {P M : Type 0} (look : LossPass) (packets : Packets P M) where
   last_counted [] = None
   last_counted (number ∷ numbers) = later_of (sent_counted (packet_at packets number)) (last_counted numbers)
 
+  -- one of these packets counts
+  abbrev pub HasCounted : List ℕ → Type 0
+  HasCounted numbers = (number : ℕ) × (packet : Packet P M) × IsOneOf number numbers
+      × (packet_at packets number ≡ Some packet) × (is_counted look packet.size packet.path_generation ≡ true)
+
   -- the least moment at which a packet below a number is to be looked at that was not told lost, where there is one
   pub record IsEarliest (end : ℕ) (IsDeclaredLost : ℕ → Type 0) (time : Option ℕ) : Type 0 where
     pub one : ForSome time (λ least. (number : ℕ) × (packet : Packet P M) × IsBelow number packet × (number < end)

@@ -1,5 +1,6 @@
 pub mod AllowedLaws
 pub mod BalanceLaws
+pub mod PathBoundLaws
 pub mod PathPairLaws
 pub mod PassedLaws
 pub mod PathFateLaws

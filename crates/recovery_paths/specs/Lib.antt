@@ -1,4 +1,5 @@
 pub mod Balance
+pub mod PathBounds
 pub mod PathPair
 pub mod PathLog
 pub mod PathMaking

@@ -12,6 +12,7 @@ use Rattle.recovery_losses.specs.Losses.{IsEarliest, IsDeclaredLost, bytes_count
 use Rattle.recovery_losses.specs.DetectionPass.{PassSoFar}
 use Rattle.recovery_losses.specs.PersistentCongestion.{IsEndAt, IsPersistentCongestion}
 use Rattle.recovery_losses.proofs.DetectionPassLaws.{probe_waits}
+use Rattle.recovery_losses.proofs.PersistentCongestionLaws.{reports_counted}
 use Rattle.recovery_history.specs.History.{queue_model}
 use Rattle.recovery_history.specs.RecoveryState.{RecoveryState}
 use Rattle.recovery_sender.specs.Attempts.{LossAttempt, is_cut_in, probe_attempts, trying}
@@ -115,6 +116,11 @@ module _ {F Q R C K S M P : Type 0} {f : _} {c : _} {q : _} {m : _} {r : _} (spa
   abbrev look_for : ℕ → LossPass
   look_for largest = look_of (state_in old) old.variables space now due largest
 
+  -- the bytes of those that count
+  abbrev counted_in : ℕ → ℕ
+  counted_in largest =
+      min (bytes_counted (look_for largest) (packets_in (state_in old) space) losses.numbers.items) largest_u64
+
   abbrev IsLook : ℕ → Type 0
   IsLook largest = let look = look_for largest in let packets = packets_in (state_in old) space in
       (attempts : List LossAttempt) × (time : Option ℕ)
@@ -162,6 +168,8 @@ module _ {F Q R C K S M P : Type 0} {f : _} {c : _} {q : _} {m : _} {r : _} (spa
           least = λ number packet at below small untold is_due. absurd (none largest is number packet below.0 below.1);
         };
         congestion = rw nothing.numbers nothing.congestion;
+        reported = reports_counted (look_for largest) (packets_in (state_in old) space) losses.numbers.items
+            (counted_in largest) losses.congestion (rw nothing.numbers nothing.congestion);
         black_hole = λ none. nothing.black_hole;
       }
 
@@ -203,6 +211,8 @@ module _ {F Q R C K S M P : Type 0} {f : _} {c : _} {q : _} {m : _} {r : _} (spa
               is_lost kept;
           earliest = earliest_behind look _ losses.numbers.items tally _ looked losses.probe after is_lost kept;
           congestion = rw (← looked.bytes, ← looked.last_sent) congestion;
+          reported = reports_counted look (packets_in (state_in old) space) losses.numbers.items
+              (counted_in largest) losses.congestion (rw (← looked.bytes, ← looked.last_sent) congestion);
           black_hole = unreported;
         },
         rw (← looked.bytes, ← looked.last_sent) (goes_all look old found told shown probed new finds.attempts

@@ -1,6 +1,8 @@
 -- What is due is due in a space that is not discarded.
-use Rattle.std.proofs.Common.{◌≡◌, ℕ, true, false, Bool, ◌||◌, Option, None, Some, option_map, refl}
-use Rattle.std.specs.Prelude.{if◌then◌else◌, nat_lt, not}
+use Rattle.std.proofs.Common.{◌≡◌, ℕ, true, false, Bool, ◌||◌, Option, None, Some, option_map, Result, Ok, Err, inl, inr, refl, sym, subst, ◌∙◌, arith}
+use Rattle.std.proofs.lemmas.Bool.Decides.{nat_tests}
+use Rattle.std.proofs.lemmas.Option.{none-some}
+use Rattle.std.specs.Prelude.{if◌then◌else◌, nat_le, nat_lt, not}
 use Rattle.std.specs.Option.{option_and_then, option_or}
 use Rattle.recovery_base.specs.declared.below.SpaceId.{SpaceId}
 use Rattle.recovery_base.specs.declared.below.SpaceId.TheVariants.{Initial, Handshake, Data}
@@ -13,7 +15,13 @@ use Rattle.recovery_losses.specs.declared.due.Due.{Due}
 use Rattle.recovery_losses.specs.declared.due.Due.TheVariants.{Losses, Probes, AntiDeadlock}
 use Rattle.recovery_losses.specs.Due.{sooner}
 use Rattle.recovery_losses.specs.declared.variables.Variables.{Variables}
-use Rattle.recovery_sender.specs.Calls.{space_due}
+use Rattle.recovery_sender.specs.declared.sender.SenderError.{SenderError}
+use Rattle.recovery_sender.specs.declared.sender.Sender.{Sender}
+use Rattle.recovery_sender.specs.declared.sender.probes.Timeout.{Timeout}
+use Rattle.recovery_sender.specs.declared.sender.probes.Timeout.TheVariants.{Nothing, Lost, Probe}
+use Rattle.recovery_sender.specs.Senders.{state_in}
+use Rattle.recovery_sender.specs.Timeouts.{IsEarly, TimeoutResult, WaitsForItsTime}
+use Rattle.recovery_sender.specs.Calls.{due_now, space_due}
 use Rattle.recovery_sender.specs.Timer.{soonest, loss_due, probe_in, probe_due, waits, deadlock_space, may_deadlock, due_of, behind, pto_of}
 
 module _ (discarded : DiscardedSpaces) where
@@ -96,3 +104,25 @@ module _ {K P M : Type 0} (recovery : RecoveryState K P M) (variables : Variable
   pub due_there : (due : ℕ × Due) → due_of recovery variables ≡ Some due
       → is_discarded (space_due due.1) recovery.discarded ≡ false
   due_there due is = rw is at due_there_or_none
+
+-- ---- before its time
+
+early_none : (now : ℕ) (due : Option (ℕ × Due)) → IsEarly now (option_map (λ due. due.0) due)
+    → option_and_then (λ (due : ℕ × Due). if nat_le due.0 now then Some due.1 else None) due ≡ None
+early_none now None early = refl
+early_none now (Some due) early = grind (arith, nat_tests, early)
+
+module _ {F Q R C K S M P : Type 0} {f : _} {c : _} {q : _} {m : _} {r : _} (now : ℕ)
+    (old new : Sender F Q R C K S M P f c q m r) where
+  nothing_then : (reply : Result Timeout SenderError) → TimeoutResult now old new reply
+      → due_now now (state_in old) old.variables ≡ None → (reply ≡ Ok Nothing) × (new ≡ old)
+  nothing_then (Ok Nothing) comes none = (refl, comes.1)
+  nothing_then (Ok (Lost space losses)) comes none = absurd (none-some _ (sym none ∙ comes.0))
+  nothing_then (Ok (Probe space count)) (inl probes, does) none = absurd (none-some _ (sym none ∙ probes.0))
+  nothing_then (Ok (Probe space count)) (inr deadlock, does) none = absurd (none-some _ (sym none ∙ deadlock.0))
+  nothing_then (Err refusal) comes none = absurd (none-some _ (sym none ∙ comes.0.1))
+
+  pub waits_for_its_time : (reply : Result Timeout SenderError) → TimeoutResult now old new reply
+      → WaitsForItsTime now old new reply
+  waits_for_its_time reply comes set early = nothing_then reply comes
+      (early_none now (due_of (state_in old) old.variables) (subst (IsEarly now) set early))

@@ -6,6 +6,7 @@ pub mod RetransmitAllLaws
 pub mod AckLaws
 pub mod AckedLaws
 pub mod LivenessLaws
+pub mod BoundLaws
 pub mod CallLaws
 pub mod CheckLaws
 pub mod DetectLaws
@@ -16,7 +17,10 @@ pub mod LeadLaws
 pub mod TimerUnchangedLaws
 pub mod TimerKeptLaws
 pub mod PastLaws
+pub mod PersistenceLaws
 pub mod PromiseLaws
+pub mod RunningLaws
 pub mod StepLaws
 pub mod TimerLaws
+pub mod WindowLaws
 pub mod RunLaws

@@ -22,36 +22,37 @@ use Rattle.recovery_history.proofs.FieldLaws.{IsSaid, said_found, said_then, sai
 use Rattle.recovery_history.proofs.Runs.{kept_after}
 use Rattle.recovery_history.proofs.TrackedLaws.{AllTracked, keeps_tracked, none_tracked, sent_in, tracked_found}
 use Rattle.recovery_sender.specs.declared.sender.Sender.{Sender}
-use Rattle.recovery_sender.specs.Promises.Lost.{sent_at}
+use Rattle.recovery_sender.specs.Promises.Lost.{at_sending, elicits_by, sent_at}
 use Rattle.recovery_sender.specs.Senders.{state_in}
 use Rattle.recovery_sender.specs.Spaces.{packets_in}
 
--- ---- when a packet went out goes with its number
+-- ---- what a packet was as it went out goes with its number
 
-abbrev time_in : {P M : Type 0} → Packet P M → ℕ
-time_in packet = packet.time_sent
+module _ {F K Q S M P A : Type 0} (beginning : Beginning F K Q S M P) (space : SpaceId) (none : A)
+    (say : ℕ → Bool → A) where
+  abbrev says : Packet P M → A
+  says packet = say packet.time_sent packet.ack_eliciting
 
-module _ {F K Q S M P : Type 0} (beginning : Beginning F K Q S M P) (space : SpaceId) where
-  abbrev Timed : History Q S M P → Type 0
-  Timed history = IsSaid time_in (sent_at space history) (sent_in beginning history space)
+  abbrev Said : History Q S M P → Type 0
+  Said history = IsSaid says (at_sending none say space history) (sent_in beginning history space)
 
-  timed_after : (history : History Q S M P) (event : Event Q S M P) (reply : Reply Q)
-      → RepliesAfter beginning history event reply → Timed history → Timed ((event, reply) ∷ history)
-  timed_after history event reply told timed =
-      said_told beginning space time_in (λ contents packet. refl) history (sent_at space history) timed event reply
-      (sent_at space ((event, reply) ∷ history)) told (same event reply)
+  said_behind : (history : History Q S M P) (event : Event Q S M P) (reply : Reply Q)
+      → RepliesAfter beginning history event reply → Said history → Said ((event, reply) ∷ history)
+  said_behind history event reply told said =
+      said_told beginning space says (λ contents packet. refl) history (at_sending none say space history) said event
+      reply (at_sending none say space ((event, reply) ∷ history)) told (same event reply)
     where
       same : (event : Event Q S M P) (reply : Reply Q) (n : ℕ)
-          → said_then beginning space time_in (λ contents packet. refl) history (sent_at space history) timed event
-          reply n
-          ≡ sent_at space ((event, reply) ∷ history) n
+          → said_then beginning space says (λ contents packet. refl) history (at_sending none say space history) said
+          event reply n
+          ≡ at_sending none say space ((event, reply) ∷ history) n
       same (Send there now size eliciting largest queue frames) (Ok (answers.Sent number forgotten)) n =
           grind (arith, nat_tests)
       same (PollMtu now) (Ok (Probe number size)) n = grind (arith, nat_tests)
       same event reply n = refl
 
-  pub all_timed : (history : History Q S M P) → AtEach (RepliesAfter beginning) history → Timed history
-  all_timed = kept_after (RepliesAfter beginning) Timed timed_after tt
+  pub all_said : (history : History Q S M P) → AtEach (RepliesAfter beginning) history → Said history
+  all_said = kept_after (RepliesAfter beginning) Said said_behind tt
 
 -- ---- what is tracked
 
@@ -77,8 +78,18 @@ module _ {F Q R C K S M P : Type 0} {f : _} {c : _} {q : _} {m : _} {r : _} (sen
       (keeps_tracked beginning)
       (none_tracked beginning) past came.replies) space n))
 
+  -- what a packet was as it went out, by the events
+  pub said_by_past : {A : Type 0} (none : A) (say : ℕ → Bool → A) (n : ℕ) (packet : Packet P M)
+      → packet_at (packets_in (state_in sender) space) n ≡ Some packet
+      → say packet.time_sent packet.ack_eliciting ≡ at_sending none say space past n
+  said_by_past none say n packet is = said_found (λ (packet : Packet P M). say packet.time_sent packet.ack_eliciting)
+      (at_sending none say space past) (sent_in beginning past space).next (sent_in beginning past space).tracked
+      (all_said beginning space none say past came.replies) n packet (rw packets_by at is)
+
   pub sent_by_past : (n : ℕ) (packet : Packet P M) → packet_at (packets_in (state_in sender) space) n ≡ Some packet
       → packet.time_sent ≡ sent_at space past n
-  sent_by_past n packet is = said_found time_in (sent_at space past) (sent_in beginning past space).next
-      (sent_in beginning past space).tracked (all_timed beginning space past came.replies) n packet
-      (rw packets_by at is)
+  sent_by_past = said_by_past 0 (λ now eliciting. now)
+
+  pub elicits_by_past : (n : ℕ) (packet : Packet P M) → packet_at (packets_in (state_in sender) space) n ≡ Some packet
+      → packet.ack_eliciting ≡ elicits_by space past n
+  elicits_by_past = said_by_past false (λ now eliciting. eliciting)

@@ -28,7 +28,9 @@ module _ {F Q R C K S M P : Type 0} {f : _} {c : _} {q : _} {m : _} {r : _} wher
     sets = does.sets;
     variables = does.variables;
     timer = does.timer;
+    limited = does.limited;
     alive = does.alive;
+    running = does.running;
   }
 
   -- with variables made of those that were there
@@ -55,7 +57,9 @@ module _ {F Q R C K S M P : Type 0} {f : _} {c : _} {q : _} {m : _} {r : _} wher
         sets = does.sets;
         variables = does.variables;
         timer = does.timer;
+        limited = does.limited;
         alive = does.alive;
+        running = does.running;
       }
 
   -- what an event changes

@@ -25,6 +25,7 @@ use Rattle.recovery_sender.specs.declared.sender.SenderError.{SenderError}
 use Rattle.recovery_sender.specs.declared.sender.SenderError.TheVariants as refused
 use Rattle.recovery_sender.specs.declared.sender.Sender.{Sender}
 use Rattle.recovery_sender.specs.Acks.{AckChecked, AreNotSkipped, AreNewlyAcked, IsAckWellFormed, WereSent}
+use Rattle.recovery_sender.specs.Bounds.{IsWindowLeast}
 use Rattle.recovery_sender.specs.Detection.{DetectsLosses, congested}
 use Rattle.recovery_sender.specs.Losses.{largest_in, IsEmptyLosses}
 use Rattle.recovery_sender.specs.Promises.Acked.{AcksTracked}
@@ -165,6 +166,8 @@ pub record Acknowledges {F Q R C K S M P : Type 0} {f : _} {c : _} {q : _} {m : 
   -- probe timeouts are counted anew, and the timer is set
   pub does : CompletesCall [] (heard_in space now (sampled_first (is_first_sample (state_in old)
       (rtt_of (state_in old) space now ranges elicits)) now old.variables)) heard new
+  -- persistent congestion leaves the smallest window, whatever the controller (RFC 9002, 7.6.2)
+  pub least : acked.losses.is_persistent ≡ true → IsWindowLeast c.words (state_in new)
 
 -- ---- a frame
 

@@ -11,9 +11,11 @@ use Rattle.recovery_sender.specs.RetransmitAll.{DeclaresAllLost}
 use Rattle.recovery_sender.specs.Acking.{AckResult}
 use Rattle.recovery_losses.specs.Variables.{begun_anew, is_probe_due}
 use Rattle.recovery_sender.specs.Calls.{bytes_in_flight, datagram_reply, discard_reply, is_checked, transmit_reply, transmit_steps, window_of, IsPassedThrough, EventResult, ProbeResult}
+use Rattle.recovery_sender.specs.Promises.Pasts.{ForEveryRun}
+use Rattle.recovery_sender.specs.Promises.Window.{FitsWindow, IsByRoom}
 use Rattle.recovery_sender.specs.Senders.{state_in}
 use Rattle.recovery_sender.specs.Steps.{told, CompletesCall}
-use Rattle.recovery_sender.specs.Timeouts.{TimeoutResult}
+use Rattle.recovery_sender.specs.Timeouts.{TimeoutResult, WaitsForItsTime}
 use Rattle.recovery_sender.specs.declared.sender.SenderError.{SenderError}
 use Rattle.recovery_sender.specs.declared.sender.Sender.{Sender}
 use Rattle.recovery_losses.specs.declared.variables.Variables.{Variables}
@@ -41,6 +43,9 @@ module _ {F Q R C K S M P : Type 0} {f : _} {c : _} {q : _} {m : _} {r : _} (old
       pub window : reply ≡ Ok Transmitted → datagram.in_flight ≡ true
           → is_probe_due old.variables datagram.space ≡ false
           → bytes_in_flight (state_in old) + datagram.bytes ≤ window_of c.words (state_in old)
+      -- by the events before, what asks the window goes out or is delayed exactly if it fits
+      pub fits : IfOk reply (λ sent. ForEveryRun old (λ beginning past. IsByRoom
+          (is_checked old.variables datagram.space datagram.in_flight) (FitsWindow beginning past datagram.bytes) sent))
       pub steps : IfOk reply (λ sent. CompletesCall (transmit_steps datagram.now datagram.bytes
           (is_checked old.variables datagram.space datagram.in_flight) sent) old.variables old new)
       pub stays : OnErr reply (new ≡ old)
@@ -70,8 +75,10 @@ CallReply (calls.Ack frame) old new (Ok (replies.Acknowledged acked)) =
     AckResult frame.space frame.now frame.ranges.items frame.ack old new (Ok acked)
 CallReply (calls.Ack frame) old new (Err refusal) =
     AckResult frame.space frame.now frame.ranges.items frame.ack old new (Err refusal)
-CallReply (calls.Timeout now) old new (Ok (replies.Timeout timeout)) = TimeoutResult now old new (Ok timeout)
-CallReply (calls.Timeout now) old new (Err refusal) = TimeoutResult now old new (Err refusal)
+CallReply (calls.Timeout now) old new (Ok (replies.Timeout timeout)) =
+    TimeoutResult now old new (Ok timeout) × WaitsForItsTime now old new (Ok timeout)
+CallReply (calls.Timeout now) old new (Err refusal) =
+    TimeoutResult now old new (Err refusal) × WaitsForItsTime now old new (Err refusal)
 CallReply (calls.Probe asking) old new (Ok (replies.Probe queue)) =
     ProbeResult asking.space asking.immediate_ack asking.streams old new (Ok queue)
 CallReply (calls.Probe asking) old new (Err refusal) =

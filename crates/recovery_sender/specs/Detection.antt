@@ -1,5 +1,5 @@
 -- What becomes of the packets that a look for losses goes over, one after another.
-use Rattle.std.specs.Prelude.{◌≡◌, ◌≢◌, ℕ, ◌-◌, ◌<◌, ◌⊎◌, Decides, min, List, [], ◌∷◌, ◌++◌, Bool, false, Option, None, Some, option_map, Ok, if◌then◌else◌}
+use Rattle.std.specs.Prelude.{◌≡◌, ◌≢◌, ◌↔◌, ℕ, ◌<◌, ◌⊎◌, Decides, min, List, [], ◌∷◌, ◌++◌, Bool, false, Option, None, Some, option_map, Ok, if◌then◌else◌}
 use Rattle.std.specs.Option.{ForSome}
 use Rattle.recovery_base.specs.declared.below.SpaceId.{SpaceId}
 use Rattle.recovery_base.specs.Units.{largest_u64, last_time}
@@ -10,12 +10,13 @@ use Rattle.recovery_spaces.specs.Packets.{Packet, Packets, packet_at}
 use Rattle.recovery_losses.specs.declared.looks.Candidate.{Candidate}
 use Rattle.recovery_losses.specs.declared.looks.LossPass.{LossPass}
 use Rattle.recovery_losses.specs.declared.tally.Tally.{Tally}
-use Rattle.recovery_losses.specs.Losses.{AreLost, IsEarliest, IsLost, IsLostBelow, IsDeclaredLost, bytes_counted, counting, cutting, finding_probe, last_counted, lost_at, waiting}
+use Rattle.recovery_losses.specs.Losses.{AreLost, IsEarliest, IsLost, IsLostBelow, IsDeclaredLost, HasCounted, bytes_counted, counting, cutting, finding_probe, last_counted, lost_at, waiting}
 use Rattle.recovery_losses.specs.DetectionPass.{PassSoFar, TriesEachLost}
 use Rattle.recovery_losses.specs.PersistentCongestion.{IsEndAt, IsPersistentCongestion}
 use Rattle.recovery_history.specs.RecoveryState.{RecoveryState}
 use Rattle.recovery_sender.specs.declared.sender.losses.Losses.{Losses}
 use Rattle.recovery_sender.specs.declared.sender.Sender.{Sender}
+use Rattle.recovery_sender.specs.Bounds.{latest_start}
 use Rattle.recovery_sender.specs.Attempts.{LossAttempt, declared_in, is_cut_in, probe_attempts, tried_in, trying}
 use Rattle.recovery_sender.specs.Losses.{largest_in, look_of, IsEmptyLosses}
 use Rattle.recovery_sender.specs.Promises.Lost.{LosesTracked}
@@ -77,10 +78,6 @@ abbrev pub ended : {Q S M P : Type 0} → ℕ → Bool → List ℕ → List (Se
 ended now reported [] = []
 ended now reported (number ∷ numbers) = told (LossesDone now) (Ok (BlackHole reported)) ∷ []
 
--- no recovery starts later, so that the clock's end is later than each start
-abbrev pub latest_start : ℕ
-latest_start = last_time - 1
-
 -- congestion is reported, if a packet that counts was sent last at this time (RFC 9002, 7.3.2); if it is persistent,
 -- as of a packet that was sent later than every recovery began: the window falls to its least (7.6.2)
 abbrev pub congested : {Q S M P : Type 0} → ℕ → Bool → ℕ → Option ℕ → List (SenderStep Q S M P)
@@ -113,6 +110,8 @@ pub record PassResult {P M : Type 0} (look : LossPass) (packets : Packets P M) (
     pub congestion : losses.congestion
         ≡ option_map (λ sent. min (bytes_counted look packets losses.numbers.items) largest_u64)
         (last_counted look packets losses.numbers.items)
+    -- in short: it is reported exactly if one of those declared lost counts
+    pub reported : (losses.congestion ≢ None) ↔ HasCounted look packets losses.numbers.items
     -- if nothing was declared lost, no black hole is reported
     pub black_hole : losses.numbers.items ≡ [] → losses.is_black_hole ≡ false
 

@@ -2,6 +2,7 @@ pub mod Acking
 pub mod Acks
 pub mod Attempts
 pub mod CallReplies
+pub mod Bounds
 pub mod Calls
 pub mod Detection
 pub mod Established

@@ -1,4 +1,6 @@
 pub mod Acked
+pub mod Amplification
 pub mod Liveness
 pub mod Lost
 pub mod Pasts
+pub mod Window

@@ -17,8 +17,9 @@ use Rattle.recovery_history.specs.Transitions.{StateTransition}
 use Rattle.recovery_sender.specs.declared.sender.Sender.{Sender}
 use Rattle.recovery_losses.specs.declared.due.Due.{Due}
 use Rattle.recovery_losses.specs.declared.variables.Variables.{Variables}
-use Rattle.recovery_sender.specs.Promises.Liveness.{NeverStalls}
-use Rattle.recovery_sender.specs.Promises.Pasts.{ForEveryPast}
+use Rattle.recovery_sender.specs.Promises.Amplification.{SendsThreefold}
+use Rattle.recovery_sender.specs.Promises.Liveness.{IsTimerRunning, NeverStalls}
+use Rattle.recovery_sender.specs.Promises.Pasts.{ForEveryPast, ForEveryRun}
 use Rattle.recovery_sender.specs.Senders.{state_in}
 use Rattle.recovery_sender.specs.Timer.{due_of, TimerIsSet}
 
@@ -76,5 +77,8 @@ module _ {F Q R C K S M P : Type 0} {f : _} {c : _} {q : _} {m : _} {r : _} wher
     pub sets : RearmsTimer f.built c.words (queue_model q.contents q.words q.blank) kept between (state_in new)
     pub variables : new.variables ≡ kept
     pub timer : TimerIsSet (state_in new) new.variables
+    -- until an address is validated, at most three times the bytes received went there
+    pub limited : ForEveryRun new SendsThreefold
     -- so that it never stalls
     pub alive : ForEveryPast new (λ past. NeverStalls (state_in new) new.variables)
+    pub running : ForEveryRun new (λ beginning past. IsTimerRunning beginning past new.variables)

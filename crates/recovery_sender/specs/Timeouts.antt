@@ -1,6 +1,8 @@
 -- What comes of the timer for losses (RFC 9002, 6.2 and A.9).
-use Rattle.std.specs.Prelude.{◌≡◌, ℕ, false, ◌⊎◌, [], None, Some, Result, Ok, Err}
+use Rattle.std.specs.Prelude.{◌≡◌, ℕ, ◌<◌, false, ◌⊎◌, [], Option, None, Some, Result, Ok, Err}
 use Rattle.recovery_base.specs.declared.below.SpaceId.{SpaceId}
+use Rattle.recovery_base.specs.declared.timer.Timer.TheVariants.{LossDetection}
+use Rattle.recovery_base.specs.Timers.{moment}
 use Rattle.recovery_events.specs.declared.event.Refusal.TheVariants.{NoMemory}
 use Rattle.recovery_sender.specs.declared.sender.SenderError.{SenderError}
 use Rattle.recovery_sender.specs.declared.sender.SenderError.TheVariants as refused
@@ -14,6 +16,12 @@ use Rattle.recovery_sender.specs.Calls.{due_now}
 use Rattle.recovery_sender.specs.Detection.{DetectsLosses}
 use Rattle.recovery_sender.specs.Senders.{state_in}
 use Rattle.recovery_sender.specs.Steps.{CompletesCall}
+use Rattle.recovery_sender.specs.Timer.{TimerIsSet}
+
+-- it is set to a later time, or not at all
+abbrev pub IsEarly : ℕ → Option ℕ → Type 0
+IsEarly now None = Unit {0}
+IsEarly now (Some time) = now < time
 
 module _ {F Q R C K S M P : Type 0} {f : _} {c : _} {q : _} {m : _} {r : _} where
   -- the space is looked at, not due to an ACK, and a deadlock is counted on from there
@@ -45,3 +53,8 @@ module _ {F Q R C K S M P : Type 0} {f : _} {c : _} {q : _} {m : _} {r : _} (now
   TimeoutResult (Err refusal) = ((space : SpaceId)
       × (due_now now (state_in old) old.variables ≡ Some (losses_due space)))
       × (refusal ≡ refused.Event NoMemory) × (new ≡ old)
+
+  -- in short: before its time the timer does nothing
+  abbrev pub WaitsForItsTime : Result Timeout SenderError → Type 0
+  WaitsForItsTime reply = TimerIsSet (state_in old) old.variables
+      → IsEarly now (moment LossDetection (state_in old).timers) → (reply ≡ Ok Nothing) × (new ≡ old)

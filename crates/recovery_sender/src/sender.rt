@@ -1,6 +1,7 @@
 //! The sender: one recovery, and the little that decides beside it (RFC 9002, A.3).
 ghost use Rattle.std.specs.Prelude.{◌≡◌, true};
 ghost use Rattle.quic_recovery.specs.State.{state_of};
+ghost use Rattle.recovery_sender.specs.Bounds.{ArePathsBounded};
 ghost use Rattle.recovery_sender.specs.Timer.{TimerIsSet};
 
 use quic_recovery::{LiveRecovery, Recovery};
@@ -50,6 +51,7 @@ pub struct Sender<F: ControllerFactory, Q: RetransmitQueue, R: Rng> {
     variables: Variables,
     /// Whether the timer for losses is known to be set as it is due; then it is left alone where nothing moves it.
     is_timer_current: bool,
+    ghost bounded: { ArePathsBounded F.Controller.words (state_of recovery.recovery) },
     ghost timed: { is_timer_current ≡ true → TimerIsSet (state_of recovery.recovery) variables },
 }
 

@@ -1,14 +1,23 @@
 -- It never stalls (RFC 9002, 6.2 and 6.2.2.1): while an answer is owed, the timer for losses is set.
-use Rattle.std.specs.Prelude.{◌≡◌, ◌≢◌, ℕ, ◌≤◌, ◌⊎◌, true, false, None, Some}
+use Rattle.std.specs.Prelude.{◌≡◌, ◌≢◌, ℕ, ◌*◌, ◌≤◌, ◌⊎◌, ◌&&◌, ◌||◌, not, nat_lt, sum_by, Bool, true, false, None, Some}
 use Rattle.std.specs.Option.{option_and_then}
 use Rattle.recovery_base.specs.declared.below.SpaceId.{SpaceId}
+use Rattle.recovery_base.specs.declared.below.SpaceId.TheVariants.{Data}
+use Rattle.recovery_base.specs.Spaces.{same_space}
 use Rattle.recovery_base.specs.declared.timer.Timer.TheVariants.{LossDetection}
 use Rattle.recovery_base.specs.Timers.{moment}
 use Rattle.recovery_spaces.specs.Discarded.{is_discarded}
 use Rattle.recovery_spaces.specs.Spaces.{Space, packets_of}
-use Rattle.recovery_paths.specs.PathStates.{is_blocked}
+use Rattle.recovery_paths.specs.declared.path_pair.PathName.TheVariants.{Current}
+use Rattle.recovery_paths.specs.PathStates.{amplification_factor, is_blocked}
+use Rattle.recovery_history.specs.History.{Beginning, History}
+use Rattle.recovery_history.specs.Promises.Datagrams.{bytes_in, bytes_out, datagrams_on, is_validated}
+use Rattle.recovery_history.specs.Promises.NewNumbers.{is_discarded as was_discarded}
+use Rattle.recovery_history.specs.Promises.Timeouts.{timer_value}
+use Rattle.recovery_history.specs.Promises.Tracked.{is_tracked}
 use Rattle.recovery_history.specs.RecoveryState.{RecoveryState}
 use Rattle.recovery_losses.specs.declared.variables.Variables.{Variables}
+use Rattle.recovery_sender.specs.Promises.Lost.{elicits_by}
 use Rattle.recovery_sender.specs.Spaces.{space_in}
 use Rattle.recovery_sender.specs.Timer.{behind, deadlock_space, has_eliciting, may_deadlock, pto_of, waits}
 
@@ -39,3 +48,18 @@ module _ {K P M : Type 0} (recovery : RecoveryState K P M) (variables : Variable
     pub deadlock : is_blocked recovery.paths.current.state 1 ≡ false → may_deadlock recovery variables ≡ true
         → is_discarded (deadlock_space recovery variables) recovery.discarded ≡ false
         → moment LossDetection recovery.timers ≢ None
+
+module _ {F K Q S M P : Type 0} (beginning : Beginning F K Q S M P) (past : History Q S M P) where
+  -- the limit against amplification lets a byte out on the path in use, by the events so far (RFC 9000, 8.1)
+  abbrev pub may_send : Bool
+  may_send = is_validated beginning.config.validated Current past
+      || nat_lt (sum_by bytes_out (datagrams_on Current past))
+      (amplification_factor * sum_by bytes_in (datagrams_on Current past))
+
+  -- by the events so far the timer for losses is set while a packet that elicits an ACK is outstanding, in a space that
+  -- is neither discarded nor waits for the handshake
+  abbrev pub IsTimerRunning : Variables → Type 0
+  IsTimerRunning variables = may_send ≡ true → (space : SpaceId) → was_discarded space past ≡ false
+      → (same_space space Data && not variables.is_handshake_confirmed) ≡ false
+      → (number : ℕ) → is_tracked space number past ≡ true → elicits_by space past number ≡ true
+      → timer_value past LossDetection ≢ None

@@ -1,7 +1,7 @@
 -- Lost (RFC 9002, 6.1 and A.10): a pass declares lost exactly the packets that are tracked in its space by the events
 -- before it, below the largest number acknowledged, so many numbers or so long a time earlier. If allocation failed for
 -- one, the pass says that it is cut, and the next one is due at once.
-use Rattle.std.specs.Prelude.{◌≡◌, ℕ, ◌<◌, ◌≤◌, ◌⊎◌, ◌==◌, ◌&&◌, true, [], ◌∷◌, Option, Some, Ok, if◌then◌else◌}
+use Rattle.std.specs.Prelude.{◌≡◌, ℕ, ◌<◌, ◌≤◌, ◌⊎◌, ◌==◌, ◌&&◌, Bool, true, false, [], ◌∷◌, Option, Some, Ok, if◌then◌else◌}
 use Rattle.recovery_base.specs.declared.below.SpaceId.{SpaceId}
 use Rattle.recovery_base.specs.declared.below.SpaceId.TheVariants.{Data}
 use Rattle.recovery_base.specs.Spaces.{same_space}
@@ -14,14 +14,22 @@ use Rattle.recovery_history.specs.Promises.Tracked.{is_tracked}
 use Rattle.recovery_sender.specs.declared.sender.losses.Losses.{Losses}
 
 module _ {Q S M P : Type 0} where
-  -- when the packet of a number went out
+  -- what the packet of a number was as it went out, by its time and by whether it elicits an ACK
+  abbrev pub at_sending : {A : Type 0} → A → (ℕ → Bool → A) → SpaceId → History Q S M P → ℕ → A
+  at_sending none say space [] n = none
+  at_sending none say space ((Send there now size eliciting largest queue frames, Ok (Sent number forgotten)) ∷ earlier)
+      n = if same_space there space && number == n then say now eliciting else at_sending none say space earlier n
+  at_sending none say space ((PollMtu now, Ok (Probe number size)) ∷ earlier) n =
+      if same_space Data space && number == n then say now true else at_sending none say space earlier n
+  at_sending none say space (happened ∷ earlier) n = at_sending none say space earlier n
+
+  -- when it went out
   abbrev pub sent_at : SpaceId → History Q S M P → ℕ → ℕ
-  sent_at space [] n = 0
-  sent_at space ((Send there now size eliciting largest queue frames, Ok (Sent number forgotten)) ∷ earlier) n =
-      if same_space there space && number == n then now else sent_at space earlier n
-  sent_at space ((PollMtu now, Ok (Probe number size)) ∷ earlier) n =
-      if same_space Data space && number == n then now else sent_at space earlier n
-  sent_at space (happened ∷ earlier) n = sent_at space earlier n
+  sent_at = at_sending 0 (λ now eliciting. now)
+
+  -- whether it elicits an ACK
+  abbrev pub elicits_by : SpaceId → History Q S M P → ℕ → Bool
+  elicits_by = at_sending false (λ now eliciting. eliciting)
 
   -- it is tracked below the largest number acknowledged, and one of the two thresholds holds
   abbrev pub IsLostBy : LossPass → History Q S M P → ℕ → Type 0

@@ -2,6 +2,8 @@
 ghost use Rattle.std.specs.Prelude.{◌≡◌, true, ◌<◌, ◌≤◌, ◌+◌, ◌-◌, ◌∷◌, [], Ok, IfOk, OnOk, OnErr, Decides};
 ghost use Rattle.recovery_base.specs.Units.{number_limit, u64_limit};
 ghost use Rattle.recovery_packet_numbers.specs.Skips.{IsSkips};
+ghost use Rattle.recovery_history.specs.EventBounds.{StaysInBounds};
+ghost use Rattle.recovery_sender.specs.Bounds.{latest_start, MakesPathEarly};
 ghost use Rattle.recovery_sender.specs.Calls.{backdated, challenged, changes_path, config_of, datagram_reply, elicits_in, thresholds_in, to_send, IsNewSender, IsPassedThrough, EventResult, PathEventResult};
 ghost use Rattle.recovery_sender.specs.TimerUnchanged.{leaves_timer};
 ghost use Rattle.recovery_sender.specs.Senders.{state_in};
@@ -47,7 +49,8 @@ fn thresholds_of<F>(config: &RecoveryConfig<F>) -> Thresholds
 
 /// A nanosecond earlier; the epoch has nothing before it.
 fn nanosecond_before(now: Instant) -> Instant
-    ensures { result ≡ now - 1 }
+    ensures value { result ≡ now - 1 }
+    ensures early { result ≤ latest_start }
 {
     Instant::from_nanos(now.as_nanos().saturating_sub(1))
 }
@@ -56,7 +59,8 @@ fn nanosecond_before(now: Instant) -> Instant
 /// after the start of the controller's recovery (RFC 9002, 7.3).
 #[inline(always)]
 fn backdate<Q: RetransmitQueue>(event: &mut Event<Q>)
-    ensures { event.new ≡ backdated event.old }
+    ensures value { event.new ≡ backdated event.old }
+    ensures early { MakesPathEarly event.new }
 {
     match event {
         Event::NewPath { now, .. } => *now = nanosecond_before(*now),
@@ -244,6 +248,7 @@ where
 
     /// An event by which another path is in use, or the path in use begins anew: the loss times go by its RTT then.
     fn change_path(&mut self, event: Event<Q>) -> Result<Answer<Q>, SenderError>
+        requires stays { StaysInBounds latest_start (state_in self.old) event }
         ensures { PathEventResult event self.old self.new result }
     {
         match self.apply(event) {

@@ -12,7 +12,8 @@ ghost use Rattle.recovery_sender.specs.Attempts.{probe_attempts, trying};
 ghost use Rattle.recovery_sender.specs.Calls.{RenewsLossTimes};
 ghost use Rattle.recovery_sender.specs.Steps.{TakesSteps};
 ghost use Rattle.recovery_sender.specs.Losses.{look_of, largest_in, HasRoomBelowLargest, IsEmptyLosses, IsNextLoss};
-ghost use Rattle.recovery_sender.specs.Detection.{latest_start, ClassifiesPacket, HasScanned, DetectsLosses, HasNoGap, congested, ended, is_reported};
+ghost use Rattle.recovery_sender.specs.Bounds.{latest_start};
+ghost use Rattle.recovery_sender.specs.Detection.{ClassifiesPacket, HasScanned, DetectsLosses, HasNoGap, congested, ended, is_reported};
 
 use super::{Sender, SenderError};
 use rand_core::Rng;

@@ -4,6 +4,8 @@ ghost use Rattle.recovery_base.specs.Units.{u64_limit};
 ghost use Rattle.recovery_spaces.specs.Discarded.{is_discarded};
 ghost use Rattle.recovery_paths.specs.PathStates.{is_blocked};
 ghost use Rattle.recovery_losses.specs.Variables.{based, is_probe_due, probed};
+ghost use Rattle.recovery_sender.specs.Promises.Pasts.{ForEveryRun};
+ghost use Rattle.recovery_sender.specs.Promises.Window.{FitsWindow, IsByRoom};
 ghost use Rattle.recovery_sender.specs.Senders.{state_in};
 ghost use Rattle.recovery_sender.specs.Calls.{bytes_in_flight, is_checked, is_full, sent_at, sent_in, transmission, transmit_reply, transmit_steps, window_of, EventResult};
 ghost use Rattle.recovery_sender.specs.Steps.{told, TakesSteps, CompletesCall};
@@ -91,6 +93,12 @@ where
             → is_probe_due self.old.variables space ≡ false
             → bytes_in_flight (state_in self.old) + bytes
             ≤ window_of F.Controller.words (state_in self.old) }
+
+        // By the events before it, what asks the window goes out or is delayed only if it fits, and it is `Full` only
+        // if it does not.
+        ensures fits { IfOk result (λ sent. ForEveryRun self.old (λ beginning past. IsByRoom
+            (is_checked self.old.variables space in_flight) (FitsWindow beginning past bytes)
+            sent)) }
 
         // The recovery is asked for what limit and window let pass.
         ensures steps { IfOk result (λ sent. let old = state_in self.old in

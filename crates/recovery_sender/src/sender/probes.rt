@@ -8,7 +8,7 @@ ghost use Rattle.recovery_losses.specs.Variables.{timed_out};
 ghost use Rattle.recovery_sender.specs.Senders.{state_in};
 ghost use Rattle.recovery_sender.specs.Steps.{told, TakesSteps, CompletesCall};
 ghost use Rattle.recovery_sender.specs.Losses.{HasRoomBelowLargest};
-ghost use Rattle.recovery_sender.specs.Timeouts.{DetectsByTime, SearchesByTime, TimeoutResult};
+ghost use Rattle.recovery_sender.specs.Timeouts.{DetectsByTime, SearchesByTime, TimeoutResult, WaitsForItsTime};
 
 use super::{Losses, Sender, SenderError};
 use rand_core::Rng;
@@ -66,9 +66,19 @@ where
     /// `NoMemory` if there is no room for the numbers of the packets that may be lost. Then nothing has changed. A
     /// timeout that asks for probes takes no memory.
     pub fn on_timeout(&mut self, now: Instant) -> Result<Timeout, SenderError>
+        ensures comes { TimeoutResult now self.old self.new result }
+        ensures early { WaitsForItsTime now self.old self.new result }
+    {
+        let due = self.due_now(now);
+        self.act_on(due, now)
+    }
+
+    /// What is due at this time happens: a space is searched for losses, or probes are asked for.
+    fn act_on(&mut self, due: Option<Due>, now: Instant) -> Result<Timeout, SenderError>
+        requires due { due ≡ due_now now (state_in self.old) self.old.variables }
         ensures { TimeoutResult now self.old self.new result }
     {
-        match self.due_now(now) {
+        match due {
             None => Ok(Timeout::Nothing),
             Some(Due::Losses(space)) => self.time_losses_out(space, now),
             Some(Due::Probes(space)) => {

@@ -4,7 +4,9 @@ ghost use Rattle.recovery_base.specs.declared.timer.Timer.TheVariants.{LossDetec
 ghost use Rattle.recovery_base.specs.Timers.{moment};
 ghost use Rattle.recovery_events.specs.declared.event.Refusal.{Refusal};
 ghost use Rattle.recovery_spaces.specs.Spaces.{packets_of};
+ghost use Rattle.recovery_history.specs.EventBounds.{StaysInBounds};
 ghost use Rattle.quic_recovery.specs.State.{ReadOnlyTransition};
+ghost use Rattle.recovery_sender.specs.Bounds.{latest_start};
 ghost use Rattle.recovery_sender.specs.Senders.{state_in};
 ghost use Rattle.recovery_sender.specs.Spaces.{space_in};
 ghost use Rattle.recovery_sender.specs.Timer.{TimerIsSet, due_of, has_eliciting, loss_due, probe_due, probe_in, deadlock_due, deadlock_space, may_deadlock, pto_of, tracks_eliciting};
@@ -245,6 +247,7 @@ where
     pub(super) fn tell(&mut self, event: Event<Q>) -> Answer<Q>
         requires answered { (refusal : Refusal)
             → ¬ ReadOnlyTransition event self.old.recovery.recovery (Err refusal) }
+        requires stays { StaysInBounds latest_start (state_in self.old) event }
         ensures { TakesSteps (told event (Ok result) ∷ []) self.old self.new }
     {
         match self.apply(event) {
@@ -256,6 +259,7 @@ where
     /// An event of the recovery, with its reply. It may move the timer.
     #[inline(always)]
     pub(super) fn apply(&mut self, event: Event<Q>) -> Result<Answer<Q>, Refusal>
+        requires stays { StaysInBounds latest_start (state_in self.old) event }
         ensures { TakesSteps (told event result ∷ []) self.old self.new }
     {
         self.is_timer_current = false;

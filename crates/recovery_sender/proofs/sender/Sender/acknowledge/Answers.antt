@@ -5,6 +5,7 @@ use Rattle.recovery_sender.specs.Steps.{CompletesCall}
 use Rattle.recovery_sender.proofs.AckRoomLaws.{has_room}
 use Rattle.recovery_sender.proofs.DetectLaws.{variables_kept}
 use Rattle.recovery_sender.proofs.KeptLaws.{ecn_keeps, sample_keeps}
+use Rattle.recovery_sender.proofs.PersistenceLaws.{acknowledges_least}
 use Rattle.recovery_sender.proofs.sender.Sender.acknowledge.Goals as goal
 
 pub detect_and_remove_lost_packets-losses-requires-clause-room
@@ -39,4 +40,8 @@ returns-clause-stages g c = record {
       ∙ variables_kept _ _ _ _ _ _ c.detect_and_remove_lost_packets-losses.ensures
       ∙ sample_keeps _ _ _ _ _ c.sample.ensures ∙ c.end_acks.ensures.variables ∙ c.tell_acked.ensures.acks.variables)
       c.hear.ensures);
+  least = acknowledges_least _ _ _ _ _ _ _ _ _ c.sample.new.self c.detect_and_remove_lost_packets-losses.new.self
+      c.process_ecn-ecn.new.self c.hear.new.self g.met.F.Controller.Controller.laws
+      g.met.F.ControllerFactory.starts_by_now
+      c.detect_and_remove_lost_packets-losses.ensures c.process_ecn-ecn.ensures c.hear.ensures;
 }

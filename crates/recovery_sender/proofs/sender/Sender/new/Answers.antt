@@ -1,4 +1,5 @@
 use Rattle.std.proofs.Common.{false, refl}
+use Rattle.recovery_sender.proofs.BoundLaws.{made_in_bounds}
 use Rattle.recovery_sender.proofs.StepLaws.{does_as}
 use Rattle.recovery_sender.proofs.sender.Sender.new.Goals as goal
 
@@ -9,11 +10,19 @@ returns-clause-begins g c = record {
     recovery = c.in_ok-recovery.recovery;
     variables = c.new-2.result;
     is_timer_current = false;
+    bounded = made_in_bounds c.in_ok-recovery.recovery.recovery _ _ _
+        g.met.F.Controller.Controller.laws g.met.F.ControllerFactory.starts_by_now
+        c.nanosecond_before.ensures.early c.in_ok-recovery.ensures.came;
     timed = λ is. absurd cc;
   };
-  came = rw (c.config_of.ensures, c.nanosecond_before.ensures) at c.in_ok-recovery.ensures.came;
+  came = rw (c.config_of.ensures, c.nanosecond_before.ensures.value) at c.in_ok-recovery.ensures.came;
   marks = c.in_ok-recovery.ensures.marks;
   loss_times = c.in_ok-recovery.ensures.loss_times;
   does = does_as _ _ _ _ _ refl (rw c.thresholds_of-thresholds.ensures at c.new-2.ensures)
       c.set_loss_detection_timer.ensures;
 }
+
+pub invariant_of-sender-clause-bounded : goal.invariant_of-sender-clause-bounded
+invariant_of-sender-clause-bounded g c = made_in_bounds c.in_ok-recovery.recovery.recovery _ _ _
+    g.met.F.Controller.Controller.laws g.met.F.ControllerFactory.starts_by_now
+    c.nanosecond_before.ensures.early c.in_ok-recovery.ensures.came

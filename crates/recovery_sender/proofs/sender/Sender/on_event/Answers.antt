@@ -3,18 +3,19 @@ use Rattle.recovery_history.specs.History.{queue_model}
 use Rattle.recovery_sender.specs.Calls.{after_event}
 use Rattle.recovery_sender.specs.Senders.{state_in}
 use Rattle.recovery_sender.specs.Steps.{told}
+use Rattle.recovery_sender.proofs.BoundLaws.{passed_stays}
 use Rattle.recovery_sender.proofs.EventLaws.{event_answered, path_changed}
 use Rattle.recovery_sender.proofs.TimerKeptLaws.{event_left}
 use Rattle.recovery_sender.proofs.StepLaws.{does_behind_with, told_changes}
 use Rattle.recovery_sender.proofs.sender.Sender.on_event.Goals as goal
 
 pub returns-then-changes_path : goal.returns-then-changes_path
-returns-then-changes_path g c = rw (← c.backdate.ensures) (path_changed c.backdate.new.event c.args.self.now _
+returns-then-changes_path g c = rw (← c.backdate.ensures.value) (path_changed c.backdate.new.event c.args.self.now _
     c.if-changes_path.ensures c.change_path.result c.change_path.ensures)
 
 pub returns-in-Ok : goal.returns-in-Ok
 returns-in-Ok g c =
-    rw (← c.backdate.ensures) (event_answered c.backdate.new.event c.args.self.now _ c.if-changes_path.ensures
+    rw (← c.backdate.ensures.value) (event_answered c.backdate.new.event c.args.self.now _ c.if-changes_path.ensures
     c.in-Ok.answer (does_behind_with (after_event c.backdate.new.event c.in-Ok.answer)
     (told c.backdate.new.event (Ok c.in-Ok.answer) ∷ []) c.args.self.now _ _ c.in-Ok.ensures
     (rw (c.to_send-time.ensures, c.elicits_in-elicits.ensures) at c.goes_on.ensures)))
@@ -27,4 +28,16 @@ goes_on-requires g c = λ was. let known = c.is_left_by-was_timed.ensures in
     (told_changes _ _ _ _ c.in-Ok.ensures) (known.timed was))
 
 pub returns-in-Err : goal.returns-in-Err
-returns-in-Err g c = rw (← c.backdate.ensures) c.in-Err.ensures
+returns-in-Err g c = rw (← c.backdate.ensures.value) c.in-Err.ensures
+
+pub change_path-requires : goal.change_path-requires
+change_path-requires g c = record {
+  stays = rw c.backdate.ensures.value (passed_stays (state_in c.args.self.now) c.args.event c.requires.passes
+      (rw c.backdate.ensures.value at c.backdate.ensures.early));
+}
+
+pub apply-requires : goal.apply-requires
+apply-requires g c = record {
+  stays = rw c.backdate.ensures.value (passed_stays (state_in c.args.self.now) c.args.event c.requires.passes
+      (rw c.backdate.ensures.value at c.backdate.ensures.early));
+}

@@ -2,12 +2,15 @@ use Rattle.std.proofs.Common.{inl, inr, refl, sym, true≢false, ◌∙◌}
 use Rattle.recovery_history.specs.History.{queue_model}
 use Rattle.recovery_sender.specs.Senders.{state_in}
 use Rattle.recovery_sender.specs.Timer.{TimerIsSet}
+use Rattle.recovery_sender.proofs.BoundLaws.{stays_threefold}
 use Rattle.recovery_sender.proofs.LivenessLaws.{never_stalls}
+use Rattle.recovery_sender.proofs.RunningLaws.{keeps_running}
 use Rattle.recovery_sender.proofs.TimerLaws.{timer_sets}
 use Rattle.recovery_sender.proofs.sender.Sender.set_loss_detection_timer.Goals as goal
 
 pub invariant_of-self : goal.invariant_of-self
 invariant_of-self g c = record {
+  bounded = c.args.self.now.bounded;
   timed = λ is. rw c.due-due.ensures at c.is_set_to.ensures.0 c.if-is_set_to.true;
 }
 
@@ -21,7 +24,9 @@ returns-then-is_set_to g c =
       sets = inl (timer, refl);
       variables = refl;
       timer = timer;
+      limited = stays_threefold c.args.self.now;
       alive = never_stalls c.args.self.now _ timer;
+      running = keeps_running c.args.self.now (never_stalls c.args.self.now _ timer);
     }
 
 pub invariant_of-self-2 : goal.invariant_of-self-2
@@ -30,7 +35,7 @@ invariant_of-self-2 g c =
     (queue_model g.Q.RetransmitQueue.contents g.Q.RetransmitQueue.words g.Q.RetransmitQueue.blank)
     c.args.self.now.variables (state_in c.args.self.now) c.tell_timer.result (state_in c.tell_timer.new.self)
     (rw c.due-due.ensures at c.tell_timer.ensures.leads) in
-    record { timed = λ is. rw c.tell_timer.ensures.variables sets.1 }
+    record { bounded = c.tell_timer.new.self.bounded; timed = λ is. rw c.tell_timer.ensures.variables sets.1 }
 
 pub returns : goal.returns
 returns g c =
@@ -48,5 +53,7 @@ returns g c =
       sets = inr (λ set. true≢false (sym (was_set set) ∙ c.if-is_set_to.false), sets.0);
       variables = c.tell_timer.ensures.variables;
       timer = timer;
+      limited = stays_threefold c.tell_timer.new.self;
       alive = never_stalls c.tell_timer.new.self _ timer;
+      running = keeps_running c.tell_timer.new.self (never_stalls c.tell_timer.new.self _ timer);
     }

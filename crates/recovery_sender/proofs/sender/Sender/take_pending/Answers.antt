@@ -11,6 +11,7 @@ tell-requires g c =
       answered = λ refusal said. pending_given
           (queue_model g.Q.RetransmitQueue.contents g.Q.RetransmitQueue.words g.Q.RetransmitQueue.blank)
           old.settings.words (acks_to old) (inputs_of old) c.args.space refusal c.requires.there said;
+      stays = tt;
     }
 
 pub unreachable-requires : goal.unreachable-requires

@@ -10,6 +10,7 @@ tell-requires g c =
           (still_tracked c.args.space c.args.now c.args.app_limited c.args.numbers.now c.args.self.now
           c.loop-number.self c.loop-number.number-index c.loop-number-test.true c.requires.tracked c.requires.rising
           i.packets);
+      stays = tt;
     }
 
 pub loop-number-preserved : goal.loop-number-preserved

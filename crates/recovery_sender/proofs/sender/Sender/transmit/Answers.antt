@@ -3,6 +3,7 @@ use Rattle.recovery_sender.specs.Senders.{state_in}
 use Rattle.recovery_sender.proofs.CallLaws.{known_from, transmit_answered, window_kept}
 use Rattle.recovery_sender.proofs.TimerKeptLaws.{transmits_left}
 use Rattle.recovery_sender.proofs.StepLaws.{does_behind}
+use Rattle.recovery_sender.proofs.WindowLaws.{fits_exactly}
 use Rattle.recovery_sender.proofs.sender.Sender.transmit.Goals as goal
 
 pub returns-clause-reply : goal.returns-clause-reply
@@ -25,3 +26,8 @@ returns-clause-steps g c =
 pub time_on-requires : goal.time_on-requires
 time_on-requires g c = λ was. let known = c.is_timed_unlimited-was_timed.ensures in
     transmits_left _ _ _ _ _ _ c.transmit_where_it_may-sent.ensures.steps (known.unlimited was) (known.timed was)
+
+pub returns-clause-fits : goal.returns-clause-fits
+returns-clause-fits g c =
+    rw (known_from _ _ _ (sym c.is_checked.ensures ∙ c.in-Some.is)).1
+    (fits_exactly c.args.self.now c.args.now c.args.bytes _ _ c.transmit_where_it_may-sent.ensures.value)

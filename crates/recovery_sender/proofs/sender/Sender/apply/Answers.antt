@@ -1,0 +1,8 @@
+use Rattle.recovery_sender.proofs.BoundLaws.{recovery_keeps_bounds}
+use Rattle.recovery_sender.proofs.sender.Sender.apply.Goals as goal
+
+pub invariant_of-self-clause-bounded : goal.invariant_of-self-clause-bounded
+invariant_of-self-clause-bounded g c = recovery_keeps_bounds c.args.event c.apply.result
+    c.args.self.now.recovery.recovery c.apply.new.self.recovery
+    g.met.F.Controller.Controller.laws g.met.F.ControllerFactory.starts_by_now c.requires.stays c.apply.ensures.changes
+    c.args.self.now.bounded
