@@ -1,5 +1,5 @@
 //! The estimate of the round-trip time (RFC 9002, 5).
-ghost use Rattle.std.specs.Prelude.{◌≡◌, ◌<◌, ◌≤◌, ◌*◌, min, max, IsSomeAnd};
+ghost use Rattle.std.specs.Prelude.{◌≡◌, ◌<◌, ◌≤◌, ◌*◌, min, max, IsSomeAnd, is_some};
 ghost use Rattle.recovery_base.specs.Times.{span_limit};
 ghost use Rattle.recovery_congestion.specs.Rtt.{rtt_made, rtt_updated, rtt_get, rtt_conservative, pto_base_of, adjusted_rtt, greatest_of, IsAboveLeast, KeepsLeast};
 
@@ -58,6 +58,13 @@ impl RttEstimator {
             Some(smoothed) => smoothed,
             None => self.latest,
         }
+    }
+
+    /// Whether a sample was taken.
+    pub fn has_sample(&self) -> bool
+        ensures { result ≡ is_some self.now.smoothed }
+    {
+        self.smoothed.is_some()
     }
 
     /// The last sample, without any delay taken off, or the initial RTT before the first one (RFC 9002, 5.1).

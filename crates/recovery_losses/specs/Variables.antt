@@ -26,6 +26,7 @@ fresh side thresholds now = record {
   thresholds = thresholds;
   sampled = now;
   due_probes = None;
+  initial_rtt = None;
 }
 
 -- the thresholds that settings give: with a packet threshold of 0 a packet would be lost with its own ACK, with a

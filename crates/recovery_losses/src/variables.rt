@@ -1,5 +1,5 @@
 //! What a sender keeps beside the packets that its recovery tracks, and what follows of that alone (RFC 9002, A.3).
-ghost use Rattle.std.specs.Prelude.{◌≡◌, min};
+ghost use Rattle.std.specs.Prelude.{◌≡◌, min, None, if◌then◌else◌};
 ghost use Rattle.recovery_losses.specs.Variables.{ack_delay_in, based, begun_anew, due_after_end, due_after_packet, fresh, heard_in, is_address_validated, is_probe_due, probed, pto_by, sampled_first, timed_out};
 
 use crate::thresholds::Thresholds;
@@ -84,6 +84,9 @@ pub struct Variables {
     pub sampled: Instant,
     /// The probes that are due, if any (RFC 9002, 6.2.4).
     pub due_probes: Option<DueProbes>,
+    /// The RTT by which timers go before the first sample of the path in use, in place of that of the settings (RFC
+    /// 9002, 6.2.2).
+    pub initial_rtt: Option<Duration>,
 }
 
 impl Variables {
@@ -102,6 +105,7 @@ impl Variables {
             thresholds,
             sampled: now,
             due_probes: None,
+            initial_rtt: None,
         }
     }
 
@@ -157,6 +161,13 @@ impl Variables {
             base: now,
             ..self
         }
+    }
+
+    /// The initial RTT that the caller set, unless the RTT of the path in use begins anew (RFC 9002, 6.2.2).
+    pub fn initial_rtt_after(&self, forgets: bool) -> Option<Duration>
+        ensures { result ≡ (if forgets then None else self.now.initial_rtt) }
+    {
+        if forgets { None } else { self.initial_rtt }
     }
 
     /// The path in use got its first RTT sample now, if it did (RFC 9002, 7.6.2).

@@ -39,7 +39,7 @@ use Rattle.recovery_sender.specs.Calls.{transmit_steps}
 use Rattle.recovery_sender.specs.TimerUnchanged.{leaves_timer}
 use Rattle.recovery_sender.specs.Steps.{StepsLeadTo}
 use Rattle.recovery_losses.specs.Variables.{ack_delay_in, is_address_validated}
-use Rattle.recovery_sender.specs.Timer.{behind, deadlock_by, deadlock_due, due_of, has_eliciting, loss_due, may_deadlock, probe_due, probe_in, pto_of, soonest, tracks_eliciting, waits, TimerIsSet}
+use Rattle.recovery_sender.specs.Timer.{behind, deadlock_by, deadlock_due, due_of, has_eliciting, loss_due, may_deadlock, probe_due, probe_in, pto_of, rtt_or, soonest, tracks_eliciting, waits, TimerIsSet}
 
 -- ---- what is read of a space
 
@@ -109,7 +109,7 @@ module _ {K P M : Type 0} (variables : Variables) (old new : RecoveryState K P M
     (rtt : new.paths.current.state.rtt ≡ old.paths.current.state.rtt)
     (blocked : is_blocked new.paths.current.state 1 ≡ is_blocked old.paths.current.state 1) where
   pto_same : (space : SpaceId) → pto_of new variables space ≡ pto_of old variables space
-  pto_same space = ap (λ rtt. probe_timeout_of (pto_base_of rtt) (ack_delay_in variables space)
+  pto_same space = ap (λ rtt. probe_timeout_of (pto_base_of (rtt_or variables.initial_rtt rtt)) (ack_delay_in variables space)
       (min variables.pto_count 16)) rtt
 
   losses_same : AllSame (loss_due new) (loss_due old)

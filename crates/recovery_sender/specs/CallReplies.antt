@@ -1,20 +1,20 @@
 -- What each call of a sender comes to (RFC 9002, Appendices A and B), in one place. What is promised by the events
 -- before it, and that it never stalls, is part of it (`ProcessesAck`, `DetectsLosses`, `DeclaresAllLost`,
 -- `CompletesCall`).
-use Rattle.std.specs.Prelude.{◌≡◌, ℕ, ◌+◌, ◌≤◌, true, false, Result, Ok, Err, IfOk, OnOk, OnErr, [], ◌∷◌}
+use Rattle.std.specs.Prelude.{◌≡◌, ℕ, ◌+◌, ◌≤◌, true, false, Some, Result, Ok, Err, IfOk, OnOk, OnErr, [], ◌∷◌}
 use Rattle.recovery_base.specs.declared.below.SpaceId.{SpaceId}
 use Rattle.recovery_events.specs.declared.event.Answer.TheVariants as answers
 use Rattle.recovery_events.specs.declared.event.Event.{Event}
 use Rattle.recovery_events.specs.declared.event.Event.TheVariants.{DatagramIn, DiscardSpace, Validated}
 use Rattle.recovery_paths.specs.declared.path_pair.PathName.TheVariants.{Current}
 use Rattle.recovery_sender.specs.RetransmitAll.{DeclaresAllLost}
-use Rattle.recovery_sender.specs.Acking.{AckResult}
+use Rattle.recovery_sender.specs.Acking.{AckResult, IsNewly}
 use Rattle.recovery_losses.specs.Variables.{begun_anew, is_probe_due}
-use Rattle.recovery_sender.specs.Calls.{bytes_in_flight, datagram_reply, discard_reply, is_checked, transmit_reply, transmit_steps, window_of, IsPassedThrough, EventResult, ProbeResult}
+use Rattle.recovery_sender.specs.Calls.{ChangesRtt, bytes_in_flight, challenged, datagram_reply, discard_reply, is_checked, transmit_reply, transmit_steps, window_of, IsPassedThrough, EventResult, ProbeResult}
 use Rattle.recovery_sender.specs.Promises.Pasts.{ForEveryRun}
 use Rattle.recovery_sender.specs.Promises.Window.{FitsWindow, IsByRoom}
 use Rattle.recovery_sender.specs.Senders.{state_in}
-use Rattle.recovery_sender.specs.Steps.{told, CompletesCall}
+use Rattle.recovery_sender.specs.Steps.{marked, told, CompletesCall}
 use Rattle.recovery_sender.specs.Timeouts.{TimeoutResult, WaitsForItsTime}
 use Rattle.recovery_sender.specs.declared.sender.SenderError.{SenderError}
 use Rattle.recovery_sender.specs.declared.sender.Sender.{Sender}
@@ -93,6 +93,14 @@ CallReply calls.AddressValidated old new (Ok replies.Done) =
     CompletesCall (told (Validated Current) (Ok answers.Done) ∷ []) old.variables old new
 CallReply (calls.PeerDelay span) old new (Ok replies.Done) =
     CompletesCall [] (record old.variables { max_ack_delay = span }) old new
+CallReply (calls.InitialRtt rtt) old new (Ok replies.Done) =
+    ChangesRtt (record old.variables { initial_rtt = Some rtt }) old new
+CallReply (calls.Challenge challenge pending) old new (Ok replies.Done) =
+    CompletesCall (marked (challenged (state_in old) challenge pending) ∷ []) old.variables old new
+CallReply (calls.NewlyAcked asked) old new (Ok (replies.Newly newly)) =
+    IsNewly asked.space asked.ranges.items old (Ok newly) × (new ≡ old)
+CallReply (calls.NewlyAcked asked) old new (Err refusal) =
+    IsNewly asked.space asked.ranges.items old (Err refusal) × (new ≡ old)
 CallReply (calls.Discard space now) old new (Ok replies.Done) = DiscardCall old new space now (Ok (tt {0}))
 CallReply (calls.Discard space now) old new (Err refusal) = DiscardCall old new space now (Err refusal)
 CallReply (calls.Abandon space now) old new (Ok (replies.Retransmitted all)) = DeclaresAllLost space old now new

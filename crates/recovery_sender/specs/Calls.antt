@@ -146,6 +146,17 @@ abbrev pub discard_reply : {K P M : Type 0} → RecoveryState K P M → SpaceId 
 discard_reply recovery space =
     if is_discarded space recovery.discarded then Err (refused.Event SpaceDiscarded) else Ok (tt {0})
 
+-- an event by which the RTT of the path in use begins anew
+abbrev pub forgets_rtt : {Q S M P : Type 0} → Event Q S M P → Bool
+forgets_rtt (events.NewPath now remote is_fresh) = is_fresh
+forgets_rtt (events.ResetPath now) = true
+forgets_rtt event = false
+
+-- then the initial RTT that the caller set no longer counts
+abbrev pub rtt_forgotten : {Q S M P : Type 0} → Event Q S M P → Variables → Variables
+rtt_forgotten event variables =
+    record variables { initial_rtt = (if forgets_rtt event then None else variables.initial_rtt) }
+
 -- they are found again by the RTT of the path in use
 pub record RenewsLossTimes {F Q R C K S M P : Type 0} {f : _} {c : _} {q : _} {m : _} {r : _}
     (old new : Sender F Q R C K S M P f c q m r) : Type 0 where
@@ -153,15 +164,23 @@ pub record RenewsLossTimes {F Q R C K S M P : Type 0} {f : _} {c : _} {q : _} {m
   pub next : (space : SpaceId) → IsNextLoss (state_in old) old.variables space (times space)
   pub goes : TakesSteps (renewing times) old new
 
+-- these variables are kept, and the loss times go by the RTT that they give; then the timer is set
+pub record ChangesRtt {F Q R C K S M P : Type 0} {f : _} {c : _} {q : _} {m : _} {r : _} (kept : Variables)
+    (old new : Sender F Q R C K S M P f c q m r) : Type 0 where
+  pub set : Sender F Q R C K S M P f c q m r
+  pub renewed : Sender F Q R C K S M P f c q m r
+  pub same : state_in set ≡ state_in old
+  pub variables : set.variables ≡ kept
+  pub renews : RenewsLossTimes set renewed
+  pub does : CompletesCall [] kept renewed new
+
 module _ {F Q R C K S M P : Type 0} {f : _} {c : _} {q : _} {m : _} {r : _} (event : Event Q S M P)
     (old new : Sender F Q R C K S M P f c q m r) where
   -- the path in use is another, or begins anew: the loss times go by its RTT from now on
   pub record ChangesPath (answer : Answer Q) : Type 0 where
     pub between : Sender F Q R C K S M P f c q m r
-    pub renewed : Sender F Q R C K S M P f c q m r
     pub goes : TakesSteps (told event (Ok answer) ∷ []) old between
-    pub renews : RenewsLossTimes between renewed
-    pub does : CompletesCall [] renewed.variables renewed new
+    pub renews : ChangesRtt (rtt_forgotten event between.variables) between new
 
   abbrev pub PathEventResult : Result (Answer Q) SenderError → Type 0
   PathEventResult (Ok answer) = ChangesPath answer

@@ -8,6 +8,7 @@ pub mod Detection
 pub mod Established
 pub mod Losses
 pub mod Promises
+pub mod Readings
 pub mod RetransmitAll
 pub mod Runs
 pub mod Senders

@@ -18,7 +18,7 @@ use Rattle.recovery_losses.specs.declared.variables.Variables.{Variables}
 use Rattle.recovery_sender.specs.declared.sender.Sender.{Sender}
 use Rattle.recovery_sender.specs.Senders.{state_in}
 use Rattle.recovery_sender.specs.Spaces.{packets_in, space_in}
-use Rattle.recovery_sender.specs.Timer.{behind}
+use Rattle.recovery_sender.specs.Timer.{behind, rtt_in}
 
 -- nothing was lost
 pub record IsEmptyLosses (losses : Losses) : Type 0 where
@@ -35,7 +35,7 @@ largest_in recovery space = option_and_then (λ here. here.largest_acked_packet)
 
 -- how long after its sending a packet is lost, by the RTT of the path in use (RFC 9002, 6.1.2)
 abbrev pub loss_delay_in : {K P M : Type 0} → RecoveryState K P M → Variables → ℕ
-loss_delay_in recovery variables = let rtt = recovery.paths.current.state.rtt in
+loss_delay_in recovery variables = let rtt = rtt_in recovery variables in
     loss_delay_of variables.thresholds.time (rtt_get rtt) rtt.latest
 
 -- when the next packet of a space is lost by its age, by the RTT of the path in use, if something was acknowledged
@@ -61,7 +61,7 @@ look_of recovery variables space now due_to_ack largest = let path = recovery.pa
   first_sample = (if due_to_ack then first_sample_in path.marks.first_after_sample variables.sampled space
       else Missing);
   skipped = (if same_space space Data then recovery.skipping.filter.last else None);
-  period = variables.thresholds.persistent * (pto_base_of path.state.rtt + variables.max_ack_delay);
+  period = variables.thresholds.persistent * (pto_base_of (rtt_in recovery variables) + variables.max_ack_delay);
 }
 
 -- there is room for the numbers of the packets that a space tracks below the largest number acknowledged

@@ -1,14 +1,14 @@
 -- When the timer for losses is due, and what for (RFC 9002, 6.2 and A.8), by what can be read of a sender.
 use Rattle.std.specs.Prelude.{◌≡◌, ℕ, ◌+◌, ◌||◌, ◌&&◌, not, min, Bool, false, Option, None, Some, option_map, if◌then◌else◌}
 use Rattle.std.specs.List.{list_any}
-use Rattle.std.specs.Option.{option_and_then, option_map_or, option_or}
+use Rattle.std.specs.Option.{is_some, option_and_then, option_map_or, option_or}
 use Rattle.recovery_base.specs.declared.below.SpaceId.{SpaceId}
 use Rattle.recovery_base.specs.declared.below.SpaceId.TheVariants.{Initial, Handshake, Data}
 use Rattle.recovery_base.specs.declared.timer.Timer.TheVariants.{LossDetection}
 use Rattle.recovery_base.specs.Spaces.{same_space}
 use Rattle.recovery_base.specs.Timers.{moment}
 use Rattle.recovery_base.specs.Units.{last_time}
-use Rattle.recovery_congestion.specs.Rtt.{pto_base_of}
+use Rattle.recovery_congestion.specs.Rtt.{Rtt, pto_base_of, rtt_made}
 use Rattle.recovery_spaces.specs.Discarded.{is_discarded}
 use Rattle.recovery_spaces.specs.Packets.{Packets}
 use Rattle.recovery_spaces.specs.Spaces.{Space, packets_of}
@@ -31,6 +31,11 @@ soonest due = sooner (sooner (due Initial) (due Handshake)) (due Data)
 abbrev pub behind : ℕ → ℕ → ℕ
 behind time span = min (time + span) last_time
 
+-- an estimate, or one without a sample by this RTT
+abbrev pub rtt_or : Option ℕ → Rtt → Rtt
+rtt_or None rtt = rtt
+rtt_or (Some initial) rtt = if is_some rtt.smoothed then rtt else rtt_made initial
+
 -- ---- what is asked of packets
 
 -- some packet elicits an ACK
@@ -40,6 +45,11 @@ has_eliciting packets = list_any (λ entry. entry.1.ack_eliciting) packets
 -- ---- spans
 
 module _ {K P M : Type 0} (recovery : RecoveryState K P M) where
+  -- the RTT estimate that timers go by: before the first sample of the path in use, the initial RTT that the caller set,
+  -- if it set one (RFC 9002, 6.2.2)
+  abbrev pub rtt_in : Variables → Rtt
+  rtt_in variables = rtt_or variables.initial_rtt recovery.paths.current.state.rtt
+
   -- a packet of the space may be lost
   abbrev pub loss_due : SpaceId → Option (ℕ × Due)
   loss_due space = option_map (λ time. (time, Losses space)) (option_and_then (λ here. here.loss_time)
@@ -47,7 +57,7 @@ module _ {K P M : Type 0} (recovery : RecoveryState K P M) where
 
   -- the probe timeout, by the path in use (RFC 9002, 6.2.1)
   abbrev pub pto_of : Variables → SpaceId → ℕ
-  pto_of variables space = pto_by (pto_base_of recovery.paths.current.state.rtt) variables space
+  pto_of variables space = pto_by (pto_base_of (rtt_in variables)) variables space
 
 module _ {K P M : Type 0} (recovery : RecoveryState K P M) (variables : Variables) where
   -- 1-RTT packets are not probed for until the handshake is confirmed (RFC 9002, 6.2.1)

@@ -2,7 +2,7 @@
 ghost use Rattle.std.specs.Prelude.{◌≡◌};
 ghost use Rattle.recovery_sender.specs.CallReplies.{is_done, CallReply};
 
-use crate::calls::{Asking, Call, CallReplyValue, Datagram, Frame};
+use crate::calls::{Asked, Asking, Call, CallReplyValue, Datagram, Frame};
 use crate::sender::{Sender, SenderError, passes};
 use rand_core::Rng;
 use recovery_base::below::SpaceId;
@@ -47,6 +47,9 @@ where
             Call::HandshakeConfirmed => self.handshake_confirmed(),
             Call::AddressValidated => self.address_validated(),
             Call::PeerDelay(span) => self.peer_delay(span),
+            Call::InitialRtt(rtt) => self.set_initial_rtt(rtt),
+            Call::Challenge(challenge, pending) => self.challenge(challenge, pending),
+            Call::NewlyAcked(asked) => self.newly_acked(asked),
             Call::Discard(space, now) => self.discard(space, now),
             Call::Abandon(space, now) => self.retransmit_all(space, now),
             Call::Event(event) => self.pass(event),
@@ -135,6 +138,39 @@ where
     {
         self.sender.set_peer_max_ack_delay(span);
         Ok(CallReplyValue::Done)
+    }
+
+    fn set_initial_rtt(&mut self, rtt: Duration) -> Result<CallReplyValue<Q>, SenderError>
+        ensures { CallReply (Call.InitialRtt rtt) self.old.sender self.new.sender result }
+    {
+        self.sender.set_initial_rtt(rtt);
+        Ok(CallReplyValue::Done)
+    }
+
+    fn challenge(
+        &mut self,
+        challenge: Option<u64>,
+        pending: bool,
+    ) -> Result<CallReplyValue<Q>, SenderError>
+        ensures { CallReply (Call.Challenge challenge pending) self.old.sender self.new.sender
+            result }
+    {
+        self.sender.set_challenge(challenge, pending);
+        Ok(CallReplyValue::Done)
+    }
+
+    fn newly_acked(&mut self, asked: Asked) -> Result<CallReplyValue<Q>, SenderError>
+        ensures { CallReply (Call.NewlyAcked asked) self.old.sender self.new.sender result }
+    {
+        let Asked {
+            space,
+            ranges,
+            room,
+        } = asked;
+        match self.sender.newly_acked(space, &ranges, room) {
+            Ok(newly) => Ok(CallReplyValue::Newly(newly)),
+            Err(refused) => Err(refused),
+        }
     }
 
     fn discard(&mut self, space: SpaceId, now: Instant) -> Result<CallReplyValue<Q>, SenderError>

@@ -1,5 +1,5 @@
 //! Calls, and what they come to.
-use crate::sender::{Acknowledged, Retransmitted, SenderError, Timeout, Transmission};
+use crate::sender::{Acknowledged, NewlyAcked, Retransmitted, SenderError, Timeout, Transmission};
 use recovery_base::below::SpaceId;
 use recovery_base::time::{Duration, Instant};
 use recovery_events::event::{Answer, Event};
@@ -30,6 +30,17 @@ pub struct Frame {
     pub ranges: Vec<(u64, u64)>,
     /// What it says beside.
     pub ack: Ack,
+}
+
+/// What an ACK frame would newly acknowledge is asked for.
+#[derive(Drop)]
+pub struct Asked {
+    /// The space of the packet that held it.
+    pub space: SpaceId,
+    /// The first and last number of each of its ranges, the highest range first.
+    pub ranges: Vec<(u64, u64)>,
+    /// The list whose memory takes the numbers.
+    pub room: Vec<u64>,
 }
 
 /// A probe is to be sent.
@@ -64,6 +75,12 @@ pub enum Call<Q: RetransmitQueue> {
     AddressValidated,
     /// The peer delays its ACKs at most so long.
     PeerDelay(Duration),
+    /// The RTT before the first sample of the path in use.
+    InitialRtt(Duration),
+    /// A PATH_CHALLENGE frame with this data is open, or none is, and whether one is to be sent.
+    Challenge(Option<u64>, bool),
+    /// What an ACK frame would newly acknowledge. `Ack` is this and the rest of it.
+    NewlyAcked(Asked),
     /// The keys of a space are dropped.
     Discard(SpaceId, Instant),
     /// What was sent in a space was sent in vain.
@@ -79,6 +96,8 @@ pub enum CallReplyValue<Q> {
     Transmission(Transmission),
     /// What an ACK frame comes to.
     Acknowledged(Acknowledged),
+    /// What an ACK frame would newly acknowledge.
+    Newly(NewlyAcked),
     /// What a timeout comes to.
     Timeout(Timeout),
     /// What a probe carries.

@@ -19,6 +19,7 @@ mod handshake;
 mod losses;
 mod packets;
 mod probes;
+mod readings;
 mod timer;
 
 pub use acks::{Acknowledged, EcnOutcome, NewlyAcked};
@@ -27,6 +28,7 @@ pub use events::passes;
 pub use losses::Losses;
 pub use packets::Transmission;
 pub use probes::Timeout;
+pub use readings::TimerState;
 
 /// Why a call is refused.
 #[derive(Clone, Copy)]

@@ -138,7 +138,7 @@ where
     }
 
     /// The smallest number that a space tracks, from another on.
-    fn first_tracked(&self, space: SpaceId, from: u64) -> Option<u64>
+    pub(super) fn first_tracked(&self, space: SpaceId, from: u64) -> Option<u64>
         ensures { MatchOption result
             (HasNoneFrom (packets_in (state_in self.now) space) from)
             (IsLeastFrom (packets_in (state_in self.now) space) from) }

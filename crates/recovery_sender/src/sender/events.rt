@@ -1,10 +1,10 @@
 //! How a sender begins, and the events that pass through it.
-ghost use Rattle.std.specs.Prelude.{◌≡◌, true, ◌<◌, ◌≤◌, ◌+◌, ◌-◌, ◌∷◌, [], Ok, IfOk, OnOk, OnErr, Decides};
+ghost use Rattle.std.specs.Prelude.{◌≡◌, Some, true, ◌<◌, ◌≤◌, ◌+◌, ◌-◌, ◌∷◌, [], Ok, IfOk, OnOk, OnErr, Decides};
 ghost use Rattle.recovery_base.specs.Units.{number_limit, u64_limit};
 ghost use Rattle.recovery_packet_numbers.specs.Skips.{IsSkips};
 ghost use Rattle.recovery_history.specs.EventBounds.{StaysInBounds};
 ghost use Rattle.recovery_sender.specs.Bounds.{latest_start, MakesPathEarly};
-ghost use Rattle.recovery_sender.specs.Calls.{backdated, challenged, changes_path, config_of, datagram_reply, elicits_in, thresholds_in, to_send, IsNewSender, IsPassedThrough, EventResult, PathEventResult};
+ghost use Rattle.recovery_sender.specs.Calls.{backdated, challenged, changes_path, config_of, datagram_reply, elicits_in, forgets_rtt, thresholds_in, to_send, IsNewSender, IsPassedThrough, EventResult, ChangesRtt, PathEventResult};
 ghost use Rattle.recovery_sender.specs.TimerUnchanged.{leaves_timer};
 ghost use Rattle.recovery_sender.specs.Senders.{state_in};
 ghost use Rattle.recovery_sender.specs.Steps.{marked, told, TakesSteps, CompletesCall};
@@ -16,7 +16,7 @@ use super::{Sender, SenderError};
 use quic_recovery::LiveRecovery;
 use rand_core::Rng;
 use recovery_base::below::{NoMemory, SpaceId};
-use recovery_base::time::Instant;
+use recovery_base::time::{Duration, Instant};
 use recovery_base::timer::Timer;
 use recovery_congestion::congestion::ControllerFactory;
 use recovery_events::event::{Answer, Event, Refusal};
@@ -76,6 +76,17 @@ fn changes_path<Q: RetransmitQueue>(event: &Event<Q>) -> bool
 {
     match event {
         Event::NewPath { .. } | Event::ResetPath { .. } | Event::RevertPath => true,
+        _ => false,
+    }
+}
+
+/// Whether by an event the RTT of the path in use begins anew.
+fn forgets_rtt<Q: RetransmitQueue>(event: &Event<Q>) -> bool
+    ensures { result ≡ forgets_rtt event.now }
+{
+    match event {
+        Event::NewPath { fresh, .. } => *fresh,
+        Event::ResetPath { .. } => true,
         _ => false,
     }
 }
@@ -251,14 +262,50 @@ where
         requires stays { StaysInBounds latest_start (state_in self.old) event }
         ensures { PathEventResult event self.old self.new result }
     {
+        let forgets = forgets_rtt(&event);
         match self.apply(event) {
             Ok(answer) => {
-                self.renew_loss_times();
-                self.set_loss_detection_timer();
+                let variables = self.variables;
+                self.change_rtt(variables.initial_rtt_after(forgets));
                 Ok(answer)
             }
             Err(refusal) => Err(SenderError::Event(refusal)),
         }
+    }
+
+    /// Before the first RTT sample of the path in use, timers go by this RTT, in place of the initial RTT of the settings
+    /// (RFC 9002, 6.2.2): that of an earlier connection to the same peer, say, or the time that a Retry took. The probe
+    /// timeout, the loss delay and the timer follow at once. The pacer keeps to the settings: its bucket has the initial
+    /// window, which no RTT changes. A new or reset path, whose RTT begins anew ([`Event::NewPath`] that is fresh,
+    /// [`Event::ResetPath`]), goes by the settings again. It costs what is tracked below the largest acknowledged.
+    pub fn set_initial_rtt(&mut self, rtt: Duration)
+        ensures { ChangesRtt (record self.old.variables { initial_rtt = Some rtt }) self.old
+            self.new }
+    {
+        self.change_rtt(Some(rtt));
+    }
+
+    /// Keeps this as the initial RTT: the loss times are found again, and the timer is set.
+    fn change_rtt(&mut self, initial_rtt: Option<Duration>)
+        ensures { ChangesRtt (record self.old.variables { initial_rtt = initial_rtt }) self.old
+            self.new }
+    {
+        self.keep_initial_rtt(initial_rtt);
+        self.renew_loss_times();
+        self.set_loss_detection_timer();
+    }
+
+    /// Keeps this as the initial RTT. It may move the timer.
+    fn keep_initial_rtt(&mut self, initial_rtt: Option<Duration>)
+        ensures same { state_in self.new ≡ state_in self.old }
+        ensures variables { self.new.variables
+            ≡ (record self.old.variables { initial_rtt = initial_rtt }) }
+    {
+        self.is_timer_current = false;
+        self.variables = Variables {
+            initial_rtt,
+            ..self.variables
+        };
     }
 
     /// A probe of the MTU goes out, where one is due, as [`Event::PollMtu`] has it, and is refused. The window is

@@ -121,7 +121,8 @@ where
         } else {
             FirstSample::Missing
         };
-        let once = path.rtt.pto_base().as_nanos() + self.variables.max_ack_delay.as_nanos();
+        let rtt = self.rtt();
+        let once = rtt.pto_base().as_nanos() + self.variables.max_ack_delay.as_nanos();
         let (probe, skipped) = if space == SpaceId::Data {
             (
                 path.mtud.in_flight_mtu_probe(),
@@ -135,7 +136,7 @@ where
             at: now,
             largest,
             packet_threshold: thresholds.packets,
-            delay: loss_delay(thresholds.time, path.rtt.get(), path.rtt.latest()),
+            delay: loss_delay(thresholds.time, rtt.get(), rtt.latest()),
             probe,
             generation: path.generation(),
             first_sample,

@@ -9,7 +9,7 @@ ghost use Rattle.quic_recovery.specs.State.{ReadOnlyTransition};
 ghost use Rattle.recovery_sender.specs.Bounds.{latest_start};
 ghost use Rattle.recovery_sender.specs.Senders.{state_in};
 ghost use Rattle.recovery_sender.specs.Spaces.{space_in};
-ghost use Rattle.recovery_sender.specs.Timer.{TimerIsSet, due_of, has_eliciting, loss_due, probe_due, probe_in, deadlock_due, deadlock_space, may_deadlock, pto_of, tracks_eliciting};
+ghost use Rattle.recovery_sender.specs.Timer.{TimerIsSet, due_of, has_eliciting, loss_due, probe_due, probe_in, deadlock_due, deadlock_space, may_deadlock, pto_of, rtt_in, tracks_eliciting};
 ghost use Rattle.recovery_sender.specs.Steps.{told, loss_time, timer_event, TakesSteps, CompletesCall};
 
 use super::Sender;
@@ -18,6 +18,7 @@ use recovery_base::below::SpaceId;
 use recovery_base::time::{Duration, Instant};
 use recovery_base::timer::Timer;
 use recovery_congestion::congestion::ControllerFactory;
+use recovery_congestion::rtt::RttEstimator;
 use recovery_events::event::{Answer, Event, Refusal};
 use recovery_losses::{Due, Variables, sooner};
 use recovery_paths::paths::PathData;
@@ -176,7 +177,7 @@ where
     }
 
     /// Whether a space tracks a packet that elicits an ACK.
-    fn tracks_eliciting(&self, space: SpaceId) -> bool
+    pub(super) fn tracks_eliciting(&self, space: SpaceId) -> bool
         ensures { result ≡ tracks_eliciting (state_in self.now) self.now.variables space }
     {
         match self.space(space) {
@@ -225,7 +226,20 @@ where
     fn pto(&self, space: SpaceId) -> Duration
         ensures { result ≡ pto_of (state_in self.now) self.now.variables space }
     {
-        self.variables.pto(self.path().rtt.pto_base(), space)
+        self.variables.pto(self.rtt().pto_base(), space)
+    }
+
+    /// The RTT estimate that timers go by: before the first sample of the path in use, the initial RTT that the caller
+    /// set, if it set one (RFC 9002, 6.2.2).
+    #[inline(always)]
+    pub(super) fn rtt(&self) -> RttEstimator
+        ensures { result ≡ rtt_in (state_in self.now) self.now.variables }
+    {
+        let rtt = self.path().rtt;
+        match self.variables.initial_rtt {
+            Some(initial) if !rtt.has_sample() => RttEstimator::new(initial),
+            _ => rtt,
+        }
     }
 
     /// What is kept for a space that is not discarded.

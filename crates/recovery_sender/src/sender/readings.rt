@@ -1,0 +1,98 @@
+//! What can be read of a sender (RFC 9000, 8.1; RFC 9002, 6.2, 7 and A.8).
+ghost use Rattle.std.specs.Prelude.{◌≡◌, ◌*◌, ◌-◌, min, MatchOption};
+ghost use Rattle.recovery_base.specs.Units.{largest_u64};
+ghost use Rattle.recovery_paths.specs.PathStates.{amplification_factor};
+ghost use Rattle.recovery_sender.specs.Readings.{amplification_room, timer_state, window_room};
+ghost use Rattle.recovery_sender.specs.RetransmitAll.{HasNoneFrom, IsLeastFrom};
+ghost use Rattle.recovery_sender.specs.Senders.{state_in};
+ghost use Rattle.recovery_sender.specs.Spaces.{packets_in};
+
+use super::Sender;
+use rand_core::Rng;
+use recovery_base::below::SpaceId;
+use recovery_base::time::Instant;
+use recovery_congestion::congestion::{Controller, ControllerFactory};
+use recovery_losses::Due;
+use recovery_queue::queue::RetransmitQueue;
+
+/// What the timer for losses waits for, or why it is not set (RFC 9002, 6.2 and A.8).
+#[derive(Clone, Copy)]
+pub enum TimerState {
+    /// It is set to this time, for this.
+    Set(Instant, Due),
+    /// The amplification limit lets no byte out (RFC 9000, 8.1). The next datagram from the peer sets the timer.
+    Blocked,
+    /// Only 1-RTT packets are in flight. They are probed for once the handshake is confirmed (RFC 9002, 6.2.1): if it
+    /// is, `on_handshake_confirmed` was not called.
+    Unconfirmed,
+    /// No ack-eliciting packet is in flight that is probed for.
+    Idle,
+}
+
+/// How many bytes may still be sent to an address that is not validated, at most `u64::MAX` (RFC 9000, 8.1).
+fn room_within_limit(received: u64, sent: u64) -> u64
+    ensures { result ≡ min (amplification_factor * received - sent) largest_u64 }
+{
+    let room = (3 * u128::from(received)).saturating_sub(u128::from(sent));
+    if room < u128::from(u64::MAX) {
+        room as u64
+    } else {
+        u64::MAX
+    }
+}
+
+impl<F, Q, R> Sender<F, Q, R>
+where
+    F: ControllerFactory,
+    Q: RetransmitQueue,
+    R: Rng + Drop,
+{
+    /// Returns what the timer for losses is set for, or why it is not set (RFC 9002, 6.2 and A.8): to find out why a
+    /// transfer waits.
+    pub fn timer_state(&self) -> TimerState
+        ensures { result ≡ timer_state (state_in self.now) self.now.variables }
+    {
+        if let Some((time, due)) = self.due() {
+            TimerState::Set(time, due)
+        } else if self.path().anti_amplification_blocked(1) {
+            TimerState::Blocked
+        } else if !self.variables.is_handshake_confirmed && self.tracks_eliciting(SpaceId::Data) {
+            TimerState::Unconfirmed
+        } else {
+            TimerState::Idle
+        }
+    }
+
+    /// Returns how many bytes more fit into the congestion window of the path in use (RFC 9002, 7): 0 if it is full. A
+    /// datagram that counts in flight and is larger is `Full`.
+    pub fn window_room(&self) -> u64
+        ensures { result ≡ window_room F.Controller.words (state_in self.now) }
+    {
+        let path = self.path();
+        path.congestion
+            .window()
+            .saturating_sub(path.in_flight().bytes)
+    }
+
+    /// Returns how many bytes the amplification limit still lets out on the path in use (RFC 9000, 8.1), at most
+    /// `u64::MAX`; `None` if its address is validated, so that no limit binds it.
+    pub fn amplification_room(&self) -> Option<u64>
+        ensures { result ≡ amplification_room (state_in self.now) }
+    {
+        let path = self.path();
+        if path.validated {
+            return None;
+        }
+        Some(room_within_limit(path.total_recvd, path.total_sent))
+    }
+
+    /// Returns the smallest packet number that is tracked in a space, if any: all smaller ones are acknowledged, lost,
+    /// forgotten or discarded. It costs a logarithm.
+    pub fn smallest_tracked(&self, space: SpaceId) -> Option<u64>
+        ensures { MatchOption result
+            (HasNoneFrom (packets_in (state_in self.now) space) 0)
+            (IsLeastFrom (packets_in (state_in self.now) space) 0) }
+    {
+        self.first_tracked(space, 0)
+    }
+}
