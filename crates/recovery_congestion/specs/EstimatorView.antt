@@ -1,4 +1,4 @@
--- What an `RttEstimator` holds.
+-- An `RttEstimator` as contracts name it.
 use Rattle.recovery_congestion.specs.Rtt.{Rtt}
 use Rattle.recovery_congestion.specs.declared.rtt.RttEstimator.TheInside.{Inside}
 

@@ -1,4 +1,4 @@
--- What a `Pacer` holds, and what a `PacerState` says that it does.
+-- A `Pacer` and a `PacerState` as contracts name them.
 use Rattle.recovery_congestion.specs.Pacing.{Bucket}
 use Rattle.recovery_congestion.specs.declared.pacing.Pacer.TheInside.{Inside}
 use Rattle.recovery_congestion.specs.declared.pacing.PacerState.{PacerState}

@@ -1,4 +1,4 @@
--- What a `NewRenoConfig` holds.
+-- A `NewRenoConfig` as contracts name it.
 use Rattle.recovery_congestion.specs.RenoSettings.{RenoSettings}
 use Rattle.recovery_congestion.specs.declared.congestion.new_reno.NewRenoConfig.TheInside.{Inside}
 
