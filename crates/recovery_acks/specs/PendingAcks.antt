@@ -1,4 +1,4 @@
--- What a `PendingAcks` holds.
+-- A `PendingAcks` as contracts name it.
 use Rattle.recovery_acks.specs.Acks.{Acks}
 use Rattle.recovery_acks.specs.declared.pending.PendingAcks.TheInside.{Inside}
 

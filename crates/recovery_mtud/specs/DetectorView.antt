@@ -1,4 +1,4 @@
--- What a `Detector` holds.
+-- A `Detector` as contracts name it.
 use Rattle.recovery_mtud.specs.Bursts.{LossBursts}
 use Rattle.recovery_mtud.specs.declared.detector.Detector.TheInside.{Inside}
 

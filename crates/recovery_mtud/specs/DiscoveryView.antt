@@ -1,4 +1,4 @@
--- What an `MtuDiscovery` holds.
+-- An `MtuDiscovery` as contracts name it.
 use Rattle.recovery_mtud.specs.Discovery.{Discovery}
 use Rattle.recovery_mtud.specs.declared.mtud.MtuDiscovery.TheInside.{Inside}
 

@@ -1,4 +1,4 @@
--- What a `Search` holds.
+-- A `Search` as contracts name it.
 use Rattle.recovery_mtud.specs.Search.{MtuSearch}
 use Rattle.recovery_mtud.specs.declared.search.Search.TheInside.{Inside}
 

@@ -1,4 +1,4 @@
--- What a `PacketNumberFilter` holds.
+-- A `PacketNumberFilter` as contracts name it.
 use Rattle.recovery_packet_numbers.specs.Filters.{Filter}
 use Rattle.recovery_packet_numbers.specs.declared.filter.PacketNumberFilter.TheInside.{Inside}
 
