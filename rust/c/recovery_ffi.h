@@ -209,7 +209,7 @@ enum recovery_space {
 enum recovery_timer {
     // When to declare packets lost or to send a probe (RFC 9002, 6.2 and A.8).
     RECOVERY_TIMER_LOSS_DETECTION = 0,
-    // When to close for want of traffic (RFC 9000, 10.1).
+    // When to close the connection because it is idle (RFC 9000, 10.1).
     RECOVERY_TIMER_IDLE = 1,
     // When a closing or draining connection ends (RFC 9000, 10.2).
     RECOVERY_TIMER_CLOSE = 2,
@@ -219,11 +219,11 @@ enum recovery_timer {
     RECOVERY_TIMER_PATH_VALIDATION = 4,
     // When to send a PING against the idle timeout (RFC 9000, 10.1.2).
     RECOVERY_TIMER_KEEP_ALIVE = 5,
-    // When the pacer lets the next packet go (RFC 9002, 7.7).
+    // When the pacer lets the next packet pass (RFC 9002, 7.7).
     RECOVERY_TIMER_PACING = 6,
-    // When to issue new connection ids (RFC 9000, 5.1.1).
+    // When to issue new connection IDs (RFC 9000, 5.1.1).
     RECOVERY_TIMER_PUSH_NEW_CID = 7,
-    // When to send an ACK that was held back (RFC 9000, 13.2.1).
+    // When to send a delayed ACK (RFC 9000, 13.2.1).
     RECOVERY_TIMER_MAX_ACK_DELAY = 8,
 };
 

@@ -173,7 +173,7 @@ pub const SPACE_DATA: u8 = 2;
 
 /// When to declare packets lost or to send a probe (RFC 9002, 6.2 and A.8).
 pub const TIMER_LOSS_DETECTION: u8 = 0;
-/// When to close for want of traffic (RFC 9000, 10.1).
+/// When to close the connection because it is idle (RFC 9000, 10.1).
 pub const TIMER_IDLE: u8 = 1;
 /// When a closing or draining connection ends (RFC 9000, 10.2).
 pub const TIMER_CLOSE: u8 = 2;
@@ -183,11 +183,11 @@ pub const TIMER_KEY_DISCARD: u8 = 3;
 pub const TIMER_PATH_VALIDATION: u8 = 4;
 /// When to send a PING against the idle timeout (RFC 9000, 10.1.2).
 pub const TIMER_KEEP_ALIVE: u8 = 5;
-/// When the pacer lets the next packet go (RFC 9002, 7.7).
+/// When the pacer lets the next packet pass (RFC 9002, 7.7).
 pub const TIMER_PACING: u8 = 6;
-/// When to issue new connection ids (RFC 9000, 5.1.1).
+/// When to issue new connection IDs (RFC 9000, 5.1.1).
 pub const TIMER_PUSH_NEW_CID: u8 = 7;
-/// When to send an ACK that was held back (RFC 9000, 13.2.1).
+/// When to send a delayed ACK (RFC 9000, 13.2.1).
 pub const TIMER_MAX_ACK_DELAY: u8 = 8;
 
 /// An address and a port.
