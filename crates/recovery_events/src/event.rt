@@ -30,10 +30,10 @@ pub enum Event<Q: RetransmitQueue> {
         ack_eliciting: bool,
     },
     /// A packet is sent on the current path, under the next number of its space (RFC 9002, A.5). Rejected with
-    /// `SpaceDiscarded`, with `NumberTooLarge` if the largest acknowledged number is 2^62 or more, with
-    /// `NumbersExhausted` if the next number is 2^62 or more, with `Overflow`, then with `NoMemory`. `Overflow` means
-    /// that the bytes in flight, or the count of ack-eliciting packets, would exceed `u64::MAX`. Cost: amortized
-    /// constant. If a packet is forgotten, the cost of `Acked` is added.
+    /// `SpaceDiscarded`, with `NumberTooLarge` if `largest_acked` is 2^62 or more, with `NumbersExhausted` if the next
+    /// number is 2^62 or more, with `Overflow`, then with `NoMemory`. `Overflow` means that the bytes in flight, or the
+    /// count of ack-eliciting packets, would exceed `u64::MAX`. Cost: amortized constant. If a packet is forgotten, the
+    /// cost of `Acked` is added.
     Send {
         /// The packet number space.
         space: SpaceId,
@@ -71,8 +71,8 @@ pub enum Event<Q: RetransmitQueue> {
         /// The packet's number.
         number: u64,
     },
-    /// A NEW_CONNECTION_ID frame was received (RFC 9000, 19.15). Rejected with the first error that applies, in this
-    /// order: `NumberTooLarge`: its number is 2^62 or more. `BadRetirePriorTo`: its retire-prior-to exceeds its number.
+    /// A NEW_CONNECTION_ID frame was received (RFC 9000, 19.15). Rejected with the first of these errors that applies.
+    /// `NumberTooLarge`: its number is 2^62 or more. `BadRetirePriorTo`: its retire-prior-to exceeds its number.
     /// `Retired`: its number is below the active one. `ExceedsLimit`: its number is not among the eight numbers that
     /// start at the active one, or at its retire-prior-to if that is larger. `Conflict`: its number is held with
     /// another ID or another token.
@@ -91,7 +91,7 @@ pub enum Event<Q: RetransmitQueue> {
         /// The IDs, in the order of their numbers.
         ids: Vec<IssuedCid>,
     },
-    /// The timer for new IDs expired (`Timer::PushNewCid`): the earliest deadline is removed. The answer is whether to
+    /// The timer for new IDs expired (`Timer::PushNewCid`): the oldest deadline is removed. The answer is whether to
     /// ask the peer, by a NEW_CONNECTION_ID frame, to retire numbers (RFC 9000, 5.1.2). Never rejected.
     IdTimeout,
     /// A RETIRE_CONNECTION_ID frame was received (RFC 9000, 19.16). Rejected with `CidsNotInUse`, then with
@@ -133,7 +133,7 @@ pub enum Event<Q: RetransmitQueue> {
     /// if any. Never rejected.
     NextTimeout,
     /// The keys of a space are dropped, and with them all packets that it tracks (RFC 9002, 6.4). Every later event on
-    /// the space is rejected with `SpaceDiscarded`, and so is this one. Cost: linear in the packets that the space
+    /// the space, including this one, is rejected with `SpaceDiscarded`. Cost: linear in the packets that the space
     /// tracks.
     DiscardSpace {
         /// The packet number space.
@@ -175,8 +175,8 @@ pub enum Event<Q: RetransmitQueue> {
         /// Whether to check the anti-amplification limit and the pacer.
         checked: bool,
     },
-    /// Does the pacer let this many bytes pass on the current path (RFC 9002, 7.7)? Never rejected. The pacer is
-    /// refilled for the time since the last refill.
+    /// Does the pacer let this many bytes pass on the current path (RFC 9002, 7.7)? Never rejected. If its tokens do
+    /// not cover the bytes, the pacer is first refilled for the time since its last refill.
     PacerCheck {
         /// When it is asked.
         now: Instant,
@@ -250,14 +250,14 @@ pub enum Event<Q: RetransmitQueue> {
     /// A probe packet is to be sent (RFC 9002, 6.2.4). If the retransmission queue is empty, the contents of the first
     /// tracked packet that has any move into it. If no packet has any, a PING is requested, unless the peer is to be
     /// asked for an immediate ACK. Rejected with `SpaceDiscarded`, then with `NoMemory` if contents are moved. Cost:
-    /// linear in the packets that are skipped. A packet whose contents are empty is skipped once, and not again by
-    /// later probes.
+    /// linear in the packets that are passed over. One whose contents are empty for all streams is passed over once,
+    /// and not again by later probes.
     QueueProbe {
         /// The packet number space.
         space: SpaceId,
         /// Whether to ask the peer for an immediate ACK.
         immediate_ack: bool,
-        /// What the test for empty contents is passed.
+        /// The argument of the test for empty contents.
         streams: Q::Streams,
     },
     /// Return the retransmission queue and empty it (RFC 9000, 13.3). Rejected with `SpaceDiscarded`.
@@ -266,8 +266,8 @@ pub enum Event<Q: RetransmitQueue> {
         space: SpaceId,
     },
     /// Another path is used from now on (RFC 9000, 9.3). The current path becomes the previous one, and an older
-    /// previous one is dropped. Rejected with `Overflow` if 2^64 paths were made. Unless the path is fresh, rejected
-    /// then with `NoMemory`.
+    /// previous one is dropped. Rejected with `Overflow` if 2^64 paths were made, then, unless the path is fresh, with
+    /// `NoMemory`.
     NewPath {
         /// When the path is made.
         now: Instant,

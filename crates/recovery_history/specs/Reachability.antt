@@ -126,8 +126,8 @@ module _ {F K Q S M P : Type 0} (beginning : Beginning F K Q S M P) where
     -- acknowledged probe, but no lost one (RFC 8899, 5.3).
     pub convergence : ConvergesNearBest beginning before event reply
     -- A report of a black hole needs four bursts of losses, all their packets above the minimum MTU, that no
-    -- acknowledgement refuted. It is made at four since which no larger packet was acknowledged, if the first of them
-    -- ends above every larger packet acknowledged before (RFC 8899, 4.3).
+    -- acknowledgement refuted. It is made at four such bursts if the first ended above every probe, and every packet
+    -- above the minimum MTU, acknowledged before, and none of these was acknowledged since (RFC 8899, 4.3).
     pub black_holes : ReportsBlackHoleAtFour beginning.config.transport.min_mtu before event reply
     -- In each space a number is assigned at most once. An assigned one is exactly one of these: tracked, acknowledged,
     -- lost, forgotten, discarded (RFC 9002, A.1, A.7, A.10 and 6.4).
@@ -150,8 +150,8 @@ module _ {F K Q S M P : Type 0} (beginning : Beginning F K Q S M P) where
     -- A packet is sent under the first number above all assigned in its space, or, of 1-RTT packets, under that one or
     -- the next (RFC 9000, 12.3 and 21.4).
     pub next_number : AssignsNextNumber before event reply
-    -- Unless the space is discarded, the ACK of a range is rejected exactly if it has the number skipped last, or is no
-    -- range of numbers below 2^62 (RFC 9000, 12.3 and 21.4).
+    -- Unless the space is discarded, the ACK of a range is rejected exactly if the range has the number skipped last,
+    -- or is no range of numbers below 2^62 (RFC 9000, 12.3 and 21.4).
     pub skipped_acks : RejectsSkippedAcks before event reply
     -- Three causes reject a packet exactly: an ACK of a number of 2^62 or more, no number left for it, or a counter of
     -- what is in flight that would overflow. The only others are a discarded space and a failed allocation (RFC 9000,
@@ -163,8 +163,8 @@ module _ {F K Q S M P : Type 0} (beginning : Beginning F K Q S M P) where
     -- The timer for a late ACK starts exactly at a new ack-eliciting packet, if it does not run and no ACK is required
     -- at once (RFC 9000, 13.2.1 and 13.2.2).
     pub ack_timer : StartsAckDelayTimer beginning before event reply
-    -- A probe finds something ack-eliciting to send, if joining contents to something leaves something. It finds an ACK
-    -- exactly if one is required and some number is to be acknowledged (RFC 9002, 6.2.4).
+    -- A probe finds something ack-eliciting to send, if a queue joined with non-empty contents is never empty. It finds
+    -- an ACK exactly if one is required and some number is to be acknowledged (RFC 9002, 6.2.4).
     pub sendable : ReportsSendable beginning before event reply
     -- ECN counts are rejected exactly if they fail the check against the last counts of their space that were accepted
     -- (RFC 9000, 13.4.2.1).

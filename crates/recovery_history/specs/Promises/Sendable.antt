@@ -10,7 +10,7 @@ use Rattle.recovery_history.specs.RepliesAfter.{logs_of}
 use Rattle.recovery_history.specs.History.{Beginning, History, Reply}
 use Rattle.recovery_history.specs.Promises.Acknowledged.{WasReceived, WasDropped}
 
--- joining contents to something leaves something
+-- a queue joined with non-empty contents is not empty
 abbrev pub JoinStaysNonempty : {P S : Type 0} → QueueSemantics P S → S → Type 0
 JoinStaysNonempty {P} words streams = (pending other : P) → words.is_empty other streams ≡ false
     → words.is_empty (words.joined pending other) streams ≡ false
