@@ -13,8 +13,8 @@ use recovery_base::time::{Duration, Instant};
 use std::alloc::Global;
 use std::marker::Model;
 
-/// The most ranges of an ACK frame: each takes at most 16 bytes (RFC 9000, 19.3.1), so they fit into the smallest
-/// maximum datagram, of 1200 bytes.
+/// The most ranges of an ACK frame: each takes at most 16 bytes (RFC 9000, 19.3.1), so they fit into a datagram of 1200
+/// bytes, which every path carries.
 const MAX_ACK_BLOCKS: usize = 64;
 
 /// How many non-ack-eliciting packets may be received before an ACK is sent with other frames: the peer stores them

@@ -108,7 +108,7 @@ module _ (window now mtu : ℕ) where
   -- an acknowledgement of these bytes in congestion avoidance, after later calls after a reduction
   pub record MovesTowardCurve (call : ControllerCall) (later : List ControllerCall) (reduction : ControllerCall)
       (earlier : List ControllerCall) (k bytes : ℕ) : Type 0 where
-    -- it raises the window at least to the curve's value, or by half of its bytes if that is less
+    -- it raises the window to the curve's value or higher, or by half of its bytes if that is less
     pub up : min (curve_then (call ∷ later) reduction earlier k)
         (sum_to_most (window_by window now mtu (later ++ reduction ∷ earlier)) (bytes / 2))
         ≤ window_by window now mtu (call ∷ later ++ reduction ∷ earlier)

@@ -49,7 +49,7 @@ pub fn cubic_stays_below_the_curve()
         → IsReal window made mtu later reduction earlier k }
 {}
 
-/// Proves that an acknowledgement that counts raises the window at least to the curve's value at that time, or by half
+/// Proves that an acknowledgement that counts raises the window to the curve's value at that time or higher, or by half
 /// of its bytes if that is less. It becomes exactly the curve's value if half of the bytes reach that far and neither
 /// Reno's window nor what the reduction left is above it.
 pub fn cubic_goes_to_the_curve()

@@ -180,8 +180,8 @@ impl CidState {
     /// An error changes nothing: `CidsNotInUse` if the IDs have zero length, else `UnissuedCid` if the number was not
     /// issued.
     ///
-    /// Does not allocate. Cost: logarithmic in the unretired numbers, amortized: slots are closed up if more of them
-    /// are empty than filled.
+    /// Does not allocate. Cost: logarithmic in the unretired numbers, amortized: slots are closed up once over 64 more
+    /// of them are empty than filled.
     pub fn on_cid_retirement(&mut self, sequence: u64, limit: u64) -> Result<bool, RetireError>
         ensures reply { MatchResult result
             (λ more. AcceptsRetirement self.old sequence limit more self.new)

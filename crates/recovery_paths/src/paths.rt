@@ -502,7 +502,7 @@ impl<C: Controller + Drop> PathData<C> {
     }
 
     /// Sets the largest datagram that the peer accepts: in bytes, above zero (RFC 9000, 18.2). No search may run. The
-    /// MTU in use is reduced to it; the controller is not notified.
+    /// MTU in use is at most this from now on; the controller is not notified.
     pub fn limit_by_peer(&mut self, size: u16)
         requires size { 0 < size }
         requires no_search { is_searching_of self.old.state.discovery ≡ false }

@@ -320,8 +320,8 @@ where
         }
     }
 
-    /// Records that a packet is acknowledged: stores the largest number, and drops the pending ACKs that the packet's
-    /// own ACK frame covered (RFC 9000, 13.2.4).
+    /// Records that a packet is acknowledged: stores the largest number, and drops the pending ACKs up to the largest
+    /// number in the packet's own ACK frame (RFC 9000, 13.2.4).
     #[inline(always)]
     pub fn on_acked(&mut self, number: u64, packet: &SentPacket<Q>)
         requires { ¬ IsTooLarge packet.now.largest_acked }

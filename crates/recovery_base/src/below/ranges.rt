@@ -67,8 +67,9 @@ impl ArrayRangeSet {
 
     /// Adds a number below 2^62. Returns whether it is new.
     ///
-    /// `NoMemory` changes nothing; a number that is in the set allocates nothing. Cost: constant for a number above the
-    /// last range, else a binary search of the ranges, plus a move of those above if a range is added or merged.
+    /// `NoMemory` changes nothing; a number that is in the set allocates nothing. Cost: constant for a number in or
+    /// above the last range, else a binary search of the ranges, plus a move of those above if a range is added or
+    /// merged.
     pub fn insert_one(&mut self, x: u64) -> Result<bool, NoMemory>
         requires { x < number_limit }
         ensures inserts { IfOk result (λ new. InsertsOne self.old x new self.new) }
