@@ -21,7 +21,7 @@ fn is_refused(alloc: Global) -> bool {
 
 /// Numbers of items, as those of the program, except that each `append` allocates.
 ///
-/// Contracts name the list of the items.
+/// In contracts its value is the list of the items.
 #[derive(Drop)]
 pub struct ScarceQueue {
     items: ItemQueue,

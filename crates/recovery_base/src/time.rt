@@ -15,7 +15,7 @@ const NANOS_PER_SEC: u128 = 1_000_000_000;
 
 /// A time: nanoseconds since an epoch that the caller chooses, 0 to `u64::MAX`.
 ///
-/// Contracts name the plain number.
+/// In contracts its value is the plain number.
 #[derive(Clone, Copy, PartialEq, Eq, PartialOrd, Ord)]
 pub struct Instant {
     nanos: u64,
@@ -98,7 +98,7 @@ impl Sub for Instant {
 
 /// A span of time: whole nanoseconds, 0 to 2^64 · 10^9 - 1 (the range of std's `Duration`).
 ///
-/// Contracts name the plain number.
+/// In contracts its value is the plain number.
 #[derive(Clone, Copy, PartialEq, Eq, PartialOrd, Ord)]
 pub struct Duration {
     nanos: u128,

@@ -1,4 +1,4 @@
--- A `Pacer` and a `PacerState` as contracts name them.
+-- The values of a `Pacer` and a `PacerState` in contracts.
 use Rattle.recovery_congestion.specs.Pacing.{Bucket}
 use Rattle.recovery_congestion.specs.declared.pacing.Pacer.TheInside.{Inside}
 use Rattle.recovery_congestion.specs.declared.pacing.PacerState.{PacerState}

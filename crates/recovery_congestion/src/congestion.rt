@@ -24,12 +24,12 @@ pub struct ControllerMetrics {
 
 /// A congestion controller: how much may be in flight on a path (RFC 9002, 7).
 ///
-/// An implementation defines by functions of its own (`words`) what each call does to its contents as contracts name
-/// them (`content`), and proves the laws (`ControllerLaws`). Sound contents stay sound while MTUs are above zero, and
-/// their window is above zero. No call moves the start of the recovery past its own time. Persistent congestion after
-/// that start leaves the minimum window, and further congestion leaves it there (RFC 9002, 7.6.2).
+/// An implementation defines by functions of its own (`words`) what each call does to its value in contracts
+/// (`content`), and proves the laws (`ControllerLaws`). Sound contents stay sound while MTUs are above zero, and their
+/// window is above zero. No call moves the start of the recovery past its own time. Persistent congestion after that
+/// start leaves the minimum window, and further congestion leaves it there (RFC 9002, 7.6.2).
 pub trait Controller: Sized {
-    /// A controller as contracts name it. No code makes a value of it.
+    /// The type of a controller in contracts. No code makes a value of it.
     type Content;
 
     ghost content: { Self → Self.Content };

@@ -22,7 +22,8 @@ const MAX_BURST_SIZE: u128 = 256;
 /// A token bucket, one token a byte: sending removes tokens, and time adds them at 5/4 of a window in each RTT (RFC
 /// 9002, 7.7).
 ///
-/// Contracts name it as a `Bucket`. It holds at most its capacity, which is 10 to 256 times the MTU of the last call.
+/// In contracts its value is a `Bucket`. It holds at most its capacity, which is 10 to 256 times the MTU of the last
+/// call.
 #[derive(Drop)]
 pub struct Pacer {
     capacity: u64,

@@ -11,7 +11,7 @@ use Rattle.recovery_events.specs.declared.event.Answer.{Answer}
 use Rattle.recovery_events.specs.declared.event.Refusal.{Refusal}
 
 -- the contents of packets' queues, and what each call does to them. Q is the queue, S the argument of its test for
--- emptiness, M what the caller stores about a packet, and P the contents as contracts name them.
+-- emptiness, M what the caller stores about a packet, and P the contents in contracts.
 pub record QueueModel (Q S M P : Type 0) : Type 0 where
   pub contents : Q → P
   pub words : QueueSemantics P S
@@ -21,8 +21,8 @@ pub record QueueModel (Q S M P : Type 0) : Type 0 where
 abbrev pub queue_model : {Q S M P : Type 0} → (Q → P) → QueueSemantics P S → M → QueueModel Q S M P
 queue_model contents words blank = record { contents = contents; words = words; blank = blank }
 
--- how a run begins: its settings and its start time. F is the factory of controllers, and K a controller as contracts
--- name it. How one is built, and what each call does to it, are the implementation's own functions.
+-- how a run begins: its settings and its start time. F is the factory of controllers, and K the value of a controller
+-- in contracts. How one is built, and what each call does to it, are the implementation's own functions.
 pub record Beginning (F K Q S M P : Type 0) : Type 0 where
   pub config : RecoveryConfig F
   pub start : ℕ

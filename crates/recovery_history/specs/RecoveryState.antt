@@ -11,7 +11,7 @@ use Rattle.recovery_spaces.specs.Spaces.{Spaces}
 use Rattle.recovery_paths.specs.PathMaking.{PathSettings}
 use Rattle.recovery_packet_numbers.specs.Filters.{SkipState}
 
--- K is a controller as contracts name it, P the contents of a queue, M what the caller stores about a packet
+-- K is the value of a controller in contracts, P the contents of a queue, M what the caller stores about a packet
 pub record RecoveryState (K P M : Type 0) : Type 0 where
   -- how its paths are made
   pub settings : PathSettings K

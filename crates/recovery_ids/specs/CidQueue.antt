@@ -1,4 +1,4 @@
--- A `CidQueue` as contracts name it.
+-- The value of a `CidQueue` in contracts.
 use Rattle.std.specs.Prelude.{ℕ, Option}
 use Rattle.recovery_ids.specs.RemoteIds.{HeldId, RemoteIds}
 use Rattle.recovery_ids.specs.Window.{held_at, ids_in}

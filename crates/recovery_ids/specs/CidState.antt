@@ -1,4 +1,4 @@
--- A `CidState` as contracts name it.
+-- The value of a `CidState` in contracts.
 use Rattle.std.specs.Prelude.{ℕ, List}
 use Rattle.std.specs.Map.{keys_of}
 use Rattle.recovery_queue.specs.declared.slots.Slot.{Slot}

@@ -11,7 +11,7 @@ use std::marker::Model;
 /// The IDs that a `CidQueue` holds, the active one first, each with its distance from the active number: at most
 /// `CidQueue::LEN`.
 ///
-/// Contracts name the list of those that are left.
+/// In contracts its value is the list of those that are left.
 #[derive(Drop)]
 pub struct CidIter<'a> {
     window: &'a Window,

@@ -16,7 +16,7 @@ use thiserror::Error;
 /// The IDs that the peer issued and that are held, at most `LEN`. The one with the smallest number is active (RFC 9000,
 /// 5.1.1). The initial ID has number 0 and no token.
 ///
-/// Contracts name the entry of each number, and the active number.
+/// In contracts its value is the entry of each number, and the active number.
 #[derive(Drop)]
 pub struct CidQueue {
     window: Window,

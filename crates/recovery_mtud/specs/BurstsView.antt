@@ -1,4 +1,4 @@
--- A `Bursts` as contracts name it.
+-- The value of a `Bursts` in contracts.
 use Rattle.std.specs.Prelude.{ℕ, ◌≡◌, ◌-◌, ◌≤◌, List, ◌++◌, length, take, replicate, refl}
 use Rattle.std.proofs.Common.{arith, length-take}
 use Rattle.recovery_mtud.specs.declared.bursts.Bursts.TheInside.{Inside}

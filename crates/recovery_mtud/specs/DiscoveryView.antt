@@ -1,4 +1,4 @@
--- An `MtuDiscovery` as contracts name it.
+-- The value of an `MtuDiscovery` in contracts.
 use Rattle.recovery_mtud.specs.Discovery.{Discovery}
 use Rattle.recovery_mtud.specs.declared.mtud.MtuDiscovery.TheInside.{Inside}
 

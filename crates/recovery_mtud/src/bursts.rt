@@ -10,7 +10,7 @@ pub(crate) const BLACK_HOLE_BURSTS: usize = 4;
 
 /// The smallest sizes of at most four bursts.
 ///
-/// Contracts name the list of the sizes.
+/// In contracts its value is the list of the sizes.
 #[derive(Clone, Copy)]
 pub(crate) struct Bursts {
     /// The sizes, followed by zeros.

@@ -19,7 +19,8 @@ use std::marker::Model;
 /// A search probes sizes in the middle of its bounds, each at most three times, and starts again after an interval.
 /// Four suspicious bursts of losses are a black hole: the minimum MTU is then in use again (RFC 8899, 4.3).
 ///
-/// Contracts name it as a `Discovery`. Its MTU is above zero, and it stores at most four bursts. Sizes are in bytes.
+/// In contracts its value is a `Discovery`. Its MTU is above zero, and it stores at most four bursts. Sizes are in
+/// bytes.
 #[derive(Clone, Copy)]
 pub struct MtuDiscovery {
     current_mtu: u16,

@@ -31,7 +31,8 @@ pub enum Skips {
 
 /// Decides which packet numbers a sender skips (RFC 9000, 21.4), and whether a peer acknowledges one that was skipped.
 ///
-/// Contracts name the next skip, the last one, and the exponent of 2 from which the skip after the next one is drawn.
+/// In contracts its value is the next skip, the last one, and the exponent of 2 from which the skip after the next one
+/// is drawn.
 #[derive(Clone, Copy)]
 pub struct PacketNumberFilter {
     next_skipped_packet_number: Option<u64>,

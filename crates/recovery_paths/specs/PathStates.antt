@@ -14,7 +14,7 @@ use Rattle.recovery_congestion.specs.Pacing.{Bucket, PacerCall, paced, pacer_del
 use Rattle.recovery_paths.specs.declared.responses.PathResponse.{PathResponse}
 use Rattle.recovery_congestion.specs.Rtt.{Rtt, rtt_updated, rtt_get}
 
--- the state of a path without its ledger; K is its controller as contracts name it
+-- the state of a path without its ledger; K is the value of its controller in contracts
 pub record PathState (K : Type 0) : Type 0 where
   pub remote : SocketAddr
   -- the peer's address was validated

@@ -66,7 +66,7 @@ impl Model for PathMarks {
 
 /// The state of one path, with a congestion controller `C`.
 ///
-/// Contracts name its ledger, its state and its marks. The MTU and the controller's window are above zero.
+/// In contracts its value is its ledger, its state and its marks. The MTU and the controller's window are above zero.
 #[derive(Drop)]
 pub struct PathData<C: Controller> {
     /// The address of the peer.

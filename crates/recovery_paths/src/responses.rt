@@ -33,8 +33,8 @@ impl Default for PathResponse {
 
 /// The PATH_RESPONSE frames to send (RFC 9000, 8.2.2): at most 16, one for each address. They allocate nothing.
 ///
-/// Contracts name the list of the packets, tokens and addresses, in the order in which the addresses were first
-/// received.
+/// In contracts its value is the list of the packets, tokens and addresses, in the order in which the addresses were
+/// first received.
 #[derive(Drop)]
 pub struct PathResponses {
     pending: ArrayVec<PathResponse, 16>,

@@ -8,7 +8,7 @@ use std::marker::Model;
 
 /// The numbers of the items that a packet carries, in the order in which they were added (RFC 9000, 13.3).
 ///
-/// Contracts name the list of the items.
+/// In contracts its value is the list of the items.
 #[derive(Drop)]
 pub struct ItemQueue {
     items: Vec<u64>,

@@ -7,9 +7,9 @@ use std::alloc::Global;
 /// The contents of a packet, which are retransmitted if it is lost (RFC 9000, 13.3). An application writes its own
 /// queue.
 ///
-/// An implementation defines by functions of its own (`words`) what each call does to its contents as contracts name
-/// them (`contents`), and proves the laws. Joining the empty contents on either side changes nothing, and `is_empty` is
-/// true of them.
+/// An implementation defines by functions of its own (`words`) what each call does to its value in contracts
+/// (`contents`), and proves the laws. Joining the empty contents on either side changes nothing, and `is_empty` is true
+/// of them.
 pub trait RetransmitQueue: Sized + Drop {
     /// What `is_empty` is passed in addition to the queue, such as the streams whose data it has.
     type Streams: Drop;
@@ -17,7 +17,7 @@ pub trait RetransmitQueue: Sized + Drop {
     /// What the caller stores about a packet in addition to its contents.
     type Meta: Default + Drop;
 
-    /// A queue as contracts name it. No code makes a value of it.
+    /// The type of a queue in contracts. No code makes a value of it.
     type Contents;
 
     ghost contents: { Self → Self.Contents };

@@ -27,7 +27,7 @@ struct Slot<T> {
 
 /// Items stored under increasing numbers.
 ///
-/// Contracts name the slots. A removed item leaves its slot empty, until empty slots are closed up.
+/// In contracts its value is the slots. A removed item leaves its slot empty, until empty slots are closed up.
 #[derive(Drop)]
 pub struct SlotQueue<T> {
     slots: VecDeque<Slot<T>>,

@@ -101,7 +101,7 @@ abbrev pub TakesName : List ℕ → Bool → List (List ℕ) → List (List ℕ)
 TakesName name true old new = first_word old ≡ Some (name, new)
 TakesName name false old new = (new ≡ old) × IfSome (first_word old) (λ first. bytes_eq first.0 name ≡ false)
 
--- What a function returned, as contracts name it, with the words that it left, is the result of reading.
+-- The value in contracts of what a function returned, with the words that it left, is the result of reading.
 abbrev pub ParsesTo : {X Y : Type 0} → (X → Y) → Option X → List (List ℕ) → Option (Y × List (List ℕ)) → Type 0
 ParsesTo view (Some x) left read = read ≡ Some (view x, left)
 ParsesTo view None left read = read ≡ None

@@ -9,7 +9,7 @@ use std::marker::Model;
 
 /// The items of a packet. The first times that they are to join others allocation fails, as often as requested.
 ///
-/// Contracts name the list of the items.
+/// In contracts its value is the list of the items.
 #[derive(Drop)]
 pub struct FailingQueue {
     items: ItemQueue,

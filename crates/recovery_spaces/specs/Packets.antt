@@ -7,7 +7,7 @@ use Rattle.std.specs.Map.{lookup, remove_entry, set_value}
 use Rattle.recovery_base.specs.Units.{number_limit}
 use Rattle.recovery_queue.specs.Slots.{first_entry, is_from}
 
--- a packet as contracts name it; P are the contents of its queue (RFC 9000, 13.3), and M is what the caller stores
+-- the value of a packet in contracts; P are the contents of its queue (RFC 9000, 13.3), and M is what the caller stores
 -- about it
 pub record Packet (P M : Type 0) : Type 0 where
   -- the path's generation

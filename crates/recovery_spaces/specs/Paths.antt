@@ -6,7 +6,7 @@ use Rattle.recovery_spaces.specs.InFlight.{with_packet, without_packet, IsCounte
 use Rattle.recovery_spaces.specs.Packets.{Packet, AreBelow, IsAboveLast, forgotten_entry}
 use Rattle.recovery_spaces.specs.Spaces.{Space, tracking_of}
 
--- its counters with its generation, as contracts name them
+-- the value in contracts of its counters with its generation
 pub record PathLedger : Type 0 where
   pub generation : ℕ
   pub in_flight : InFlight

@@ -25,7 +25,7 @@ use Rattle.recovery_spaces.specs.Tracked.{SentState, sent_by}
 use Rattle.recovery_spaces.specs.Received.{ReceivedNumbers}
 use Rattle.recovery_spaces.specs.Packets.{Packet, Packets, Tracking, packet_at, AreBelow, IsAboveLast, AreAcknowledging, after_sending, after_taking, after_carrying, is_above, no_packets}
 
--- a space as contracts name it; P are the contents of its queues
+-- the value of a space in contracts; P are the contents of its queues
 pub record Space (P M : Type 0) : Type 0 where
   pub dedup : Dedup
   pub pending_acks : Acks

@@ -10,7 +10,7 @@ use thiserror::Error;
 
 /// A variable-length integer: 0 to 2^62 - 1 (RFC 9000, 16).
 ///
-/// Contracts name the plain number.
+/// In contracts its value is the plain number.
 #[derive(Clone, Copy, PartialEq, Eq, PartialOrd, Ord, Hash)]
 pub struct VarInt {
     value: u64,

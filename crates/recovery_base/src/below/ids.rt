@@ -11,7 +11,7 @@ const RESET_TOKEN_SIZE: usize = 16;
 
 /// A connection ID of 0 to 20 bytes. Two are equal if their bytes are.
 ///
-/// Contracts name the list of its bytes.
+/// In contracts its value is the list of its bytes.
 #[derive(Clone, Copy, PartialEq, Eq)]
 pub struct ConnectionId {
     len: u8,
@@ -52,7 +52,7 @@ impl ConnectionId {
 
 /// A stateless reset token of 16 bytes (RFC 9000, 10.3). Two are equal if their bytes are.
 ///
-/// Contracts name the list of its bytes.
+/// In contracts its value is the list of its bytes.
 #[derive(Clone, Copy, PartialEq, Eq)]
 pub struct ResetToken([u8; RESET_TOKEN_SIZE]);
 

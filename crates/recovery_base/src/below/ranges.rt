@@ -14,7 +14,7 @@ use std::slice::Iter;
 
 /// A set of numbers, stored as ranges in ascending order that neither overlap nor touch.
 ///
-/// Contracts name the list of the ranges.
+/// In contracts its value is the list of the ranges.
 #[derive(Clone, Drop)]
 pub struct ArrayRangeSet {
     ranges: Vec<Range<u64>>,

@@ -11,7 +11,7 @@ const NANOS_PER_MILLI: u128 = 1_000_000;
 
 /// How long a connection may be idle, in whole milliseconds, 0 to 2^62 - 1 (RFC 9000, 10.1).
 ///
-/// Contracts name the plain number.
+/// In contracts its value is the plain number.
 #[derive(Clone, Copy, PartialEq, Eq, PartialOrd, Ord, Hash)]
 pub struct IdleTimeout {
     millis: VarInt,

@@ -21,7 +21,7 @@ module _ {Q S M P : Type 0} where
       if same_space there space then counts else last_counts space earlier
   last_counts space (happened ∷ earlier) = last_counts space earlier
 
-  -- discarded spaces are the subject of `rejections`
+  -- for discarded spaces see `rejections`
   abbrev pub ChecksEcn : History Q S M P → Event Q S M P → Reply Q → Type 0
   ChecksEcn history (Ecn space newly counts) (Ok given) =
       let last = last_counts space history in

@@ -29,7 +29,7 @@ module _ {Q S M P : Type 0} (history : History Q S M P) where
   abbrev pub HasNoNumber : SpaceId → Type 0
   HasNoNumber space = (n : ℕ) × IsNextNumber space n history × (number_limit ≤ n)
 
-  -- discarded spaces are the subject of `rejections`
+  -- for discarded spaces see `rejections`
   abbrev pub SendsOrRejects : Event Q S M P → Reply Q → Type 0
   SendsOrRejects (Send space now size eliciting largest queue frames) (Ok (Sent number forgotten)) =
       (¬ IsTooLarge largest) × ¬ OverflowsInFlight size eliciting

@@ -38,7 +38,7 @@ module _ {Q S M P : Type 0} where
   AssignsNextNumber history event reply =
       (space : SpaceId) (number : ℕ) → goes_out (event, reply) space number ≡ true → IsNextNumber space number history
 
-  -- discarded spaces are the subject of `rejections`
+  -- for discarded spaces see `rejections`
   abbrev pub RejectsSkippedAcks : History Q S M P → Event Q S M P → Reply Q → Type 0
   RejectsSkippedAcks history (CheckAck space low high) (Ok given) =
       (given ≡ Done) × (high < number_limit) × (low ≤ high) × ¬ ContainsSkipped space low high history
