@@ -1,4 +1,4 @@
--- Worked rows of the promises on ECN counts, on requests for fewer ACKs, on full counters and on memory, computed: with
+-- Worked rows of the promises on ECN counts, on ACK_FREQUENCY frames, on full counters and on memory, computed: with
 -- the right answer each holds, and with a wrong one it does not. Nothing rests on them.
 use Rattle.std.proofs.Common.{◌^◌, ◌-◌, ℕ, true, false, [], ◌∷◌, Ok, Err, refl, arith}
 use Rattle.std.specs.declared.net.socket_addr.SocketAddr.{SocketAddr}
@@ -49,7 +49,7 @@ module _ (Q S M P : Type 0) (remote : SocketAddr) where
   no_other_cause : ¬ ChecksEcn counted (event.Ecn Data 1 (ecn 3 1)) (Err refusal.Overflow)
   no_other_cause = λ told. told
 
-  -- ---- requests for fewer ACKs: 5 was accepted, and 7 asked for too little
+  -- ---- ACK_FREQUENCY frames: 5 was accepted, and 7 asked for too little
 
   abbrev asked : History Q S M P
   asked =

@@ -165,7 +165,7 @@ module _ (Q S M P : Type 0) (queue : Q) (frames : M) where
   eliciting_is_not_forgotten : ¬ ForgetsOldestNonEliciting (sent 0 ∷ []) (send 40 false) (Ok (answer.Sent 1 (Some 0)))
   eliciting_is_not_forgotten = λ told. cc
 
--- ---- if no numbers are to be skipped: 0 was sent
+-- ---- if skipping is disabled: 0 was sent
 
 module _ {F K Q S M P : Type 0} (beginning : Beginning F K Q S M P) (queue : Q) (frames : M) where
   abbrev zero_sent : History Q S M P

@@ -1,4 +1,4 @@
--- What the proofs of worked rows cite: when the timer for a late ACK starts, and which numbers are new. The rows of the
+-- What the proofs of worked rows cite: when the ACK delay timer starts, and which numbers are new. The rows of the
 -- table of replies rest on it.
 use Rattle.std.proofs.Common.{◌≡◌, ◌∙◌, ℕ, Bool, not, true≢false, ◌+◌, ◌<◌, ◌≤◌, ◌^◌, ◌↔◌, ◌⊎◌, true, false, List, IsTrue, IsSome, min, nat_lt, ltb-true, [], ◌∷◌, Option, None, Some, refl, arith, inl, inr, lt_irrefl, get_or, nat_eq, ap, sym, subst}
 use Rattle.std.proofs.lemmas.Bool.{eqb-false}
@@ -61,7 +61,7 @@ some_is_none h = cc
 pub differ : {one other : List ℕ} → nat_eq (get_or one 0 0) (get_or other 0 0) ≡ false → ¬ (one ≡ other)
 differ apart same = eqb-false _ _ apart (ap (λ id. get_or id 0 0) same)
 
--- the timer for a late ACK is started: it was not, and no ACK is required at once
+-- the ACK delay timer is started: it was not, and no ACK is required at once
 pub calm : {Started Required Asks : Type 0} → ¬ Started → ¬ Required → ¬ Asks
     → IsTrue true × (¬ Started) × ¬ (Required ⊎ Asks)
 calm started required asks = (refl, started, λ h. elim h [ inl r ↦ required r | inr a ↦ asks a ])

@@ -1,4 +1,4 @@
--- Worked rows of the table of replies, computed: requests of ACKs, late ACKs, ECN, and acknowledged ranges. Nothing
+-- Worked rows of the table of replies, computed: required ACKs, delayed ACKs, ECN, and acknowledged ranges. Nothing
 -- rests on them.
 use Rattle.std.proofs.Common.{ltb-true, ◌≡◌, ℕ, ◌≤◌, ◌^◌, true, false, List, [], ◌∷◌, drop, None, Some, Ok, Err, IsSomeAnd, refl, arith, inl, inr, sym, subst, ap, codes, length, unwrap_or, Bor, if◌then◌else◌}
 use Rattle.std.specs.declared.net.socket_addr.SocketAddr.{SocketAddr}
@@ -47,7 +47,7 @@ module _ (remote : SocketAddr) (random : Stream) where
       (Err refusal.DelayTooSmall)
   stale_is_not_refused = λ told. told.1.0 (omega arith)
 
-  -- ---- a late ACK: its timer expires, and a probe may be sent with it
+  -- ---- a delayed ACK: its timer expires, and a probe may be sent with it
 
   abbrev late : RowHistory
   late =

@@ -117,7 +117,7 @@ pub fn sent(number: u64, forgotten: Option<u64>) -> Reply {
     Ok(Answer::Sent { number, forgotten })
 }
 
-/// The packet is new, and the timer for a late ACK is to be started, or not.
+/// The packet is new, and the ACK delay timer is to be started, or not.
 pub fn new(arm: bool) -> Reply {
     Ok(Answer::New { arm })
 }

@@ -189,8 +189,8 @@ fn packets_left(rt: &impl Abort, recovery: &mut Reno) {
     holds(rt, is_empty && recovery.space(initial).is_none(), 7);
 }
 
-/// A rejected request does not change the local delay. After the timer for a late ACK expired, only a packet after the
-/// next ACK starts it again.
+/// A rejected request does not change the local delay. After the ACK delay timer expired, only a packet after the next
+/// ACK starts it again.
 fn acks_left(rt: &impl Abort, recovery: &mut Reno) {
     let space = SpaceId::Data;
     let one = VarInt::from_u32(1);

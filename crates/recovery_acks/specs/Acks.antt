@@ -138,7 +138,7 @@ pub record ReceivesEliciting (Known : ℕ → Type 0) (old : Acks) (now number :
   pub base : new.base ≡ cond arm (Some now) old.base
   pub ranges : new.ranges ≡ old.ranges
 
--- a packet was received: whether it is ack-eliciting, and whether to start the timer for a late ACK
+-- a packet was received: whether it is ack-eliciting, and whether to start the ACK delay timer
 abbrev pub ReceivesPacket : (ℕ → Type 0) → Acks → ℕ → ℕ → Bool → Bool → Acks → Type 0
 ReceivesPacket Known old now number true arm new = ReceivesEliciting Known old now number arm new
 ReceivesPacket Known old now number false arm new = (arm ≡ false) × (new ≡ silent_received old)

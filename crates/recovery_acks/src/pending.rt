@@ -137,8 +137,8 @@ impl PendingAcks {
         }
     }
 
-    /// Records a received packet, after its number was inserted into `dedup`. Returns whether to start the timer for a
-    /// late ACK (RFC 9000, 13.2.1).
+    /// Records a received packet, after its number was inserted into `dedup`. Returns whether to start the ACK delay
+    /// timer (RFC 9000, 13.2.1).
     ///
     /// An ack-eliciting packet requires an ACK at once if more of them were received since the last one than the
     /// threshold, or if it is out of order (RFC 9000, 13.2.1 and 13.2.2; draft-ietf-quic-ack-frequency-04, section

@@ -15,7 +15,7 @@ pub enum Heard {
     Duplicate,
     /// Send an ACK at once.
     AckNow,
-    /// The timer for a late ACK runs.
+    /// The ACK delay timer runs.
     AckLater,
     /// Nothing, or the timer runs already.
     Nothing,
@@ -42,8 +42,8 @@ impl Connection {
         }
     }
 
-    /// Starts the timer for a late ACK: of 1-RTT packets, for the delay that the peer last asked for. An ACK of Initial
-    /// and Handshake packets is sent at once (RFC 9000, 13.2.1).
+    /// Starts the ACK delay timer: of 1-RTT packets, for the delay that the peer last asked for. An ACK of Initial and
+    /// Handshake packets is sent at once (RFC 9000, 13.2.1).
     fn plan_ack(&mut self, space: SpaceId, now: Instant, arm: bool) -> Result<Heard, SenderError> {
         if arm && space == SpaceId::Data {
             let delay = self.state().ack_frequency().max_ack_delay;
@@ -68,7 +68,7 @@ impl Connection {
         }
     }
 
-    /// Processes the timer for a late ACK. Returns whether to send one.
+    /// Processes the expiry of the ACK delay timer. Returns whether to send an ACK.
     pub fn ack_timer_expired(&mut self) -> Result<bool, SenderError> {
         self.stop_timer(Timer::MaxAckDelay)?;
         self.tell(Event::AckDelayTimeout {
@@ -107,7 +107,7 @@ impl Connection {
         largest
     }
 
-    /// Processes a request for fewer ACKs. Returns whether its frame is newer than the last one, and accepted.
+    /// Processes an ACK_FREQUENCY frame. Returns whether it is newer than the last one, and accepted.
     pub fn ask_fewer_acks(&mut self, frame: AckFrequency) -> Result<bool, SenderError> {
         match self.sender.on_event(Event::AckFrequencyIn(frame)) {
             Ok(Answer::Flag(is_newer)) => Ok(is_newer),

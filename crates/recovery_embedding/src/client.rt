@@ -186,7 +186,7 @@ fn acknowledge(report: &mut Report, client: &mut Connection) -> Result<(), Sende
     Ok(())
 }
 
-/// The timer for a late ACK runs for 40 ms.
+/// The ACK delay timer runs for 40 ms.
 fn wait_for_ack(report: &mut Report, client: &mut Connection) -> Result<(), SenderError> {
     let is_due = client.has_expired(Timer::MaxAckDelay, at(11_049));
     report.value("an ACK after 39 ms", &is_due);

@@ -1,4 +1,4 @@
--- The timer for a late ACK starts exactly if the history says so: the clause `ack_timer` of `run`.
+-- The ACK delay timer starts exactly if the history says so: the clause `ack_timer` of `run`.
 use Rattle.std.proofs.lemmas.Bool.Decides.{nat_tests}
 use Rattle.std.proofs.Common.{◌≡◌, ℕ, ◌||◌, ◌↔◌, Bool, true, false, cond, List, ◌∷◌, Option, None, Some, Ok, Err, inr, refl, arith}
 use Rattle.recovery_base.specs.declared.below.SpaceId.{SpaceId}

@@ -1,4 +1,4 @@
--- A request for fewer ACKs is accepted if the history says that it is the newest: the clause `frequency` of `run`.
+-- An ACK_FREQUENCY frame is accepted if the history says that it is the newest: the clause `frequency` of `run`.
 use Rattle.std.proofs.lemmas.Bool.Decides.{nat_tests}
 use Rattle.std.proofs.Common.{◌≡◌, ◌<◌, ◌^◌, ℕ, ◌&&◌, ◌↔◌, not, nat_lt, Bool, true, false, ◌∷◌, Option, None, Some, Ok, Err, refl, arith, if◌then◌else◌, IsTrue}
 use Rattle.recovery_base.specs.declared.below.SpaceId.TheVariants.{Data}

@@ -26,7 +26,7 @@ use Rattle.recovery_history.proofs.SearchSaid.{ProbesInTurn, entered_so_far, Kee
 use Rattle.recovery_history.proofs.SearchSteps.{Facts, Step, stepped, throughout_facts}
 use Rattle.recovery_history.proofs.Runs.{AllAlong}
 
--- ---- if paths are not searched, no probe is sent, and no limit is stored
+-- ---- if MTU discovery is disabled, no probe is sent, and no limit is stored
 
 module _ {Q S M P : Type 0} (first least : ℕ) where
   abbrev TiedTo : Discovery → History Q S M P → List MtuEntry → Type 0
@@ -103,7 +103,7 @@ module _ {F K Q S M P : Type 0} (beginning : Beginning F K Q S M P) (is : discov
 -- ---- on both paths
 
 module _ {F K Q S M P : Type 0} (beginning : Beginning F K Q S M P) where
-  -- whether paths are searched
+  -- whether MTU discovery is enabled
   abbrev is_searched : Bool
   is_searched = is_some (discovery_settings beginning)
 

@@ -44,7 +44,7 @@ use Rattle.recovery_history.proofs.ProbesPerSizeLaws.{tries_told}
 use Rattle.recovery_history.proofs.OneProbeLaws.{turns_told}
 
 module _ {F K Q S M P : Type 0} (beginning : Beginning F K Q S M P) where
-  -- the upper bound of a search, if paths are searched
+  -- the upper bound of a search, if MTU discovery is enabled
   abbrev pub UpperFits : Type 0
   UpperFits = ForSome (if beginning.config.allow_mtud then beginning.config.transport.mtu_discovery_config else None)
       (λ settings. settings.upper_bound < 2 ^ 16)

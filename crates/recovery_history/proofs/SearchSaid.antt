@@ -94,8 +94,8 @@ module _ {F K Q S M P : Type 0} (beginning : Beginning F K Q S M P) where
   TellsProbes history (Lost space number) (Ok given) = given ≡ answer.Lost (is_in_flight history space number)
   TellsProbes history event reply = Unit {0}
 
-  -- a poll is answered by a probe only if paths are searched; it continues a search that runs, or begins one that is
-  -- due, and no probe is in flight
+  -- a poll is answered by a probe only if MTU discovery is enabled; it continues a search that runs, or begins one that
+  -- is due, and no probe is in flight
   abbrev pub ProbesInTurn : History Q S M P → Event Q S M P → Reply Q → Type 0
   ProbesInTurn history (PollMtu now) (Ok (Probe number size)) =
       IsSomeAnd (discovery_settings beginning) (λ settings.

@@ -115,7 +115,7 @@ module _ (skip : ℕ → Bool) (next : ℕ) (count : ℕ → ℕ) (all : (n : �
   holds_from (Some s) greatest low high holds =
       grind (arith, holds, to_skipped s greatest.0 greatest.1, at_most s greatest holds.0 holds.1)
 
--- ---- if none are to be skipped
+-- ---- if skipping is disabled
 
 behind_none : (exponent : ℕ) (at : Option ℕ × Stream) → at.0 ≡ None → (next_skip exponent at).0 ≡ None
 behind_none exponent (None, words) none = refl
@@ -136,7 +136,7 @@ module _ {F K Q S M P : Type 0} (beginning : Beginning F K Q S M P) where
   skip_in Data n = is_skipped beginning.config.skips beginning.random n
   skip_in space n = false
 
-  -- if none are to be skipped none is
+  -- if skipping is disabled, no number is skipped
   never : beginning.config.skips ≡ Disabled → (space : SpaceId) (n : ℕ) → skip_in space n ≡ false
   never none Data n = rw none (none_is_skipped beginning.random n)
   never none space n = refl

@@ -71,9 +71,9 @@ module _ {F K Q S M P : Type 0} (beginning : Beginning F K Q S M P) where
     pub peer_ids : AcceptsIds beginning.config.initial_cid before event reply
     -- Local IDs are issued in the order of their numbers, and only issued ones are retired (RFC 9000, 5.1 and 19.16).
     pub own_ids : IssuesIdsInOrder beginning.config.issued beginning.config.cid_len before event reply
-    -- `SpaceDiscarded`, `NotTracked`, `NoSuchPath` and `NotInitialId` occur exactly if a space was discarded, a packet
-    -- is not tracked, a path does not exist, the initial ID is not active (RFC 9000, 7.2 and 9.3; RFC 9002, 6.4 and
-    -- A.7).
+    -- `SpaceDiscarded`, `NotTracked`, `NoSuchPath` and `NotInitialId` occur exactly if, respectively, a space was
+    -- discarded, a packet is not tracked, a path does not exist, or the initial ID is not active (RFC 9000, 7.2 and
+    -- 9.3; RFC 9002, 6.4 and A.7).
     pub rejections : RejectsExactly before event reply
     -- Bytes in flight on a path are the sum over the packets that were sent on it and not acknowledged, lost, forgotten
     -- or discarded since (RFC 9002, B.2).
@@ -110,16 +110,16 @@ module _ {F K Q S M P : Type 0} (beginning : Beginning F K Q S M P) where
     -- is a limit of the peer, a black hole, a reset, a fresh path, or a return to the previous one. The previous path
     -- has the MTU with which it was left (RFC 9000, 14.3).
     pub mtu : UsesAckedMtu beginning before event reply
-    -- A probe is sent only if paths are searched, in a search that runs or is due, while none is in flight. A packet
-    -- acknowledged or lost is reported as a probe exactly if it is the one in flight. A limit of the peer is accepted
-    -- exactly if it is above zero and no search runs (RFC 8899, 5; RFC 9000, 14.4).
+    -- A probe is sent only if MTU discovery is enabled, in a search that runs or is due, while none is in flight. A
+    -- packet acknowledged or lost is reported as a probe exactly if it is the one in flight. A limit of the peer is
+    -- accepted exactly if it is above zero and no search runs (RFC 8899, 5; RFC 9000, 14.4).
     pub one_probe : OneProbeAtATime beginning before event reply
     -- A probe is at most the size that the peer accepts, and at most the larger of the configured upper bound and the
     -- MTU in use as the search began. With a minimum change of 3 or more it is above the MTU in use, and at most the
     -- configured bound (RFC 8899, 5.1.2 and 5.3; RFC 9000, 14.3 and 18.2).
     pub sizes : BoundsProbeSize beginning before event reply
-    -- If paths are searched with a minimum change of 3 or more, a search sends at most 48 probes, of at most 16 sizes
-    -- (RFC 8899, 5).
+    -- If MTU discovery is enabled with a minimum change of 3 or more, a search sends at most 48 probes, of at most 16
+    -- sizes (RFC 8899, 5).
     pub probe_count : BoundsProbeCount beginning before event reply
     -- A search that ends by a poll leaves an MTU that the link carries, less than two minimum changes below the best
     -- size. Premise: the minimum change is 3 or more. The link carries the MTU with which the search began and each
@@ -140,8 +140,8 @@ module _ {F K Q S M P : Type 0} (beginning : Beginning F K Q S M P) where
     -- what its packets carry and what waits for retransmission, plus what was acknowledged, forgotten, returned and
     -- discarded (RFC 9000, 13.3).
     pub conserved_data : ConservesData beginning ((event, reply) ∷ before)
-    -- While an ack-eliciting packet waits for its ACK, an ACK is required at once, or the timer for a late one runs
-    -- (RFC 9000, 13.2.1).
+    -- While an ack-eliciting packet waits for its ACK, an ACK is required at once, or the ACK delay timer runs (RFC
+    -- 9000, 13.2.1).
     pub ack_scheduled : AckIsScheduled beginning before event reply
     -- The pending ACKs are the new numbers, except those dropped since they were received. A number is dropped if a
     -- packet is acknowledged that carried an ACK whose largest number is not below it, or if it falls below the 64
@@ -150,8 +150,8 @@ module _ {F K Q S M P : Type 0} (beginning : Beginning F K Q S M P) where
     -- A packet is sent under the first number above all assigned in its space, or, of 1-RTT packets, under that one or
     -- the next (RFC 9000, 12.3 and 21.4).
     pub next_number : AssignsNextNumber before event reply
-    -- Unless the space is discarded, the ACK of a range is rejected exactly if the range has the number skipped last,
-    -- or is no range of numbers below 2^62 (RFC 9000, 12.3 and 21.4).
+    -- Unless the space is discarded, the ACK of a range is rejected exactly if the range contains the number skipped
+    -- last, or is no range of numbers below 2^62 (RFC 9000, 12.3 and 21.4).
     pub skipped_acks : RejectsSkippedAcks before event reply
     -- Three causes reject a packet exactly: an ACK of a number of 2^62 or more, no number left for it, or a counter of
     -- what is in flight that would overflow. The only others are a discarded space and a failed allocation (RFC 9000,
@@ -160,8 +160,8 @@ module _ {F K Q S M P : Type 0} (beginning : Beginning F K Q S M P) where
     -- A non-ack-eliciting packet that is sent while 1001 others are tracked since the last ack-eliciting one makes the
     -- oldest of them be forgotten. No other packet does (RFC 9002, 2 and A.1).
     pub forgotten : ForgetsOldestNonEliciting before event reply
-    -- The timer for a late ACK starts exactly at a new ack-eliciting packet, if it does not run and no ACK is required
-    -- at once (RFC 9000, 13.2.1 and 13.2.2).
+    -- The ACK delay timer starts exactly at a new ack-eliciting packet, if it does not run and no ACK is required at
+    -- once (RFC 9000, 13.2.1 and 13.2.2).
     pub ack_timer : StartsAckDelayTimer beginning before event reply
     -- A probe finds something ack-eliciting to send, if a queue joined with non-empty contents is never empty. It finds
     -- an ACK exactly if one is required and some number is to be acknowledged (RFC 9002, 6.2.4).
@@ -169,19 +169,19 @@ module _ {F K Q S M P : Type 0} (beginning : Beginning F K Q S M P) where
     -- ECN counts are rejected exactly if they fail the check against the last counts of their space that were accepted
     -- (RFC 9000, 13.4.2.1).
     pub ecn : ChecksEcn before event reply
-    -- A request for fewer ACKs is accepted exactly if it is the newest and asks for a millisecond or more
-    -- (draft-ietf-quic-ack-frequency-04, section 4).
+    -- Unless the 1-RTT space is discarded, an ACK_FREQUENCY frame is accepted exactly if it is the newest and asks for
+    -- a millisecond or more (draft-ietf-quic-ack-frequency-04, section 4).
     pub frequency : AppliesNewestFrequency before event reply
     -- `Overflow` rejects a received datagram, and a new path, exactly if its counter would reach 2^64 (RFC 9000, 8.1
     -- and 9.3).
     pub overflow : OverflowsExactly before event reply
-    -- If paths are searched with a minimum change of 3 or more, a search probes each size at most three times (RFC
-    -- 8899, 5.1.2).
+    -- If MTU discovery is enabled with a minimum change of 3 or more, a search probes each size at most three times
+    -- (RFC 8899, 5.1.2).
     pub probes_per_size : ProbesSizeAtMostThrice beginning before event reply
-    -- If paths are searched with a minimum change of 3 or more, a probe repeats the last size until it got through or
-    -- was lost three times. Then it has the middle of what gets through and of what may, or the most that may,
-    -- whichever first differs from the last size by the minimum change. A search ends if there is no such size (RFC
-    -- 8899, 5.3).
+    -- If MTU discovery is enabled with a minimum change of 3 or more, a probe repeats the last size until it got
+    -- through or was lost three times. Then its size is halfway between the size that passes and the largest that may,
+    -- or is that largest, whichever first differs from the last size by the minimum change. A search ends if there is
+    -- no such size (RFC 8899, 5.3).
     pub bisection : HalvesSizes beginning before event reply
     -- When the oldest lifetime of local IDs ends, the peer is asked to retire these exactly if it retired all that it
     -- was asked before, and not yet all up to these (RFC 9000, 5.1.2 and 19.15).
@@ -189,8 +189,8 @@ module _ {F K Q S M P : Type 0} (beginning : Beginning F K Q S M P) where
     -- The retransmission queue is returned in the order in which its packets were lost, or found by probes (RFC 9000,
     -- 13.3).
     pub pending : HandsOutInOrder beginning before event reply
-    -- If no numbers are to be skipped, a packet is sent under the first number above all assigned in its space (RFC
-    -- 9000, 12.3).
+    -- If skipping is disabled, a packet is sent under the first number above all assigned in its space (RFC 9000,
+    -- 12.3).
     pub no_skips : SkipsNoNumbers beginning before event reply
     -- An event fails with `NoMemory` only if it can allocate.
     pub allocates_to_grow : AllocatesOnlyToGrow event reply

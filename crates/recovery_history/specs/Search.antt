@@ -10,7 +10,7 @@ module _ {F K Q S M P : Type 0} (beginning : Beginning F K Q S M P) where
   abbrev pub discovery_settings : Option MtuDiscoveryConfig
   discovery_settings = if beginning.config.allow_mtud then beginning.config.transport.mtu_discovery_config else None
 
-  -- this holds if paths are searched and the minimum change is 3 or more
+  -- this holds if MTU discovery is enabled and the minimum change is 3 or more
   abbrev pub WhereSearched : (MtuDiscoveryConfig → Type 0) → Type 0
   WhereSearched Holds =
       ForSome discovery_settings (λ settings. smallest_change ≤ settings.minimum_change → Holds settings)

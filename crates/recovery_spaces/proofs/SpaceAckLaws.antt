@@ -26,7 +26,7 @@ required_by : {Required Was Many New Old : Type 0} → Required ↔ (Was ⊎ (Ma
     → Required ↔ (Was ⊎ (IsTrue true × (Many ⊎ Old)))
 required_by same order = grind (arith, same, order)
 
--- and starts the timer for a late ACK if none runs
+-- and starts the ACK delay timer if none runs
 armed_by : {Arm Unset Set Can Required Was Asks : Type 0} → Arm ↔ (Unset × ¬ Can) → Unset ↔ (¬ Set)
     → (Can → Required) → (Required → Can) → Required ↔ (Was ⊎ (IsTrue true × Asks))
     → Arm ↔ (IsTrue true × (¬ Set) × ¬ (Was ⊎ Asks))
@@ -53,7 +53,7 @@ module _ (Old New : ℕ → Type 0) (number : ℕ) (greatest : HasGreatest Old)
         armed_by (rw (adds.others.1) at receives.armed) (is_none old.base) (λ (send : CanSend new). send.0)
         (λ required. (required, rw receives.ranges adds.some)) required_eliciting
 
-  -- what it does, and when it starts the timer for a late ACK
+  -- what it does, and when it starts the ACK delay timer
   pub hears : (ack_eliciting : Bool) → ReceivesPacket New added now number ack_eliciting arm new
       → AddsReceivedNumber Old old now number ack_eliciting new × (IsTrue arm ↔ Armed ack_eliciting)
   hears true receives = (

@@ -45,14 +45,14 @@ module _ {P M : Type 0} where
   IsRequired (ack_is_late ∷ earlier) = 0 < (counts_by earlier).eliciting
   IsRequired (entry ∷ earlier) = IsRequired earlier
 
--- the timer for a late ACK starts at a new ack-eliciting packet, if it was not started since the last ACK and no ACK is
+-- the ACK delay timer starts at a new ack-eliciting packet, if it was not started since the last ACK and no ACK is
 -- required at once. The arguments are the state before the packet
 abbrev pub ArmsAckTimer : (ℕ → Type 0) → Type 0 → (ℕ → Type 0) → AckCounts → ℕ → Bool → Type 0
 ArmsAckTimer Came Required Started counts number eliciting =
     IsTrue eliciting × (¬ ((m : ℕ) × Started m)) × ¬ (Required ⊎ RequiresImmediateAck
     (InsertNumber number Came) counts number)
 
--- the time when the timer for a late ACK was started since the last ACK
+-- the time when the ACK delay timer was started since the last ACK
 abbrev pub StartedAt : {P M : Type 0} → List (SpaceEntry P M) → ℕ → Type 0
 StartedAt [] moment = ⊥
 StartedAt (heard now number eliciting ∷ earlier) moment =
@@ -64,8 +64,8 @@ StartedAt (entry ∷ earlier) moment = StartedAt earlier moment
 
 -- ---- the sets and propositions
 
--- of a space: the numbers received, whether an ACK is required at once, the pending ACKs, and the time when the timer
--- for a late ACK was started since the last ACK
+-- of a space: the numbers received, whether an ACK is required at once, the pending ACKs, and the time when the ACK
+-- delay timer was started since the last ACK
 pub record AckState : Type 1 where
   pub came : ℕ → Type 0
   pub required : Type 0

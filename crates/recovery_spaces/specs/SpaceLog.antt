@@ -27,7 +27,7 @@ pub data SpaceEntry (P M : Type 0) : Type 0 where
   emptied : SpaceEntry P M
   -- an ACK is sent
   ack_goes : SpaceEntry P M
-  -- the timer for a late ACK expired
+  -- the ACK delay timer expired
   ack_is_late : SpaceEntry P M
   -- the peer asks for other thresholds
   asked : (frame : AckFrequency) → SpaceEntry P M

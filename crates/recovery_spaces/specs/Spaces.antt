@@ -216,7 +216,7 @@ space_empties space = with_tracking (record (tracking_of space) { packets = [] }
 abbrev pub space_acks_sent : {P M : Type 0} → Space P M → Space P M
 space_acks_sent space = with_acks (acks_sent (acks_of space)) space
 
--- the timer for a late ACK expired
+-- the ACK delay timer expired
 abbrev pub space_late : {P M : Type 0} → Space P M → Space P M
 space_late space =
     with_acks (with_required (nat_lt 0 (acks_of space).counts.eliciting) (acks_of space)) space

@@ -66,7 +66,7 @@ impl<Q: RetransmitQueue> Model for SentPacket<Q> {
 pub enum Receipt {
     /// Its number is new.
     New {
-        /// Whether the timer for a late ACK starts (RFC 9000, 13.2.1: max_ack_delay).
+        /// Whether the ACK delay timer starts (RFC 9000, 13.2.1: max_ack_delay).
         arm: bool,
     },
     /// Its number may have been received before (RFC 9000, 12.3).
@@ -244,9 +244,9 @@ where
         self.next_packet_number = number + 1;
     }
 
-    /// Records a received packet. Returns whether it is new, and whether to start the timer for a late ACK (RFC 9000,
-    /// 13.2). Rejected with `NumberTooLarge`, then with `NoMemory`, which never answers a duplicate. An error leaves
-    /// the space unchanged.
+    /// Records a received packet. Returns whether it is new, and whether to start the ACK delay timer (RFC 9000, 13.2).
+    /// Rejected with `NumberTooLarge`, then with `NoMemory`, which never answers a duplicate. An error leaves the space
+    /// unchanged.
     pub fn receive(
         &mut self,
         now: Instant,

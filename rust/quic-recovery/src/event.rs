@@ -104,13 +104,13 @@ pub enum Event<'a> {
     /// `SpaceDiscarded` once the Application Data space is discarded, then with `DelayTooSmall` if it is newer than the
     /// last one and asks for less than 1 ms. `DelayTooSmall` still stores the frame's number.
     AckFrequencyIn(AckFrequency),
-    /// An ACK frame was sent that has all numbers that are to be acknowledged (RFC 9000, 13.2.1). Rejected with
+    /// An ACK frame was sent that contains all numbers that are to be acknowledged (RFC 9000, 13.2.1). Rejected with
     /// `SpaceDiscarded`.
     AcksSent {
         /// The packet number space.
         space: SpaceId,
     },
-    /// The timer for a late ACK expired (`Timer::MaxAckDelay`). Rejected with `SpaceDiscarded`.
+    /// The ACK delay timer expired (`Timer::MaxAckDelay`). Rejected with `SpaceDiscarded`.
     AckDelayTimeout {
         /// The packet number space.
         space: SpaceId,
@@ -235,8 +235,8 @@ pub enum Event<'a> {
     },
     /// An ACK frame acknowledges a range of numbers (RFC 9000, 13.1). Rejected with `SpaceDiscarded`, with
     /// `NumberTooLarge` if the last number is 2^62 or more, with `BadRange` if the range ends before it begins, then
-    /// with `SkippedAcked`. `SkippedAcked` means that the range has the 1-RTT number that was skipped last (RFC 9000,
-    /// 21.4).
+    /// with `SkippedAcked`. `SkippedAcked` means that the range contains the 1-RTT number that was skipped last (RFC
+    /// 9000, 21.4).
     CheckAck {
         /// The packet number space.
         space: SpaceId,
@@ -298,7 +298,7 @@ pub enum Event<'a> {
 pub enum Answer {
     /// The packet is new.
     New {
-        /// Whether to start the timer for a late ACK (`Timer::MaxAckDelay`).
+        /// Whether to start the ACK delay timer (`Timer::MaxAckDelay`).
         arm: bool,
     },
     /// Duplicate, or too old to tell: drop the packet.

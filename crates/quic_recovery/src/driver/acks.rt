@@ -46,7 +46,7 @@ where
         Ok(Answer::Done)
     }
 
-    /// The timer for a late ACK expired (RFC 9000, 13.2.1).
+    /// The ACK delay timer expired (RFC 9000, 13.2.1).
     #[inline(always)]
     pub(super) fn ack_delay_timeout(&mut self, space: SpaceId) -> Result<Answer<Q>, Refusal>
         ensures { Transition (AckDelayTimeout space) self.old result self.new }

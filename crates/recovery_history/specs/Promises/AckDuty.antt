@@ -1,5 +1,5 @@
 -- The duty to acknowledge (RFC 9000, 13.2.1): while an ack-eliciting packet waits, an ACK is required at once, or the
--- timer for a late one runs. The table defines when an ACK is required (`IsRequired`).
+-- ACK delay timer runs. The table defines when an ACK is required (`IsRequired`).
 use Rattle.std.specs.Prelude.{◌≡◌, ◌⊎◌, Bool, true, false, not, ◌&&◌, ◌||◌, [], ◌∷◌, Ok}
 use Rattle.recovery_base.specs.declared.below.SpaceId.{SpaceId}
 use Rattle.recovery_base.specs.Spaces.{same_space}
@@ -22,7 +22,7 @@ module _ {Q S M P : Type 0} (space : SpaceId) where
   waits ((Received there now n true, Ok (New started)) ∷ earlier) = same_space there space || waits earlier
   waits (happened ∷ earlier) = not (acknowledges happened) && waits earlier
 
-  -- the timer for a late ACK ends when it expires and when an ACK is sent
+  -- the ACK delay timer ends when it expires and when an ACK is sent
   abbrev pub ends_timer : Event Q S M P × Reply Q → Bool
   ends_timer (AckDelayTimeout there, Ok answer) = same_space there space
   ends_timer happened = acknowledges happened

@@ -1,5 +1,6 @@
--- Requests for fewer ACKs (draft-ietf-quic-ack-frequency-04, section 4): a frame is accepted exactly if its number is
--- above those of all received before it. If it asks for less than a millisecond it then fails.
+-- ACK_FREQUENCY frames (draft-ietf-quic-ack-frequency-04, section 4): a frame is the newest if its number is above
+-- those of all received before it. It is accepted exactly if it is the newest and asks for a millisecond or more. If
+-- only the delay is too small, it is rejected.
 use Rattle.std.specs.Prelude.{◌≡◌, ℕ, Bool, true, false, not, ◌&&◌, nat_lt, [], ◌∷◌, Ok, Err, if◌then◌else◌}
 use Rattle.recovery_base.specs.declared.below.SpaceId.TheVariants.{Data}
 use Rattle.recovery_base.specs.Units.{timer_granularity}

@@ -15,8 +15,8 @@ use Rattle.recovery_history.specs.Promises.Probes.{last_probe}
 use Rattle.recovery_history.specs.Search.{discovery_settings}
 
 module _ {Q S M P : Type 0} (searched : Bool) (first least : ℕ) where
-  -- paths begin with the first MTU, and a black hole leaves the minimum; if paths are not searched, no limit is stored.
-  -- The previous path has the MTU with which it was left, also when it is used again, within the peer's limit
+  -- paths begin with the first MTU, and a black hole leaves the minimum; if MTU discovery is disabled, no limit is
+  -- stored. The previous path has the MTU with which it was left, also when it is used again, within the peer's limit
   abbrev pub mtu_on : PathName → History Q S M P → ℕ
   mtu_on name [] = first
   mtu_on Previous ((NewPath now remote is_fresh, Ok given) ∷ earlier) = mtu_on Current earlier

@@ -10,7 +10,7 @@ use Rattle.recovery_history.specs.Search.{WhereSearched}
 use Rattle.recovery_mtud.specs.Search.{probe_budget, size_budget}
 
 module _ {Q S M P : Type 0} where
-  -- all begins again: by a report of a black hole, a reset, a fresh path, or a return to the previous path
+  -- the search state is reset: by a report of a black hole, a reset, a fresh path, or a return to the previous path
   abbrev pub begins_anew : Event Q S M P × Reply Q → Bool
   begins_anew (LossesDone now, Ok (answer.BlackHole true)) = true
   begins_anew (ResetPath now, Ok given) = true
@@ -18,7 +18,7 @@ module _ {Q S M P : Type 0} where
   begins_anew (RevertPath, Ok given) = true
   begins_anew happened = false
 
-  -- a probe is in flight from its answer until it is acknowledged or lost, or all begins again
+  -- a probe is in flight from its answer until it is acknowledged or lost, or the search state is reset
   abbrev pub is_in_flight : History Q S M P → Bool
   is_in_flight [] = false
   is_in_flight ((PollMtu now, Ok (answer.Probe number size)) ∷ earlier) = true

@@ -1,6 +1,6 @@
 -- Skipped numbers (RFC 9000, 12.3 and 21.4): a packet is sent under the first number above all assigned in its space,
--- or, of 1-RTT packets, under the next one, which skips a number. The ACK of a range is rejected exactly if it has the
--- number skipped last, or is no range of numbers below 2^62.
+-- or, of 1-RTT packets, under the next one, which skips a number. The ACK of a range is rejected exactly if it contains
+-- the number skipped last, or is no range of numbers below 2^62.
 use Rattle.std.specs.Prelude.{◌≡◌, ℕ, ◌+◌, ◌<◌, ◌≤◌, true, Ok, Err}
 use Rattle.recovery_base.specs.declared.below.SpaceId.{SpaceId}
 use Rattle.recovery_base.specs.declared.below.SpaceId.TheVariants.{Data}

@@ -1,4 +1,4 @@
--- If no numbers are to be skipped, none are (RFC 9000, 12.3): each packet is sent under the first number above all
+-- If skipping is disabled, no number is skipped (RFC 9000, 12.3): each packet is sent under the first number above all
 -- assigned in its space.
 use Rattle.std.specs.Prelude.{◌≡◌, ℕ, ◌≤◌, true}
 use Rattle.recovery_base.specs.declared.below.SpaceId.{SpaceId}
