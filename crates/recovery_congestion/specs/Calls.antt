@@ -5,7 +5,7 @@ use Rattle.recovery_congestion.specs.Rtt.{Rtt}
 pub data ControllerCall : Type 0 where
   -- packets were sent, up to this number
   sends : (now bytes number : ℕ) → ControllerCall
-  -- a packet is acknowledged that was sent at a time; whether the application limits
+  -- a packet is acknowledged that was sent at a time; whether the sender was application-limited
   acks : (now sent bytes : ℕ) (limited : Bool) (rtt : Rtt) → ControllerCall
   -- all packets of one ACK were reported, with the bytes in flight and the largest acknowledged number
   ends_acks : (now in_flight : ℕ) (limited : Bool) (largest : Option ℕ) → ControllerCall

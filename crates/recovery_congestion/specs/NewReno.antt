@@ -31,8 +31,8 @@ minimum_window reno = 2 * reno.current_mtu
 abbrev pub least_window : NewReno → ℕ
 least_window reno = if nat_le reno.config.numerator reno.config.denominator then minimum_window reno else reno.window
 
--- an acknowledgement is ignored if the application limited what was sent (RFC 9002, 7.8), or if the packet was sent
--- before the recovery began, or at that time (RFC 9002, 7.3.2)
+-- an acknowledgement is ignored if the sender was application-limited (RFC 9002, 7.8), or if the packet was sent before
+-- the recovery began, or at that time (RFC 9002, 7.3.2)
 abbrev pub is_ignored : ℕ → Bool → NewReno → Bool
 is_ignored sent limited reno = limited || nat_le sent reno.recovery_start_time
 

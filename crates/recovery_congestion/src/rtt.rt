@@ -36,7 +36,7 @@ impl Model for RttEstimator {
 }
 
 impl RttEstimator {
-    /// Returns the estimate before the first sample: the initial RTT, with half of it as the variance (RFC 9002,
+    /// Returns the estimate before the first sample: the initial RTT, with half of it as the RTT variation (RFC 9002,
     /// 6.2.2).
     pub fn new(initial_rtt: Duration) -> Self
         ensures value { result ≡ rtt_made initial_rtt }
@@ -90,8 +90,8 @@ impl RttEstimator {
         self.min
     }
 
-    /// Returns the probe timeout without the max_ack_delay (RFC 9002, 6.2.1): `get` plus four times the variance, or
-    /// plus 1 ms if that is more. It is at most the longest span.
+    /// Returns the probe timeout without the max_ack_delay (RFC 9002, 6.2.1): `get` plus four times the RTT variation,
+    /// or plus 1 ms if that is more. It is at most the longest span.
     pub fn pto_base(&self) -> Duration
         ensures { result ≡ pto_base_of self.now }
     {

@@ -12,7 +12,7 @@ use Rattle.recovery_cubic.proofs.FollowingLaws.{goes_to_curve, real_curve}
 abbrev rtt : Rtt
 rtt = record { latest = 0; smoothed = None; variance = 0; least = 0 }
 
--- a loss at one second, an acknowledgement a second later, and one long after it while the application limits
+-- a loss at one second, an acknowledgement a second later, and one long after it, application-limited
 abbrev loss : ControllerCall
 loss = congests 1_000_000_000 1 false 1_200
 
@@ -41,7 +41,7 @@ begins = record {
   k_is = k_is;
 }
 
--- a second counts, and the time while the application limits does not
+-- a second counts, and application-limited time does not
 second_counts : time_by 120_000 0 1_200 (acked ∷ loss ∷ []) ≡ 1_000_000_000
 second_counts = refl
 

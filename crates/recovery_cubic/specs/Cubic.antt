@@ -82,7 +82,7 @@ cubic_grown now bytes cubic =
     if nat_lt cubic.window cubic.ssthresh then slow_started now bytes cubic else avoided now bytes cubic
 
 -- a packet was acknowledged: nothing changes if it was sent before the recovery began, or at that time (RFC 9002,
--- 7.3.2); if the application limits, only time passes, uncounted (RFC 9438, 5.8)
+-- 7.3.2); if application-limited, only time passes, uncounted (RFC 9438, 5.8)
 abbrev pub cubic_acked : ℕ → ℕ → ℕ → Bool → Cubic → Cubic
 cubic_acked now sent bytes limited cubic =
     if nat_le sent cubic.recovery_start_time then cubic

@@ -33,7 +33,7 @@ last_next (persists now) idle last = now
 last_next (starts now bytes) idle last = now
 last_next turn idle last = last
 
--- the time up to an acknowledgement counts, unless the application limits then
+-- the time up to an acknowledgement counts, unless application-limited then
 abbrev pub time_next : CubicEntry → ℕ → ℕ → ℕ
 time_next (grows now bytes) last time = sum_to_most time (now - last)
 time_next (reduces now) last time = 0

@@ -10,9 +10,9 @@ pub data CubicEntry : Type 0 where
   resumes : (now : ℕ) → CubicEntry
   -- the end of an ACK, with this many bytes in flight: if there are none an idle period begins, or continues
   finds : (now in_flight : ℕ) → CubicEntry
-  -- an acknowledgement in congestion avoidance, while the application does not limit: the window may grow
+  -- an acknowledgement in congestion avoidance, not application-limited: the window may grow
   grows : (now bytes : ℕ) → CubicEntry
-  -- an acknowledgement while the application limits (RFC 9438, 5.8)
+  -- an application-limited acknowledgement (RFC 9438, 5.8)
   waits : (now : ℕ) → CubicEntry
   -- a reduction (RFC 9438, 4.6): a stage of congestion avoidance begins
   reduces : (now : ℕ) → CubicEntry

@@ -29,7 +29,7 @@ counted now stage = record stage {
   last = max stage.last now;
 }
 
--- it does not count: the application limited (RFC 9438, 5.8)
+-- it does not count: application-limited (RFC 9438, 5.8)
 abbrev pub uncounted : ℕ → Stage → Stage
 uncounted now stage = record stage { last = max stage.last now }
 

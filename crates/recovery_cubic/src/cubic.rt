@@ -244,7 +244,7 @@ impl Controller for Cubic {
         self.idle_since = None;
     }
 
-    /// Never reduces the window. If the application limits, the window stays, and the time since the previous
+    /// Never reduces the window. If application-limited, the window stays, and the time since the previous
     /// acknowledgement does not count (RFC 9438, 5.8).
     fn on_ack(
         &mut self,

@@ -66,7 +66,7 @@ impl Stage {
         self.last = self.last.max(now);
     }
 
-    /// Excludes the time up to now: the application limited (RFC 9438, 5.8).
+    /// Excludes the time up to now: application-limited (RFC 9438, 5.8).
     pub fn leave_out(&mut self, now: Instant)
         ensures { self.new ≡ uncounted now self.old }
     {

@@ -1,4 +1,4 @@
--- What an event may be to the spaces and to the paths: the definitions of the table.
+-- What an event may be to the spaces and to the paths: the definitions that `Table.antt` uses.
 use Rattle.std.specs.declared.net.socket_addr.SocketAddr.{SocketAddr}
 use Rattle.recovery_queue.specs.Queues.{QueueSemantics}
 use Rattle.std.specs.Prelude.{ℕ, ◌+◌, Bool, true, false, ◌&&◌, ◌==◌, List, ◌∷◌, Option, None, Some, if◌then◌else◌, []}

@@ -30,7 +30,7 @@ pub record Logs (P M : Type 0) : Type 0 where
 abbrev pub no_logs : {P M : Type 0} → Logs P M
 no_logs = record { spaces = λ space. []; paths = [] }
 
--- the local IDs at first
+-- the local IDs at the start
 abbrev pub first_ids : {F K Q S M P : Type 0} → Beginning F K Q S M P → LocalIds
 first_ids beginning =
     let config = beginning.config in

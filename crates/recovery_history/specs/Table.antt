@@ -1,4 +1,4 @@
--- All that an event is: its reply, its entries in each part, and what it does to the parts without a log. The tables
+-- All that an event does: its reply, its entries in each part, and the changes of the parts without a log. The tables
 -- have one line for each event, or a few, over the inputs from the past.
 use Rattle.std.specs.Prelude.{◌≡◌, ◌≢◌, ℕ, ◌+◌, ◌<◌, ◌≤◌, true, false, not, map, IsTrue, IsSome, IsSomeAnd, Option, None, Some, Ok, Err, ◌∷◌, ◌++◌, length, []}
 use Rattle.recovery_base.specs.declared.below.SpaceId.{SpaceId}
@@ -104,7 +104,8 @@ module _ {K Q S M P : Type 0} (q : QueueModel Q S M P) (words : ControllerSemant
       let ids = known.local_ids in let later = timed_out ids in
       AlwaysAnswers (EqualsAnswer (answers.Flag (holds_unretired ids.retire_prior_to later.retire_prior_to later)))
   ReplyTable (PeerRetired sequence limit) = RetirementReply known.local_ids sequence limit
-  -- a frame is accepted if it is newer than the last one; if it asks for less than a millisecond it then fails
+  -- a frame that is not newer than the last one is ignored; a newer one is rejected if it asks for less than a
+  -- millisecond
   ReplyTable (AckFrequencyIn frame) =
       let is_newer = ¬ IsStale known.last_asked frame.sequence in
       UnlessSpaceDiscarded (known.spaces Data)
@@ -142,7 +143,7 @@ module _ {K Q S M P : Type 0} (q : QueueModel Q S M P) (words : ControllerSemant
       (reports known.paths.current.state.discovery)))
   ReplyTable (Ecn space newly counts) = UnlessSpaceDiscarded (known.spaces space)
       (EcnAnswer (known.spaces space) newly counts)
-  -- no acknowledged range has the number that was skipped last
+  -- no acknowledged range contains the number that was skipped last
   ReplyTable (CheckAck space low high) = UnlessSpaceDiscarded (known.spaces space)
       (RejectsWhen refusals.NumberTooLarge (number_limit ≤ high)
       (RejectsWhen refusals.BadRange (high < low)

@@ -17,7 +17,7 @@ pub struct Metrics {
     /// The congestion window in bytes, and the slow start threshold; `u64::MAX` while there is none.
     pub window: u64,
     pub ssthresh: u64,
-    /// The RTT in nanoseconds: smoothed, variance, smallest and latest.
+    /// The RTT in nanoseconds: smoothed, variation, smallest and latest.
     pub rtt: [u64; 4],
     pub pto_count: u64,
 }

@@ -28,8 +28,8 @@ pub fn mtu_changes()
 /// Proves that [`MtuDiscovery::new`] and [`MtuDiscovery::disabled`] return a fresh discovery that searches by the
 /// settings passed. The laws below start from there.
 ///
-/// [`MtuDiscovery::new`]: crate::mtud::MtuDiscovery::new [`MtuDiscovery::disabled`]:
-/// crate::mtud::MtuDiscovery::disabled
+/// [`MtuDiscovery::new`]: crate::mtud::MtuDiscovery::new
+/// [`MtuDiscovery::disabled`]: crate::mtud::MtuDiscovery::disabled
 #[tactic(auto, using(crate::proofs::MtuEntryLaws::discovery_made_untold, crate::proofs::MtuEntryLaws::made_settings))]
 pub fn discoveries_begin_untold()
     ensures untold { (mtu min_mtu : ℕ) (limit : Option ℕ) (searched : Option MtuDiscoveryConfig)

@@ -18,7 +18,7 @@ enum Call {
     Sent,
     /// This many bytes were acknowledged, sent at this time.
     Acked(u64, u64),
-    /// The same, while the application limited.
+    /// The same, application-limited.
     AckedLimited(u64, u64),
     /// All packets of an ACK were reported.
     EndAcks,

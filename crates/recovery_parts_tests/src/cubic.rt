@@ -18,7 +18,7 @@ enum Call {
     EndAcks(u64, u64),
     /// This many bytes were acknowledged.
     Acked(u64, u64),
-    /// The same, while the application limited.
+    /// The same, application-limited.
     AckedLimited(u64, u64),
     /// The same for packets sent at 0.
     AckedOld(u64, u64),

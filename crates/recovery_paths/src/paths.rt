@@ -131,8 +131,8 @@ impl<C: Controller> Model for PathData<C> {
 
 impl<C: Controller + Drop> PathData<C> {
     /// Returns a path on which nothing was sent, to an address that is not validated. Its controller is built and its
-    /// pacer is full, for the initial MTU and RTT of the settings. If allowed and configured, its MTU is searched, up
-    /// to the peer's limit (bytes, above zero) if there is one.
+    /// pacer is full, for the initial MTU and RTT of the settings. If allowed and configured, it searches for a larger
+    /// MTU, up to the peer's limit (bytes, above zero) if there is one.
     pub fn new<F: ControllerFactory<Controller = C>>(
         remote: SocketAddr,
         allow_mtud: bool,
@@ -371,8 +371,8 @@ impl<C: Controller + Drop> PathData<C> {
 
     /// Records that a packet of a space was acknowledged. Returns whether it was the MTU probe in flight, whose size
     /// then is the MTU in use (RFC 8899, 5). If the packet is of this path it is no longer counted, and if it is also
-    /// ack-eliciting, it is reported to the controller, after a new MTU. The search comes first, since it knows a probe
-    /// by its number, on whatever path the packet was sent.
+    /// ack-eliciting, it is reported to the controller, after a new MTU. The search comes first, since it identifies a
+    /// probe by its number, on whatever path the packet was sent.
     pub fn on_packet_acked<Q: RetransmitQueue>(
         &mut self,
         space: SpaceId,

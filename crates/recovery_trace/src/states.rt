@@ -62,7 +62,7 @@ fn write_spans(
     )
 }
 
-/// Appends the RTT (RFC 9002, 5): smoothed, variance, smallest sample and last one.
+/// Appends the RTT (RFC 9002, 5): smoothed, variation, smallest sample and last one.
 pub fn write_rtt(text: &mut String, rtt: &RttEstimator) -> Result<(), AllocError>
     ensures { OnOk result (string_bytes text.new ≡ string_bytes text.old ++ rtt_text rtt.now) }
 {

@@ -1,5 +1,5 @@
 -- The duty to acknowledge (RFC 9000, 13.2.1): while an ack-eliciting packet waits, an ACK is required at once, or the
--- ACK delay timer runs. The table defines when an ACK is required (`IsRequired`).
+-- ACK delay timer runs. `IsRequired` defines when an ACK is required.
 use Rattle.std.specs.Prelude.{◌≡◌, ◌⊎◌, Bool, true, false, not, ◌&&◌, ◌||◌, [], ◌∷◌, Ok}
 use Rattle.recovery_base.specs.declared.below.SpaceId.{SpaceId}
 use Rattle.recovery_base.specs.Spaces.{same_space}

@@ -1,5 +1,5 @@
 -- When the ACK delay timer starts (RFC 9000, 13.2.1 and 13.2.2). The answer to a new packet asks for it exactly if the
--- packet is ack-eliciting, the timer does not run by the answers, and the table requires no ACK at once (`IsRequired`).
+-- packet is ack-eliciting, the timer does not run by the answers, and no ACK is required at once (`IsRequired`).
 use Rattle.std.specs.Prelude.{◌≡◌, ◌↔◌, true, false, ◌∷◌, Ok}
 use Rattle.recovery_spaces.specs.Acks.{IsRequired}
 use Rattle.recovery_events.specs.declared.event.Event.{Event}

@@ -42,7 +42,7 @@ module _ {Q S M P : Type 0} (space : SpaceId) where
       ⊎ (((same_space there space && m == n) ≡ false) × WasDropped n earlier)
   WasDropped n (happened ∷ earlier) = WasDropped n earlier
 
--- stated of the table, which determines the state
+-- stated of the logs by `Table.antt`, which determine the state
 abbrev pub TracksPendingAcks : {F K Q S M P : Type 0} → Beginning F K Q S M P → History Q S M P → Type 0
 TracksPendingAcks beginning history = (space : SpaceId) (n : ℕ)
     → ToAcknowledge beginning.queue.words ((logs_of beginning history).spaces space) n

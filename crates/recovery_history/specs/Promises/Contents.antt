@@ -20,7 +20,7 @@ module _ {F K Q S M P T : Type 0} (run : Beginning F K Q S M P) (totals : Totals
     carried None history = totals.zero
     carried (Some n) history = measure (contents_or run.queue.words.empty (packet_at (known history).sent.tracked n))
 
-    -- the contents of all packets, and with the retransmission queue, both by the table
+    -- the contents of all packets, and with the retransmission queue, both by `Table.antt`
     abbrev pub all : Packets P M → T
     all [] = totals.zero
     all (sent ∷ packets) = totals.plus (measure sent.1.retransmits) (all packets)

@@ -1,5 +1,5 @@
--- The sizes of a search's probes (RFC 8899, 5.3): each is in the middle of what is known to get through and of what
--- may. A size is known not to once it was lost three times (5.1.2, MAX_PROBES).
+-- The sizes of a search's probes (RFC 8899, 5.3): each is halfway between a size that passes and the largest that may.
+-- A size is ruled out once it was lost three times (5.1.2, MAX_PROBES).
 use Rattle.std.specs.Prelude.{◌≡◌, ℕ, ◌+◌, ◌-◌, ◌/◌, max, min, ◌==◌, nat_lt, nat_le, ◌&&◌, ◌||◌, true, false, List, [], ◌∷◌, Option, None, Some, Ok, if◌then◌else◌}
 use Rattle.std.specs.Int.{abs_diff}
 use Rattle.recovery_config.specs.Settings.{initial_mtu_of}
@@ -24,8 +24,8 @@ may_pass bound [] = bound
 may_pass bound (size ∷ lost) =
     let most = may_pass bound lost in if tries size (size ∷ lost) == max_probes then min (size - 1) most else most
 
--- the last size is tried again until it gets through or was lost three times. Then comes the middle of what gets
--- through and what may, or the most that may, whichever first differs enough from the last size
+-- the last size is tried again until it passes or was lost three times. Then the size is halfway between the one that
+-- passes and the largest that may, or is that largest, whichever first differs enough from the last size
 abbrev pub size_after : ℕ → ℕ → ℕ → ℕ → ℕ → Option ℕ
 size_after change through most last losses =
     let middle = (through + most) / 2 in

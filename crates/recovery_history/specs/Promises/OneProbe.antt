@@ -1,6 +1,6 @@
 -- The order of an MTU search (RFC 8899, 5.1 and 5.3; RFC 9000, 14.4). A probe is sent only in a search, while none is
--- in flight. A packet that leaves is reported as a probe exactly if it is the one in flight. A limit above zero is
--- accepted exactly if no search runs.
+-- in flight. A packet acknowledged or lost is reported as a probe exactly if it is the one in flight. A limit above
+-- zero is accepted exactly if no search runs.
 use Rattle.std.specs.Prelude.{◌≡◌, ℕ, ◌==◌, Bool, true, false, ◌&&◌, ◌||◌, nat_le, IsSomeAnd, Ok, Err, if◌then◌else◌}
 use Rattle.recovery_base.specs.declared.below.SpaceId.{SpaceId}
 use Rattle.recovery_base.specs.declared.below.SpaceId.TheVariants.{Data}

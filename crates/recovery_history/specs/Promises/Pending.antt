@@ -1,5 +1,5 @@
 -- The retransmission queue is returned in its order (RFC 9000, 13.3). It has the contents of packets that were lost, or
--- found by a probe, since it was last returned, joined in the order of these events. The table defines what a packet
+-- found by a probe, since it was last returned, joined in the order of these events. `Table.antt` defines what a packet
 -- carries, and which one a probe finds.
 use Rattle.std.specs.Prelude.{◌≡◌, ℕ, List, [], ◌∷◌, ◌++◌, Option, Some, option_map, option_to_list, Ok, if◌then◌else◌}
 use Rattle.std.specs.Option.{option_and_then}
@@ -21,12 +21,12 @@ module _ {F K Q S M P : Type 0} (run : Beginning F K Q S M P) where
   joined_all (newest ∷ before) = run.queue.words.joined (joined_all before) newest
 
   module _ (space : SpaceId) where
-    -- the contents of the packet of a number, if it is tracked, by the table
+    -- the contents of the packet of a number, if it is tracked, by `Table.antt`
     abbrev pub carried : Option ℕ → History Q S M P → List P
     carried n history = option_to_list (option_map (λ packet. packet.retransmits)
         (option_and_then (packet_at (tracked_known (inputs_after run history) space)) n))
 
-    -- the packet whose contents a probe retransmits, if any, by the table
+    -- the packet whose contents a probe retransmits, if any, by `Table.antt`
     abbrev pub found : S → History Q S M P → Option ℕ
     found streams history = (found_in (inputs_after run history) run.queue.words streams space).moved
 

@@ -1,5 +1,5 @@
--- What a probe finds to send (RFC 9002, 6.2.4): always something ack-eliciting; and an ACK exactly if the table
--- requires one at once (`IsRequired`) and some number is to be acknowledged.
+-- What a probe finds to send (RFC 9002, 6.2.4): always something ack-eliciting; and an ACK exactly if one is required
+-- at once (`IsRequired`) and some number is to be acknowledged.
 use Rattle.std.specs.Prelude.{◌≡◌, ◌↔◌, ℕ, true, false, Ok}
 use Rattle.recovery_spaces.specs.Acks.{IsRequired}
 use Rattle.recovery_queue.specs.Queues.{QueueSemantics}
