@@ -164,7 +164,7 @@ fn own_ids(report: &mut Report, client: &mut Connection) -> Result<(), SenderErr
     Ok(())
 }
 
-/// Packets are received: immediate ACKs, and late ones.
+/// Packets are received: immediate ACKs, and delayed ones.
 fn acknowledge(report: &mut Report, client: &mut Connection) -> Result<(), SenderError> {
     for number in 0..3 {
         let heard = client.hear(SpaceId::Data, at(11_000), number / 2 * 2)?;
