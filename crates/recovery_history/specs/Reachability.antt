@@ -71,9 +71,9 @@ module _ {F K Q S M P : Type 0} (beginning : Beginning F K Q S M P) where
     pub peer_ids : AcceptsIds beginning.config.initial_cid before event reply
     -- Local IDs are issued in the order of their numbers, and only issued ones are retired (RFC 9000, 5.1 and 19.16).
     pub own_ids : IssuesIdsInOrder beginning.config.issued beginning.config.cid_len before event reply
-    -- `SpaceDiscarded`, `NotTracked`, `NoSuchPath` and `NotInitialId` occur exactly if, respectively, a space was
-    -- discarded, a packet is not tracked, a path does not exist, or the initial ID is not active (RFC 9000, 7.2 and
-    -- 9.3; RFC 9002, 6.4 and A.7).
+    -- Four errors occur exactly if they have cause. `SpaceDiscarded`: the space was discarded. `NotTracked`: the packet
+    -- is not tracked. `NoSuchPath`: the path does not exist. `NotInitialId`: the initial ID is not active (RFC 9000,
+    -- 7.2 and 9.3; RFC 9002, 6.4 and A.7).
     pub rejections : RejectsExactly before event reply
     -- Bytes in flight on a path are the sum over the packets that were sent on it and not acknowledged, lost, forgotten
     -- or discarded since (RFC 9002, B.2).

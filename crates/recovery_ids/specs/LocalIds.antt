@@ -8,7 +8,7 @@ use Rattle.recovery_ids.specs.declared.state.RetireError.{RetireError}
 use Rattle.recovery_ids.specs.declared.state.RetireError.TheVariants.{CidsNotInUse, UnissuedCid}
 
 -- the numbers issued and not retired, in order; the mark below which all are retired, and the mark below which the peer
--- is asked to retire; the deadlines, the oldest first: a number, and when those up to it are to be retired
+-- is asked to retire. The deadlines, the oldest first, are a number each, and when those up to it are to be retired
 pub record LocalIds : Type 0 where
   pub cid_len : ℕ
   pub cid_lifetime : Option ℕ
