@@ -70,46 +70,46 @@ enum recovery_answer {
 
 // Why it is refused: `refusal` of a reply.
 enum recovery_refusal {
-    // A growth was refused by the allocator.
+    // An allocation failed.
     RECOVERY_REFUSAL_NO_MEMORY = 1,
     // A packet number is 2^62 or more (RFC 9000, 12.3).
     RECOVERY_REFUSAL_NUMBER_TOO_LARGE = 2,
-    // The space has given out all packet numbers below 2^62 (RFC 9000, 12.3).
+    // The space has assigned all packet numbers below 2^62 (RFC 9000, 12.3).
     RECOVERY_REFUSAL_NUMBERS_EXHAUSTED = 3,
-    // The packet is not tracked: it was not sent, or it was acknowledged, lost or forgotten.
+    // The packet is not tracked: it was never sent, or it was acknowledged, lost or forgotten.
     RECOVERY_REFUSAL_NOT_TRACKED = 4,
     // The keys of the space were dropped (RFC 9001, 4.9).
     RECOVERY_REFUSAL_SPACE_DISCARDED = 5,
     // There is no such path.
     RECOVERY_REFUSAL_NO_SUCH_PATH = 6,
-    // The MTU of the current path is searched for (RFC 8899, 5).
+    // An MTU search runs on the current path (RFC 8899, 5).
     RECOVERY_REFUSAL_SEARCHING = 7,
-    // A size of no bytes is none that a path carries.
+    // A size is zero bytes.
     RECOVERY_REFUSAL_ZERO_MTU = 8,
-    // A counter would pass the end of its type.
+    // A counter would exceed the maximum of its type.
     RECOVERY_REFUSAL_OVERFLOW = 9,
-    // The number of the peer's id lies below the active one (RFC 9000, 19.15).
+    // The peer's ID number is below the active one (RFC 9000, 19.15).
     RECOVERY_REFUSAL_RETIRED = 10,
-    // The number of the peer's id lies past the ids that are held (RFC 9000, 5.1.1).
+    // The peer's ID number exceeds those that can be held (RFC 9000, 5.1.1).
     RECOVERY_REFUSAL_EXCEEDS_LIMIT = 11,
-    // The frame retires numbers past its own (RFC 9000, 19.15).
+    // The frame's retire-prior-to exceeds its own number (RFC 9000, 19.15).
     RECOVERY_REFUSAL_BAD_RETIRE_PRIOR_TO = 12,
-    // This end uses ids of no bytes, of which none can be retired (RFC 9000, 19.16).
+    // The local endpoint uses zero-length IDs, which cannot be retired (RFC 9000, 19.16).
     RECOVERY_REFUSAL_CIDS_NOT_IN_USE = 13,
-    // The number was not issued (RFC 9000, 19.16).
+    // The ID number was not issued (RFC 9000, 19.16).
     RECOVERY_REFUSAL_UNISSUED_CID = 14,
     // An ACK_FREQUENCY frame asks for a delay below 1 ms (draft-ietf-quic-ack-frequency-04, section 4). The number of
-    // the frame is kept.
+    // the frame is stored.
     RECOVERY_REFUSAL_DELAY_TOO_SMALL = 15,
-    // A number was acknowledged that was skipped, and never sent (RFC 9000, 21.4).
+    // A skipped number, which was never sent, was acknowledged (RFC 9000, 21.4).
     RECOVERY_REFUSAL_SKIPPED_ACKED = 16,
-    // The peer's counts of ECN cannot be right (RFC 9000, 13.4.2.1), in these words.
+    // The peer's ECN counts fail the check of RFC 9000, 13.4.2.1. The text says how.
     RECOVERY_REFUSAL_ECN = 17,
-    // The initial id is no longer the active one (RFC 9000, 7.2).
+    // The initial ID is no longer the active one (RFC 9000, 7.2).
     RECOVERY_REFUSAL_NOT_INITIAL_ID = 18,
-    // Numbers do not go on where they should, or a range ends before it begins.
+    // Numbers do not continue from the expected one, or a range ends before it begins.
     RECOVERY_REFUSAL_BAD_RANGE = 19,
-    // The number of the peer's id is held with another id, or with a token that is not the frame's (RFC 9000, 19.15).
+    // The peer's ID number is held with another ID, or with another token (RFC 9000, 19.15).
     RECOVERY_REFUSAL_CONFLICT = 20,
     // A number was acknowledged that was never sent (RFC 9000, 13.1): of a sender alone. The errors of senders lie above
     // those of events, so that further ones of these do not meet them.
@@ -209,7 +209,7 @@ enum recovery_space {
 enum recovery_timer {
     // When to declare packets lost or to send a probe (RFC 9002, 6.2 and A.8).
     RECOVERY_TIMER_LOSS_DETECTION = 0,
-    // When to close for want of traffic (RFC 9000, 10.1).
+    // When to close the connection because it is idle (RFC 9000, 10.1).
     RECOVERY_TIMER_IDLE = 1,
     // When a closing or draining connection ends (RFC 9000, 10.2).
     RECOVERY_TIMER_CLOSE = 2,
@@ -219,11 +219,11 @@ enum recovery_timer {
     RECOVERY_TIMER_PATH_VALIDATION = 4,
     // When to send a PING against the idle timeout (RFC 9000, 10.1.2).
     RECOVERY_TIMER_KEEP_ALIVE = 5,
-    // When the pacer lets the next packet go (RFC 9002, 7.7).
+    // When the pacer lets the next packet pass (RFC 9002, 7.7).
     RECOVERY_TIMER_PACING = 6,
-    // When to issue new connection ids (RFC 9000, 5.1.1).
+    // When to issue new connection IDs (RFC 9000, 5.1.1).
     RECOVERY_TIMER_PUSH_NEW_CID = 7,
-    // When to send an ACK that was held back (RFC 9000, 13.2.1).
+    // When to send a delayed ACK (RFC 9000, 13.2.1).
     RECOVERY_TIMER_MAX_ACK_DELAY = 8,
 };
 

@@ -1,4 +1,4 @@
--- What is carried over all events that a source gives: `run_over` and `run` rest on it.
+-- Laws of all events that a source gives: `run_over` and `run` rest on them.
 use Rattle.std.proofs.Common.{◌≡◌, ◌≤◌, arith, ℕ, List, [], ◌∷◌, ◌++◌, length, vec_capacity, Result, Ok, Err, IfOk, refl, ap, sym, subst, ◌∙◌}
 use Rattle.std.specs.Global.{Vec}
 use Rattle.std.proofs.lemmas.List.{append-nil, append_assoc}
@@ -20,7 +20,7 @@ use Rattle.recovery_history.proofs.CallerStateLaws.{fresh_after, loss_times_afte
 use Rattle.recovery_events.proofs.FeedingLaws.{fills, takes_push}
 use Rattle.recovery_history.proofs.Runs.{after_push, throughout_more}
 
--- a sink of events that goes on by each, and puts its reply into a sink of replies, went on by all of them
+-- a sink of events that makes a step for each, and puts its reply into a sink of replies, made all the steps
 module _ {F K Q S M P T A : Type 0} (built : F → ℕ → ℕ → K) (words : ControllerSemantics K) (queue : QueueModel Q S M P)
     (config : RecoveryConfig F) (start : ℕ) (random : Stream)
     (took : A → Event Q S M P → A → Type 0) (takes : T → Reply Q → T → Type 0)
@@ -99,7 +99,7 @@ module _ {F K Q S M P : Type 0} (beginning : Beginning F K Q S M P) (events : Li
   abbrev IsOver : RecoveryState K P M → Vec (Reply Q) → Type 0
   IsOver recovery new = RunOverSource beginning (λ all. all ≡ events) (λ all. TakesAll PushesInto room all new) recovery
 
-  -- each event of the one has its reply in the other, where that had room
+  -- each event of one list has its reply in the other, if that had room
   all_pushed : (recovery : RecoveryState K P M) (new : Vec (Reply Q)) (over : IsOver recovery new) → over.replies
       ≡ new.items
   all_pushed recovery new over =
@@ -116,7 +116,7 @@ module _ {F K Q S M P : Type 0} (beginning : Beginning F K Q S M P) (events : Li
       subst (λ all. Holds all new.items) over.given
       (subst (λ all. Holds over.events all) (all_pushed recovery new over) here)
 
-  -- so what is promised of a run holds of the two
+  -- so the promises of a run hold for the two lists
   pub over_lists : {T E : Type 0} (recovery_of : T → RecoveryState K P M) (result : Result (T × Vec (Reply Q)) E)
       → IfOk result (λ run. IsOver (recovery_of run.0) run.1)
       → IfOk result (λ run. Throughout (StepGuarantees beginning) events run.1.items)

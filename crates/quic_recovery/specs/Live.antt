@@ -1,4 +1,4 @@
--- The past of a live recovery: the same of recoveries as of their parts.
+-- The past of a live recovery, stated for `Recovery` values.
 use Rattle.recovery_events.specs.declared.event.Event.{Event}
 use Rattle.quic_recovery.specs.declared.driver.Recovery.{Recovery}
 use Rattle.recovery_history.specs.History.{Reply, queue_model}

@@ -1,4 +1,4 @@
-//! The recovery of a connection that lives: its events come one at a time, and each finds the past behind it.
+//! The recovery of a running connection: events are applied one at a time, each after a past of events and replies.
 ghost use Rattle.std.specs.Prelude.{◌≡◌, ◌<◌, ◌≤◌, IfOk, OnErr, []};
 ghost use Rattle.recovery_base.specs.Units.{number_limit};
 ghost use Rattle.recovery_packet_numbers.specs.Skips.{IsSkips};
@@ -22,11 +22,11 @@ use recovery_paths::paths::PathMarks;
 use recovery_queue::queue::RetransmitQueue;
 use std::alloc::Global;
 
-/// A [`Recovery`] that carries its past: there are a beginning and a list of events with their replies by which it came
-/// to be what it is, and each was replied what the events before it say.
+/// A [`Recovery`] with a proof of its past: some beginning and some list of events with their replies led to its state,
+/// and each reply follows from the events before it.
 ///
-/// No list is kept: that there is one is proved of every value of this type, and costs nothing at run time. So what
-/// [`LiveRecovery::apply`] promises holds at each call of a connection that never ends, with no premise.
+/// No list is stored. That one exists is proved of every value of this type, at no cost at run time. So the guarantees
+/// of [`LiveRecovery::apply`] hold at each call of a connection that never ends, without a premise.
 #[derive(Drop)]
 pub struct LiveRecovery<F: ControllerFactory, Q: RetransmitQueue, R: Rng> {
     recovery: Recovery<F, Q, R>,
@@ -39,8 +39,7 @@ where
     Q: RetransmitQueue,
     R: Rng + Drop,
 {
-    /// A recovery to which nothing has happened yet, made at the moment `now`, as [`Recovery::new`] makes it.
-    /// `NoMemory` as there.
+    /// Returns a recovery without any event, made at time `now`. Fails as [`Recovery::new`].
     pub fn new(
         alloc: Global,
         config: RecoveryConfig<F>,
@@ -60,35 +59,34 @@ where
         Ok(LiveRecovery { recovery })
     }
 
-    /// The recovery, to look at.
+    /// Returns the recovery, to be read.
     pub fn recovery(&self) -> &Recovery<F, Q, R>
         ensures { result.now ≡ self.now.recovery }
     {
         &self.recovery
     }
 
-    /// One event, as [`Recovery::apply`] does it. There are a beginning and a past by which the recovery came here; the
-    /// reply is what that past says, every promise of whole runs holds at this moment, and from that past the recovery
-    /// has gone on by this event and this reply.
+    /// Applies one event as [`Recovery::apply`]. Some beginning and past led to this state. The reply follows from that
+    /// past, each promise of `StepGuarantees` holds at this event, and the event and its reply extend the past.
     #[inline(always)]
     pub fn apply(&mut self, event: Event<Q>) -> Result<Answer<Q>, Refusal>
-        // What the event is told, by the state before it, and what it changes.
+        // The reply to the event, by the state before it, and what it changes.
         ensures changes { Transition event self.old.recovery result self.new.recovery }
 
-        // Then the bytes in flight on each path are sums over the packets tracked (RFC 9002, B.2).
+        // Then the bytes in flight on each path are sums over the tracked packets (RFC 9002, B.2).
         ensures in_flight { let new = state_of self.new.recovery in
             InFlightAfter (inputs_of new) new.paths }
 
-        // Whatever the beginning and the past by which the recovery came here, it goes on from them,
+        // From every beginning and past that led to this state, it continues.
         ensures extends { LiveStep self.old.recovery event result self.new.recovery }
 
-        // and there are such.
+        // At least one such beginning and past exists.
         ensures extended { ∥ LiveStepFromSome self.old.recovery event result self.new.recovery ∥₁ }
     {
         self.recovery.apply(event)
     }
 
-    /// The layer above keeps this with a path from now on, as [`Recovery::set_marks`] says. No event is told of it.
+    /// Stores the caller's marks of a path, as [`Recovery::set_marks`]. This is no event.
     pub fn set_marks(&mut self, path: PathName, marks: PathMarks) -> Option<PathMarks>
         ensures before { result ≡ marks_at path (state_of self.old.recovery) }
         ensures after { state_of self.new.recovery
@@ -98,8 +96,7 @@ where
         self.recovery.set_marks(path, marks)
     }
 
-    /// The layer above keeps this with a space from now on, as [`Recovery::set_loss_time`] says. No event is told of
-    /// it.
+    /// Stores when a packet of a space is to be declared lost, as [`Recovery::set_loss_time`]. This is no event.
     pub fn set_loss_time(&mut self, space: SpaceId, time: Option<Instant>)
         ensures after { state_of self.new.recovery
             ≡ with_loss_time_at space time (state_of self.old.recovery) }

@@ -1,4 +1,4 @@
-//! A run over events that come, with replies that go.
+//! A run over a source of events, with a sink for the replies.
 ghost use Rattle.std.specs.Prelude.{◌≤◌, ◌<◌, IfOk, OnErr};
 ghost use Rattle.recovery_base.specs.Units.{number_limit};
 ghost use Rattle.recovery_packet_numbers.specs.Skips.{IsSkips};
@@ -47,11 +47,11 @@ where
     Q: RetransmitQueue,
     R: Rng + Drop,
 {
-    /// Every event that a source gives, in order, from a fresh start: the state that is left, and the sink that took
-    /// the replies, each before the next event is given. [`Recovery::run`] is this call over two lists.
+    /// Applies every event that a source gives, in order, from a fresh start. Returns the last state and the sink. The
+    /// sink takes each reply before the source gives the next event. [`Recovery::run`] makes this call with two lists.
     ///
-    /// No event and no reply is kept. Whatever ended the source, all that is promised of a run holds of the events that
-    /// it gave. `NoMemory` where there is no room for the ids that are issued at the start, before the first event.
+    /// Events and replies are not stored. However the source ended, the guarantees of a run hold for the events that it
+    /// gave. Fails with `NoMemory` before the first event if there is no room for the IDs that are issued at the start.
     pub fn run_over<E, S>(
         alloc: Global,
         config: RecoveryConfig<F>,
@@ -66,8 +66,8 @@ where
         requires issued { config.issued ≤ number_limit }
         requires skips { IsSkips config.skips }
 
-        // The events that were given and the replies that were taken are those of a run, and each promise holds at each
-        // event (`StepGuarantees`).
+        // The events given and the replies taken are those of a run, and each promise of `StepGuarantees` holds at each
+        // event.
         ensures runs { IfOk result (λ run. RunOverSource (begun run.0 config start rng)
             (λ all. E.gives events.old all events.new) (λ all. TakesAll S.takes replies all run.1)
             (state_of run.0)) }

@@ -1,6 +1,6 @@
-//! What a refused request for memory leaves behind: a script of events is played twice, one by one and as one run.
+//! The effects of a failed allocation: a script of events is played twice, one by one and as one run.
 //!
-//! `tests/refused_memory.py` has each request of it refused in turn.
+//! `tests/refused_memory.py` makes each of its allocations fail in turn.
 #![tactic(auto)]
 
 mod play;
@@ -11,7 +11,7 @@ mod script;
 use play::{Hit, Wrong, play_each, play_run};
 use std::io;
 
-/// Says what was refused memory.
+/// Prints whose allocation failed.
 fn tell(rt: &impl Print, how: &str, hit: Hit) -> io::Result<()> {
     match hit {
         Hit::None => println!(rt; "nothing was refused memory"),
@@ -30,7 +30,7 @@ enum Failure {
     Io(#[from] io::Error),
 }
 
-/// Plays the script both ways; the one request that is refused may lie in either.
+/// Plays the script both ways; the one allocation that fails may be in either.
 fn main(rt: HostRuntime) -> Result<(), Failure> {
     let mut hit = Hit::None;
     play_each(rt.alloc(), &mut hit)?;

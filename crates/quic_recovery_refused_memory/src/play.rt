@@ -1,4 +1,4 @@
-//! The script is played, where one request for memory may be refused.
+//! Plays the script while one allocation may fail.
 ghost use Rattle.std.specs.Prelude.{◌≡◌};
 ghost use Rattle.recovery_packet_numbers.specs.Skips.{IsSkips};
 
@@ -16,12 +16,12 @@ use recovery_parts_tests::halving::HalvingConfig;
 use std::alloc::Global;
 use thiserror::Error;
 
-/// What was refused memory.
+/// Whose allocation failed.
 #[derive(Clone, Copy)]
 pub enum Hit {
-    /// Nothing.
+    /// None.
     None,
-    /// What is no event: a recovery, a list, or what an event is made of.
+    /// That of no event: a recovery, a list, or the parts of an event.
     Outside(&'static str),
     /// The event of this step.
     Event(u64, &'static str),
@@ -30,19 +30,19 @@ pub enum Hit {
 /// What is wrong.
 #[derive(Clone, Copy, Debug, Error)]
 pub enum Wrong {
-    /// Memory was refused again, where it is at hand.
+    /// An allocation failed again, though memory is available.
     #[error("memory was refused twice")]
     Twice,
-    /// The event that was refused left a trace.
+    /// The event that failed left a trace.
     #[error("step {0}: the refused event left a trace")]
     Trace(u64),
-    /// An event was answered something else than it is to be.
+    /// The answer to an event is not the expected one.
     #[error("step {0}: another answer")]
     Answer(u64),
     /// A run has more or fewer replies than events.
     #[error("not one reply for each event")]
     Count,
-    /// A run with a refused event leaves something else than one without that event.
+    /// A run with a failed event leaves another state than one without that event.
     #[error("step {0}: a run leaves another state than one without that event")]
     Left(u64),
 }
@@ -80,7 +80,7 @@ fn note(hit: &mut Hit, found: Hit) -> Result<(), Wrong> {
     }
 }
 
-/// A recovery to which nothing has happened yet.
+/// Returns a recovery without any event.
 fn begin(alloc: Global, hit: &mut Hit) -> Result<Scarce, Wrong> {
     if let Ok(recovery) = fresh(alloc) {
         return Ok(recovery);
@@ -89,7 +89,7 @@ fn begin(alloc: Global, hit: &mut Hit) -> Result<Scarce, Wrong> {
     Ok(fresh(alloc)?)
 }
 
-/// The event of a step, with its name.
+/// Returns the event of a step, with its name.
 fn made(alloc: Global, step: u64, hit: &mut Hit) -> Result<(&'static str, Event), Wrong> {
     if let Ok(made) = event_at(alloc, step) {
         return Ok(made);
@@ -98,7 +98,7 @@ fn made(alloc: Global, step: u64, hit: &mut Hit) -> Result<(&'static str, Event)
     Ok(event_at(alloc, step)?)
 }
 
-/// What is read once the events before a step happened, each with memory.
+/// Returns what is read after the events before a step, each with memory available.
 fn readings_before(alloc: Global, step: u64) -> Result<Readings, Wrong> {
     let mut recovery = fresh(alloc)?;
     let read = readings_after(alloc, &mut recovery, step);
@@ -106,7 +106,7 @@ fn readings_before(alloc: Global, step: u64) -> Result<Readings, Wrong> {
     read
 }
 
-/// Hands in the first events to a fresh recovery, as many as said, and reads it.
+/// Applies the first events, up to this count, to a fresh recovery, and reads it.
 fn readings_after(alloc: Global, recovery: &mut Scarce, steps: u64) -> Result<Readings, Wrong> {
     for step in 0..steps {
         let (_, event) = event_at(alloc, step)?;
@@ -116,7 +116,7 @@ fn readings_after(alloc: Global, recovery: &mut Scarce, steps: u64) -> Result<Re
     Ok(readings_of(recovery))
 }
 
-/// Hands in the event of a step once: its name, and what it is answered.
+/// Applies the event of a step once. Returns its name and its answer.
 fn hand_in_once(
     alloc: Global,
     recovery: &mut Scarce,
@@ -127,7 +127,7 @@ fn hand_in_once(
     Ok((name, said_by(&recovery.apply(event))))
 }
 
-/// Hands in the event of a step, and an equal one where that was refused memory.
+/// Applies the event of a step, and an equal one if its allocation failed.
 fn hand_in(alloc: Global, recovery: &mut Scarce, step: u64, hit: &mut Hit) -> Result<Said, Wrong> {
     let (name, said) = hand_in_once(alloc, recovery, step, hit)?;
     if said != Said::NoMemory {
@@ -149,7 +149,7 @@ fn compare(step: u64, said: Said, wanted: Said) -> Result<(), Wrong> {
     }
 }
 
-/// The events one by one: each is answered as it is to be, if need be when it is handed in anew.
+/// Plays the events one by one: each has the expected answer, if necessary at the second try.
 pub fn play_each(alloc: Global, hit: &mut Hit) -> Result<(), Wrong> {
     let mut recovery = begin(alloc, hit)?;
     let played = play_steps(alloc, &mut recovery, hit);
@@ -157,7 +157,7 @@ pub fn play_each(alloc: Global, hit: &mut Hit) -> Result<(), Wrong> {
     played
 }
 
-/// Hands in the events one by one, and compares each answer with the one that is wanted.
+/// Applies the events one by one, and compares each answer with the expected one.
 fn play_steps(alloc: Global, recovery: &mut Scarce, hit: &mut Hit) -> Result<(), Wrong> {
     for step in 0..STEPS {
         let said = hand_in(alloc, recovery, step, hit)?;
@@ -166,7 +166,7 @@ fn play_steps(alloc: Global, recovery: &mut Scarce, hit: &mut Hit) -> Result<(),
     Ok(())
 }
 
-/// Whether the list took the event of a step.
+/// Returns whether the list took the event of a step.
 fn is_added(
     alloc: Global,
     events: &mut Vec<Event>,
@@ -177,7 +177,7 @@ fn is_added(
     Ok(events.push(event).is_ok())
 }
 
-/// Adds the event of a step to the list, if need be at the second try.
+/// Adds the event of a step to the list, if necessary at the second try.
 fn add(alloc: Global, events: &mut Vec<Event>, step: u64, hit: &mut Hit) -> Result<(), Wrong> {
     if is_added(alloc, events, step, hit)? {
         return Ok(());
@@ -212,7 +212,7 @@ fn run(alloc: Global, hit: &mut Hit) -> Result<(Scarce, Vec<Reply>), Wrong> {
     Ok(run_once(alloc, again)?)
 }
 
-/// The step whose event was refused memory, if any; there is at most one.
+/// Returns the step whose event failed for lack of memory, if any; there is at most one.
 fn refused_in(replies: &[Reply]) -> Result<Option<u64>, Wrong> {
     let mut found = None;
     let mut step = 0u64;
@@ -232,7 +232,7 @@ fn refused_in(replies: &[Reply]) -> Result<Option<u64>, Wrong> {
     }
 }
 
-/// Compares a run with one that lacks the event that was refused.
+/// Compares a run with one that lacks the event that failed.
 fn compare_without(
     alloc: Global,
     refused: u64,
@@ -247,7 +247,7 @@ fn compare_without(
     }
 }
 
-/// What is read after a run without one event, whose answers are those of the run with it.
+/// Returns what is read after a run without one event, whose answers are those of the run with it.
 fn readings_without(
     alloc: Global,
     refused: u64,
@@ -260,7 +260,7 @@ fn readings_without(
     read
 }
 
-/// Hands in all events but one, compares each answer with that of the run, and reads what is left.
+/// Applies all events but one, compares each answer with that of the run, and reads the state.
 fn play_without(
     alloc: Global,
     recovery: &mut Scarce,
@@ -279,7 +279,7 @@ fn play_without(
     Ok(readings_of(recovery))
 }
 
-/// The events as one run: each is answered as it is to be, or all but one as if that one were not there.
+/// Plays the events as one run: each has the expected answer, or all but one as if that one were missing.
 pub fn play_run(alloc: Global, hit: &mut Hit) -> Result<(), Wrong> {
     let (left, replies) = run(alloc, hit)?;
     let judged = judge(alloc, &left, &replies, hit);
@@ -287,13 +287,13 @@ pub fn play_run(alloc: Global, hit: &mut Hit) -> Result<(), Wrong> {
     judged
 }
 
-/// Notes that the event of this step was refused memory.
+/// Records that the allocation of this step's event failed.
 fn note_event(alloc: Global, step: u64, hit: &mut Hit) -> Result<(), Wrong> {
     let (name, _) = made(alloc, step, hit)?;
     note(hit, Hit::Event(step, name))
 }
 
-/// Judges what a run leaves and what it answers.
+/// Judges the state after a run and its answers.
 fn judge(alloc: Global, left: &Scarce, replies: &[Reply], hit: &mut Hit) -> Result<(), Wrong> {
     if let Some(refused) = refused_in(replies)? {
         note_event(alloc, refused, hit)?;

@@ -1,5 +1,5 @@
-//! What all readers of a recovery tell, as one number: two states that differ in a reading differ in it, but for a
-//! chance of one in 2^100. Nothing here asks for memory.
+//! All that readers of a recovery return, as one number. Two states that differ in a reading differ in it, except with
+//! a chance of one in 2^100. Nothing here allocates.
 use crate::scarce::{ScarceHalving, ScarceQueue};
 use crate::script::Scarce;
 use recovery_acks::PendingAcks;
@@ -19,7 +19,7 @@ pub struct Readings {
     sum: u128,
 }
 
-/// What every reader of the recovery tells.
+/// Returns what all readers of the recovery return.
 pub fn readings_of(recovery: &Scarce) -> Readings {
     let mut read = Readings { sum: 0 };
     read.path(recovery.current());

@@ -1,5 +1,4 @@
-//! A queue and a controller that ask for memory in each call that may be refused it, where those of the program seldom
-//! do or never.
+//! A queue and a controller that allocate in each call that may fail, while those of the program seldom or never do.
 ghost use Rattle.std.specs.Prelude.{◌≡◌, refl};
 ghost use Rattle.std.proofs.Common.{zero-le};
 ghost use Rattle.recovery_parts_tests.specs.Halving.{halving_made, halving_words, IsHalvingSound, halving_laws};
@@ -14,15 +13,15 @@ use recovery_queue::queue::RetransmitQueue;
 use std::alloc::Global;
 use std::marker::Model;
 
-/// Asks for some memory, which is given back.
+/// Allocates some memory and frees it. Returns whether that failed.
 fn is_refused(alloc: Global) -> bool {
     let mut asked = Vec::new(alloc);
     asked.push(0u64).is_err()
 }
 
-/// Numbers of items, as those of the program, but that each `append` asks for memory.
+/// Numbers of items, as those of the program, except that each `append` allocates.
 ///
-/// Contracts see the list of the items.
+/// In contracts its value is the list of the items.
 #[derive(Drop)]
 pub struct ScarceQueue {
     items: ItemQueue,
@@ -38,7 +37,7 @@ impl Model for ScarceQueue {
 }
 
 impl ScarceQueue {
-    /// A queue of these items.
+    /// Returns a queue of these items.
     pub fn from_items(items: Vec<u64>) -> Self
         ensures { result ≡ items.items }
     {
@@ -49,7 +48,7 @@ impl ScarceQueue {
         }
     }
 
-    /// The items, in the order in which they came.
+    /// Returns the items, in the order in which they were added.
     pub fn items(&self) -> &[u64]
         ensures { result.now ≡ self.now }
     {
@@ -106,12 +105,12 @@ impl RetransmitQueue for ScarceQueue {
     ghost is_blank = { λ meta here. refl };
 }
 
-/// Makes controllers whose clones ask for memory.
+/// Makes controllers whose clones allocate.
 #[derive(Clone, Copy)]
 pub struct ScarceConfig {
-    /// What they are else.
+    /// The settings of the controllers.
     pub halving: HalvingConfig,
-    /// Where they ask.
+    /// The allocator that they use.
     pub alloc: Global,
 }
 
@@ -132,7 +131,7 @@ impl ControllerFactory for ScarceConfig {
     ghost starts_by_now = { λ factory now mtu. zero-le };
 }
 
-/// A window that congestion events halve, and whose clones ask for memory.
+/// A window that congestion events halve, and whose clones allocate.
 #[derive(Drop)]
 pub struct ScarceHalving {
     halving: Halving,

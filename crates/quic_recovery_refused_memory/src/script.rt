@@ -1,4 +1,4 @@
-//! The script: each event that may ask for memory, at a point where it does, and what it is answered.
+//! The script: each event that may allocate, at a point at which it does, and its answer.
 use crate::scarce::{ScarceConfig, ScarceQueue};
 use quic_recovery::Recovery;
 use rand_pcg::Pcg32;
@@ -16,22 +16,22 @@ pub type Reply = Result<Answer, Refusal>;
 
 pub type Scarce = Recovery<ScarceConfig, ScarceQueue, Pcg32>;
 
-/// How many packets come in first, each with a gap before it.
+/// How many packets are received first, each after a gap.
 const GAPS: u64 = 40;
 
-/// How many silent packets are tracked above one that elicits an ACK.
+/// How many non-ack-eliciting packets are tracked after an ack-eliciting one.
 const SILENT: u64 = 1001;
 
-/// How many silent packets go out once so many are tracked: each has the least one forgotten.
+/// How many non-ack-eliciting packets are sent once that many are tracked: each makes the oldest be forgotten.
 const FORGETTING: u64 = 60;
 
-/// Where the silent packets begin.
+/// The step at which the non-ack-eliciting packets begin.
 const FLOOD: u64 = GAPS + 13;
 
 /// How many events there are.
 pub const STEPS: u64 = FLOOD + SILENT + FORGETTING + 2;
 
-/// What a reply says, without what it owns.
+/// The contents of a reply, without what it owns.
 #[derive(Clone, Copy, PartialEq, Eq)]
 pub enum Said {
     NoMemory,
@@ -151,7 +151,7 @@ const QUEUE_PROBE: Event = Event::QueueProbe {
     streams: (),
 };
 
-/// The event of a step, made anew, with its name.
+/// Makes the event of a step, with its name.
 pub fn event_at(alloc: Global, step: u64) -> Result<(&'static str, Event), NoMemory> {
     if step < GAPS {
         Ok(("received", received(2 * step)))
@@ -194,7 +194,7 @@ fn event_of_each(alloc: Global, place: u64) -> Result<(&'static str, Event), NoM
     })
 }
 
-/// What a step is to be answered.
+/// Returns the expected answer of a step.
 pub fn wanted_at(step: u64) -> Said {
     if step < GAPS {
         Said::New(step == 0)

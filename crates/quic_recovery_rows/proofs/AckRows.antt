@@ -20,7 +20,7 @@ use Rattle.recovery_history.specs.Promises.AckTimer.{StartsAckDelayTimer}
 
 -- ---- ranges
 
--- where no number is above one, one range at most ends at it or above
+-- if no number is above one, at most one range ends at it or above
 one_range : (Numbers : ℕ → Type 0) (n : ℕ) → ((m : ℕ) → n < m → ¬ Numbers m)
     → AtMost 64 (λ end. (n ≤ end) × EndsRun Numbers end)
 unfolding Ascend
@@ -31,7 +31,7 @@ one_range Numbers n none (k ∷ m ∷ numbers) up =
     let second : k + 1 ≤ m = up.2.0 in
     absurd (none m (omega (arith, first, second)) up.2.1.1.0)
 
--- 65 ranges of one number each, from 0 on: 0 lies below the 64 highest
+-- 65 ranges of one number each, from 0 on: 0 is below the 64 highest
 abbrev Evens : ℕ → Type 0
 Evens n = (k : ℕ) × (n ≡ k + k) × (k ≤ 64)
 
@@ -52,7 +52,7 @@ ascends from (suc more) low sum up = (
 zero_lies_below : LiesBelow most_ranges Evens 0
 zero_lies_below few = let many : 65 ≤ 64 = few (by_two 0 65) (ascends 0 65 0 refl (omega arith)) in omega (arith, many)
 
--- ---- what is to be acknowledged: 3 and 7 came, and the packet with the ACK of 3 was acknowledged
+-- ---- the pending ACKs: 3 and 7 were received, and the packet with the ACK of 3 was acknowledged
 
 module _ (Q S M P : Type 0) (queue : Q) (frames : M) where
   abbrev came : ℕ → Event Q S M P × Reply Q
@@ -106,7 +106,7 @@ module _ (Q S M P : Type 0) (queue : Q) (frames : M) where
     ],
   )
 
-  -- what comes once the packet was acknowledged is not dropped by it
+  -- what is received after the packet was acknowledged is not dropped by it
   none_but_three : (n : ℕ) → 3 < n
       → ¬ InsertNumber 3 (λ k. WasReceived Handshake k (sent_and_acked []) × ¬ WasDropped Handshake k
       (sent_and_acked [])) n
@@ -121,7 +121,7 @@ module _ (Q S M P : Type 0) (queue : Q) (frames : M) where
 
 -- ---- the duty to acknowledge
 
--- the first one since an ACK asks for none at once, where it is next behind the greatest
+-- the first one since an ACK requires none at once, if it follows the largest
 asks_nothing : (Numbers : ℕ → Type 0) (greatest acknowledged : Option ℕ) (number : ℕ)
     → unwrap_or greatest 0 ≤ number → number ≤ unwrap_or greatest 0 + 1 → (silent : ℕ) (largest : Option (ℕ × ℕ))
     → ¬ RequiresImmediateAck Numbers (record fresh {
@@ -143,7 +143,7 @@ module _ {F K Q S M P : Type 0} (beginning : Beginning F K Q S M P) where
   abbrev elicits : ℕ → Bool → Event Q S M P × Reply Q
   elicits n started = (event.Received Data 5 n true, Ok (answer.New started))
 
-  -- 0 came and was acknowledged
+  -- 0 was received and acknowledged
   abbrev acked : History Q S M P
   acked = (event.AcksSent Data, Ok answer.Done) ∷ elicits 0 true ∷ []
 
@@ -171,7 +171,7 @@ module _ {F K Q S M P : Type 0} (beginning : Beginning F K Q S M P) where
     | inr started ↦ cc
   ]
 
-  -- a timer of one space is none of another
+  -- a timer of one space is not that of another
   abbrev two_spaces : History Q S M P
   two_spaces = (event.Received Initial 6 0 true, Ok (answer.New false)) ∷ elicits 1 true ∷ acked
 
@@ -184,7 +184,7 @@ module _ {F K Q S M P : Type 0} (beginning : Beginning F K Q S M P) where
     | inr started ↦ cc
   ]
 
-  -- one out of order asks for an ACK at once: 1 is missing
+  -- one out of order requires an ACK at once: 1 is missing
   out_of_order : AcknowledgesInTime beginning (elicits 5 false ∷ acked)
   out_of_order = only_data (elicits 5 false ∷ acked) refl refl (λ is. inl (inr (
     refl,
@@ -258,7 +258,7 @@ module _ {F K Q S M P : Type 0} (beginning : Beginning F K Q S M P) where
   silent_is_wrong : ¬ StartsAckDelayTimer beginning acked (event.Received Data 6 1 false) (Ok (answer.New true))
   silent_is_wrong starts = let eliciting = (starts.0 refl).0 in cc
 
-  -- ---- what a probe finds: nothing came, so that there is no ACK, but a PING
+  -- ---- what a probe finds: nothing was received, so there is no ACK, but a PING
 
   an_ack_is_wrong : (streams : S) (other : Bool) → ¬ ReportsSendable beginning [] (event.QueueProbe Data false streams)
       (Ok (answer.Sendable (record { acks = true; other = other })))

@@ -1,5 +1,5 @@
--- Worked rows of the promises on counts of ECN, on requests for fewer ACKs, on counters that are full and on memory,
--- computed: with the right answer each holds, and with a wrong one it does not. Nothing rests on them.
+-- Worked rows of the promises on ECN counts, on ACK_FREQUENCY frames, on full counters and on memory, computed: with
+-- the right answer each holds, and with a wrong one it does not. Nothing rests on them.
 use Rattle.std.proofs.Common.{◌^◌, ◌-◌, ℕ, true, false, [], ◌∷◌, Ok, Err, refl, arith}
 use Rattle.std.specs.declared.net.socket_addr.SocketAddr.{SocketAddr}
 use Rattle.recovery_base.specs.declared.below.SpaceId.TheVariants.{Initial, Data}
@@ -49,7 +49,7 @@ module _ (Q S M P : Type 0) (remote : SocketAddr) where
   no_other_cause : ¬ ChecksEcn counted (event.Ecn Data 1 (ecn 3 1)) (Err refusal.Overflow)
   no_other_cause = λ told. told
 
-  -- ---- requests for fewer ACKs: 5 was taken, and 7 asked for too little
+  -- ---- ACK_FREQUENCY frames: 5 was accepted, and 7 asked for too little
 
   abbrev asked : History Q S M P
   asked =
@@ -78,7 +78,7 @@ module _ (Q S M P : Type 0) (remote : SocketAddr) where
       (Err refusal.SpaceDiscarded)
   discarded = refl
 
-  -- ---- counters: 10 bytes came in on the first path, and another one was made
+  -- ---- counters: 10 bytes were received on the first path, and another one was made
 
   abbrev moved : History Q S M P
   moved = (event.NewPath 5 remote true, Ok answer.Done) ∷ (event.DatagramIn Current 10, Ok answer.Done) ∷ []
@@ -98,7 +98,7 @@ module _ (Q S M P : Type 0) (remote : SocketAddr) where
   two_paths_are_few : ¬ OverflowsExactly moved (event.NewPath 6 remote true) (Err refusal.Overflow)
   two_paths_are_few = λ many. omega (arith, many)
 
--- ---- memory: to lose a packet may take some, for what waits grows; to hand that out takes none
+-- ---- memory: losing a packet may allocate, for the retransmission queue grows; returning that queue does not
 
 module _ (Q S M P : Type 0) (remote : SocketAddr) where
   abbrev Spares : Event Q S M P → Type 0
@@ -113,7 +113,7 @@ module _ (Q S M P : Type 0) (remote : SocketAddr) where
   acked_is_wrong : ¬ Spares (event.Acked Data 5 1 false)
   acked_is_wrong = λ e. cc
 
-  -- a path that goes on has a second controller, a fresh one a new one
+  -- a path that is not fresh has a second controller, a fresh one a new one
   path_may_grow : Spares (event.NewPath 5 remote false)
   path_may_grow = refl
 

@@ -1,5 +1,5 @@
--- Worked rows of the promises that contents are neither lost nor doubled, and are handed out in their order, computed:
--- with the right answers they come out, and with a wrong one they do not. Nothing rests on them.
+-- Worked rows of the promises that contents are neither lost nor duplicated, and are returned in their order, computed:
+-- with the right answers they hold, and with a wrong one they do not. Nothing rests on them.
 use Rattle.std.proofs.Common.{◌≡◌, ℕ, ◌+◌, ◌==◌, max, true, false, List, [], ◌∷◌, None, Some, Ok, Err, refl, arith}
 use Rattle.std.specs.declared.net.socket_addr.SocketAddr.{SocketAddr}
 use Rattle.rand_core.specs.Stream.{Stream}
@@ -17,7 +17,7 @@ use Rattle.recovery_history.specs.Promises.Measures.{AddsUp, Totals}
 use Rattle.recovery_history.specs.Promises.Pending.{HandsOutInOrder}
 use Rattle.quic_recovery_rows.proofs.RowStart.{RowHistory, row_start}
 
--- contents that are numbers of bytes, which are joined by adding them
+-- contents that are numbers of bytes, which are joined by addition
 abbrev words : QueueSemantics ℕ (Unit {0})
 words = record { empty = 0; joined = λ p r. p + r; is_empty = λ p streams. p == 0 }
 
@@ -36,7 +36,7 @@ sums = record {
 adds : AddsUp words sums bytes
 adds = record { empty = refl; joined = λ p r. refl }
 
--- contents that are a flag, which stays where it joins itself
+-- contents that are a flag, which is unchanged by joining itself
 abbrev flag_words : QueueSemantics ℕ (Unit {0})
 flag_words = record { empty = 0; joined = λ p r. max p r; is_empty = λ p streams. p == 0 }
 
@@ -57,7 +57,7 @@ module _ (F K M : Type 0) (built : F → ℕ → ℕ → K) (controller : Contro
   abbrev start : Beginning F K ℕ (Unit {0}) M ℕ
   start = begins built controller (queue_model (λ n. n) words frames) config 0 random
 
-  -- 5 bytes went out under 0 and 3 under 1; a probe moved the 5, and the 3 were lost
+  -- 5 bytes were sent under 0 and 3 under 1; a probe moved the 5, and the 3 were lost
   abbrev waiting : History ℕ (Unit {0}) M ℕ
   waiting =
       (event.Acked Initial 8 1 false, Err refusal.NotTracked)
@@ -79,7 +79,7 @@ module _ (F K M : Type 0) (built : F → ℕ → ℕ → K) (controller : Contro
   none_elsewhere : held start sums bytes Handshake waiting ≡ 0
   none_elsewhere = refl
 
-  -- they were handed out; of 7 more and 4 more the 7 were acknowledged, and the 4 discarded with the space
+  -- they were returned; of 7 more and 4 more the 7 were acknowledged, and the 4 discarded with the space
   abbrev past : History ℕ (Unit {0}) M ℕ
   past =
       (event.DiscardSpace Initial, Ok answer.Done)
@@ -98,7 +98,7 @@ module _ (F K M : Type 0) (built : F → ℕ → ℕ → K) (controller : Contro
   none_held : held start sums bytes Initial past ≡ 0
   none_held = refl
 
-  -- what is handed out is what waits, no less and no more
+  -- what is returned is what waits, no less and no more
   less_is_wrong : ¬ ConservesData start ((event.TakePending Initial, Ok (answer.Queue 5)) ∷ waiting)
   less_is_wrong = λ e. let lost = e sums bytes adds Initial in omega (arith, lost)
 
@@ -106,14 +106,14 @@ module _ (F K M : Type 0) (built : F → ℕ → ℕ → K) (controller : Contro
       ((event.TakePending Initial, Ok (answer.Queue 8)) ∷ (event.TakePending Initial, Ok (answer.Queue 8)) ∷ waiting)
   twice_is_wrong = λ e. let doubled = e sums bytes adds Initial in omega (arith, doubled)
 
-  -- and none is forgotten before there are 1001 that elicit no ACK
+  -- and none is forgotten before there are 1001 non-ack-eliciting ones
   early_is_wrong : ¬ ConservesData start
       ((event.Send Initial 5 100 false None 3 frames, Ok (answer.Sent 1 (Some 0)))
       ∷ (event.Send Initial 4 100 false None 5 frames, Ok (answer.Sent 0 None))
       ∷ [])
   early_is_wrong = λ e. let doubled = e sums bytes adds Initial in omega (arith, doubled)
 
-  -- a flag went out twice; once it was acknowledged, once lost
+  -- a flag was sent twice; it was acknowledged once and lost once
   abbrev flagged : Beginning F K ℕ (Unit {0}) M ℕ
   flagged = begins built controller (queue_model (λ n. n) flag_words frames) config 0 random
 
@@ -128,7 +128,7 @@ module _ (F K M : Type 0) (built : F → ℕ → ℕ → K) (controller : Contro
   still_held : held flagged flags bytes Initial sent_twice ≡ 1
   still_held = refl
 
-  -- one that was lost is handed out
+  -- one that was lost is returned
   lost_is_wrong : ¬ ConservesData flagged
       ((event.TakePending Initial, Ok (answer.Queue 0))
       ∷ (event.Lost Initial 0, Ok (answer.Lost false))
@@ -136,7 +136,7 @@ module _ (F K M : Type 0) (built : F → ℕ → ℕ → K) (controller : Contro
       ∷ [])
   lost_is_wrong = λ e. let gone = e flags bytes joins Initial in omega (arith, gone)
 
--- ---- in which order they are handed out: items 5 and 6 went out under 0, and 3 under 1
+-- ---- in which order they are returned: items 5 and 6 were sent under 0, and 3 under 1
 
 module _ (remote : SocketAddr) (random : Stream) where
   abbrev RowHands : RowHistory → List ℕ → Type 0
@@ -168,7 +168,7 @@ module _ (remote : SocketAddr) (random : Stream) where
   lost_twice_is_wrong : ¬ RowHands (lost 0 (lost 1 probed)) (5 ∷ 6 ∷ 3 ∷ 5 ∷ 6 ∷ [])
   lost_twice_is_wrong = λ e. cc
 
-  -- what was handed out waits no more, and a loss that is refused adds nothing
+  -- what was returned no longer waits, and a loss that is rejected adds nothing
   abbrev taken : RowHistory
   taken =
       (event.Lost Initial 1, Err refusal.NotTracked)

@@ -1,5 +1,5 @@
--- Worked rows of the promises that each number has one fate and that numbers rise, computed: of a right history each
--- number has one, and of a wrong one some has not. Nothing rests on them.
+-- Worked rows of the promises that each number has one outcome and that numbers increase, computed: in a right history
+-- each number has one, and in a wrong one some does not. Nothing rests on them.
 use Rattle.std.proofs.Common.{◌≡◌, ◌^◌, ◌≤◌, ℕ, true, false, [], ◌∷◌, None, Some, Ok, Err, refl, arith}
 use Rattle.std.proofs.lemmas.Bool.Decides.{nat_tests}
 use Rattle.recovery_base.specs.declared.below.SpaceId.TheVariants.{Initial, Data}
@@ -11,7 +11,7 @@ use Rattle.recovery_history.specs.Promises.Fates.{times, fates, is_given, HaveOn
 use Rattle.recovery_history.specs.Promises.Increasing.{NumbersIncrease}
 
 module _ (Q S M P : Type 0) (queue : Q) (frames : M) where
-  -- of 1-RTT packets 0 was forgotten, 1 lost, 2 is a probe of the MTU; 0 of Initial ones was discarded with its space
+  -- of 1-RTT packets 0 was forgotten, 1 lost, 2 is an MTU probe; 0 of Initial ones was discarded with its space
   abbrev past : History Q S M P
   past =
       (event.DiscardSpace Initial, Ok answer.Done)
@@ -45,7 +45,7 @@ module _ (Q S M P : Type 0) (queue : Q) (frames : M) where
   not_given_yet : times (is_given Data 4) past ≡ 0
   not_given_yet = refl
 
-  -- no number twice, and no fate besides
+  -- no number twice, and no other outcome
   given_again : ¬ HaveOneOutcome ((event.PollMtu 10, Ok (answer.Probe 3 1400)) ∷ past)
   given_again = λ e. let twice = (e Data 3).0 in omega (arith, twice)
 
@@ -65,7 +65,7 @@ module _ (Q S M P : Type 0) (queue : Q) (frames : M) where
       past)
   forgets_itself = λ e. let two = (e Data 4).1 in omega (arith, two)
 
-  -- ---- numbers rise: 0 to 3 were given out, of Initial ones 0 alone
+  -- ---- numbers increase: 0 to 3 were assigned, of Initial ones only 0
 
   behind_its_own : (n : ℕ) → 1 ≤ n → times (is_given Initial n) past ≡ 0
   behind_its_own = λ n above. grind (arith, nat_tests, above)
@@ -82,6 +82,6 @@ module _ (Q S M P : Type 0) (queue : Q) (frames : M) where
   too_large : ¬ NumbersIncrease past (event.PollMtu 10) (Ok (answer.Probe (2 ^ 62) 1400))
   too_large = λ rises. let small = (rises Data (2 ^ 62) refl).0 in omega (arith, small)
 
-  -- a refused packet has no number
+  -- a rejected packet has no number
   refused_one : NumbersIncrease past (event.PollMtu 10) (Err refusal.NumbersExhausted)
   refused_one = λ space number goes. cc

@@ -12,7 +12,7 @@ use Rattle.recovery_history.specs.Promises.Counted.{CountsInFlight}
 use Rattle.recovery_history.specs.Promises.Amplification.{IsWithinAmplificationLimit}
 
 module _ (Q S M P : Type 0) (remote : SocketAddr) where
-  -- ---- amplification: 10 bytes came in, and 25 went out
+  -- ---- amplification: 10 bytes were received, and 25 sent
 
   abbrev little : History Q S M P
   little = (event.Transmit 6 25 true, Ok answer.Transmitted) ∷ (event.DatagramIn Current 10, Ok answer.Done) ∷ []
@@ -21,11 +21,11 @@ module _ (Q S M P : Type 0) (remote : SocketAddr) where
   within Current = λ unproved checked. omega arith
   within Previous = λ unproved checked. omega arith
 
-  -- 30 bytes are three times 10: 6 more than 25 pass that
+  -- 30 bytes are three times 10: 6 more than 25 exceed that
   too_much : ¬ IsWithinAmplificationLimit false ((event.Transmit 7 6 true, Ok answer.Transmitted) ∷ little)
   too_much = λ e. let over = e Current refl refl in omega (arith, over)
 
-  -- but not what goes to a validated address, nor what was not checked
+  -- but not what is sent to a validated address, nor what was not checked
   proved_address : IsWithinAmplificationLimit true ((event.Transmit 7 6 true, Ok answer.Transmitted) ∷ little)
   proved_address Current = λ unproved. cc
   proved_address Previous = λ unproved checked. omega arith
@@ -68,7 +68,7 @@ module _ (Q S M P : Type 0) (remote : SocketAddr) where
   begins_with_nothing_is_wrong = λ e. e
 
 module _ (Q S M P : Type 0) (queue : Q) (frames : M) (remote : SocketAddr) where
-  -- ---- bytes in flight: two packets, of which one elicits an ACK
+  -- ---- bytes in flight: two packets, of which one is ack-eliciting
 
   abbrev two_sent : History Q S M P
   two_sent =
@@ -91,7 +91,7 @@ module _ (Q S M P : Type 0) (queue : Q) (frames : M) (remote : SocketAddr) where
   still_there_is_wrong : ¬ CountsInFlight one_acked (event.InFlight Current) (Ok (answer.InFlight 1300 1))
   still_there_is_wrong = λ e. cc
 
-  -- a packet counts on the path that it went out on
+  -- a packet counts on the path on which it was sent
   abbrev another_path : History Q S M P
   another_path = (event.NewPath 7 remote false, Ok answer.Done) ∷ two_sent
 
@@ -101,7 +101,7 @@ module _ (Q S M P : Type 0) (queue : Q) (frames : M) (remote : SocketAddr) where
   there : CountsInFlight another_path (event.InFlight Previous) (Ok (answer.InFlight 1300 1))
   there = refl
 
-  -- what went out on it counts on a path that is used again, and what went out on the other one counts nowhere
+  -- what was sent on it counts on a path that is used again, and what was sent on the other one counts nowhere
   abbrev back_again : History Q S M P
   back_again =
       (event.RevertPath, Ok answer.Done)
@@ -122,7 +122,7 @@ module _ (Q S M P : Type 0) (queue : Q) (frames : M) (remote : SocketAddr) where
   no_such_path : ¬ CountsInFlight two_sent (event.InFlight Previous) (Ok (answer.InFlight 0 0))
   no_such_path = λ e. cc
 
-  -- a packet that is forgotten or in a space that was discarded counts no longer
+  -- a packet that is forgotten or in a space that was discarded no longer counts
   forgotten : CountsInFlight ((event.Send Data 6 7 false None queue frames, Ok (answer.Sent 2 (Some 0))) ∷ two_sent)
       (event.InFlight Current)
       (Ok (answer.InFlight 1207 1))

@@ -1,4 +1,4 @@
--- Worked rows of the promises of ids, of what is tracked, of paths and of refusals, computed: the right replies, and
+-- Worked rows of the promises on IDs, on what is tracked, on paths and on errors, computed: the right replies, and
 -- wrong ones. Nothing rests on them.
 use Rattle.std.proofs.Common.{◌≡◌, ℕ, ◌^◌, true, false, [], ◌∷◌, None, Some, Ok, Err, refl, ap, arith}
 use Rattle.std.specs.declared.net.socket_addr.SocketAddr.{SocketAddr}
@@ -26,7 +26,7 @@ module _ (Q S M P : Type 0) (queue : Q) (frames : M) (remote : SocketAddr) where
   abbrev Happened : Type 0
   Happened = Event Q S M P × Reply Q
 
-  -- ---- ids of the peer: the initial one is 255, and numbers 2 and 3 came
+  -- ---- the peer's IDs: the initial one is 255, and numbers 2 and 3 were received
 
   abbrev frame : ℕ → ℕ → NewConnectionId
   frame n low = record { sequence = n; retire_prior_to = low; id = n ∷ []; reset_token = n ∷ 7 ∷ [] }
@@ -74,14 +74,14 @@ module _ (Q S M P : Type 0) (queue : Q) (frames : M) (remote : SocketAddr) where
       (Ok (answer.Retire None))
   other_id_is_not_held = λ e. cc
 
-  -- the initial id has no token: a frame that repeats it may give one
+  -- the initial ID has no token: a frame that repeats it may give one
   initial_token : AcceptsIdsHere ids (event.NewId (record (frame 0 0) { id = 255 ∷ [] })) (Ok (answer.Retire None))
   initial_token = refl
 
   other_initial : AcceptsIdsHere ids (event.NewId (frame 0 0)) (Err refusal.Conflict)
   other_initial = refl
 
-  -- the initial id was replaced
+  -- the initial ID was replaced
   replaced : AcceptsIdsHere ((event.InitialId (0 ∷ []), Ok answer.Done) ∷ ids) (event.NewId (frame 0 0))
       (Ok (answer.Retire None))
   replaced = refl
@@ -101,7 +101,7 @@ module _ (Q S M P : Type 0) (queue : Q) (frames : M) (remote : SocketAddr) where
   not_initial : AcceptsIdsHere later (event.InitialId (0 ∷ [])) (Err refusal.NotInitialId)
   not_initial = refl
 
-  -- ---- ids of this end: two at the start, of which the peer retired number 0
+  -- ---- local IDs: two at the start, of which the peer retired number 0
 
   abbrev own : History Q S M P
   own = (event.PeerRetired 0 2, Ok (answer.Flag true)) ∷ []
@@ -139,7 +139,7 @@ module _ (Q S M P : Type 0) (queue : Q) (frames : M) (remote : SocketAddr) where
   too_many : IsIssue {Q = Q} (2 ^ 62) (own_id (2 ^ 62) ∷ []) (Err refusal.NumberTooLarge)
   too_many = refl
 
-  -- ---- what is tracked: packets 0 and 1 went out, then 2 on another path, and 0 was acknowledged
+  -- ---- what is tracked: packets 0 and 1 were sent, then 2 on another path, and 0 was acknowledged
 
   abbrev row_sent : ℕ → Happened
   row_sent n = (event.Send Data 5 100 true None queue frames, Ok (answer.Sent n None))
@@ -180,7 +180,7 @@ module _ (Q S M P : Type 0) (queue : Q) (frames : M) (remote : SocketAddr) where
   dropped : generation_by Previous ((event.DropPrevious, Ok answer.Done) ∷ flight) ≡ None
   dropped = refl
 
-  -- the first is used again, and one that is made then is the third
+  -- the first is used again, and one that is then made is the third
   abbrev used_again : History Q S M P
   used_again = (event.RevertPath, Ok answer.Done) ∷ flight
 
@@ -197,7 +197,7 @@ module _ (Q S M P : Type 0) (queue : Q) (frames : M) (remote : SocketAddr) where
       ≡ Some 1)
   second_again_is_wrong = λ e. cc
 
-  -- ---- refusals
+  -- ---- errors
 
   acked_twice : RejectsExactly flight (event.Acked Data 9 0 false) (Err refusal.NotTracked)
   acked_twice = refl

@@ -1,4 +1,4 @@
--- A worked row of a history, computed: what its events were to the parts, the newest first. Nothing rests on it.
+-- A worked row of a history, computed: the entries of its events in the parts, the newest first. Nothing rests on it.
 use Rattle.std.proofs.Common.{◌≡◌, ◌^◌, true, [], ◌∷◌, None, Some, Ok, Err, refl}
 use Rattle.recovery_base.specs.declared.below.SpaceId.TheVariants.{Initial, Handshake, Data}
 use Rattle.recovery_base.specs.declared.timer.Timer.TheVariants.{Idle, Pacing}
@@ -11,7 +11,8 @@ use Rattle.recovery_history.specs.RepliesAfter.{inputs_after, logs_of}
 use Rattle.recovery_history.specs.History.{Beginning, History}
 
 module _ {F K Q S M P : Type 0} (beginning : Beginning F K Q S M P) (queue : Q) (frames : M) where
-  -- packet 0 came, one too large was refused, one was sent, Idle was set to 50 and Pacing to 20, and Pacing was stopped
+  -- packet 0 was received, one too large was rejected, one was sent, Idle was set to 50 and Pacing to 20, and Pacing
+  -- was stopped
   abbrev row : History Q S M P
   row =
       (StopTimer Pacing, Ok answer.Done)

@@ -1,5 +1,5 @@
--- Worked rows of the promises on skipped numbers, on packets that are refused, and on silent ones that are forgotten,
--- computed: with the right answer each holds, and with a wrong one it does not. Nothing rests on them.
+-- Worked rows of the promises on skipped numbers, on packets that are rejected, and on non-ack-eliciting ones that are
+-- forgotten, computed: with the right answer each holds, and with a wrong one it does not. Nothing rests on them.
 use Rattle.std.proofs.lemmas.Bool.Decides.{nat_tests}
 use Rattle.std.proofs.lemmas.List.{length-append}
 use Rattle.std.proofs.Common.{◌≡◌, ◌≤◌, ◌+◌, ◌-◌, ◌^◌, ℕ, zero, suc, Bool, true, false, List, [], ◌∷◌, ◌++◌, length, None, Some, Ok, Err, inl, inr, refl, ap, ◌∙◌, arith, add-one}
@@ -23,7 +23,7 @@ module _ (Q S M P : Type 0) (queue : Q) (frames : M) where
   abbrev sent : ℕ → Event Q S M P × Reply Q
   sent n = (send 1200 true, Ok (answer.Sent n None))
 
-  -- ---- of 1-RTT packets 0, 2, 3 and 5 were given out: 1 and 4 were skipped
+  -- ---- of 1-RTT packets 0, 2, 3 and 5 were assigned: 1 and 4 were skipped
 
   abbrev past : History Q S M P
   past = sent 5 ∷ (event.PollMtu 3, Ok (answer.Probe 3 1400)) ∷ sent 2 ∷ sent 0 ∷ []
@@ -51,7 +51,7 @@ module _ (Q S M P : Type 0) (queue : Q) (frames : M) where
   it_is_not_taken : ¬ RejectsSkippedAcks past (event.CheckAck Data 3 5) (Ok answer.Done)
   it_is_not_taken = λ told. told.3 (4, four_skipped, four_is_last, omega arith, omega arith)
 
-  -- 1 lies before the last one
+  -- 1 is before the last one
   one_is_taken : RejectsSkippedAcks past (event.CheckAck Data 0 3) (Ok answer.Done)
   one_is_taken = (
     refl,
@@ -74,7 +74,7 @@ module _ (Q S M P : Type 0) (queue : Q) (frames : M) where
       (Err refusal.BadRange)
   large_is_not_a_bad_range = λ told. let small = told.0 in omega (arith, small)
 
-  -- ---- 6 goes out next, or 7, and then 6 is skipped
+  -- ---- 6 is sent next, or 7, and then 6 is skipped
 
   not_five : (m : ℕ) → ((n : ℕ) → m ≤ n → times (is_given Data n) past ≡ 0) → 6 ≤ m
   not_five m above = let five = above 5 in grind (arith, nat_tests, five)
@@ -97,7 +97,7 @@ module _ (Q S M P : Type 0) (queue : Q) (frames : M) where
   none_skipped_elsewhere : ¬ IsNextNumber Initial 1 past
   none_skipped_elsewhere = λ next. let is = (next.1 0 (λ m above. refl) (omega arith)).0 in cc
 
-  -- ---- packets that are refused: 1200, 1400, 1200 and 1200 bytes are in flight, and four packets that elicit an ACK
+  -- ---- packets that are rejected: 1200, 1400, 1200 and 1200 bytes are in flight, and four ack-eliciting packets
 
   numbers_are_left : ¬ SendsOrRejects past (send 1200 true) (Err refusal.NumbersExhausted)
   numbers_are_left = λ told.
@@ -125,7 +125,8 @@ module _ (Q S M P : Type 0) (queue : Q) (frames : M) where
   no_other_cause : ¬ SendsOrRejects past (send 1200 true) (Err refusal.NotTracked)
   no_other_cause = λ told. told
 
-  -- ---- silent packets: the first so many; no abbreviation, so that 1001 of them are not written out
+  -- ---- non-ack-eliciting packets: the first of them, up to a count; no abbreviation, so that 1001 of them are not
+  -- written out
 
   silents : ℕ → History Q S M P
   silents zero = []
@@ -157,14 +158,14 @@ module _ (Q S M P : Type 0) (queue : Q) (frames : M) where
   none_of_a_thousand : ForgetsOldestNonEliciting (silents 1000) (send 40 false) (Ok (answer.Sent 1000 None))
   none_of_a_thousand = rw (as_many 1000) refl
 
-  -- for a packet that elicits an ACK none is forgotten, nor is one that does
+  -- for an ack-eliciting packet none is forgotten, and none that is ack-eliciting is
   none_for_it : ForgetsOldestNonEliciting (silents 1001) (send 40 true) (Ok (answer.Sent 1001 None))
   none_for_it = refl
 
   eliciting_is_not_forgotten : ¬ ForgetsOldestNonEliciting (sent 0 ∷ []) (send 40 false) (Ok (answer.Sent 1 (Some 0)))
   eliciting_is_not_forgotten = λ told. cc
 
--- ---- where no numbers are to be skipped: 0 went out
+-- ---- if skipping is disabled: 0 was sent
 
 module _ {F K Q S M P : Type 0} (beginning : Beginning F K Q S M P) (queue : Q) (frames : M) where
   abbrev zero_sent : History Q S M P

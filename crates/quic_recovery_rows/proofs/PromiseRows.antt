@@ -1,4 +1,4 @@
--- Worked rows of the promises of events and answers alone, computed: with the right answer each holds, and with a wrong
+-- Worked rows of the promises of events and answers only, computed: with the right answer each holds, and with a wrong
 -- one it does not. Nothing rests on them.
 use Rattle.std.proofs.Common.{◌≡◌, ℕ, ◌^◌, true, false, [], ◌∷◌, Some, Ok, Err, refl}
 use Rattle.recovery_base.specs.declared.below.SpaceId.TheVariants.{Initial, Data}
@@ -16,7 +16,7 @@ module _ (Q S M P : Type 0) where
   abbrev came : ℕ → Event Q S M P × Reply Q
   came n = (event.Received Data 5 n true, Ok (answer.New true))
 
-  -- ---- new numbers: 200 and 100 came, and Initial was discarded
+  -- ---- new numbers: 200 and 100 were received, and Initial was discarded
 
   abbrev numbers : History Q S M P
   numbers = (event.DiscardSpace Initial, Ok answer.Done) ∷ came 100 ∷ came 200 ∷ []

@@ -1,4 +1,4 @@
--- What the proofs of worked rows cite: when the timer for a late ACK starts, and which numbers are new. The rows of the
+-- What the proofs of worked rows cite: when the ACK delay timer starts, and which numbers are new. The rows of the
 -- table of replies rest on it.
 use Rattle.std.proofs.Common.{◌≡◌, ◌∙◌, ℕ, Bool, not, true≢false, ◌+◌, ◌<◌, ◌≤◌, ◌^◌, ◌↔◌, ◌⊎◌, true, false, List, IsTrue, IsSome, min, nat_lt, ltb-true, [], ◌∷◌, Option, None, Some, refl, arith, inl, inr, lt_irrefl, get_or, nat_eq, ap, sym, subst}
 use Rattle.std.proofs.lemmas.Bool.{eqb-false}
@@ -9,7 +9,7 @@ use Rattle.recovery_ids.specs.RemoteIds.{IdTable, IsLeastHeld}
 use Rattle.recovery_events.specs.declared.event.Answer.{Answer}
 use Rattle.recovery_events.specs.declared.event.Answer.TheVariants as answer
 
--- a space that was not discarded refuses nothing for that
+-- a space that was not discarded rejects nothing for that
 pub unrefused : ¬ IsTrue false
 unrefused = λ h. cc
 
@@ -23,7 +23,7 @@ pub fits : {bytes eliciting : ℕ} → nat_lt bytes (2 ^ 64) ≡ true → nat_lt
 fits few rare (inl many) = small few many
 fits few rare (inr often) = small rare often
 
--- what is told of a moment, of a size, of bytes in flight or of a number
+-- a value of a time, of a size, of bytes in flight or of a number
 abbrev pub said : {Q : Type 0} → Answer Q → ℕ
 said (answer.Delayed until) = until
 said (answer.Probe number size) = size
@@ -47,7 +47,7 @@ not_opposite : (b : Bool) → ¬ (b ≡ not b)
 not_opposite true same = true≢false same
 not_opposite false same = true≢false (sym same)
 
--- answers are not the same where they are of two and opposite, or say other numbers
+-- answers are different if they are opposite flags, or have other numbers
 pub unlike : {Q : Type 0} {one other : Answer Q} → one ≡ other → ¬ (says_yes one ≡ not (says_yes other))
 unlike {one = one} {other = other} same opposite = not_opposite (says_yes other) (sym (ap says_yes same) ∙ opposite)
 
@@ -57,11 +57,11 @@ uneven same apart = eqb-false _ _ apart (ap said same)
 pub some_is_none : {A : Type 0} {x : A} → ¬ (Some x ≡ None)
 some_is_none h = cc
 
--- lists that begin with other numbers are not the same
+-- lists that begin with other numbers are different
 pub differ : {one other : List ℕ} → nat_eq (get_or one 0 0) (get_or other 0 0) ≡ false → ¬ (one ≡ other)
 differ apart same = eqb-false _ _ apart (ap (λ id. get_or id 0 0) same)
 
--- the timer for a late ACK is started: it was not, and no ACK is required at once
+-- the ACK delay timer is started: it was not, and no ACK is required at once
 pub calm : {Started Required Asks : Type 0} → ¬ Started → ¬ Required → ¬ Asks
     → IsTrue true × (¬ Started) × ¬ (Required ⊎ Asks)
 calm started required asks = (refl, started, λ h. elim h [ inl r ↦ required r | inr a ↦ asks a ])
@@ -76,7 +76,7 @@ starts all = (λ on. all, λ h. refl)
 pub stays : {Arms : Type 0} → ¬ Arms → IsTrue false ↔ Arms
 stays not = (λ on. absurd (unrefused on), λ all. absurd (not all))
 
--- the first packet since an ACK asks for none at once, where its number is the greatest or the one behind it
+-- the first packet since an ACK requires none at once, if its number is the largest or the one after it
 pub in_turn : {Numbers : ℕ → Type 0} (before step : ℕ) (acknowledged : Option ℕ) → step ≤ 1
     → ¬ ((1 < 1) ⊎ IsOutOfOrder Numbers 1 acknowledged before (before + step) (before + step))
 in_turn before step acknowledged near (inl many) = omega (arith, many)
@@ -92,20 +92,20 @@ leaves_a_gap below lacks window =
     stays (λ all. all.2 (inr
     (inr (inl (refl, inr (1, (omega arith, below, (lacks, window), λ m low less missing. low)))))))
 
--- three may come without an ACK, and nothing was acknowledged yet
+-- three may be received without an ACK, and nothing was acknowledged yet
 pub patient : {Numbers : ℕ → Type 0} (number : ℕ) → ¬ ((3 < 1) ⊎ IsOutOfOrder Numbers 2 None 0 number number)
 patient number (inl many) = omega (arith, many)
 patient number (inr (inl one)) = omega (arith, one.0)
 patient number (inr (inr more)) = more.1
 
--- 3 is missing, one below 4, where 2 was acknowledged
+-- 3 is missing, one below 4, after 2 was acknowledged
 pub not_far : {Numbers : ℕ → Type 0} → Numbers 2 → ¬ ((3 < 1) ⊎ IsOutOfOrder Numbers 2 (Some 2) 2 4 4)
 not_far two (inl many) = omega (arith, many)
 not_far two (inr (inl one)) = omega (arith, one.0)
 not_far {Numbers} two (inr (inr (more, (enough, (m, missing, far))))) =
     let is : m ≡ 2 = omega (arith, missing.0, far) in missing.2.0 (subst Numbers (sym is) two)
 
--- a number that came before is not new, nor is one that lies too far below it
+-- a number that was received before is not new, nor is one that is too far below it
 pub came_again : {Numbers : ℕ → Type 0} (n : ℕ) → Numbers n → ¬ IsNewNumber Numbers n
 came_again n came (inl above) = lt_irrefl n (above n came)
 came_again n came (inr missing) = missing.0 came
@@ -124,13 +124,13 @@ one_run P k only (n ∷ m ∷ rest) rise =
     let next = only m rise.2.1 in
     absurd (omega (arith, rise.2.0, first, next))
 
--- four causes of refusal that do not hold
+-- four causes of errors that do not hold
 pub taken : {a b c d limit low least most : ℕ} {Told : Type 0} → nat_lt a limit ≡ true → nat_lt b low ≡ true
     → nat_lt c least ≡ true → nat_lt d most ≡ true → Told
     → (¬ (limit ≤ a)) × ((¬ (low ≤ b)) × ((¬ (least ≤ c)) × ((¬ (most ≤ d)) × Told)))
 taken first second third fourth told = (small first, (small second, (small third, (small fourth, told))))
 
--- a frame moves the active number to the least one that is held
+-- a frame moves the active number to the smallest one that is held
 pub moves : {held : IdTable} {active low start end : ℕ} {token : List ℕ} (next : ℕ) (id : List ℕ)
     → nat_lt active low ≡ true
     → start ≡ active → end ≡ min next (active + 8) → held next ≡ Some (id, Some token)

@@ -16,7 +16,7 @@ use Rattle.recovery_history.specs.Config.{config_with}
 use Rattle.recovery_history.specs.History.{Beginning, History, QueueModel, Reply, begins, queue_model}
 use Rattle.recovery_history.specs.RepliesAfter.{RepliesAfter}
 
--- numbered items; those that come are put behind those that were there
+-- numbered items; others are appended
 abbrev pub item_words : QueueSemantics (List ℕ) (Unit {0})
 item_words = record {
   empty = [];
@@ -46,7 +46,7 @@ ack_frame sequence delay = record {
   reordering_threshold = 2;
 }
 
--- a run begins with ids of so many bytes, and with these skips
+-- a run begins with IDs of this length, and with these skips
 abbrev pub row_config : SocketAddr → ℕ → Skips → RecoveryConfig RenoSettings
 row_config remote cid_len skips = record (config_with (settings_with default_reno) remote (replicate 8 255)) {
   cid_len = cid_len;
@@ -56,16 +56,16 @@ row_config remote cid_len skips = record (config_with (settings_with default_ren
 abbrev pub RowStart : Type 0
 RowStart = Beginning RenoSettings NewReno (List ℕ) (Unit {0}) (Unit {0}) (List ℕ)
 
--- whatever the address of the peer and the words that skips are drawn from
+-- whatever the peer's address and the random words from which skips are drawn
 abbrev pub row_start : SocketAddr → Stream → ℕ → Skips → RowStart
 row_start remote random cid_len skips = begins reno_made reno_words items (row_config remote cid_len skips) 0 random
 
--- each event of a history was told what those before it say
+-- each event of a history has a reply that follows from those before it
 abbrev pub AllTold : RowStart → RowHistory → Type 0
 AllTold start [] = Unit {0}
 AllTold start (happened ∷ earlier) = AllTold start earlier × RepliesAfter start earlier happened.0 happened.1
 
--- what came before, and behind it what comes next
+-- what was before, followed by what is next
 infixl 5 ◌⊳◌
 pub ◌⊳◌ : {A B : Type 0} → A → B → A × B
 before ⊳ next = (before, next)

@@ -1,5 +1,5 @@
--- Worked rows of the promises of searches for the MTU and of black holes, computed: with the right answer each holds,
--- and with a wrong one it does not. Nothing rests on them.
+-- Worked rows of the promises on MTU searches and on black holes, computed: with the right answer each holds, and with
+-- a wrong one it does not. Nothing rests on them.
 use Rattle.std.proofs.lemmas.Bool.Decides.{nat_tests}
 use Rattle.std.proofs.lemmas.Option.{none-some, same_Some}
 use Rattle.std.proofs.Common.{◌≡◌, ℕ, ◌<◌, ◌≤◌, zero, suc, true, false, List, [], ◌∷◌, Option, None, Some, Ok, Err, inl, inr, refl, sym, arith}
@@ -31,7 +31,7 @@ use Rattle.quic_recovery_rows.proofs.RowStart.{RowHistory, row_start}
 
 module _ {F K Q S M P : Type 0} (beginning : Beginning F K Q S M P) (settings : MtuDiscoveryConfig)
     (is : discovery_settings beginning ≡ Some settings) (change : 3 ≤ settings.minimum_change) where
-  -- so many probes, each of them lost, of these sizes
+  -- this many probes, each of them lost, of these sizes
   abbrev polls : ℕ → (ℕ → ℕ) → History Q S M P
   polls zero size = []
   polls (suc n) size = (event.Lost Data n, Ok (answer.Lost true)) ∷
@@ -46,7 +46,7 @@ module _ {F K Q S M P : Type 0} (beginning : Beginning F K Q S M P) (settings : 
   size_17 : ¬ BoundsProbeCount beginning (polls 16 (λ n. n)) (event.PollMtu 60) (Ok (answer.Probe 60 1301))
   size_17 = λ few. let many = (few settings is change).1 in omega (arith, many)
 
-  -- a search that ended counts no more
+  -- a search that ended no longer counts
   after_its_end : BoundsProbeCount beginning ((event.PollMtu 50, Ok answer.NoProbe) ∷ polls 48 (λ n. 1300))
       (event.PollMtu 60)
       (Ok (answer.Probe 60 1301))
@@ -103,18 +103,19 @@ module _ (Q S M P : Type 0) where
   never_probed = λ near. let far = (near (omega arith) (λ k d below. absurd (omega (arith, below)))
       (λ k d below. absurd (omega (arith, below)))).1 in omega (arith, far)
 
-  -- what the peer takes is a bound too
+  -- what the peer accepts is a bound too
   at_its_limit : IsNear {Q = Q} {S = S} {M = M} {P = P} 1200 1200 by 1452 ((event.PeerLimit 1210, Ok answer.Done) ∷ [])
   at_its_limit = λ starts acks losses. (omega arith, omega arith)
 
-  -- a report lowers what is in use, and the next search waits for the cooldown
+  -- a report reduces the MTU in use, and the next search waits for the cooldown
   lowered : mtu true 1300 1200 ((event.LossesDone 7, Ok (answer.BlackHole true)) ∷ ended) ≡ 1200
   lowered = refl
 
   cooled : next by ((event.LossesDone 7, Ok (answer.BlackHole true)) ∷ ended) ≡ 67
   cooled = refl
 
-  -- a path that is used again has what it had, within what the peer told meanwhile that it takes; its search is anew
+  -- a path that is used again has what it had, within what the peer has since stated that it accepts; its search starts
+  -- again
   abbrev another : SocketAddr → History Q S M P
   another remote = (event.NewPath 8 remote true, Ok answer.Done) ∷ ended
 
@@ -152,7 +153,7 @@ module _ (remote : SocketAddr) (random : Stream) where
     | inr often ↦ omega (arith, often)
   ]
 
-  -- the peer takes 1400
+  -- the peer accepts 1400
   abbrev told : RowHistory
   told = (event.PeerLimit 1400, Ok answer.Done) ∷ []
 
@@ -162,7 +163,7 @@ module _ (remote : SocketAddr) (random : Stream) where
   above_the_limit : ¬ Fits told 1401
   above_the_limit = λ fits. let within = fits.0 in omega (arith, within)
 
-  -- a limit that is refused is none
+  -- a limit that is rejected is none
   refused_limit_is_none : Fits ((event.PeerLimit 1400, Err refusal.Searching) ∷ []) 1401
   refused_limit_is_none = (omega arith, omega arith, λ settings is wide. grind arith)
 
@@ -182,7 +183,7 @@ module _ (remote : SocketAddr) (random : Stream) where
   abbrev RowHalves : RowHistory → Reply (List ℕ) → Type 0
   RowHalves history reply = HalvesSizes (row_start remote random 8 Disabled) history (event.PollMtu 9) reply
 
-  -- what comes next, and what became of a probe of that size
+  -- the next size, and the outcome of a probe of that size
   abbrev Next : RowHistory → Option ℕ → Type 0
   Next history size =
       let config : MtuDiscoveryConfig =
@@ -222,7 +223,7 @@ module _ (remote : SocketAddr) (random : Stream) where
   none_is_left : Next over None
   none_is_left = refl
 
-  -- what the peer takes is a bound
+  -- what the peer accepts is a bound
   within_the_limit : Next ((event.PeerLimit 1300, Ok answer.Done) ∷ []) (Some 1250)
   within_the_limit = refl
 
@@ -240,7 +241,7 @@ module _ (remote : SocketAddr) (random : Stream) where
   one_more_is_wrong : ¬ RowHalves over (Ok (answer.Probe 0 1372))
   one_more_is_wrong = λ halves. none-some 1372 (halves _ refl (omega arith))
 
--- ---- in turn: a probe is in flight as packet 7
+-- ---- one probe at a time: one is in flight as packet 7
 
 module _ {F K Q S M P : Type 0} (beginning : Beginning F K Q S M P) where
   abbrev one_out : History Q S M P
@@ -273,7 +274,7 @@ module _ {F K Q S M P : Type 0} (beginning : Beginning F K Q S M P) where
   not_refused_before : ¬ OneProbeAtATime beginning [] (event.PeerLimit 1300) (Err refusal.Searching)
   not_refused_before = λ told. cc
 
-  -- a limit of nothing is no limit, and no other one is refused so
+  -- a limit of nothing is no limit, and no other one is rejected so
   none_at_all : OneProbeAtATime beginning one_out (event.PeerLimit 0) (Err refusal.ZeroMtu)
   none_at_all = refl
 
@@ -344,7 +345,7 @@ module _ (Q S M P : Type 0) (queue : Q) (frames : M) where
   three_is_wrong : ¬ ReportsBlackHoleAtFour 1200 three_lost (event.LossesDone 9) (Ok (answer.BlackHole true))
   three_is_wrong = λ e. let four = e.0 refl in omega (arith, four)
 
-  -- numbers that follow on one another are one burst
+  -- consecutive numbers are one burst
   joined_is_wrong : ¬ ReportsBlackHoleAtFour 1200 (lost 5 ∷ three_lost) (event.LossesDone 9)
       (Ok (answer.BlackHole true))
   joined_is_wrong = λ e. let four = e.0 refl in omega (arith, four)
@@ -355,7 +356,7 @@ module _ (Q S M P : Type 0) (queue : Q) (frames : M) where
       (event.LossesDone 9) (Ok (answer.BlackHole true))
   refuted_is_wrong = λ e. let four = e.0 refl in omega (arith, four)
 
-  -- a refused acknowledgement refutes none
+  -- a rejected acknowledgement refutes none
   refused_is_none : ¬ ReportsBlackHoleAtFour 1200 (lost 6 ∷ (event.Acked Data 8 9 false, Err refusal.NotTracked) ∷
       three_lost)
       (event.LossesDone 9) (Ok (answer.BlackHole false))

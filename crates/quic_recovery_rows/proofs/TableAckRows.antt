@@ -1,4 +1,4 @@
--- Worked rows of the table of replies, computed: requests of ACKs, late ACKs, ECN, and acknowledged ranges. Nothing
+-- Worked rows of the table of replies, computed: required ACKs, delayed ACKs, ECN, and acknowledged ranges. Nothing
 -- rests on them.
 use Rattle.std.proofs.Common.{ltb-true, ◌≡◌, ℕ, ◌≤◌, ◌^◌, true, false, List, [], ◌∷◌, drop, None, Some, Ok, Err, IsSomeAnd, refl, arith, inl, inr, sym, subst, ap, codes, length, unwrap_or, Bor, if◌then◌else◌}
 use Rattle.std.specs.declared.net.socket_addr.SocketAddr.{SocketAddr}
@@ -21,7 +21,7 @@ module _ (remote : SocketAddr) (random : Stream) where
   abbrev TellsAll : RowHistory → Type 0
   TellsAll = AllTold (row_start remote random 8 Disabled)
 
-  -- ---- a request for less than a millisecond is refused, and its number is kept
+  -- ---- a request for less than a millisecond fails, and its number is stored
 
   abbrev requests : RowHistory
   requests =
@@ -47,7 +47,7 @@ module _ (remote : SocketAddr) (random : Stream) where
       (Err refusal.DelayTooSmall)
   stale_is_not_refused = λ told. told.1.0 (omega arith)
 
-  -- ---- a late ACK: its timer expires, and a probe may be sent with it
+  -- ---- a delayed ACK: its timer expires, and a probe may be sent with it
 
   abbrev late : RowHistory
   late =
@@ -121,7 +121,7 @@ module _ (remote : SocketAddr) (random : Stream) where
     ),
   ))
 
-  -- ---- where the peer knows of the ACK, none waits
+  -- ---- if the peer knows the ACK, none waits
 
   abbrev known : RowHistory
   known =
@@ -151,7 +151,7 @@ module _ (remote : SocketAddr) (random : Stream) where
         ),
       )
 
-  -- ---- the second packet that elicits an ACK requires one at once
+  -- ---- the second ack-eliciting packet requires one at once
 
   abbrev twice : RowHistory
   twice =
@@ -192,7 +192,7 @@ module _ (remote : SocketAddr) (random : Stream) where
         ),
       )
 
-  -- ---- counts of ECN
+  -- ---- ECN counts
 
   abbrev ecn : ℕ → ℕ → ℕ → ℕ → RowEvent
   ecn newly ect0 ect1 ce = event.Ecn Data newly (record { ect0 = ect0; ect1 = ect1; ce = ce })
@@ -250,7 +250,7 @@ module _ (remote : SocketAddr) (random : Stream) where
   none_is_skipped : ¬ RowTold [] (event.CheckAck Data 0 0) (Err refusal.SkippedAcked)
   none_is_skipped = λ told. told.1.1.1
 
-  -- the first number is skipped: that shows once the number behind it was given out
+  -- the first number is skipped: that shows after the number following it was assigned
 
   abbrev SkipsTells : RowHistory → RowEvent → RowReply → Type 0
   SkipsTells = RepliesAfter (row_start remote random 8 (Starting 0))
@@ -258,7 +258,7 @@ module _ (remote : SocketAddr) (random : Stream) where
   zero_was_skipped : skip_before (Starting 0) random 2 ≡ Some 0
   zero_was_skipped = ap (λ b. if b then Some 1 else Some 0) (behind_not_skipped (Starting 0) random 0 refl)
 
-  -- what is told where it is the last skip
+  -- the reply if it is the last skip
   holds_zero : IsSomeAnd (skip_before (Starting 0) random 2) (λ s. (0 ≤ s) × (s ≤ 0))
   holds_zero = subst (λ last. IsSomeAnd last (λ s. (0 ≤ s) × (s ≤ 0))) (sym zero_was_skipped) (omega arith, omega arith)
 

@@ -1,4 +1,4 @@
--- Worked rows of the table of replies, computed: ids of the peer. Nothing rests on them.
+-- Worked rows of the table of replies, computed: the peer's IDs. Nothing rests on them.
 use Rattle.std.proofs.Common.{ℕ, ◌-◌, ◌^◌, List, [], ◌∷◌, drop, replicate, None, Some, Ok, Err, refl, arith}
 use Rattle.std.proofs.lemmas.Bool.Decides.{nat_tests}
 use Rattle.std.specs.declared.net.socket_addr.SocketAddr.{SocketAddr}
@@ -28,11 +28,11 @@ module _ (remote : SocketAddr) (random : Stream) where
     reset_token = replicate 16 byte;
   }
 
-  -- these numbers are to be retired, and the token of the active id is then of this byte
+  -- these numbers are to be retired, and the token of the active ID is then of this byte
   abbrev retires : ℕ → ℕ → ℕ → Answer (List ℕ)
   retires start end byte = answer.Retire (Some (record { start = start; end = end }, replicate 16 byte))
 
-  -- ---- ids of the peer
+  -- ---- the peer's IDs
 
   abbrev peers : RowHistory
   peers =
@@ -88,7 +88,7 @@ module _ (remote : SocketAddr) (random : Stream) where
   bad_frame_is_taken_is_wrong : ¬ RowTold (drop 1 peers) (event.NewId (frame 3 4 1)) (Ok (answer.Retire None))
   bad_frame_is_taken_is_wrong = λ told. told.1.0 (omega arith)
 
-  -- ---- a frame for a number that is held repeats it, and eight numbers are held at most
+  -- ---- a frame for a number that is held repeats it, and at most eight numbers are held
 
   abbrev conflicts : RowHistory
   conflicts =
@@ -127,7 +127,7 @@ module _ (remote : SocketAddr) (random : Stream) where
   eighth_is_past_is_wrong : ¬ RowTold (drop 5 conflicts) (event.NewId (frame 7 0 1)) (Err refusal.ExceedsLimit)
   eighth_is_past_is_wrong = λ told. omega (arith, told.1.1.1)
 
-  -- ---- a peer that leaps ahead
+  -- ---- a peer that skips numbers
 
   abbrev far : RowHistory
   far =
@@ -157,7 +157,7 @@ module _ (remote : SocketAddr) (random : Stream) where
   retired_is_taken_is_wrong : ¬ RowTold (drop 2 far) (event.NewId (frame 5 0 1)) (Ok (answer.Retire None))
   retired_is_taken_is_wrong = λ told. told.1.1.0 (omega arith)
 
-  -- ---- the initial id is replaced, and a frame that repeats the new one brings its token
+  -- ---- the initial ID is replaced, and a frame that repeats the new one brings its token
 
   abbrev initial : RowHistory
   initial =

@@ -1,4 +1,4 @@
--- Worked rows of the table of replies, computed: searches for the MTU, and black holes. Nothing rests on them.
+-- Worked rows of the table of replies, computed: MTU searches, and black holes. Nothing rests on them.
 use Rattle.std.proofs.Common.{◌-◌, ◌^◌, inl, true, false, [], ◌∷◌, drop, None, Ok, Err, refl, arith}
 use Rattle.std.specs.declared.net.socket_addr.SocketAddr.{SocketAddr}
 use Rattle.rand_core.specs.Stream.{Stream}
@@ -61,7 +61,7 @@ module _ (remote : SocketAddr) (random : Stream) where
   limit_of_none_is_wrong : ¬ RowTold (drop 3 searches) (event.PeerLimit 0) (Err refusal.Searching)
   limit_of_none_is_wrong = λ told. told.0 refl
 
-  -- ---- a search whose probe was discarded goes on until the path is reset
+  -- ---- a search whose probe was discarded continues until the path is reset
 
   abbrev abandoned : RowHistory
   abandoned =
@@ -181,7 +181,7 @@ module _ (remote : SocketAddr) (random : Stream) where
   refuted_is_reported_is_wrong : ¬ RowTold (drop 1 refuted) (event.LossesDone 0) (Ok (answer.BlackHole true))
   refuted_is_reported_is_wrong = λ told. unlike told refl
 
-  -- ---- a path that goes on takes the search with it, and a fresh one does not
+  -- ---- a path that is not fresh inherits the search, and a fresh one does not
 
   abbrev moved : RowHistory
   moved =
@@ -234,7 +234,7 @@ module _ (remote : SocketAddr) (random : Stream) where
   ended_runs_is_wrong : ¬ RowTold (drop 3 at_once) (event.PeerLimit 1300) (Err refusal.Searching)
   ended_runs_is_wrong = λ told. unrefused told.1
 
-  -- ---- bytes in flight overflow only where a probe is due
+  -- ---- bytes in flight overflow only if a probe is due
 
   abbrev full : RowHistory
   full = (event.Send Data 0 (2 ^ 64 - 1) true None [] tt, Ok (answer.Sent 0 None)) ∷ []

@@ -1,4 +1,4 @@
--- Worked rows of the table of replies, computed: ids of this end, and timers. Nothing rests on them.
+-- Worked rows of the table of replies, computed: local IDs, and timers. Nothing rests on them.
 use Rattle.std.proofs.Common.{ℕ, ◌<◌, ◌^◌, true, false, List, [], ◌∷◌, drop, map, length, replicate, None, Some, Ok, Err, refl, arith}
 use Rattle.std.specs.declared.net.socket_addr.SocketAddr.{SocketAddr}
 use Rattle.std.specs.Global.{Vec}
@@ -21,7 +21,7 @@ module _ (remote : SocketAddr) (random : Stream) (given : Vec IssuedCid) where
   abbrev TellsAll : RowHistory → Type 0
   TellsAll = AllTold (row_start remote random 8 Disabled)
 
-  -- ---- ids of this end, whatever memory they lie in
+  -- ---- local IDs, wherever they are in memory
 
   abbrev numbered : List ℕ → List IssuedCid
   numbered numbers = map (λ n. record { sequence = n; id = replicate 8 0; reset_token = replicate 16 0 }) numbers
@@ -82,11 +82,11 @@ module _ (remote : SocketAddr) (random : Stream) (given : Vec IssuedCid) where
   no_ids_are_issued : RowTold [] (issued 0 [] (omega arith)) (Ok answer.Done)
   no_ids_are_issued = (small refl, (λ other. other refl, refl))
 
-  -- where ids have no bytes none is retired
+  -- if IDs have zero length none is retired
   none_in_use : RepliesAfter (row_start remote random 0 Disabled) [] (event.PeerRetired 9 5) (Err refusal.CidsNotInUse)
   none_in_use = refl
 
-  -- ---- ids of one moment have one deadline
+  -- ---- IDs of one time have one deadline
 
   abbrev deadlines : RowHistory
   deadlines =
@@ -121,7 +121,7 @@ module _ (remote : SocketAddr) (random : Stream) (given : Vec IssuedCid) where
   asked_twice_is_wrong : ¬ RowAsks (drop 2 own) (Ok (answer.Flag true))
   asked_twice_is_wrong = λ e. cc
 
-  -- two ids more lived from 7 on; the peer was asked to retire number 0
+  -- two more IDs had lifetimes from 7 on; the peer was asked to retire number 0
   abbrev second : RowHistory
   second = (event.IdTimeout, Ok (answer.Flag true)) ∷ (issued 7 (1 ∷ 2 ∷ []) (omega arith), Ok answer.Done) ∷ []
 

@@ -1,4 +1,4 @@
--- Worked rows of the table of replies, computed: pacing; and of what it pays for. Nothing rests on them.
+-- Worked rows of the table of replies, computed: pacing, and the bytes paid for. Nothing rests on them.
 use Rattle.std.proofs.Common.{ℕ, ◌-◌, ◌^◌, true, false, [], ◌∷◌, drop, Ok, refl, arith, ltb-true}
 use Rattle.std.proofs.lemmas.Bool.{eqb-false}
 use Rattle.std.proofs.lemmas.Option.{none-some}
@@ -27,7 +27,7 @@ module _ (remote : SocketAddr) (random : Stream) where
   abbrev TellsAll : RowHistory → Type 0
   TellsAll = AllTold (row_start remote random 8 Disabled)
 
-  -- ---- pacing: ten packets at once, and the next at the moment that is named
+  -- ---- pacing: ten packets at once, and the next at the reported time
 
   abbrev paced : RowHistory
   paced =
@@ -89,7 +89,7 @@ module _ (remote : SocketAddr) (random : Stream) where
   earlier_is_wrong : ¬ RowTold (drop 1 checks) (event.PacerCheck 0 12001) (Ok (answer.Delayed 22200))
   earlier_is_wrong = λ told. uneven told refl
 
-  -- ---- the clock steps back, and the bucket fills from the moment when it was made
+  -- ---- the clock steps back, and the bucket is refilled from the time when it was made
 
   abbrev backwards : RowHistory
   backwards =
@@ -127,7 +127,7 @@ module _ (remote : SocketAddr) (random : Stream) where
       ⊳ (small refl, refl)
       ⊳ (small refl, refl)
 
-  -- ---- a fresh path where the peer takes datagrams of 600 bytes
+  -- ---- a fresh path; the peer accepts datagrams of 600 bytes
 
   abbrev small_path : RowHistory
   small_path =
@@ -145,7 +145,7 @@ module _ (remote : SocketAddr) (random : Stream) where
       ⊳ refl
       ⊳ refl
 
-  -- ---- no moment is named behind the last one
+  -- ---- no time after the last one is reported
 
   abbrev last_moment : RowHistory
   last_moment =
@@ -159,7 +159,7 @@ module _ (remote : SocketAddr) (random : Stream) where
       ⊳ refl
       ⊳ refl
 
-  -- ---- what is delayed brings the pacer the tokens of half an RTT
+  -- ---- a delayed call refills the pacer for half an RTT
 
   abbrev brings_tokens : RowHistory
   brings_tokens =
@@ -195,7 +195,7 @@ module _ (remote : SocketAddr) (random : Stream) where
       ⊳ (small refl, refl)
       ⊳ refl
 
-  -- ---- a probe goes out unchecked, and there are tokens for half of it: no debt is kept
+  -- ---- a probe is sent unchecked, and there are tokens for half of it: no debt is stored
 
   abbrev overdrawn : RowHistory
   overdrawn =
@@ -218,7 +218,7 @@ module _ (remote : SocketAddr) (random : Stream) where
   debt_is_wrong : ¬ RowTold (drop 2 overdrawn) (event.Transmit 0 1200 true) (Ok (answer.Delayed 293040000))
   debt_is_wrong = λ told. uneven told.1 refl
 
-  -- the promises say the same of the path in use and its pacer's call
+  -- the promises say the same about the path in use and the call of its pacer
   abbrev path : RowHistory → PathHistory NewReno
   path history = (pasts_of (row_start remote random 8 Disabled) history).current
 

@@ -19,7 +19,7 @@ module _ (remote : SocketAddr) (random : Stream) where
   abbrev TellsAll : RowHistory → Type 0
   TellsAll = AllTold (row_start remote random 8 Disabled)
 
-  -- ---- the amplification limit: three times what came in
+  -- ---- the anti-amplification limit: three times the bytes received
 
   abbrev amplified : RowHistory
   amplified =
@@ -74,7 +74,7 @@ module _ (remote : SocketAddr) (random : Stream) where
       (Err refusal.Overflow)
   sent_overflows = omega arith
 
-  -- ---- each packet counts on the path that it went out on
+  -- ---- each packet counts on the path on which it was sent
 
   abbrev two_paths : RowHistory
   two_paths =
@@ -138,7 +138,7 @@ module _ (remote : SocketAddr) (random : Stream) where
   drops_not_is_wrong : ¬ RowTold (drop 2 dropped) (event.DropPrevious) (Err refusal.NoSuchPath)
   drops_not_is_wrong = λ told. told
 
-  -- ---- the path before is used again, and the packets of the other one stay tracked
+  -- ---- the previous path is used again, and the packets of the other one stay tracked
 
   abbrev used_again : RowHistory
   used_again =

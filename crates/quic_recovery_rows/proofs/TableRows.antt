@@ -1,5 +1,4 @@
--- Worked rows of the table of replies, computed: packets that come in, right answers and wrong ones. Nothing rests on
--- them.
+-- Worked rows of the table of replies, computed: received packets, right answers and wrong ones. Nothing rests on them.
 use Rattle.std.proofs.Common.{◌-◌, ◌^◌, true, false, [], ◌∷◌, drop, None, Ok, Err, refl, arith, inl, inr, eq-or-lt_of_le, sym}
 use Rattle.std.specs.declared.net.socket_addr.SocketAddr.{SocketAddr}
 use Rattle.rand_core.specs.Stream.{Stream}
@@ -19,7 +18,7 @@ module _ (remote : SocketAddr) (random : Stream) where
   abbrev TellsAll : RowHistory → Type 0
   TellsAll = AllTold (row_start remote random 8 Disabled)
 
-  -- ---- packets that come in: a duplicate, an ACK, and a number too large
+  -- ---- received packets: a duplicate, an ACK, and a number too large
 
   abbrev arrivals : RowHistory
   arrivals =
@@ -48,7 +47,7 @@ module _ (remote : SocketAddr) (random : Stream) where
       ⊳ (unrefused, refl)
       ⊳ (unrefused, omega arith)
 
-  -- ---- each space has numbers of its own; one that leaves a gap asks for an ACK at once
+  -- ---- each space has numbers of its own; one that leaves a gap requires an ACK at once
 
   abbrev in_spaces : RowHistory
   in_spaces =
@@ -81,7 +80,7 @@ module _ (remote : SocketAddr) (random : Stream) where
         ),
       )
 
-  -- ---- the window ends 128 below the greatest number
+  -- ---- the window ends 128 below the largest number
 
   abbrev window : RowHistory
   window =
@@ -199,7 +198,7 @@ module _ (remote : SocketAddr) (random : Stream) where
   too_old_is_not_new : ¬ RowTold (drop 3 window) (event.Received Data 0 171 false) (Ok (answer.New false))
   too_old_is_not_new = λ told. too_old 300 (inl refl) (omega arith) told.1.1.0
 
-  -- a new number may find no memory, and a duplicate takes none
+  -- an allocation may fail for a new number, and a duplicate allocates nothing
   new_takes_memory : RowTold [] (event.Received Data 0 0 true) (Err refusal.NoMemory)
   new_takes_memory = (unrefused, (small refl, inl (λ m came. absurd came)))
 

@@ -116,7 +116,7 @@ module _ (remote : SocketAddr) (random : Stream) where
   tracked_is_refused_is_wrong : ¬ RowTold (drop 2 queues) (event.Lost Data 0) (Err refusal.NotTracked)
   tracked_is_refused_is_wrong = λ told. some_is_none told.1
 
-  -- what is lost is put behind what was lost before
+  -- what is lost is appended to what was lost before
 
   abbrev joined : RowHistory
   joined =
@@ -143,7 +143,7 @@ module _ (remote : SocketAddr) (random : Stream) where
   in_front_is_wrong : ¬ RowTold (drop 1 joined) (event.TakePending Data) (Ok (answer.Queue (1 ∷ 2 ∷ 3 ∷ [])))
   in_front_is_wrong = λ told. differ refl told.1
 
-  -- ---- a PING stays marked
+  -- ---- a PING stays requested
 
   abbrev marked : RowHistory
   marked =
@@ -159,7 +159,7 @@ module _ (remote : SocketAddr) (random : Stream) where
       ⊳ (unrefused, refl)
       ⊳ (unrefused, (stays (λ all. all.0), refl))
 
-  -- ---- and an ACK at once is asked for
+  -- ---- and an immediate ACK is requested
 
   abbrev at_once : RowHistory
   at_once =

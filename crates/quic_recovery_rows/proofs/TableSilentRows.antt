@@ -1,5 +1,5 @@
--- Worked rows of the table of replies: of silent packets 1001 are tracked at most, and the first of them is forgotten
--- first. Nothing rests on them.
+-- Worked rows of the table of replies: at most 1001 non-ack-eliciting packets are tracked, and the first of them is
+-- forgotten first. Nothing rests on them.
 use Rattle.std.proofs.Common.{◌≡◌, ℕ, zero, suc, ◌+◌, ◌*◌, ◌≤◌, ◌^◌, ◌++◌, false, nat_lt, if◌then◌else◌, IsTrue, List, [], ◌∷◌, length, sum_by, Option, None, Some, Ok, refl, sym, ap, ap₂, inl, inr, ◌⊎◌, unwrap_or, ◌∙◌, subst, arith, add-one}
 use Rattle.std.proofs.lemmas.Bool.{le-ltb, lt-ltb}
 use Rattle.std.proofs.lemmas.List.{length-append}
@@ -26,12 +26,12 @@ use Rattle.recovery_history.specs.ReplyInputs.{ReplyInputs, current_in_flight}
 use Rattle.quic_recovery_rows.proofs.RowStart.{RowEvent, RowReply, RowHistory, item_words, row_start}
 use Rattle.quic_recovery_rows.proofs.RowLaws.{unrefused, some_is_none, said}
 
--- ---- silent packets in the order of their numbers
+-- ---- non-ack-eliciting packets in the order of their numbers
 
 abbrev silent : Packet (List ℕ) (Unit {0})
 silent = packet_sent 0 0 40 false None [] tt
 
--- the first so many; no abbreviation, so that 1001 of them are not written out
+-- the first of them, up to a count; no abbreviation, so that 1001 of them are not written out
 tracked : ℕ → Packets (List ℕ) (Unit {0})
 tracked zero = []
 tracked (suc n) = tracked n ++ (n, silent) ∷ []
@@ -48,7 +48,7 @@ unfolding tracked
 as_many zero = refl
 as_many (suc n) = length-append (tracked n) ((n, silent) ∷ []) ∙ (ap (λ k. k + 1) (as_many n) ∙ add-one n)
 
--- and those behind number 0
+-- and those after number 0
 behind : ℕ → Packets (List ℕ) (Unit {0})
 behind zero = []
 behind (suc n) = behind n ++ (suc n, silent) ∷ []
@@ -71,7 +71,7 @@ zero_forgotten =
     (lt-ltb 1000 (length (tracked 1001)) (subst (λ k. 1001 ≤ k) (sym (as_many 1001)) (omega arith)))
     ∙ ap least_number (zero_in_front 1000))
 
--- 40 bytes each, and none elicits an ACK
+-- 40 bytes each, and none is ack-eliciting
 bytes_tracked : (n : ℕ) → sum_by (size_in 0) (tracked n) ≡ 40 * n
 unfolding tracked
 bytes_tracked zero = refl
@@ -165,7 +165,7 @@ module _ (remote : SocketAddr) (random : Stream) where
   abbrev known : ℕ → ReplyInputs NewReno (List ℕ) (Unit {0})
   known n = inputs_after (row_start remote random 8 Disabled) (silents n)
 
-  -- the counters, with these packets in the space of 1-RTT packets and none in the others
+  -- the counters, with these packets in the Application Data space and none in the others
   abbrev counters : ℕ → List Entry → List Entry → Packets (List ℕ) (Unit {0}) → InFlight
   counters first initial handshake packets = record {
     bytes = sum_by (size_in first) (sent_by item_words initial).tracked
@@ -192,7 +192,7 @@ module _ (remote : SocketAddr) (random : Stream) where
   room n few (inl many) = let bytes = bytes_tracked n in omega (arith, few, many, bytes)
   room n few (inr often) = let none = none_elicit n in omega (arith, often, none)
 
-  -- what a silent packet more is told, where so many were sent and this one is forgotten
+  -- the reply to one more non-ack-eliciting packet, after this many were sent and this one is forgotten
   told_one : (n : ℕ) (forgotten : Option ℕ) → n ≤ 1001 → forgotten_number None silent (tracked n) ≡ forgotten
       → RowTold (silents n) send (Ok (answer.Sent n forgotten))
   told_one n forgotten few is =
@@ -236,13 +236,13 @@ module _ (remote : SocketAddr) (random : Stream) where
   too_early_is_wrong : ¬ RowTold (silents 1000) send (Ok (answer.Sent 1000 (Some 0)))
   too_early_is_wrong = λ told. some_is_none (ap forgotten_in (told.1.1.1.1 ∙ sym all_are_tracked.1.1.1.1))
 
-  -- what is forgotten is in flight no more: 1001 packets before, and 1001 behind
+  -- what is forgotten is no longer in flight: 1001 packets before, and 1001 after
   before_it : RowTold (silents 1001) (event.InFlight Current) (Ok (answer.InFlight 40040 0))
   before_it =
       sym (ap (λ c. answer.InFlight c.bytes c.ack_eliciting) (in_flight_now 1001 (after 1001 (omega arith)))
       ∙ ap₂ answer.InFlight (ap (λ b. 0 + 0 + b) (bytes_tracked 1001)) (ap (λ e. 0 + 0 + e) (none_elicit 1001)))
 
-  -- the packets once number 1001 is sent
+  -- the packets after number 1001 is sent
   packets_behind : (sent_more 1001 silent (record { next = 1001; last = None; tracked = tracked 1001 })).tracked
       ≡ behind 1000 ++ (1001, silent) ∷ []
   packets_behind =

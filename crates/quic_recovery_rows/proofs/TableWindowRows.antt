@@ -1,5 +1,4 @@
--- Worked rows of the table of replies, computed: windows and round-trip times, as the pacer shows them. Nothing rests
--- on them.
+-- Worked rows of the table of replies, computed: windows and RTTs, as the pacer shows them. Nothing rests on them.
 use Rattle.std.proofs.Common.{true, false, [], ◌∷◌, drop, None, Ok, Err, refl}
 use Rattle.std.specs.declared.net.socket_addr.SocketAddr.{SocketAddr}
 use Rattle.rand_core.specs.Stream.{Stream}
@@ -82,7 +81,7 @@ module _ (remote : SocketAddr) (random : Stream) where
   ends_are_done : ¬ RowTold [] (event.EndAcks 0 false None) (Err refusal.NoMemory)
   ends_are_done = λ told. told
 
-  -- ---- a probe that is acknowledged grows the window too
+  -- ---- a probe that is acknowledged increases the window too
 
   abbrev grown : RowHistory
   grown =
@@ -139,7 +138,7 @@ module _ (remote : SocketAddr) (random : Stream) where
   sample_is_done : ¬ RowTold [] (event.Sample 0 1000000) (Ok answer.Ready)
   sample_is_done = λ told. unlike told refl
 
-  -- ---- a packet of another path, or one that elicits no ACK, grows nothing
+  -- ---- a packet of another path, or a non-ack-eliciting one, does not increase the window
 
   abbrev another_path : RowHistory
   another_path =

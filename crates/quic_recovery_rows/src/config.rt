@@ -11,7 +11,7 @@ use recovery_history::RecoveryConfig;
 use recovery_packet_numbers::Skips;
 use std::net::{IpAddr, Ipv4Addr, SocketAddr};
 
-/// The settings of the replay program, but for the bytes of this end's ids, and that no number is skipped.
+/// Returns the settings of the replay program, except for the length of local IDs, and without skips.
 pub fn settings(cid_len: usize) -> RecoveryConfig<NewRenoConfig>
     ensures issued { result.issued ≡ 1 }
     ensures skips { IsSkips result.skips }
@@ -36,7 +36,7 @@ pub fn settings_with<F: Drop>(
     config
 }
 
-/// The words that skips are drawn from, where they are drawn.
+/// Returns the random words from which skips are drawn, if they are.
 pub fn words() -> Pcg32 {
     Pcg32::seed_from_u64(0)
 }

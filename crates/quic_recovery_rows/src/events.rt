@@ -9,34 +9,34 @@ use recovery_base::timer::Timer;
 use recovery_congestion::congestion::NewRenoConfig;
 use recovery_paths::path_pair::PathName;
 
-/// What happens, where packets carry tallies.
+/// Events of packets that carry tallies.
 pub type Event = recovery_events::event::Event<Tally>;
 
-/// What an event is answered, where packets carry tallies.
+/// Answers to events of packets that carry tallies.
 pub type Answer = recovery_events::event::Answer<Tally>;
 
-/// A recovery whose controllers are NewReno, and whose skips are drawn from the words of `Pcg32`.
+/// A recovery whose controllers are NewReno, and whose skips `Pcg32` draws.
 pub type Reno = Recovery<NewRenoConfig, Tally, Pcg32>;
 
-/// What an event is replied.
+/// The reply to an event.
 pub type Given = Result<Answer, recovery_events::event::Refusal>;
 
-/// What a row wants.
+/// The reply that a row expects.
 pub type Reply = Result<Answer, Refusal>;
 
-/// The allocator refused memory.
+/// An allocation failed.
 pub const NO_MEMORY: Reply = Err(Refusal::NoMemory);
 
-/// The event happened, and there is nothing to say.
+/// The event was applied, and has no other answer.
 pub const DONE: Reply = Ok(Answer::Done);
 
-/// The packet came before, or is too old to be told from one that did.
+/// Duplicate, or too old to know.
 pub const DUPLICATE: Reply = Ok(Answer::Duplicate);
 
 /// A packet that is no probe was acknowledged.
 pub const ACKED: Reply = Ok(Answer::Acked { probe: false });
 
-/// A probe of the MTU was acknowledged.
+/// An MTU probe was acknowledged.
 pub const PROBE_ACKED: Reply = Ok(Answer::Acked { probe: true });
 
 /// A packet that is no probe was lost.
@@ -48,17 +48,17 @@ pub const YES: Reply = Ok(Answer::Flag(true));
 /// The packet is not tracked.
 pub const NOT_TRACKED: Reply = Err(Refusal::NotTracked);
 
-/// What is in flight on the path in use.
+/// Asks what is in flight on the path in use.
 pub const CURRENT: Event = Event::InFlight {
     path: PathName::Current,
 };
 
-/// The moment this many nanoseconds after the first one.
+/// Returns the time this many nanoseconds after the first one.
 pub fn at(nanos: u64) -> Instant {
     Instant::from_nanos(nanos)
 }
 
-/// A packet comes in.
+/// A packet is received.
 pub fn received(space: SpaceId, number: u64, ack_eliciting: bool) -> Event {
     Event::Received {
         space,
@@ -68,7 +68,7 @@ pub fn received(space: SpaceId, number: u64, ack_eliciting: bool) -> Event {
     }
 }
 
-/// A packet goes out that carries nothing that is sent again.
+/// A packet without contents is sent.
 pub fn send(space: SpaceId, size: u16, ack_eliciting: bool) -> Event {
     Event::Send {
         space,
@@ -104,7 +104,7 @@ pub fn stop(timer: Timer) -> Event {
     Event::StopTimer { timer }
 }
 
-/// So much is in flight.
+/// This much is in flight.
 pub fn in_flight(bytes: u64, ack_eliciting: u64) -> Reply {
     Ok(Answer::InFlight {
         bytes,
@@ -112,12 +112,12 @@ pub fn in_flight(bytes: u64, ack_eliciting: u64) -> Reply {
     })
 }
 
-/// The packet went out under this number.
+/// The packet was sent under this number.
 pub fn sent(number: u64, forgotten: Option<u64>) -> Reply {
     Ok(Answer::Sent { number, forgotten })
 }
 
-/// The packet is new, and the timer of delayed ACKs is to be armed, or not.
+/// The packet is new, and the ACK delay timer is to be started, or not.
 pub fn new(arm: bool) -> Reply {
     Ok(Answer::New { arm })
 }

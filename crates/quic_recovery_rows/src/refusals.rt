@@ -1,11 +1,11 @@
-//! The refusals that rows want, by their numbers: rows are handed on by value, and hold no references.
+//! The errors that rows expect, by their numbers: rows are passed by value, and have no references.
 use crate::events::{Given, Reply};
 use recovery_events::event::Refusal as Cause;
 
-/// A refusal, in the order of the library's numbers.
+/// An error, in the order of the library's numbers.
 #[derive(Clone, Copy, PartialEq, Eq)]
 pub enum Refusal {
-    /// The allocator refused memory.
+    /// An allocation failed.
     NoMemory,
     /// A number is 2^62 or more.
     NumberTooLarge,
@@ -17,37 +17,37 @@ pub enum Refusal {
     SpaceDiscarded,
     /// There is no such path.
     NoSuchPath,
-    /// The MTU is searched for.
+    /// An MTU search is running.
     Searching,
     /// The size is zero.
     ZeroMtu,
-    /// A counter passes `u64::MAX`.
+    /// A counter exceeds `u64::MAX`.
     Overflow,
-    /// The connection id was already retired.
+    /// The connection ID was already retired.
     Retired,
-    /// The connection id exceeds the limit.
+    /// The connection ID exceeds the limit.
     ExceedsLimit,
-    /// The frame retires numbers past its own.
+    /// The frame's retire-prior-to exceeds its own number.
     BadRetirePriorTo,
-    /// Connection ids are not in use.
+    /// Connection IDs are not in use.
     CidsNotInUse,
-    /// The connection id was not issued.
+    /// The connection ID was not issued.
     UnissuedCid,
-    /// The delay asked for is too small.
+    /// The requested delay is too small.
     DelayTooSmall,
     /// A skipped number is acknowledged.
     SkippedAcked,
-    /// The counts of ECN cannot be right.
+    /// The ECN counts fail the check.
     Ecn,
-    /// The initial id is not active.
+    /// The initial ID is not active.
     NotInitialId,
-    /// The numbers are no range that fits.
+    /// The numbers are not the expected ones, or no range.
     BadRange,
-    /// The connection id conflicts with the one that is held.
+    /// The connection ID conflicts with the one that is held.
     Conflict,
 }
 
-/// Whether an event was replied what a row wants.
+/// Returns whether a reply is the expected one.
 pub fn is(reply: &Given, want: &Reply) -> bool {
     match (reply, want) {
         (Ok(answer), Ok(wanted)) => answer == wanted,
@@ -56,12 +56,12 @@ pub fn is(reply: &Given, want: &Reply) -> bool {
     }
 }
 
-/// The number of a refusal that a row wants.
+/// Returns the number of an expected error.
 pub fn number_wanted(refusal: Refusal) -> u64 {
     u64::from(refusal as u8) + 1
 }
 
-/// The same of one that is given.
+/// Returns the number of an error.
 pub fn number_given(refusal: &Cause) -> u64 {
     u64::from(refusal.number())
 }

@@ -1,4 +1,4 @@
-//! Runs of rows, and what is wrong with them.
+//! Runs of rows, and their failures.
 ghost use Rattle.std.specs.Prelude.{◌≡◌, ◌<◌};
 ghost use Rattle.recovery_packet_numbers.specs.Skips.{IsSkips};
 
@@ -16,17 +16,17 @@ use thiserror::Error;
 /// What is wrong with the replies to rows.
 #[derive(Clone, Copy, Debug, Error)]
 pub enum Wrong {
-    /// A growth was refused by the allocator, outside of any event.
+    /// An allocation failed, outside of any event.
     #[error("NoMemory")]
     NoMemory,
-    /// An event was replied something else than its row wants.
+    /// The reply to an event is not what its row expects.
     #[error("row {row}: {found}, and not {wanted}")]
     Row {
         /// The row, from 0 on.
         row: u64,
-        /// What it was replied.
+        /// The reply.
         found: Shown,
-        /// What the row wants.
+        /// The expected reply.
         wanted: Shown,
     },
     /// There are more replies than rows, or fewer.
@@ -34,7 +34,7 @@ pub enum Wrong {
     Count,
 }
 
-/// Compares a reply with what its row wants.
+/// Compares a reply with what its row expects.
 pub fn same(row: u64, reply: &Given, want: &Reply) -> Result<(), Wrong> {
     if is(reply, want) {
         return Ok(());
@@ -46,7 +46,7 @@ pub fn same(row: u64, reply: &Given, want: &Reply) -> Result<(), Wrong> {
     })
 }
 
-/// Compares replies with what their rows want, from row 0 on.
+/// Compares replies with what their rows expect, from row 0 on.
 pub fn compare(replies: &[Given], wanted: &[Reply]) -> Result<(), Wrong> {
     if replies.len() != wanted.len() {
         return Err(Wrong::Count);
@@ -59,7 +59,7 @@ pub fn compare(replies: &[Given], wanted: &[Reply]) -> Result<(), Wrong> {
     Ok(())
 }
 
-/// Runs the events of rows, and compares the replies with what the rows want: what the run leaves.
+/// Runs the events of rows, and compares the replies with what the rows expect. Returns the recovery.
 pub fn walk<const N: usize, F, R>(
     alloc: Global,
     config: RecoveryConfig<F>,

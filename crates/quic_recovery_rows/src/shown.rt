@@ -1,10 +1,10 @@
-//! Replies as a row that fails tells them.
+//! Replies as a failed row shows them.
 use crate::events::{Answer, Given, Reply};
 use crate::refusals::{number_given, number_wanted};
 use std::fmt;
 use std::fmt::{Display, Formatter};
 
-/// What a reply is, with a number of it where it has one.
+/// The kind of a reply, with a number if it has one.
 #[derive(Clone, Copy, Debug)]
 pub struct Shown {
     name: &'static str,
@@ -32,7 +32,7 @@ fn numbered(name: &'static str, number: u64) -> Shown {
     }
 }
 
-/// What an event was replied.
+/// Returns what is shown of a reply.
 pub fn given(reply: &Given) -> Shown {
     match reply {
         Ok(answer) => shown_of(answer),
@@ -40,7 +40,7 @@ pub fn given(reply: &Given) -> Shown {
     }
 }
 
-/// What a row wants.
+/// Returns what is shown of an expected reply.
 pub fn wanted(reply: &Reply) -> Shown {
     match reply {
         Ok(answer) => shown_of(answer),

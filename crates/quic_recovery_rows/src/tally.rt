@@ -1,11 +1,11 @@
-//! A queue for tests: what is generic in the queue is seen at work on one that is not the program's.
+//! A queue for tests: tests of code that is generic in the queue use it.
 ghost use Rattle.quic_recovery_rows.specs.Tallies.{tally_words};
 
 use recovery_queue::queue::RetransmitQueue;
 use std::alloc::Global;
 
-/// How many bytes of one stream wait to be sent again. Tallies are joined by the exact sum, and where that passes
-/// `u64::MAX` they are not: so a refusal for want of memory is seen while there is memory.
+/// How many bytes of one stream wait for retransmission. Tallies are joined by the exact sum, and not if that exceeds
+/// `u64::MAX`: so lack of memory is simulated while there is memory.
 #[derive(PartialEq, Eq, Drop)]
 pub struct Tally {
     /// The bytes.

@@ -1,5 +1,4 @@
-//! What events leave of a connection, and what they are replied where no line of a script shows it: its packets, ids
-//! and timers.
+//! The state after events, and replies that no line of a script shows: packets, IDs and timers.
 ghost use Rattle.std.specs.Prelude.{◌≡◌, ◌<◌};
 ghost use Rattle.recovery_packet_numbers.specs.Skips.{IsSkips};
 
@@ -28,7 +27,7 @@ mod settings;
 mod skips;
 mod tallies;
 
-/// What went right, or the end of the test with what went wrong.
+/// Returns a result, or ends the test with what went wrong.
 pub(crate) fn right<T>(rt: &impl Abort, found: Result<T, Wrong>) -> T {
     match found {
         Ok(value) => value,
@@ -36,12 +35,12 @@ pub(crate) fn right<T>(rt: &impl Abort, found: Result<T, Wrong>) -> T {
     }
 }
 
-/// Asserts that what a row says holds.
+/// Asserts that a row holds.
 pub(crate) fn holds(rt: &impl Abort, is_right: bool, row: u64) {
     assert!(rt; is_right, "row {row}");
 }
 
-/// A recovery to which nothing has happened yet.
+/// Returns a recovery without any event.
 pub(crate) fn made<F, R>(
     rt: &impl Abort,
     alloc: Global,
@@ -65,7 +64,7 @@ pub(crate) fn fresh(rt: &impl Abort, alloc: Global) -> Reno {
     made(rt, alloc, settings(8), words())
 }
 
-/// Asserts what one event is replied.
+/// Asserts the reply to one event.
 pub(crate) fn told<F, R>(
     rt: &impl Abort,
     recovery: &mut Recovery<F, Tally, R>,
@@ -81,7 +80,7 @@ where
     right(rt, runs::same(row, &reply, &want));
 }
 
-/// Asserts what events are replied, one a row.
+/// Asserts the replies to events, one a row.
 pub(crate) fn play<F, R, const N: usize>(
     rt: &impl Abort,
     recovery: &mut Recovery<F, Tally, R>,
@@ -99,7 +98,7 @@ where
     }
 }
 
-/// What is kept for a space that is not discarded.
+/// Returns the state of a space that is not discarded.
 pub(crate) fn kept<'a, R: Rng + Drop>(
     rt: &impl Abort,
     recovery: &'a Recovery<NewRenoConfig, Tally, R>,
@@ -111,7 +110,7 @@ pub(crate) fn kept<'a, R: Rng + Drop>(
     }
 }
 
-/// Nothing is held for lost, nothing was sent in CRYPTO frames, and no packet came with an ECN codepoint.
+/// No packet has a loss time, nothing was sent in CRYPTO frames, and no packet was received with an ECN codepoint.
 #[test]
 fn a_fresh_connection(rt: HostRuntime) {
     let recovery = fresh(&rt, rt.alloc());
@@ -162,7 +161,7 @@ fn timers_left(rt: &impl Abort, recovery: &mut Reno) {
     holds(rt, is_left, 3);
 }
 
-/// Packets are tracked until they leave: none is then, and the space of one is discarded.
+/// Packets are tracked until they leave: then none is, and the space of one is discarded.
 fn packets_left(rt: &impl Abort, recovery: &mut Reno) {
     let (initial, data) = (SpaceId::Initial, SpaceId::Data);
     let discard = Event::DiscardSpace { space: initial };
@@ -190,7 +189,8 @@ fn packets_left(rt: &impl Abort, recovery: &mut Reno) {
     holds(rt, is_empty && recovery.space(initial).is_none(), 7);
 }
 
-/// A request that is refused leaves the delay that this end takes; a late timer leaves it running.
+/// A rejected request does not change the local delay. After the ACK delay timer expired, only a packet after the next
+/// ACK starts it again.
 fn acks_left(rt: &impl Abort, recovery: &mut Reno) {
     let space = SpaceId::Data;
     let one = VarInt::from_u32(1);
@@ -219,7 +219,7 @@ fn acks_left(rt: &impl Abort, recovery: &mut Reno) {
     holds(rt, delay == Duration::from_millis(25), 8);
 }
 
-/// Of 0, 2, .. 128 all but the least are to be acknowledged: 64 ranges.
+/// Of 0, 2, .. 128 all but the smallest are to be acknowledged: 64 ranges.
 fn ranges_left(rt: &impl Abort, recovery: &mut Reno) {
     let space = SpaceId::Handshake;
     for half in 0..65u64 {
@@ -235,7 +235,7 @@ fn ranges_left(rt: &impl Abort, recovery: &mut Reno) {
     holds(rt, least == 130, least);
 }
 
-/// A limit is kept where it is not refused.
+/// A limit is stored unless it is rejected.
 fn limit_left(rt: &impl Abort, recovery: &mut Reno) {
     let rows = [
         (Event::PeerLimit { size: 600 }, DONE),
@@ -247,7 +247,7 @@ fn limit_left(rt: &impl Abort, recovery: &mut Reno) {
     holds(rt, is_left, 3);
 }
 
-/// A probe is a packet that elicits an ACK, and is in no total of the path.
+/// A probe is an ack-eliciting packet, and is in no total of the path.
 fn probe_left(rt: &impl Abort, recovery: &mut Reno) {
     let probe = Ok(Answer::Probe {
         number: 2,

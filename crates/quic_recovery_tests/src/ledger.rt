@@ -1,5 +1,5 @@
-//! Packet number spaces and paths. What no run reaches, since the numbers or bytes before it are too many, is proved
-//! for every state that stands there, and not run.
+//! Packet number spaces and paths. States that no run reaches, since too many numbers or bytes precede them, are proved
+//! and not run.
 ghost use Rattle.std.specs.Prelude.{◌≡◌, IfSome, true};
 
 use crate::driver::holds;
@@ -44,7 +44,7 @@ fn a_space_begins_at_0(rt: HostRuntime) {
     holds(&rt, is_first && is_empty, 0);
 }
 
-/// What an application keeps of the one packet that was sent, as it comes back with it.
+/// Returns what the caller stored about the one packet that was sent, as it is returned with it.
 fn frames_back(alloc: Global, frames: u64, as_first: bool) -> Option<u64>
     ensures { IfSome result (λ back. back ≡ frames) }
 {
@@ -72,7 +72,7 @@ fn frames_come_back_with_their_packet(rt: HostRuntime) {
     holds(&rt, frames_back(rt.alloc(), 7, true) == Some(7), 1);
 }
 
-/// How many packets are newly acknowledged, the counts, and the cause that is told.
+/// How many packets are newly acknowledged, the counts, and the reported fault.
 static FAULTS: [(u64, (u64, u64, u64), &str); 5] = [
     (9, (0, 0, 0), "peer ECT(0) count regression"),
     (9, (1, 0, 0), "peer ECT(1) count regression"),
@@ -81,7 +81,7 @@ static FAULTS: [(u64, (u64, u64, u64), &str); 5] = [
     (8, (1, 9, 1), "ECN corruption"),
 ];
 
-/// The first cause in order is told, and what is refused keeps the old counts. No run has counts of ECT(1).
+/// The first fault in order is reported, and rejected counts do not replace the old ones. No run has counts of ECT(1).
 #[test]
 fn counts_of_ecn_fail_in_order(rt: HostRuntime) {
     let last = EcnCounts {

@@ -1,5 +1,5 @@
-//! Two paths: what each keeps of its own, what another one goes on with (RFC 9000, 9), and what the layer above keeps
-//! with each, which no event changes, and which a path that is made has fresh.
+//! Two paths: what is each one's own, and what another one inherits (RFC 9000, 9). Also the caller's marks of each,
+//! which no event changes, and which are fresh on a new path.
 ghost use Rattle.std.specs.Prelude.{◌<◌};
 
 use crate::driver::{fresh, holds, told};
@@ -14,7 +14,7 @@ use std::alloc::Global;
 use std::net::{IpAddr, Ipv4Addr, SocketAddr};
 use std::process::Abort;
 
-/// Marks, in a form that compares.
+/// Marks, in a form that can be compared.
 #[derive(Clone, Copy, PartialEq, Eq)]
 struct Marks {
     sending_ecn: bool,
@@ -24,7 +24,7 @@ struct Marks {
     first: Option<(SpaceId, u64)>,
 }
 
-/// Those of a path that is made.
+/// The marks of a new path.
 const FRESH: Marks = Marks {
     sending_ecn: true,
     challenge: None,
@@ -33,7 +33,7 @@ const FRESH: Marks = Marks {
     first: None,
 };
 
-/// Those of a path that goes on with another one's samples.
+/// The marks of a path that inherits another one's samples.
 const GOING_ON: Marks = Marks {
     sending_ecn: true,
     challenge: None,
@@ -42,7 +42,7 @@ const GOING_ON: Marks = Marks {
     first: Some((SpaceId::Data, 3)),
 };
 
-/// Those that are set here.
+/// The marks that are set here.
 const SET: Marks = Marks {
     sending_ecn: false,
     challenge: Some(7),
@@ -51,7 +51,7 @@ const SET: Marks = Marks {
     first: Some((SpaceId::Data, 3)),
 };
 
-/// What a path was sampled (in milliseconds), whether it is validated, its totals, generation and MTU, and its marks.
+/// The sample of a path (in milliseconds), whether it is validated, its totals, generation and MTU, and its marks.
 #[derive(Clone, Copy, PartialEq, Eq)]
 struct Path {
     port: u16,
@@ -100,7 +100,7 @@ const USED: Path = Path {
     marks: SET,
 };
 
-/// A path to another address goes on with its RTT and MTU.
+/// A path to another address inherits RTT and MTU.
 const OTHER: Path = Path {
     port: 4434,
     rtt: 400,
@@ -112,7 +112,7 @@ const OTHER: Path = Path {
     marks: GOING_ON,
 };
 
-/// An address of the peer: the first path has port 4433.
+/// Returns an address of the peer: the first path has port 4433.
 fn address(port: u16) -> SocketAddr {
     SocketAddr::new(IpAddr::V4(Ipv4Addr::new(192, 0, 2, 1)), port)
 }
@@ -139,7 +139,7 @@ fn of_marks(marks: PathMarks) -> Marks {
     }
 }
 
-/// Whether a path is what a row says.
+/// Returns whether a path is as a row expects.
 fn is_path(path: &PathData<NewReno>, want: Path) -> bool {
     let marks = Marks {
         sending_ecn: path.sending_ecn,
@@ -161,7 +161,7 @@ fn is_path(path: &PathData<NewReno>, want: Path) -> bool {
     found == want && path.rtt.get() == Duration::from_millis(want.rtt)
 }
 
-/// Asserts what the path in use is, and the one before it where it lives.
+/// Asserts the path in use, and the one before it if it exists.
 fn left(rt: &impl Abort, recovery: &Reno, row: u64, current: Path, previous: Option<Path>) {
     let is_previous = match (recovery.previous(), previous) {
         (Some(path), Some(want)) => is_path(path, want),
@@ -171,13 +171,13 @@ fn left(rt: &impl Abort, recovery: &Reno, row: u64, current: Path, previous: Opt
     holds(rt, is_previous && is_path(recovery.current(), current), row);
 }
 
-/// Sets marks, and asserts which ones were there.
+/// Sets marks, and asserts the previous ones.
 fn replaced(rt: &impl Abort, recovery: &mut Reno, path: PathName, want: Option<Marks>) {
     let is_wanted = recovery.set_marks(path, to_set()).map(of_marks) == want;
     holds(rt, is_wanted, 0);
 }
 
-/// What one event is replied, and the paths that it leaves.
+/// An event, its reply, and the paths after it.
 type Row = (Event, Reply, Path, Option<Path>);
 
 fn play<const N: usize>(rt: &impl Abort, recovery: &mut Reno, rows: [Row; N])
@@ -199,7 +199,7 @@ fn move_to(port: u16, fresh: bool) -> Event {
     }
 }
 
-/// A first path whose marks are set.
+/// Returns a recovery whose first path has marks set.
 fn marked(rt: &impl Abort, alloc: Global) -> Reno {
     let mut recovery = fresh(rt, alloc);
     left(rt, &recovery, 0, FIRST, None);
@@ -210,7 +210,7 @@ fn marked(rt: &impl Abort, alloc: Global) -> Reno {
     recovery
 }
 
-/// The same, and it is used then.
+/// The same after the path was used.
 fn used(rt: &impl Abort, alloc: Global) -> Reno {
     let mut recovery = marked(rt, alloc);
     let path = PathName::Current;
@@ -252,7 +252,7 @@ fn used(rt: &impl Abort, alloc: Global) -> Reno {
     recovery
 }
 
-/// A path that begins anew keeps what came in and went out there.
+/// A path that is reset retains its totals of bytes received and sent.
 #[test]
 fn a_path_begins_anew(rt: HostRuntime) {
     let mut recovery = used(&rt, rt.alloc());
@@ -281,7 +281,7 @@ fn a_path_begins_anew(rt: HostRuntime) {
     drop(recovery);
 }
 
-/// A path to another address goes on with RTT and MTU, unless it is fresh, and each has its own marks.
+/// A path to another address inherits RTT and MTU, unless it is fresh, and each has its own marks.
 #[test]
 fn another_path(rt: HostRuntime) {
     let mut recovery = used(&rt, rt.alloc());
@@ -312,7 +312,7 @@ fn another_path(rt: HostRuntime) {
     drop(recovery);
 }
 
-/// A fresh path begins as the first one did, whatever that has come to.
+/// A fresh path begins as the first one did, whatever became of that.
 #[test]
 fn a_fresh_path(rt: HostRuntime) {
     let mut recovery = used(&rt, rt.alloc());

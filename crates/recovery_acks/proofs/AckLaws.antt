@@ -1,4 +1,4 @@
--- What an ack-eliciting packet leaves: the call `packet_received` and the log of a space (`HeardLaws`) rest on it.
+-- The state after an ack-eliciting packet: the call `packet_received` and the log of a space (`HeardLaws`) rest on it.
 use Rattle.std.proofs.Common.{◌≡◌, ℕ, ◌+◌, ◌-◌, ◌<◌, max, inl, inr, ◌⊎◌, ◌↔◌, Bool, true, false, nat_lt, not, cond, Option, None, Some, refl, arith}
 use Rattle.std.specs.Prelude.{◌≢◌, IsTrue, IfSome, Decides, MatchBool}
 use Rattle.std.specs.Option.{unwrap_or}
@@ -9,7 +9,7 @@ use Rattle.recovery_base.proofs.MissingLaws.{least_missing_by}
 use Rattle.recovery_base.specs.Ranges.{InRanges}
 use Rattle.recovery_acks.specs.Acks.{Acks, IsAtLeastSome, IsOutOfOrder, ReceivesPacket, ReceivesEliciting, counted}
 
--- the greatest number has been reached where both have
+-- the largest number has been reached if both have
 pub reaches : (Known : ℕ → Type 0) (before : Option ℕ) (number : ℕ) → IsAtLeastSome Known number
     → IfSome before (IsAtLeastSome Known) → IsAtLeastSome Known (max (unwrap_or before 0) number)
 reaches Known None number reached earlier = (reached.0, reached.1, omega arith)
@@ -24,7 +24,7 @@ pub eliciting_receives : (Known : ℕ → Type 0) (old new : Acks) (now number :
 eliciting_receives Known old new now number true arm is received = received
 eliciting_receives Known old new now number false arm is received = absurd (false≢true is)
 
--- the two answers that an ack-eliciting packet asks for, over plain tests
+-- the two answers for an ack-eliciting packet, over plain tests
 required_by : (Out : Type 0) (threshold count : ℕ) (required out req : Bool) → Decides out Out
     → Decides req (IsTrue required ⊎ (IsTrue (nat_lt threshold count) ⊎ IsTrue out))
     → IsTrue req ↔ (IsTrue required ⊎ ((threshold < count) ⊎ Out))
@@ -42,7 +42,7 @@ module _ {Known : ℕ → Type 0} {old : Acks} {now number greatest count : ℕ}
     (req_is : Decides req (IsTrue old.required ⊎ (IsTrue (nat_lt old.counts.thresholds.0 count) ⊎ IsTrue out)))
     (can_is : Decides can (IsTrue req × ((n : ℕ) × InRanges old.ranges n)))
     (noticed_is : MatchBool noticed ((old.base ≢ None) ⊎ IsTrue can) ((old.base ≡ None) × ¬ IsTrue can)) where
-  -- whether the base moves is what was noticed
+  -- whether the base changes is what `is_noticed` returned
   pub received : (arm : Bool) → arm ≡ not noticed → ReceivesEliciting Known old now number arm
       (record old {
         required = req;

@@ -1,4 +1,4 @@
--- ACK_FREQUENCY frames leave the greatest ack-eliciting number. The driver's `ack_frequency_in` rests on it.
+-- ACK_FREQUENCY frames do not change the largest ack-eliciting number. The driver's `ack_frequency_in` rests on it.
 use Rattle.std.proofs.Common.{Bool, ◌≡◌, Result, Ok, Err, arith}
 use Rattle.recovery_base.specs.declared.below.frames.AckFrequency.{AckFrequency}
 use Rattle.recovery_base.specs.declared.below.frames.TransportError.{TransportError}

@@ -1,4 +1,4 @@
--- The highest runs of a set that is kept as ranges. The limit of 64 ranges (`insert_one`, `HeardLaws`) rests on it.
+-- The highest runs of a set that is stored as ranges. The limit of 64 ranges (`insert_one`, `HeardLaws`) rests on it.
 use Rattle.std.proofs.Common.{◌≡◌, ℕ, suc, ◌+◌, ◌-◌, ◌<◌, ◌≤◌, inl, inr, ◌↔◌, List, [], ◌∷◌, ◌++◌, length, Option, None, Some, ap, refl, arith}
 use Rattle.std.specs.declared.ops.Range.{Range}
 use Rattle.std.proofs.lemmas.Bool.{cases_lt}
@@ -16,7 +16,7 @@ unfolding Ascend
 ascend_as low [] step up = tt
 ascend_as low (n ∷ others) step up = (up.0, step n up.1, ascend_as (n + 1) others step up.2)
 
--- the end of a run above the first range is one in the others, and the other way
+-- the end of a run above the first range is one in the others, and conversely
 end_behind : (range : Range ℕ) (others : Ranges) (n : ℕ) → range.end ≤ n
     → EndsRun (InRanges (range ∷ others)) n ↔ EndsRun (InRanges others) n
 unfolding InRanges
@@ -108,7 +108,7 @@ pub highest_alike : {A B : ℕ → Type 0} → ((n : ℕ) → A n ↔ B n) → (
 highest_alike alike count n =
     (highest_to alike count n, highest_to (λ m. ((alike m).1, (alike m).0)) count n)
 
--- ---- a number more
+-- ---- one more number
 
 module _ {old mid : Ranges} {number : ℕ} {is_new : Bool} (inserted : InsertsOne old number is_new mid) where
   pub inserted_kept : length mid ≤ 64 → (n : ℕ) → InRanges mid n ↔ IsInHighest 64 (InsertNumber number (InRanges old)) n
@@ -130,7 +130,7 @@ module _ {old mid : Ranges} {number : ℕ} {is_new : Bool} (inserted : InsertsOn
         apart_rest 0 range new apart,
       )
 
--- where more than 64 ranges stood before the cut, some stand after it
+-- if there were more than 64 ranges before the reduction, some remain
 pub some_after_cut : (mid new : Ranges) (popped : Option (Range ℕ)) → 64 < length mid
     → mid ≡ option_to_list popped ++ new → AreApart 0 new → (n : ℕ) × InRanges new n
 unfolding InRanges AreApart

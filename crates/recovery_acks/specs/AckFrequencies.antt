@@ -1,5 +1,5 @@
--- How often the peer is asked to acknowledge, and how often it asks (draft-ietf-quic-ack-frequency-04, sections 4 and
--- 7).
+-- How often the peer is asked to acknowledge, and how often it asks for ACKs (draft-ietf-quic-ack-frequency-04,
+-- sections 4 and 7).
 use Rattle.std.specs.Prelude.{ℕ, ◌≡◌, ◌≢◌, ◌*◌, ◌<◌, ◌≤◌, ◌⊎◌, min, max, IsSomeAnd, Bool, true, false, Option, None, Some, Result, Ok, Err}
 use Rattle.std.specs.Int.{abs_diff}
 use lib.Chars.{codes}
@@ -14,7 +14,7 @@ abbrev pub delay_or : Option ℕ → ℕ → ℕ
 delay_or None other = other
 delay_or (Some delay) other = delay
 
--- before any frame: none went out, none came, and both ends' delay is this one
+-- before any frame: none was sent or received, and both endpoints' delay is this one
 abbrev pub frequency_made : ℕ → AckFrequencyState
 frequency_made delay = record {
   in_flight_ack_frequency_frame = None;
@@ -24,18 +24,18 @@ frequency_made delay = record {
   max_ack_delay = delay;
 }
 
--- an RTT counts as this much at least, the default of max_ack_delay (RFC 9000, 18.2): on a short path more ACKs would
--- else be asked for than come without a request
+-- a smaller RTT counts as this, the default of max_ack_delay (RFC 9000, 18.2): otherwise more ACKs would be requested
+-- on a short path than are sent without a request
 abbrev pub least_rtt : ℕ
 least_rtt = assumed_ack_delay
 
--- the delay to ask for: the configured or else the peer's, at most the RTT, at least the peer's min_ack_delay in
--- microseconds
+-- the delay to request: the configured one or else the peer's, at most the RTT, but not below the peer's min_ack_delay
+-- in microseconds
 abbrev pub candidate_delay : Option ℕ → ℕ → ℕ → Option ℕ → ℕ
 candidate_delay configured peer rtt least =
     max (min (delay_or configured peer) (max rtt least_rtt)) (delay_or least 0 * microseconds)
 
--- the ACK_FREQUENCY frame on its way: the number of its packet, and the max_ack_delay that it asks for
+-- the ACK_FREQUENCY frame in flight: the number of its packet, and the max_ack_delay that it requests
 abbrev pub pending_of : AckFrequencyState → Option (ℕ × ℕ)
 pending_of state = state.in_flight_ack_frequency_frame
 
@@ -49,18 +49,18 @@ with_next number old = record old { next_outgoing_sequence_number = number }
 abbrev pub with_pending : ℕ × ℕ → AckFrequencyState → AckFrequencyState
 with_pending request old = record old { in_flight_ack_frequency_frame = Some request }
 
--- the delay asked for last
+-- the delay requested last
 abbrev pub current_delay : Option (ℕ × ℕ) → ℕ → ℕ
 current_delay None peer = peer
 current_delay (Some request) peer = request.1
 
--- the longest delay that the peer may use, as a probe timeout has to allow for (section 7)
+-- the longest delay that the peer may use, for which a probe timeout must allow (section 7)
 abbrev pub longest_delay : Option (ℕ × ℕ) → ℕ → ℕ
 longest_delay None peer = peer
 longest_delay (Some request) peer = max peer request.1
 
--- a request is worth sending: none was made yet, or the delay wanted is more than a fifth away from the one asked for
--- last; a smaller change is not worth a frame, since each sample moves the RTT that the delay follows
+-- a request is worth sending: none was made yet, or the wanted delay differs by more than a fifth from the last one
+-- requested. A smaller change is not worth a frame, since each sample moves the RTT that the delay follows
 abbrev pub IsWorthSending : ℕ → ℕ → ℕ → Type 0
 IsWorthSending next desired current = (next ≡ 0) ⊎ (current < 5 * abs_diff desired current)
 
@@ -68,11 +68,11 @@ IsWorthSending next desired current = (next ≡ 0) ⊎ (current < 5 * abs_diff d
 abbrev pub IsStale : Option ℕ → ℕ → Type 0
 IsStale last sequence = IsSomeAnd last (λ newest. sequence ≤ newest)
 
--- the delay that a frame asks for in microseconds
+-- the delay that a frame requests in microseconds
 abbrev pub delay_of : AckFrequency → ℕ
 delay_of frame = frame.request_max_ack_delay * microseconds
 
--- a frame that asks for less breaks the protocol (section 4)
+-- a frame that requests less violates the protocol (section 4)
 abbrev pub TellsTooSmall : TransportError → Type 0
 TellsTooSmall error =
     (error.code ≡ protocol_violation)
@@ -81,12 +81,12 @@ TellsTooSmall error =
 abbrev pub with_last : ℕ → AckFrequencyState → AckFrequencyState
 with_last sequence old = record old { last_ack_frequency_frame = Some sequence }
 
--- a frame is taken: its number and its delay
+-- a frame is accepted: its number and its delay
 abbrev pub with_request : AckFrequency → AckFrequencyState → AckFrequencyState
 with_request frame old =
     record old { last_ack_frequency_frame = Some frame.sequence; max_ack_delay = delay_of frame }
 
--- a frame came: a stale one changes nothing, one that asks for too small a delay keeps its number alone
+-- a frame was received: a stale one changes nothing; of one that requests too small a delay only the number is stored
 abbrev pub FrequencyReceived :
     AckFrequencyState → Acks → AckFrequency → Result Bool TransportError → AckFrequencyState → Acks → Type 0
 FrequencyReceived old acks frame (Ok false) new after =
@@ -99,7 +99,7 @@ FrequencyReceived old acks frame (Err error) new after =
     (¬ IsStale old.last_ack_frequency_frame frame.sequence) × (delay_of frame < timer_granularity) × TellsTooSmall error
     × (new ≡ with_last frame.sequence old) × (after ≡ acks)
 
--- where a packet held the frame on its way, the peer uses that delay from its acknowledgement on
+-- if a packet had the frame in flight, the peer uses that delay from its acknowledgement on
 abbrev pub AcksPending : ℕ → Option (ℕ × ℕ) → AckFrequencyState → AckFrequencyState → Type 0
 AcksPending number None old new = new ≡ old
 AcksPending number (Some request) old new =

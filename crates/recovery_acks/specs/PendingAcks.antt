@@ -1,4 +1,4 @@
--- What a `PendingAcks` holds.
+-- The value of a `PendingAcks` in contracts.
 use Rattle.recovery_acks.specs.Acks.{Acks}
 use Rattle.recovery_acks.specs.declared.pending.PendingAcks.TheInside.{Inside}
 

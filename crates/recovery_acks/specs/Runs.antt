@@ -14,10 +14,10 @@ Ascend P low (n ∷ others) = (low ≤ n) × P n × Ascend P (n + 1) others
 abbrev pub AtMost : ℕ → (ℕ → Type 0) → Type 0
 AtMost count P = (numbers : List ℕ) → Ascend P 0 numbers → length numbers ≤ count
 
--- n is in one of the `count` highest maximal runs of the set: at most so many end at it or above
+-- n is in one of the `count` highest maximal runs of the set: at most that many end at it or above
 abbrev pub IsInHighest : ℕ → (ℕ → Type 0) → ℕ → Type 0
 IsInHighest count Numbers n = Numbers n × AtMost count (λ m. (n ≤ m) × EndsRun Numbers m)
 
--- more than so many ranges of a set end at a number or above it
+-- more than that many ranges of a set end at a number or above it
 abbrev pub LiesBelow : ℕ → (ℕ → Type 0) → ℕ → Type 0
 LiesBelow count Numbers n = ¬ AtMost count (λ end. (n ≤ end) × EndsRun Numbers end)

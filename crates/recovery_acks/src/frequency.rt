@@ -1,4 +1,4 @@
-//! How often the peer is asked to acknowledge, and how often it asks (draft-ietf-quic-ack-frequency-04).
+//! How often the peer is asked to acknowledge, and how often it asks for ACKs (draft-ietf-quic-ack-frequency-04).
 ghost use Rattle.std.specs.Prelude.{◌≡◌, ◌<◌, ◌≤◌, ◌+◌, min, max, Decides, MatchOption, Some, None};
 ghost use Rattle.recovery_base.specs.Units.{number_limit};
 ghost use Rattle.recovery_acks.specs.AckFrequencies.{frequency_made, pending_of, next_of, candidate_delay, current_delay, longest_delay, IsWorthSending, FrequencyReceived, AcksRequest, with_next, with_pending};
@@ -8,27 +8,27 @@ use recovery_base::below::{AckFrequency, TransportError, TransportParameters, Va
 use recovery_base::config::AckFrequencyConfig;
 use recovery_base::time::Duration;
 
-/// The least delay that a peer may ask for: what timers can keep (RFC 9002, 6.1.2).
+/// The smallest delay that a peer may ask for: the timer granularity (RFC 9002, 6.1.2).
 const TIMER_GRANULARITY_NANOS: u128 = 1_000_000;
 
-/// An RTT counts as this much at least, the default of `max_ack_delay` (RFC 9000, 18.2): on a short path more ACKs
-/// would else be asked for than come without a request.
+/// A smaller RTT counts as this, the default of `max_ack_delay` (RFC 9000, 18.2): otherwise more ACKs would be
+/// requested on a short path than are sent without a request.
 const MIN_AUTOMATIC_ACK_DELAY_MILLIS: u64 = 25;
 
-/// The delays of ACKs, as asked for and as asked by the peer (draft-ietf-quic-ack-frequency-04, sections 4 and 7).
+/// The delays of ACKs, as requested from the peer and by it (draft-ietf-quic-ack-frequency-04, sections 4 and 7).
 #[derive(Drop)]
 pub struct AckFrequencyState {
     in_flight_ack_frequency_frame: Option<(u64, Duration)>,
     next_outgoing_sequence_number: u64,
-    /// The longest delay that the peer is known to use.
+    /// The longest ACK delay that the peer is known to use.
     pub peer_max_ack_delay: Duration,
     last_ack_frequency_frame: Option<u64>,
-    /// The longest delay of our own ACKs.
+    /// The longest local ACK delay.
     pub max_ack_delay: Duration,
 }
 
 impl AckFrequencyState {
-    /// Nothing was asked yet, by either end; both delays are this one (RFC 9000, 18.2: max_ack_delay).
+    /// Returns the state before any request. Both delays are this one (RFC 9000, 18.2: max_ack_delay).
     pub fn new(default_max_ack_delay: Duration) -> Self
         ensures { result ≡ frequency_made default_max_ack_delay }
     {
@@ -41,9 +41,9 @@ impl AckFrequencyState {
         }
     }
 
-    /// The delay to ask the peer for: the configured one or else the peer's, at most the RTT, which counts as 25 ms at
-    /// least, and at least the peer's `min_ack_delay`, which is in microseconds (draft-ietf-quic-ack-frequency-04,
-    /// sections 3 and 4).
+    /// Returns the delay to request from the peer: the configured one, or else the peer's. It is at most the RTT (25 ms
+    /// if that is smaller), but not below the peer's `min_ack_delay`, which is in microseconds
+    /// (draft-ietf-quic-ack-frequency-04, sections 3 and 4).
     pub fn candidate_max_ack_delay(
         &self,
         rtt: Duration,
@@ -65,8 +65,8 @@ impl AckFrequencyState {
         wanted.min(most).max(least)
     }
 
-    /// The longest delay that the peer may use, which a probe timeout allows for: its own, or the one asked for, where
-    /// that is longer and on its way (RFC 9002, 6.2.1; draft-ietf-quic-ack-frequency-04, section 7).
+    /// Returns the longest delay that the peer may use, which a probe timeout allows for: its own, or the one in a
+    /// request in flight, if that is longer (RFC 9002, 6.2.1; draft-ietf-quic-ack-frequency-04, section 7).
     pub fn max_ack_delay_for_pto(&self) -> Duration
         ensures { result ≡ longest_delay (pending_of self.now) self.now.peer_max_ack_delay }
     {
@@ -76,8 +76,8 @@ impl AckFrequencyState {
         }
     }
 
-    /// The number of the next request, counted from 0 (draft-ietf-quic-ack-frequency-04, section 4). None past
-    /// 2^62 - 1, and then nothing changes.
+    /// Returns the number of the next request, counted from 0 (draft-ietf-quic-ack-frequency-04, section 4). Returns
+    /// `None` and changes nothing above 2^62 - 1.
     pub fn next_sequence_number(&mut self) -> Option<VarInt>
         ensures number { MatchOption result (number_limit ≤ next_of self.old)
             (λ number. number ≡ next_of self.old) }
@@ -93,8 +93,8 @@ impl AckFrequencyState {
         }
     }
 
-    /// Whether a request is worth sending (draft-ietf-quic-ack-frequency-04, section 4): none was made yet, or the
-    /// delay wanted is more than a fifth away from the one asked for last.
+    /// Returns whether a request is worth sending (draft-ietf-quic-ack-frequency-04, section 4): none was made yet, or
+    /// the wanted delay differs by more than a fifth from the last one requested.
     pub fn should_send_ack_frequency(
         &self,
         rtt: Duration,
@@ -119,16 +119,16 @@ impl AckFrequencyState {
         5 * (desired.saturating_sub(current) + current.saturating_sub(desired)) > current
     }
 
-    /// The packet `pn` went out with a request of this delay (draft-ietf-quic-ack-frequency-04, section 4). An earlier
-    /// request on its way is forgotten.
+    /// Records that the packet `pn` was sent with a request of this delay (draft-ietf-quic-ack-frequency-04, section
+    /// 4). An earlier request in flight is forgotten.
     pub fn ack_frequency_sent(&mut self, pn: u64, requested_max_ack_delay: Duration)
         ensures { self.new ≡ with_pending (pn, requested_max_ack_delay) self.old }
     {
         self.in_flight_ack_frequency_frame = Some((pn, requested_max_ack_delay));
     }
 
-    /// The packet `pn` was acknowledged: where it held the request on its way, the peer uses that delay from now on
-    /// (RFC 9002, 6.2.1; draft-ietf-quic-ack-frequency-04, section 7). Else nothing changes.
+    /// Records that the packet `pn` was acknowledged. If it had the request in flight, the peer uses that delay from
+    /// now on (RFC 9002, 6.2.1; draft-ietf-quic-ack-frequency-04, section 7). Otherwise nothing changes.
     pub fn on_acked(&mut self, pn: u64)
         ensures { AcksRequest pn self.old self.new }
     {
@@ -140,11 +140,11 @@ impl AckFrequencyState {
         }
     }
 
-    /// An ACK_FREQUENCY frame came. The answer is whether it is newer than the last and was taken
+    /// Records a received ACK_FREQUENCY frame. Returns whether it is newer than the last and was accepted
     /// (draft-ietf-quic-ack-frequency-04, section 4). `false` changes nothing.
     ///
-    /// A delay below 1 ms, which the frame tells in microseconds, is refused as a PROTOCOL_VIOLATION: the number of the
-    /// frame is kept, and nothing else changes.
+    /// A delay below 1 ms (the frame is in microseconds) is rejected as a PROTOCOL_VIOLATION: the number of the frame
+    /// is stored, and nothing else changes.
     pub fn ack_frequency_received(
         &mut self,
         frame: &AckFrequency,

@@ -1,4 +1,4 @@
-//! The packets of one space that are to be acknowledged.
+//! The pending ACKs of one space: the packets to be acknowledged.
 ghost use Rattle.std.specs.Prelude.{◌≡◌, ◌≢◌, ℕ, ◌<◌, ◌≤◌, ◌⊎◌, IsTrue, IsSome, IfSome, OnOk, OnErr, IsErr, Decides, MatchBool, nat_lt, true, false, length, [], ◌↔◌, None, Some};
 ghost use Rattle.recovery_base.specs.Numbers.{InsertNumber};
 ghost use Rattle.recovery_base.specs.Received.{HasReceived};
@@ -13,12 +13,12 @@ use recovery_base::time::{Duration, Instant};
 use std::alloc::Global;
 use std::marker::Model;
 
-/// The most ranges that an ACK frame carries: each takes 16 bytes at most (RFC 9000, 19.3.1), so that they fit into the
-/// least datagram, of 1200 bytes.
+/// The most ranges of an ACK frame: each takes at most 16 bytes (RFC 9000, 19.3.1), so they fit into a datagram of 1200
+/// bytes, which every path carries.
 const MAX_ACK_BLOCKS: usize = 64;
 
-/// How many packets that are not ack-eliciting may come before an ACK is sent with other frames: the peer keeps them
-/// until it hears of them, and nothing else tells it.
+/// How many non-ack-eliciting packets may be received before an ACK is sent with other frames: the peer stores them
+/// until they are acknowledged, and nothing else acknowledges them.
 const LAZY_ACK_THRESHOLD: u64 = 10;
 
 /// The packets to be acknowledged, and when an ACK is due (RFC 9000, 13.2).
@@ -48,8 +48,9 @@ impl Model for PendingAcks {
 }
 
 impl PendingAcks {
-    /// Nothing is to be acknowledged. Both thresholds are 1 packet: the second ack-eliciting packet without an ACK asks
-    /// for one at once (RFC 9000, 13.2.2), and so does each that is out of order (13.2.1). It takes no memory.
+    /// Returns the state in which nothing is to be acknowledged. Both thresholds are 1 packet: the second ack-eliciting
+    /// packet without an ACK requires one at once (RFC 9000, 13.2.2), and so does each that is out of order (13.2.1).
+    /// Does not allocate.
     pub fn new(alloc: Global) -> Self
         ensures value { result ≡ new_acks [] }
         ensures sound { AreAcksSound result }
@@ -68,7 +69,7 @@ impl PendingAcks {
         }
     }
 
-    /// Takes both thresholds of an ACK_FREQUENCY frame, in packets (draft-ietf-quic-ack-frequency-04, section 4).
+    /// Sets both thresholds of an ACK_FREQUENCY frame, in packets (draft-ietf-quic-ack-frequency-04, section 4).
     /// Nothing else changes.
     pub fn set_ack_frequency_params(&mut self, frame: &AckFrequency)
         ensures takes { self.new
@@ -80,8 +81,7 @@ impl PendingAcks {
         self.reordering_threshold = frame.reordering_threshold.into_inner();
     }
 
-    /// From now on an ACK is required at once, as an IMMEDIATE_ACK frame asks for it (draft-ietf-quic-ack-frequency-04,
-    /// section 5).
+    /// Requires an ACK at once, as an IMMEDIATE_ACK frame asks (draft-ietf-quic-ack-frequency-04, section 5).
     pub fn set_immediate_ack_required(&mut self)
         ensures required { self.new ≡ with_required true self.old }
         ensures sound { AreAcksSound self.new }
@@ -89,8 +89,8 @@ impl PendingAcks {
         self.immediate_ack_required = true;
     }
 
-    /// The longest delay is over (RFC 9000, 13.2.1): an ACK is required at once exactly where an ack-eliciting packet
-    /// came since the last one.
+    /// Records that the longest delay is over (RFC 9000, 13.2.1): an ACK is required at once exactly if an
+    /// ack-eliciting packet was received since the last one.
     pub fn on_max_ack_delay_timeout(&mut self)
         ensures requires_one { self.new
             ≡ with_required (nat_lt 0 self.old.counts.eliciting) self.old }
@@ -99,8 +99,9 @@ impl PendingAcks {
         self.immediate_ack_required = self.ack_eliciting_since_last_ack_sent > 0;
     }
 
-    /// When a delay ends that starts with the first ack-eliciting packet since the last ACK that came while no ACK
-    /// could be sent at once; none before one came (RFC 9000, 13.2.1). It stops at `u64::MAX` nanoseconds.
+    /// Returns when a delay ends that starts with the first ack-eliciting packet since the last ACK that was received
+    /// while no ACK could be sent at once. `None` before there is one (RFC 9000, 13.2.1). At most `u64::MAX`
+    /// nanoseconds.
     pub fn max_ack_delay_timeout(&self, max_ack_delay: Duration) -> Option<Instant>
         ensures { result ≡ timeout_at max_ack_delay self.now.base }
     {
@@ -110,23 +111,23 @@ impl PendingAcks {
         }
     }
 
-    /// Whether an ACK may be sent in a packet of its own: one is required, and a number is to be acknowledged (RFC
-    /// 9000, 13.2.1).
+    /// Returns whether an ACK may be sent in a packet of its own: one is required, and a number is to be acknowledged
+    /// (RFC 9000, 13.2.1).
     pub fn can_send(&self) -> bool
         ensures { Decides result (CanSend self.now) }
     {
         may_send(self.immediate_ack_required, &self.ranges)
     }
 
-    /// Whether an ACK may be sent with other frames: a number is to be acknowledged (RFC 9000, 13.2.1).
+    /// Returns whether an ACK may be sent with other frames: a number is to be acknowledged (RFC 9000, 13.2.1).
     pub fn can_send_with_other_frames(&self) -> bool
         ensures { Decides result ((n : ℕ) × IsPending self.now n) }
     {
         !self.ranges.is_empty()
     }
 
-    /// How long ago the largest packet came, which an ACK frame tells (RFC 9000, 13.2.5); zero before the first, and
-    /// where it came after `now`.
+    /// Returns how long ago the largest packet was received, which is the ACK delay of a frame (RFC 9000, 13.2.5). Zero
+    /// before the first packet, and if it was received after `now`.
     pub fn ack_delay(&self, now: Instant) -> Duration
         ensures { result ≡ delay_at now self.now.counts.largest }
     {
@@ -136,12 +137,12 @@ impl PendingAcks {
         }
     }
 
-    /// A packet came, after its number went into `dedup`. The answer is whether the delay timer is to be armed (RFC
-    /// 9000, 13.2.1).
+    /// Records a received packet, after its number was inserted into `dedup`. Returns whether to start the ACK delay
+    /// timer (RFC 9000, 13.2.1).
     ///
-    /// An ack-eliciting packet asks for an ACK at once where more of them came since the last one than may, or where it
-    /// is out of order (RFC 9000, 13.2.1 and 13.2.2; draft-ietf-quic-ack-frequency-04, section 6.1). The others are
-    /// only counted.
+    /// An ack-eliciting packet requires an ACK at once if more of them were received since the last one than the
+    /// threshold, or if it is out of order (RFC 9000, 13.2.1 and 13.2.2; draft-ietf-quic-ack-frequency-04, section
+    /// 6.1). The others are only counted.
     pub fn packet_received(
         &mut self,
         now: Instant,
@@ -189,8 +190,9 @@ impl PendingAcks {
         true
     }
 
-    /// An ACK was sent, which is taken to hold all numbers that are to be acknowledged. They stay, for the next ACK
-    /// (RFC 9000, 13.2.3); none is required any more, no delay runs, and packets are counted anew.
+    /// Records that an ACK was sent, which is assumed to hold all numbers that are to be acknowledged. They stay, for
+    /// the next ACK (RFC 9000, 13.2.3). None is required any more, no delay runs, and the counts of packets start
+    /// again.
     pub fn acks_sent(&mut self)
         ensures sends { self.new ≡ acks_sent self.old }
         ensures sound { AreAcksSound self.new }
@@ -202,9 +204,10 @@ impl PendingAcks {
         self.largest_acked = self.largest_ack_eliciting_packet;
     }
 
-    /// A number below 2^62 is to be acknowledged. Where more than 64 ranges stand, the lowest goes (RFC 9000, 13.2.3).
+    /// Adds a number below 2^62 that is to be acknowledged. If there are more than 64 ranges, the lowest is dropped
+    /// (RFC 9000, 13.2.3).
     ///
-    /// `NoMemory` changes nothing; a number that is there takes no memory.
+    /// `NoMemory` changes nothing; a number that is there allocates nothing.
     pub fn insert_one(&mut self, packet: u64, now: Instant) -> Result<(), NoMemory>
         requires { packet < number_limit }
         ensures inserts { OnOk result (AddsPending self.old packet now self.new) }
@@ -217,8 +220,8 @@ impl PendingAcks {
         Ok(())
     }
 
-    /// The numbers up to `max`, below 2^62, need no acknowledgement any more: the peer has an ACK that went up to there
-    /// (RFC 9000, 13.2.4). It takes no memory.
+    /// Drops the numbers up to `max`, below 2^62: the peer has an ACK that went up to there (RFC 9000, 13.2.4). Does
+    /// not allocate.
     pub fn subtract_below(&mut self, max: u64)
         requires { max < number_limit }
         ensures subtracts { SubtractsBelow self.old max self.new }
@@ -227,7 +230,7 @@ impl PendingAcks {
         let _ = self.ranges.remove(0..max + 1);
     }
 
-    /// The numbers that are to be acknowledged: at most 64 ranges, in ascending order (RFC 9000, 13.2.3).
+    /// Returns the numbers that are to be acknowledged: at most 64 ranges, in ascending order (RFC 9000, 13.2.3).
     pub fn ranges(&self) -> &ArrayRangeSet
         ensures value { result.now ≡ self.now.ranges }
         ensures count { length self.now.ranges ≤ most_ranges }
@@ -235,9 +238,9 @@ impl PendingAcks {
         &self.ranges
     }
 
-    /// Requires an ACK at once where more than 10 packets came since the last one that ask for none.
+    /// Requires an ACK at once if more than 10 non-ack-eliciting packets were received since the last one.
     ///
-    /// To be called where a packet is sent anyway: such packets alone are not to make one be sent (RFC 9000, 13.2.1).
+    /// Call it when a packet is sent anyway: such packets alone must not make one be sent (RFC 9000, 13.2.1).
     pub fn maybe_ack_non_eliciting(&mut self)
         ensures many { lazy_ack_threshold < self.old.counts.silent
             → self.new ≡ with_required true self.old }
@@ -262,7 +265,7 @@ fn is_any(first: bool, second: bool, third: bool) -> bool
     first || second || third
 }
 
-/// Whether an ack-eliciting packet needs no timer of its own.
+/// Returns whether an ack-eliciting packet needs no timer of its own.
 fn is_noticed(base: Option<Instant>, can_send: bool) -> bool
     ensures { MatchBool result ((base ≢ None) ⊎ IsTrue can_send)
         ((base ≡ None) × ¬ IsTrue can_send) }
@@ -270,7 +273,7 @@ fn is_noticed(base: Option<Instant>, can_send: bool) -> bool
     base.is_some() || can_send
 }
 
-/// The largest packet, once another came.
+/// Returns the largest packet after another was received.
 fn larger(largest: Option<(u64, Instant)>, packet: u64, now: Instant) -> (u64, Instant)
     ensures { Some result ≡ largest_with largest packet now }
 {
@@ -280,7 +283,7 @@ fn larger(largest: Option<(u64, Instant)>, packet: u64, now: Instant) -> (u64, I
     }
 }
 
-/// Adds a number, and drops the lowest range where more than 64 stand.
+/// Adds a number, and drops the lowest range if there are more than 64.
 fn insert(ranges: &mut ArrayRangeSet, packet: u64) -> Result<(), NoMemory>
     requires small { packet < number_limit }
     requires count { length ranges.old ≤ most_ranges }
@@ -298,7 +301,7 @@ fn insert(ranges: &mut ArrayRangeSet, packet: u64) -> Result<(), NoMemory>
     Ok(())
 }
 
-/// Whether an ack-eliciting packet requires an ACK at once by its place among the others.
+/// Returns whether an ack-eliciting packet requires an ACK at once because of its order among the others.
 fn is_out_of_order(
     threshold: u64,
     acknowledged: Option<u64>,
@@ -322,7 +325,7 @@ fn is_out_of_order(
     is_reported(threshold, greatest, acknowledged, dedup)
 }
 
-/// Whether the peer would call a packet lost, if it knew what came.
+/// Returns whether the peer would declare a packet lost if it knew what was received.
 fn is_reported(threshold: u64, greatest: u64, acknowledged: Option<u64>, dedup: &Dedup) -> bool
     requires some { 1 < threshold }
     requires reached { IsAtLeastSome (HasReceived dedup.now) greatest }

@@ -1,4 +1,4 @@
--- The numbers that a window knows: those at places below 128, counted down from the greatest, and that one. `Dedup`
+-- The numbers that a window knows: those at places below 128, counted down from the largest, and that one. `Dedup`
 -- rests on it.
 use Rattle.std.proofs.Common.{◌≡◌, ℕ, ◌+◌, ◌-◌, ◌<◌, ◌≤◌, inl, inr, ◌⊎◌, ◌↔◌, min, None, Some}
 use Rattle.std.proofs.Common.{refl, arith, Bool, true, false, MatchBool}
@@ -7,7 +7,7 @@ use Rattle.recovery_base.specs.Numbers.{IsNewNumber, IsInWindow, IsMissing, IsLe
 use Rattle.recovery_base.specs.Received.{IsKnown, ShiftsBy, SetsBit, AreBitsSet, IsHighestClear}
 use Rattle.recovery_base.proofs.WindowLaws.{member_is_not_new, old_is_not_new, old_adds_nothing, member_adds_nothing}
 
--- all places lie below 128
+-- all places are below 128
 abbrev pub AreWithin : (ℕ → Type 0) → Type 0
 AreWithin Places = (place : ℕ) → Places place → place < 128
 
@@ -48,7 +48,7 @@ module _ (Places : ℕ → Type 0) (next number : ℕ) (within : AreWithin Place
         (inl (omega arith)) (omega arith);
   }
 
--- no number becomes new where the set known moves on to hold another one
+-- no number becomes new if the known set moves on to another one
 pub stays_known : (Places Places' : ℕ → Type 0) (next next' number : ℕ) → next ≤ next' → number < next' →
     ((n : ℕ) → IsKnown Places' next' n ↔ RecentNumbers (InsertNumber number (IsKnown Places next)) n) → (n : ℕ) →
     ¬ IsNewNumber (IsKnown Places next) n → ¬ IsNewNumber (IsKnown Places' next') n
@@ -88,9 +88,9 @@ module _ (Old New : ℕ → Type 0) (next number : ℕ) {place : ℕ} (within : 
     numbers = set_known;
   }
 
--- ---- the least number missing
+-- ---- the smallest missing number
 
--- between `low` and `high` lie the numbers at places below `places`, and those too far below the greatest
+-- between `low` and `high` are the numbers at places below `places`, and those too far below the largest
 module _ (Places : ℕ → Type 0) (next low high places : ℕ) (reached : high < next)
     (few : places ≡ min (next - 1 - 1 - low) 128) where
   full_above : (start m : ℕ) → AreBitsSet Places start places → low < m → m < high → start ≤ next - 2 - m →

@@ -1,5 +1,5 @@
--- What is missing from a set, from what is left of it when it is cut, and from both with one number more. What a space
--- says of gaps rests on it.
+-- What is missing from a set, from what is left of it when it is reduced, and from both with one more number. Laws of
+-- gaps rest on it.
 use Rattle.std.proofs.Common.{ℕ, ◌-◌, ◌≤◌, inl, inr, ◌↔◌, Option, None, Some, arith}
 use Rattle.std.proofs.lemmas.Bool.{cases_lt}
 use Rattle.recovery_base.specs.declared.dedup.Dedup.{Dedup}
@@ -14,7 +14,7 @@ least_missing_by A B same low high None none = λ m above below missing. none m 
 least_missing_by A B same low high (Some n) least =
     (least.0, least.1, (same n).0 least.2, λ m above below missing. least.3 m above below ((same m).1 missing))
 
--- from what is left of a set the same are
+-- the same numbers are missing from what is left of a set
 pub missing_left : (Numbers Known : ℕ → Type 0) → HasGreatest Numbers → ((q : ℕ) → Known q ↔ RecentNumbers Numbers q)
     → (m : ℕ) → IsMissing Known m ↔ IsMissing Numbers m
 missing_left Numbers Known has_greatest left m =
@@ -22,7 +22,7 @@ missing_left Numbers Known has_greatest left m =
 
 -- ---- numbers that were reached
 
--- what a `Dedup` knows has a greatest number, or there is none
+-- what a `Dedup` knows has a largest number, or there is none
 pub has_greatest : (dedup : Dedup) → HasGreatest (HasReceived dedup)
 unfolding HasReceived
 has_greatest dedup = elim (cases_lt 0 dedup.next) [
@@ -30,7 +30,7 @@ has_greatest dedup = elim (cases_lt 0 dedup.next) [
   | inr none ↦ inl (λ m here. grind (arith, here))
 ]
 
--- a number that does not exceed a set with a greatest one is reached by it
+-- a number that does not exceed a set with a largest one is reached by it
 pub reached : (Numbers : ℕ → Type 0) → HasGreatest Numbers → (n : ℕ) → ¬ Exceeds Numbers n
     → (m : ℕ) × Numbers m × (n ≤ m)
 reached Numbers (inl none) n within = absurd (within (λ m here. absurd (none m here)))
@@ -39,7 +39,7 @@ reached Numbers (inr g) n within = elim (cases_lt g.0 n) [
   | inr below ↦ (g.0, g.1, below)
 ]
 
--- what was reached is reached when one number more came
+-- what was reached is reached after one more number
 pub stays_reached : (Old New : ℕ → Type 0) (number : ℕ) → HasGreatest Old
     → ((n : ℕ) → New n ↔ RecentNumbers (InsertNumber number Old) n) → (n : ℕ) → ¬ Exceeds Old n → ¬ Exceeds New n
 stays_reached Old New number greatest step n within exceeds = elim (greatest_with Old number greatest) [

@@ -1,5 +1,5 @@
--- The bits of words of 32 at their places, the lowest word first: what moves them, sets one, and finds the highest that
--- is clear. `Dedup` rests on it.
+-- The bits of 32-bit words at their places, the lowest word first: moving them, setting one, and finding the highest
+-- that is clear. `Dedup` rests on it.
 use Rattle.std.proofs.Common.{◌≡◌, ℕ, suc, zero, ◌+◌, ◌-◌, ◌*◌, ◌/◌, ◌%◌, ◌^◌, ◌<◌, ◌≤◌, max, inl, inr, ◌⊎◌, ◌↔◌}
 use Rattle.std.proofs.Common.{List, [], ◌∷◌, length, slice_index, slice_set, sym, ◌∙◌, ap, ap₂, refl}
 use Rattle.std.proofs.Common.{arith}
@@ -27,12 +27,12 @@ place_is words place word bit within is =
     (let e : place / 32 ≡ word = omega arith in e)
     (let e : place % 32 ≡ bit = omega arith in e)
 
--- the places of four words lie below 128
+-- the places of four words are below 128
 pub places_within : (words : List ℕ) → length words ≡ 4 → AreWithin (IsBitSetAt words)
 places_within words four place set =
     grind (arith, get_or_past words (place / 32) 0)
 
--- ---- a word that moves up, with what comes in from the one below
+-- ---- a word that moves up, with the bits from the one below
 
 -- the bits of n below a width
 bit_in : (n w i : ℕ) → i < w → bit_at (n % 2 ^ w) i ≡ bit_at n i
@@ -40,7 +40,7 @@ bit_in n w i within =
     let whole : n / 2 ^ w * 2 ^ w + n % 2 ^ w ≡ n = omega arith in
     sym (bit_at_cat_low (n / 2 ^ w) w (n % 2 ^ w) i within) ∙ ap (λ k. bit_at k i) whole
 
--- what `moved` says of a word
+-- what `moved` returns
 abbrev pub Moved : ℕ → ℕ → ℕ → ℕ → Type 0
 Moved word lower bits new =
     ((i : ℕ) → bits ≤ i → i < 32 → bit_at new i ≡ bit_at word (i - bits)) ×
@@ -79,7 +79,7 @@ moved_is word lower bits short fits = (
 
 -- ---- four words that move up
 
--- the four words, below them the greatest number as the top bit of a fifth, and nothing below that
+-- the four words, below them the largest number as the top bit of a fifth, and nothing below that
 abbrev pub padded : List ℕ → List ℕ
 padded words =
     0 ∷ 0 ∷ 0 ∷ 0 ∷ 2 ^ 31 ∷ slice_index words 0 ∷ slice_index words 1 ∷ slice_index words 2 ∷ slice_index words 3
@@ -107,7 +107,7 @@ module _ (words : List ℕ) where
       (omega arith) ∙ four_words (λ word. bit_at (slice_index (padded words) (5 + word)) (place % 32) ≡ bit_at
       (slice_index words word) (place % 32)) refl refl refl refl (place / 32) (omega arith)
 
--- a move, place by place: what comes in at the end, what is free below it, and what moves up
+-- a move, place by place: what is added at the end, what is free below it, and what moves up
 moves_by : (New Old : Type 0) (place by : ℕ) → (New → place < 128) → (place < 128 → place + 1 ≡ by → New)
     → (place < 128 → place + 1 < by → ¬ New) → (place < 128 → by ≤ place → New ↔ Old)
     → New ↔ ((place < 128) × ((place + 1 ≡ by) ⊎ ((by ≤ place) × Old)))
@@ -150,7 +150,7 @@ module _ (words : List ℕ) (bits : ℕ) (short : bits < 32) where
         let is = (rw e at (moved_place place within)) ∙ above_greatest words (place - by) (omega arith) in
         (λ set. sym is ∙ set, λ set. is ∙ set))
 
--- ---- one place more
+-- ---- one more place
 
 module _ (words : List ℕ) (one : ℕ) (four : length words ≡ 4) (inside : one < 128) where
   abbrev pub word : ℕ
@@ -185,7 +185,7 @@ sets_again Places _ here _ = grind arith
 
 -- ---- the highest that is clear
 
--- what the ones of `!word` below a place say of the word
+-- what the ones of `!word` below a place mean for the word
 module _ (word bits : ℕ) (fits : word < 2 ^ 32) (some : 0 < bits) (few : bits ≤ 32) where
   abbrev pub zeros : ℕ
   zeros = bit_and (bit_not w32 word) ((2 ^ 32 - 1) / 2 ^ (32 - bits))

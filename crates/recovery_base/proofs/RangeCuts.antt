@@ -1,4 +1,4 @@
--- Ranges that lie apart, without the numbers that leave them. `remove` of the set of ranges rests on it.
+-- Ranges that are apart, without the numbers that are removed. `remove` of the set of ranges rests on it.
 use Rattle.std.proofs.lemmas.Bool.Decides.{nat_tests}
 use Rattle.std.proofs.Common.{◌≡◌, ℕ, suc, ◌+◌, ◌<◌, ◌≤◌, inl, ◌↔◌, [], ◌∷◌, length, take, drop, set, get_or, refl, arith}
 use Rattle.std.specs.Prelude.{Bool, true, false, cond, max}
@@ -71,7 +71,7 @@ module _ {ranges : Ranges} {start end at : ℕ} (apart : AreApart 0 ranges) (som
       none_before past = none (λ n between. rw rest
           (grind (arith, between, past, apart_here, in_above (range.end + 1) (after ranges at) n)))
 
-      -- numbers leave, and the change from the place on is known number by number
+      -- numbers are removed, and the change from the position on is known number by number
       taken : (more : ℕ) (edit : ℕ → Ranges → Ranges) → ((at : ℕ) (range : Range ℕ) (others : Ranges)
           → range.start < range.end → range.end < start + 1 → edit (suc at) (range ∷ others) ≡ range ∷ edit at others)
           → range.start < end → (start ≡ 0 → more ≡ 0)
@@ -107,7 +107,7 @@ module _ {ranges : Ranges} {start end at : ℕ} (apart : AreApart 0 ranges) (som
           (cut_all n start end (range.end + 1) (after ranges at) some (omega (arith, ends_past)) apart_here.2)
           (is_some_range (clipped start end range)) refl)
 
-      -- a range that holds numbers on both sides becomes two
+      -- a range that has numbers on both sides becomes two
       pub splits : {other : Range ℕ} → other ≡ get_or ranges at other → range.start < start → end < other.end
           → Removes ranges start end true
           (set (insert ranges (at + 1) (span end other.end)) at (span range.start start))

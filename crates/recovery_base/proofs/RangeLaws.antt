@@ -1,5 +1,5 @@
--- Ranges that lie apart, and the numbers in them. All calls of the set of ranges rest on it, and `HighestRunLaws` of
--- what is to be acknowledged.
+-- Ranges that are apart, and the numbers in them. All calls of the set of ranges rest on it, and `HighestRunLaws` of
+-- the pending ACKs.
 use Rattle.std.proofs.Common.{◌≡◌, ℕ, suc, zero, ◌+◌, ◌<◌, ◌≤◌, inl, inr, ◌⊎◌, ◌↔◌, List, [], ◌∷◌, ◌++◌, length, take, drop, set, get_or, sym, ◌∙◌, ap, arith, drop-cons, add-one, refl}
 use Rattle.std.proofs.lemmas.Bool.Decides.{nat_tests}
 use Rattle.std.specs.declared.ops.Range.{Range}
@@ -29,14 +29,14 @@ unfolding InRanges AreApart
 in_above _ [] n _ here = absurd here
 in_above _ (range ∷ others) n apart here = grind (arith, in_above (range.end + 1) others n)
 
--- what stands from a place on
+-- the ranges from a position on
 pub from_there : (low at : ℕ) (ranges : Ranges) → AreApart low ranges
     → (low ≤ floor_above low (take at ranges)) × AreApart (floor_above low (take at ranges)) (drop at ranges)
 unfolding AreApart floor_above
 from_there _ (suc at) (range ∷ others) apart = grind (arith, from_there (range.end + 1) at others)
 from_there low at ranges apart = (omega arith, apart)
 
--- a number from `bound` on lies in what is left of the ranges
+-- a number from `bound` on is in what is left of the ranges
 pub from_place : (bound n low at : ℕ) (ranges : Ranges) → AreApart low ranges → floor_above low (take at ranges) ≤ bound
     → bound ≤ n + 1 → InRanges ranges n ↔ InRanges (drop at ranges) n
 unfolding InRanges AreApart floor_above
@@ -44,7 +44,7 @@ from_place bound n _ (suc at) (range ∷ others) apart below above =
     grind (arith, from_place bound n (range.end + 1) at others apart.2, from_there (range.end + 1) at others)
 from_place bound n low at ranges apart below above = (λ here. here, λ here. here)
 
--- what comes and what goes where ranges change, of which `n` may be
+-- the numbers added and removed when ranges change, of which `n` may be one
 module _ (n bound more : ℕ) (Comes Extends : Type 0) (arrives : Comes → bound ≤ n + 1)
     (leaves : Extends → bound ≤ n + 1) where
   abbrev pub Changes : ℕ → Ranges → Ranges → Type 0
@@ -72,7 +72,7 @@ module _ (n bound more : ℕ) (Comes Extends : Type 0) (arrives : Comes → boun
             change,
       ))
 
--- what is left of the ranges behind one of them
+-- what is left of the ranges after one of them
 pub after : Ranges → ℕ → Ranges
 after ranges at = drop (suc at) ranges
 
@@ -83,18 +83,18 @@ unfolding after
 drop_at ranges at range inside is =
     drop-cons ranges at range inside ∙ ap (λ (r : Range ℕ). r ∷ drop (suc at) ranges) (sym is)
 
--- two reads at one place
+-- two reads at one position
 pub same_read : (ranges : Ranges) (at : ℕ) {first second : Range ℕ} → at < length ranges
     → first ≡ get_or ranges at first → second ≡ get_or ranges at second → first ≡ second
 same_read ranges at inside is also = is ∙ get_or_default ranges at _ _ inside ∙ sym also
 
--- ---- one number more
+-- ---- one more number
 
 module _ {ranges : Ranges} {x at : ℕ} (apart : AreApart 0 ranges) (place : IsPlace ranges x at) where
   low : ℕ
   low = floor_above 0 (take at ranges)
 
-  -- what an insertion has to do from the place on
+  -- what an insertion must do from the position on
   abbrev Local : ℕ → ℕ → Ranges → Ranges → Type 0
   Local n = Changes n x 1 (n ≡ x) ⊥ (λ same. omega (arith, same)) (λ goes. absurd goes)
 
@@ -117,7 +117,7 @@ module _ {ranges : Ranges} {x at : ℕ} (apart : AreApart 0 ranges) (place : IsP
   inserts_last last = inserted (λ i rs. rs ++ span x (x + 1) ∷ []) (λ i range others. refl) []
       (drop_all at ranges (omega arith)) (λ below apart n. grind (arith, below))
 
-  -- `range` and `other` are two reads of the range at the place
+  -- `range` and `other` are two reads of the range at the position
   module _ {range other : Range ℕ} (differs : ¬ (at ≡ length ranges)) (is : range ≡ get_or ranges at range)
       (also : other ≡ get_or ranges at other) where
     rest : drop at ranges ≡ range ∷ after ranges at
@@ -196,9 +196,9 @@ module _ {ranges : Ranges} {x at : ℕ} (apart : AreApart 0 ranges) (place : IsP
             in_above (next.end + 1) (drop (suc (suc at)) ranges) x,
           ))
 
--- ---- the place of a number
+-- ---- the position of a number
 
--- the range at a place
+-- the range at a position
 at_range : (low i : ℕ) (ranges : Ranges) (d : Range ℕ) → AreApart low ranges → i < length ranges
     → (floor_above low (take i ranges) ≤ (get_or ranges i d).start)
     × ((get_or ranges i d).start < (get_or ranges i d).end)
@@ -250,9 +250,9 @@ some_last : (ranges : Ranges) (last : Range ℕ) → slice_get ranges (length ra
 some_last [] _ is = absurd cc
 some_last (_ ∷ _) _ is = omega arith
 
--- what the last range tells of the place
+-- what the last range determines of the position
 module _ (ranges : Ranges) (x : ℕ) where
-  -- where there is none, the place is the first
+  -- if there is none, the position is the first
   pub place_of_none : slice_get ranges (length ranges - 1) ≡ None → IsPlace ranges x 0
   unfolding floor_above
   place_of_none none = record {
@@ -270,7 +270,7 @@ module _ (ranges : Ranges) (x : ℕ) where
     last_at = rw (get_or_from_slice_get ranges (length ranges - 1) last last is) at
         (at_range 0 (length ranges - 1) ranges last apart (omega (arith, some_last ranges last is)))
 
-    -- where it ends below x, the place is behind it
+    -- if it ends below x, the position is after it
     pub place_behind : last.end < x → IsPlace ranges x (length ranges)
     place_behind above = record {
       bound = omega arith;
@@ -279,7 +279,7 @@ module _ (ranges : Ranges) (x : ℕ) where
       above = rw (drop_all (length ranges) ranges (omega arith)) tt;
     }
 
-    -- where x lies in it or at its end, the place is that one
+    -- if x is in it or at its end, the position is that one
     pub place_in_last : last.start ≤ x → x ≤ last.end → IsPlace ranges x (length ranges - 1)
     place_in_last from to = record {
       bound = omega arith;
@@ -288,7 +288,7 @@ module _ (ranges : Ranges) (x : ℕ) where
           (get_or_from_slice_get ranges (length ranges - 1) last last is) to);
     }
 
--- the ranges behind the first
+-- the ranges after the first
 pub apart_dropped : (ranges : Ranges) → AreApart 0 ranges → AreApart 0 (drop 1 ranges)
 apart_dropped [] apart = apart
 apart_dropped (range ∷ others) apart = apart_rest 0 range others apart

@@ -1,11 +1,11 @@
--- The ECN counts of a peer's ACK frames, and the check of them (RFC 9000, 13.4.2.1 and 19.3.2).
+-- The ECN counts of a peer's ACK frames, and their check (RFC 9000, 13.4.2.1 and 19.3.2).
 use Rattle.std.specs.Prelude.{ℕ, ◌+◌, ◌-◌, ◌||◌, if◌then◌else◌, nat_lt, List, Option, None, Some}
 use lib.Chars.{codes}
 use Rattle.recovery_base.specs.declared.below.frames.EcnCounts.{EcnCounts}
 
--- Why the counts fail the check, in words: the first of these causes that holds. Packets sent with ECT(0) are counted
--- so, or as CE where they were marked on the way. Bleached are those in no count, whose codepoint was cleared on the
--- way; corrupted those in neither of these two, and all with ECT(1), as none is sent.
+-- The fault of the counts, as text: the first of these causes that holds. Packets sent with ECT(0) are counted as such,
+-- or as CE if they were marked on the path. Those in no count are bleached: their codepoint was cleared on the path.
+-- Those in neither of these two are corrupted, and so are all with ECT(1), as none is sent.
 abbrev pub ecn_fault : EcnCounts → ℕ → EcnCounts → Option (List ℕ)
 ecn_fault last newly_acked counts =
     let rise = (counts.ect0 - last.ect0) + (counts.ce - last.ce) in

@@ -1,4 +1,4 @@
--- The bytes of a connection id (RFC 9000, 17.2).
+-- The bytes of a connection ID (RFC 9000, 17.2).
 use Rattle.std.specs.Prelude.{ℕ, ◌≡◌, ◌-◌, ◌≤◌, List, ◌++◌, length, take, replicate, refl}
 use Rattle.std.proofs.Common.{arith, length-take}
 use Rattle.recovery_base.specs.declared.below.ids.ConnectionId.TheInside.{Inside}
@@ -11,21 +11,21 @@ longest_cid = 20
 abbrev pub reset_token_size : ℕ
 reset_token_size = 16
 
--- the bytes of an id, without the zeros behind them
+-- the bytes of an ID, without the zeros after them
 abbrev pub bytes_of : Inside → List ℕ
 bytes_of id = take id.len id.bytes
 
--- there are at most twenty bytes, and zeros behind them
+-- there are at most twenty bytes, followed by zeros
 pub record IsPaddedId (id : Inside) : Type 0 where
   pub small : id.len ≤ longest_cid
   pub room : length id.bytes ≡ longest_cid
   pub zeros : id.bytes ≡ take id.len id.bytes ++ replicate (longest_cid - id.len) 0
 
--- what an id with these bytes holds
+-- the representation of an ID with these bytes
 abbrev pub padded : List ℕ → Inside
 padded bytes = record { len = length bytes; bytes = bytes ++ replicate (longest_cid - length bytes) 0 }
 
--- an id is told by its bytes alone
+-- an ID is determined by its bytes
 pub padded-bytes_of : (id : Inside) → IsPaddedId id → padded (bytes_of id) ≡ id
 padded-bytes_of id sound =
     let len : length (take id.len id.bytes) ≡ id.len =

@@ -1,20 +1,20 @@
--- A set of numbers, kept as ranges, as ACK frames tell packet numbers (RFC 9000, 19.3.1).
+-- A set of numbers, stored as ranges, as in ACK frames (RFC 9000, 19.3.1).
 use Rattle.std.specs.Prelude.{ℕ, ◌≡◌, ◌+◌, ◌<◌, ◌≤◌, ◌⊎◌, ◌↔◌, List, [], ◌∷◌, length, take, drop, map, min, max, cond, nat_lt, ⊤, Bool, MatchBool, Any}
 use Rattle.std.specs.List.{filter}
 use Rattle.std.specs.declared.ops.Range.{Range}
 use Rattle.recovery_base.specs.Numbers.{InsertNumber}
 
--- n lies in one of the ranges
+-- n is in one of the ranges
 unfoldable pub InRanges : List (Range ℕ) → ℕ → Type 0
 InRanges [] n = ⊥
 InRanges (range ∷ others) n = ((range.start ≤ n) × (n < range.end)) ⊎ InRanges others n
 
--- none is empty, each begins above the end of the one before, without touching it, and the first at `low` or above
+-- none is empty, each begins above the end of the one before, without touching it, and the first not below `low`
 unfoldable pub AreApart : ℕ → List (Range ℕ) → Type 0
 AreApart low [] = ⊤
 AreApart low (range ∷ others) = (low ≤ range.start) × (range.start < range.end) × AreApart (range.end + 1) others
 
--- a number is put into the ranges: whether it is new, and what they hold then
+-- a number is added to the ranges: whether it is new, and the numbers in them afterwards
 pub record InsertsOne (old : List (Range ℕ)) (number : ℕ) (is_new : Bool) (new : List (Range ℕ)) : Type 0 where
   pub answer : MatchBool is_new (¬ InRanges old number) (InRanges old number)
   pub numbers : (n : ℕ) → InRanges new n ↔ InsertNumber number (InRanges old) n
@@ -25,11 +25,12 @@ pub record InsertsOne (old : List (Range ℕ)) (number : ℕ) (is_new : Bool) (n
 abbrev pub IsBetween : ℕ → ℕ → ℕ → Type 0
 IsBetween start end n = (start ≤ n) × (n < end)
 
--- numbers from `start` up to `end` leave the middle of one range: it holds others on both sides
+-- numbers from `start` up to `end` are removed from the middle of one range: it has others on both sides
 abbrev pub IsSplitBy : List (Range ℕ) → ℕ → ℕ → Type 0
 IsSplitBy ranges start end = (start < end) × Any (λ (range : Range ℕ). (range.start < start) × (end < range.end)) ranges
 
--- the numbers from `start` up to `end` leave the ranges: whether one did, and what they hold then
+-- the numbers from `start` up to `end` are removed from the ranges: whether they had one, and the numbers in them
+-- afterwards
 pub record Removes (old : List (Range ℕ)) (start end : ℕ) (some : Bool) (new : List (Range ℕ)) : Type 0 where
   pub answer : MatchBool some ((n : ℕ) × InRanges old n × IsBetween start end n) ((n : ℕ) → IsBetween start end n
       → ¬ InRanges old n)
@@ -37,7 +38,7 @@ pub record Removes (old : List (Range ℕ)) (start end : ℕ) (some : Bool) (new
   pub apart : AreApart 0 new
   pub count : start ≡ 0 → length new ≤ length old
 
--- the least number that may follow some ranges without touching them
+-- the smallest number that may follow some ranges without touching them
 unfoldable pub floor_above : ℕ → List (Range ℕ) → ℕ
 floor_above low [] = low
 floor_above low (range ∷ others) = floor_above (range.end + 1) others
@@ -47,7 +48,7 @@ abbrev pub EndsFrom : ℕ → List (Range ℕ) → Type 0
 EndsFrom x [] = ⊤
 EndsFrom x (range ∷ others) = x ≤ range.end
 
--- the place of the first range that ends at x or above it
+-- the position of the first range that ends at x or above it
 pub record IsPlace (ranges : List (Range ℕ)) (x at : ℕ) : Type 0 where
   pub bound : at ≤ length ranges
   pub below : floor_above 0 (take at ranges) ≤ x
@@ -56,7 +57,7 @@ pub record IsPlace (ranges : List (Range ℕ)) (x at : ℕ) : Type 0 where
 abbrev pub span : ℕ → ℕ → Range ℕ
 span start end = record { start = start; end = end }
 
--- a range without them, empty where none is left
+-- a range without them, empty if none is left
 abbrev pub clipped : ℕ → ℕ → Range ℕ → Range ℕ
 clipped start end range =
     cond (nat_lt range.start start) (span range.start (min range.end start)) (span (max range.start end) range.end)

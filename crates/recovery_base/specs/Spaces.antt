@@ -9,6 +9,6 @@ use Rattle.recovery_base.specs.declared.below.SpaceId.{SpaceId}
 abbrev pub same_space : SpaceId → SpaceId → Bool
 same_space = sameb the_type
 
--- a space's place in the order of a handshake, which is that of the enum: Initial 0, Handshake 1, Data 2
+-- a space's position in the order of a handshake, which is that of the enum: Initial 0, Handshake 1, Data 2
 abbrev pub space_index : SpaceId → ℕ
 space_index = tag_of the_type

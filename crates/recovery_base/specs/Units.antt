@@ -13,11 +13,11 @@ milliseconds = 10 ^ 6
 abbrev pub seconds : ℕ
 seconds = 10 ^ 9
 
--- the shortest span that timers keep (kGranularity of RFC 9002, 6.1.2), and so the min_ack_delay of this end
+-- the timer granularity (kGranularity of RFC 9002, 6.1.2), and so the local min_ack_delay
 abbrev pub timer_granularity : ℕ
 timer_granularity = milliseconds
 
--- the max_ack_delay of a peer that has not said another one (RFC 9000, 18.2)
+-- the max_ack_delay of a peer that has not stated another one (RFC 9000, 18.2)
 abbrev pub assumed_ack_delay : ℕ
 assumed_ack_delay = 25 * milliseconds
 
@@ -26,11 +26,11 @@ assumed_ack_delay = 25 * milliseconds
 abbrev pub number_limit : ℕ
 number_limit = 2 ^ 62
 
--- every number of 64 bits is below it: bytes, packets, and times in nanoseconds
+-- every 64-bit number is below it: bytes, packets, and times in nanoseconds
 abbrev pub u64_limit : ℕ
 u64_limit = 2 ^ 64
 
--- the largest number of 64 bits, at which counters stop
+-- the largest 64-bit number, at which counters saturate
 abbrev pub largest_u64 : ℕ
 largest_u64 = u64_limit - 1
 
@@ -38,15 +38,15 @@ largest_u64 = u64_limit - 1
 abbrev pub last_time : ℕ
 last_time = u64_limit - 1
 
--- every number of 32 bits is below it
+-- every 32-bit number is below it
 abbrev pub u32_limit : ℕ
 u32_limit = 2 ^ 32
 
--- the largest number of 32 bits, at which counters stop
+-- the largest 32-bit number, at which counters saturate
 abbrev pub largest_u32 : ℕ
 largest_u32 = u32_limit - 1
 
--- every number of 16 bits is below it, as the size of a datagram in bytes (RFC 9000, 18.2)
+-- every 16-bit number is below it, such as the size of a datagram in bytes (RFC 9000, 18.2)
 abbrev pub u16_limit : ℕ
 u16_limit = 2 ^ 16
 

@@ -22,7 +22,7 @@ pub enum SpaceId {
     Data,
 }
 
-/// The one answer for want of memory: a growth was refused by the allocator.
+/// The one error for lack of memory: an allocation failed.
 #[derive(Clone, Copy, Debug, PartialEq, Eq, Error)]
 #[error("out of memory")]
 pub struct NoMemory;

@@ -4,21 +4,19 @@ ghost use Rattle.std.specs.Prelude.{◌≡◌, None};
 use crate::below::VarInt;
 use crate::time::Duration;
 
-/// What the peer is asked for by ACK_FREQUENCY frames (draft-ietf-quic-ack-frequency-04, section 4).
-///
-/// Each field has a setter of its name.
+/// The values that ACK_FREQUENCY frames request from the peer (draft-ietf-quic-ack-frequency-04, section 4).
 #[derive(Clone, Copy)]
 pub struct AckFrequencyConfig {
-    /// How many ack-eliciting packets the peer may leave without an ACK at once.
+    /// How many ack-eliciting packets the peer may leave without an immediate ACK.
     pub ack_eliciting_threshold: VarInt,
-    /// The longest delay of the peer's ACKs; none asks for its own.
+    /// The longest delay of the peer's ACKs; `None` requests the peer's own.
     pub max_ack_delay: Option<Duration>,
-    /// How far out of order a packet may be before the peer acknowledges at once; 0 turns it off.
+    /// How far out of order a packet may be before the peer acknowledges immediately; 0 turns this off.
     pub reordering_threshold: VarInt,
 }
 
 impl AckFrequencyConfig {
-    /// How many ack-eliciting packets the peer may leave without an ACK at once. Default 1.
+    /// Sets how many ack-eliciting packets the peer may leave without an immediate ACK. Default 1.
     pub fn ack_eliciting_threshold(&mut self, value: VarInt) -> &mut Self
         ensures same { result.ghost_name ≡ self.entry.ghost_name }
         ensures value { result.now ≡ record self.old { ack_eliciting_threshold = value } }
@@ -27,7 +25,7 @@ impl AckFrequencyConfig {
         self
     }
 
-    /// The longest delay of the peer's ACKs; none asks for its own. Default none.
+    /// Sets the longest delay of the peer's ACKs; `None` requests the peer's own. Default `None`.
     pub fn max_ack_delay(&mut self, value: Option<Duration>) -> &mut Self
         ensures same { result.ghost_name ≡ self.entry.ghost_name }
         ensures value { result.now ≡ record self.old { max_ack_delay = value } }
@@ -36,7 +34,7 @@ impl AckFrequencyConfig {
         self
     }
 
-    /// How far out of order a packet may be before the peer acknowledges at once; 0 turns it off. Default 2.
+    /// Sets how far out of order a packet may be before the peer acknowledges immediately; 0 turns this off. Default 2.
     pub fn reordering_threshold(&mut self, value: VarInt) -> &mut Self
         ensures same { result.ghost_name ≡ self.entry.ghost_name }
         ensures value { result.now ≡ record self.old { reordering_threshold = value } }

@@ -10,7 +10,7 @@ ghost use Rattle.recovery_base.specs.declared.timer.Timer.{Timer};
 use crate::below::SpaceId;
 use crate::timer::Timer;
 
-/// Spaces are ordered as a handshake goes through them: Initial, Handshake, Data.
+/// Proves that spaces are ordered as a handshake uses them: Initial, Handshake, Data.
 pub fn spaces_in_order()
     ensures places { (space_index Initial ≡ 0) × (space_index Handshake ≡ 1)
         × (space_index Data ≡ 2) }
@@ -18,7 +18,7 @@ pub fn spaces_in_order()
         ⟦<SpaceId as Ord>⟧.cmp space other ≡ nat_cmp (space_index space) (space_index other) }
 {}
 
-/// Timers are ordered as they stand in `Timer::VALUES`.
+/// Proves that timers are ordered as in `Timer::VALUES`.
 pub fn timers_in_order()
     ensures { (timer other : Timer) →
         ⟦<Timer as Ord>⟧.cmp timer other ≡ nat_cmp (timer_index timer) (timer_index other) }

@@ -1,4 +1,4 @@
-//! Moments and spans of time in whole nanoseconds. No clock is read: the caller hands moments in.
+//! Times and spans in whole nanoseconds. No clock is read: the caller passes times.
 ghost use Rattle.std.specs.Prelude.{◌≡◌, ℕ, ◌+◌, ◌-◌, ◌*◌, ◌≤◌, ◌<◌, min};
 ghost use Rattle.std.specs.Option.{SomeIff};
 ghost use Rattle.recovery_base.specs.Times.{longest_span, span_limit};
@@ -13,9 +13,9 @@ const NANOS_PER_MILLI: u128 = 1_000_000;
 
 const NANOS_PER_SEC: u128 = 1_000_000_000;
 
-/// A moment: nanoseconds since an epoch that the caller chooses, 0 to `u64::MAX`.
+/// A time: nanoseconds since an epoch that the caller chooses, 0 to `u64::MAX`.
 ///
-/// Contracts see the plain number.
+/// In contracts its value is the plain number.
 #[derive(Clone, Copy, PartialEq, Eq, PartialOrd, Ord)]
 pub struct Instant {
     nanos: u64,
@@ -30,21 +30,21 @@ impl Model for Instant {
 }
 
 impl Instant {
-    /// The moment this many nanoseconds after the epoch.
+    /// Returns the time this many nanoseconds after the epoch.
     pub fn from_nanos(nanos: u64) -> Self
         ensures { result ≡ nanos }
     {
         Instant { nanos }
     }
 
-    /// Nanoseconds since the epoch.
+    /// Returns the nanoseconds since the epoch.
     pub fn as_nanos(self) -> u64
         ensures { result ≡ self }
     {
         self.nanos
     }
 
-    /// The moment a span later, or `None` past `u64::MAX` nanoseconds.
+    /// Returns the time a span later, or `None` above `u64::MAX` nanoseconds.
     pub fn checked_add(self, duration: Duration) -> Option<Instant>
         ensures { SomeIff result (self + duration < u64_limit) (self + duration) }
     {
@@ -55,7 +55,7 @@ impl Instant {
         }
     }
 
-    /// The span since an earlier moment, or `None` where that moment is later.
+    /// Returns the span since an earlier time, or `None` if that time is later.
     pub fn checked_duration_since(self, earlier: Instant) -> Option<Duration>
         ensures { SomeIff result (earlier ≤ self) (self - earlier) }
     {
@@ -63,7 +63,7 @@ impl Instant {
         Some(Duration::from_nanos(nanos))
     }
 
-    /// The span since an earlier moment, zero where that moment is later.
+    /// Returns the span since an earlier time, zero if that time is later.
     pub fn saturating_duration_since(self, earlier: Instant) -> Duration
         ensures { result ≡ self - earlier }
     {
@@ -71,7 +71,7 @@ impl Instant {
     }
 }
 
-/// The moment a span later. It stops at `u64::MAX` nanoseconds.
+/// The time a span later. It saturates at `u64::MAX` nanoseconds.
 impl Add<Duration> for Instant {
     type Output = Instant;
 
@@ -85,7 +85,7 @@ impl Add<Duration> for Instant {
     }
 }
 
-/// The span between two moments, zero where the second is later.
+/// The span between two times, zero if the second is later.
 impl Sub for Instant {
     type Output = Duration;
 
@@ -98,7 +98,7 @@ impl Sub for Instant {
 
 /// A span of time: whole nanoseconds, 0 to 2^64 · 10^9 - 1 (the range of std's `Duration`).
 ///
-/// Contracts see the plain number.
+/// In contracts its value is the plain number.
 #[derive(Clone, Copy, PartialEq, Eq, PartialOrd, Ord)]
 pub struct Duration {
     nanos: u128,
@@ -123,7 +123,7 @@ impl Default for Duration {
 }
 
 impl Duration {
-    /// No time at all.
+    /// The zero span.
     pub const ZERO: Duration = Duration { nanos: 0 };
 
     /// The longest span: 2^64 · 10^9 - 1 nanoseconds.
@@ -131,7 +131,7 @@ impl Duration {
         nanos: 18_446_744_073_709_551_615_999_999_999,
     };
 
-    /// A span of whole nanoseconds.
+    /// Returns a span of whole nanoseconds.
     pub fn from_nanos(nanos: u64) -> Self
         ensures { result ≡ nanos }
     {
@@ -140,7 +140,7 @@ impl Duration {
         }
     }
 
-    /// A span of whole nanoseconds, or `None` past the longest.
+    /// Returns a span of whole nanoseconds, or `None` above the longest.
     pub fn checked_from_nanos(nanos: u128) -> Option<Self>
         ensures { SomeIff result (nanos < span_limit) nanos }
     {
@@ -150,7 +150,7 @@ impl Duration {
         Some(Duration { nanos })
     }
 
-    /// A span of whole microseconds.
+    /// Returns a span of whole microseconds.
     pub fn from_micros(micros: u64) -> Self
         ensures { result ≡ micros * microseconds }
     {
@@ -159,7 +159,7 @@ impl Duration {
         }
     }
 
-    /// A span of whole milliseconds.
+    /// Returns a span of whole milliseconds.
     pub fn from_millis(millis: u64) -> Self
         ensures { result ≡ millis * milliseconds }
     {
@@ -168,7 +168,7 @@ impl Duration {
         }
     }
 
-    /// A span of whole seconds.
+    /// Returns a span of whole seconds.
     pub fn from_secs(secs: u64) -> Self
         ensures { result ≡ secs * seconds }
     {
@@ -177,7 +177,7 @@ impl Duration {
         }
     }
 
-    /// Whole nanoseconds.
+    /// Returns the whole nanoseconds.
     pub fn as_nanos(self) -> u128
         ensures value { result ≡ self }
         ensures bound { result < span_limit }
@@ -185,14 +185,14 @@ impl Duration {
         self.nanos
     }
 
-    /// The sum, or `None` past the longest span.
+    /// Returns the sum, or `None` above the longest span.
     pub fn checked_add(self, other: Duration) -> Option<Duration>
         ensures { SomeIff result (self + other < span_limit) (self + other) }
     {
         Duration::checked_from_nanos(self.nanos + other.nanos)
     }
 
-    /// The sum. It stops at the longest span.
+    /// Returns the sum. It saturates at the longest span.
     pub fn saturating_add(self, other: Duration) -> Duration
         ensures { result ≡ min (self + other) longest_span }
     {
@@ -202,7 +202,7 @@ impl Duration {
         }
     }
 
-    /// The difference, or `None` where the other span is longer.
+    /// Returns the difference, or `None` if the other span is longer.
     pub fn checked_sub(self, other: Duration) -> Option<Duration>
         ensures { SomeIff result (other ≤ self) (self - other) }
     {
@@ -210,7 +210,7 @@ impl Duration {
         Some(Duration { nanos })
     }
 
-    /// The difference, zero where the other span is longer.
+    /// Returns the difference, zero if the other span is longer.
     pub fn saturating_sub(self, other: Duration) -> Duration
         ensures { result ≡ self - other }
     {
@@ -220,7 +220,7 @@ impl Duration {
     }
 }
 
-/// The sum. It stops at the longest span.
+/// The sum. It saturates at the longest span.
 impl Add for Duration {
     type Output = Duration;
 
@@ -231,7 +231,7 @@ impl Add for Duration {
     }
 }
 
-/// The difference, zero where the second span is longer.
+/// The difference, zero if the second span is longer.
 impl Sub for Duration {
     type Output = Duration;
 

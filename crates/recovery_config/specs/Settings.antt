@@ -4,7 +4,7 @@ use Rattle.recovery_base.specs.Units.{milliseconds, number_limit}
 use Rattle.recovery_mtud.specs.Settings.{default_settings}
 use Rattle.recovery_config.specs.declared.config.TransportConfig.{TransportConfig}
 
--- a table: times are in nanoseconds but for the idle timeout, which is in milliseconds, and sizes in bytes
+-- a table: times are in nanoseconds, except the idle timeout, which is in milliseconds; sizes are in bytes
 abbrev pub settings_with : {F : Type 0} → F → TransportConfig F
 settings_with factory = record {
   max_concurrent_bidi_streams = 100;
@@ -13,7 +13,7 @@ settings_with factory = record {
   max_idle_timeout = Some 30000;
   -- 100 ms at 12.5 MB a second
   stream_receive_window = 1250000;
-  -- the greatest that the wire can say (RFC 9000, 16)
+  -- the largest variable-length integer (RFC 9000, 16)
   receive_window = number_limit - 1;
   -- the windows of eight streams
   send_window = 8 * 1250000;
@@ -43,6 +43,6 @@ settings_with factory = record {
   congestion_controller_factory = factory;
 }
 
--- the size of datagrams that a path begins with, in bytes
+-- the initial size of a path's datagrams, in bytes
 abbrev pub initial_mtu_of : {F : Type 0} → TransportConfig F → ℕ
 initial_mtu_of config = max config.initial_mtu config.min_mtu

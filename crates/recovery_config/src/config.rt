@@ -23,13 +23,13 @@ const STREAMS: u32 = 100;
 /// How long a connection may be idle, in milliseconds (RFC 9308, 3.2).
 const IDLE_MILLIS: u32 = 30_000;
 
-/// What a stream brings in 100 ms at 12.5 MB a second, in bytes.
+/// What a stream transfers in 100 ms at 12.5 MB a second, in bytes.
 const STREAM_WINDOW: u32 = 1_250_000;
 
-/// The RTT that a path counts with before its first sample, in milliseconds (RFC 9002, 6.2.2).
+/// The initial RTT of a path, in milliseconds (RFC 9002, 6.2.2).
 const INITIAL_RTT_MILLIS: u64 = 333;
 
-/// What every path of QUIC carries, in bytes (RFC 9000, 14).
+/// The datagram size that every QUIC path carries, in bytes (RFC 9000, 14).
 const LEAST_MTU: u16 = 1200;
 
 /// An MTU, in bytes, above zero.
@@ -104,59 +104,58 @@ impl Fraction {
     }
 }
 
-/// Settings of a connection, with a factory `F` of their congestion controllers.
+/// Settings of a connection, with a factory `F` of its congestion controllers.
 ///
-/// Each setting has a setter of its name. MTUs and the denominator of the time threshold are above zero, whatever is
-/// set.
+/// Each setting has a setter of its name. MTUs and the denominator of the time threshold are always above zero.
 #[derive(Drop)]
 pub struct TransportConfig<F> {
     /// How many bidirectional streams the peer may have open at once (RFC 9000, 4.6).
     pub max_concurrent_bidi_streams: VarInt,
     /// How many unidirectional streams the peer may have open at once (RFC 9000, 4.6).
     pub max_concurrent_uni_streams: VarInt,
-    /// How long the connection may be idle, in milliseconds; none sets no limit (RFC 9000, 10.1).
+    /// How long the connection may be idle, in milliseconds; `None` sets no limit (RFC 9000, 10.1).
     pub max_idle_timeout: Option<VarInt>,
-    /// How many bytes of one stream the peer may send that were not read (RFC 9000, 4.1).
+    /// How many unread bytes of one stream the peer may send (RFC 9000, 4.1).
     pub stream_receive_window: VarInt,
-    /// How many bytes of all streams the peer may send that were not read (RFC 9000, 4.1).
+    /// How many unread bytes of all streams the peer may send (RFC 9000, 4.1).
     pub receive_window: VarInt,
-    /// How many bytes of streams this end may hold that were sent and not acknowledged.
+    /// How many unacknowledged bytes of streams the local endpoint may store.
     pub send_window: u64,
-    /// Whether streams of one priority take turns at sending; else each sends until it has no more.
+    /// Whether streams of one priority take turns at sending; if not, each sends until it has no more.
     pub send_fairness: bool,
-    /// A packet is lost once one that was sent this many packets later is acknowledged (RFC 9002, 6.1.1).
+    /// A packet is lost if one that was sent this many packets later is acknowledged (RFC 9002, 6.1.1).
     pub packet_threshold: u32,
     time_threshold: Fraction,
-    /// The RTT that a path counts with before its first sample. Default 333 ms (RFC 9002, 6.2.2).
+    /// The initial RTT of a path. Default 333 ms (RFC 9002, 6.2.2).
     pub initial_rtt: Duration,
     initial_mtu: Mtu,
     min_mtu: Mtu,
-    /// How the MTU of paths is searched for; none turns the search off (RFC 9000, 14.3).
+    /// The settings of MTU searches; `None` turns them off (RFC 9000, 14.3).
     pub mtu_discovery_config: Option<MtuDiscoveryConfig>,
     /// Whether datagrams of application data are padded to the MTU.
     pub pad_to_mtu: bool,
-    /// What the peer is asked for by ACK_FREQUENCY frames; none asks for nothing (draft-ietf-quic-ack-frequency-04,
-    /// section 4).
+    /// What ACK_FREQUENCY frames request from the peer; `None` sends none (draft-ietf-quic-ack-frequency-04, section
+    /// 4).
     pub ack_frequency_config: Option<AckFrequencyConfig>,
-    /// Congestion is persistent once all packets that were sent over this many probe timeouts are lost (RFC 9002,
-    /// 7.6.1).
+    /// Congestion is persistent if all packets that were sent over this many probe timeouts are lost (RFC 9002, 7.6.1).
     pub persistent_congestion_threshold: u32,
-    /// How long the connection may be silent before a PING keeps it alive; none sends no such PING (RFC 9000, 10.1.2).
+    /// How long the connection may be without traffic before a keep-alive PING is sent; `None` sends none (RFC 9000,
+    /// 10.1.2).
     pub keep_alive_interval: Option<Duration>,
-    /// How many bytes of CRYPTO frames out of order are held (RFC 9000, 7.5).
+    /// How many bytes of CRYPTO frames out of order are stored (RFC 9000, 7.5).
     pub crypto_buffer_size: usize,
-    /// Whether the spin bit tells observers of the RTT (RFC 9000, 17.4).
+    /// Whether the spin bit lets observers measure the RTT (RFC 9000, 17.4).
     pub allow_spin: bool,
-    /// How many bytes of datagrams are held until they are read; none takes no datagrams (RFC 9221, 3).
+    /// How many bytes of datagrams are stored until they are read; `None` accepts no datagrams (RFC 9221, 3).
     pub datagram_receive_buffer_size: Option<usize>,
-    /// How many bytes of datagrams are held until they are sent (RFC 9221, 5).
+    /// How many bytes of datagrams are stored until they are sent (RFC 9221, 5).
     pub datagram_send_buffer_size: usize,
-    /// What makes the congestion controllers of paths.
+    /// The factory of the congestion controllers of paths.
     pub congestion_controller_factory: F,
 }
 
 impl<F> TransportConfig<F> {
-    /// The default settings, with this factory of congestion controllers.
+    /// Returns the default settings, with this factory of congestion controllers.
     pub fn with_factory(factory: F) -> Self
         ensures { result ≡ settings_with factory }
     {
@@ -186,7 +185,8 @@ impl<F> TransportConfig<F> {
         }
     }
 
-    /// A packet is lost once one that was sent this many packets later is acknowledged (RFC 9002, 6.1.1). Default 3.
+    /// Sets the packet threshold: a packet is lost if one that was sent this many packets later is acknowledged (RFC
+    /// 9002, 6.1.1). Default 3.
     pub fn packet_threshold(&mut self, value: u32) -> &mut Self
         ensures same { result.ghost_name ≡ self.entry.ghost_name }
         ensures value { result.now ≡ record self.old { packet_threshold = value } }
@@ -195,8 +195,8 @@ impl<F> TransportConfig<F> {
         self
     }
 
-    /// A packet is lost this many RTTs after it was sent, once a later one is acknowledged (RFC 9002, 6.1.2): a
-    /// fraction whose denominator is above zero. Default 9/8.
+    /// Sets the time threshold: a packet is lost this many RTTs after it was sent, if a later one is acknowledged (RFC
+    /// 9002, 6.1.2). It is a fraction whose denominator is above zero. Default 9/8.
     pub fn time_threshold(&mut self, numerator: u64, denominator: u64) -> &mut Self
         requires { 0 < denominator }
         ensures same { result.ghost_name ≡ self.entry.ghost_name }
@@ -206,7 +206,7 @@ impl<F> TransportConfig<F> {
         self
     }
 
-    /// The numerator and denominator of the time threshold.
+    /// Returns the numerator and denominator of the time threshold.
     pub fn get_time_threshold(&self) -> (u64, u64)
         ensures value { result ≡ self.now.time_threshold }
         ensures positive { 0 < result.1 }
@@ -214,7 +214,7 @@ impl<F> TransportConfig<F> {
         self.time_threshold.get()
     }
 
-    /// The RTT that a path counts with before its first sample. Default 333 ms (RFC 9002, 6.2.2).
+    /// Sets the initial RTT of a path. Default 333 ms (RFC 9002, 6.2.2).
     pub fn initial_rtt(&mut self, value: Duration) -> &mut Self
         ensures same { result.ghost_name ≡ self.entry.ghost_name }
         ensures value { result.now ≡ record self.old { initial_rtt = value } }
@@ -223,7 +223,7 @@ impl<F> TransportConfig<F> {
         self
     }
 
-    /// The size of datagrams before MTU discovery, in bytes, above zero. Default 1200 (RFC 9000, 14).
+    /// Sets the size of datagrams before MTU discovery, in bytes, above zero. Default 1200 (RFC 9000, 14).
     pub fn initial_mtu(&mut self, value: u16) -> &mut Self
         requires { 0 < value }
         ensures same { result.ghost_name ≡ self.entry.ghost_name }
@@ -233,7 +233,7 @@ impl<F> TransportConfig<F> {
         self
     }
 
-    /// The size of datagrams that the path is known to carry, in bytes, above zero. Default 1200 (RFC 9000, 14).
+    /// Sets the size of datagrams that the path is known to carry, in bytes, above zero. Default 1200 (RFC 9000, 14).
     pub fn min_mtu(&mut self, value: u16) -> &mut Self
         requires { 0 < value }
         ensures same { result.ghost_name ≡ self.entry.ghost_name }
@@ -243,8 +243,8 @@ impl<F> TransportConfig<F> {
         self
     }
 
-    /// How the MTU of paths is searched for; none turns the search off. Default: that of `MtuDiscoveryConfig` (RFC
-    /// 9000, 14.3).
+    /// Sets the settings of MTU searches; `None` turns them off. Default: that of `MtuDiscoveryConfig` (RFC 9000,
+    /// 14.3).
     pub fn mtu_discovery_config(&mut self, value: Option<MtuDiscoveryConfig>) -> &mut Self
         ensures same { result.ghost_name ≡ self.entry.ghost_name }
         ensures value { result.now ≡ record self.old { mtu_discovery_config = value } }
@@ -253,7 +253,7 @@ impl<F> TransportConfig<F> {
         self
     }
 
-    /// Whether datagrams of application data are padded to the MTU. Default false.
+    /// Sets whether datagrams of application data are padded to the MTU. Default false.
     pub fn pad_to_mtu(&mut self, value: bool) -> &mut Self
         ensures same { result.ghost_name ≡ self.entry.ghost_name }
         ensures value { result.now ≡ record self.old { pad_to_mtu = value } }
@@ -262,8 +262,8 @@ impl<F> TransportConfig<F> {
         self
     }
 
-    /// What the peer is asked for by ACK_FREQUENCY frames; none asks for nothing (draft-ietf-quic-ack-frequency-04,
-    /// section 4). Default none.
+    /// Sets what ACK_FREQUENCY frames request from the peer; `None` sends none (draft-ietf-quic-ack-frequency-04,
+    /// section 4). Default `None`.
     pub fn ack_frequency_config(&mut self, value: Option<AckFrequencyConfig>) -> &mut Self
         ensures same { result.ghost_name ≡ self.entry.ghost_name }
         ensures value { result.now ≡ record self.old { ack_frequency_config = value } }
@@ -272,8 +272,8 @@ impl<F> TransportConfig<F> {
         self
     }
 
-    /// Congestion is persistent once all packets that were sent over this many probe timeouts are lost (RFC 9002,
-    /// 7.6.1). Default 3.
+    /// Sets the persistent congestion threshold: congestion is persistent if all packets that were sent over this many
+    /// probe timeouts are lost (RFC 9002, 7.6.1). Default 3.
     pub fn persistent_congestion_threshold(&mut self, value: u32) -> &mut Self
         ensures same { result.ghost_name ≡ self.entry.ghost_name }
         ensures value { result.now ≡ record self.old { persistent_congestion_threshold = value } }
@@ -282,7 +282,7 @@ impl<F> TransportConfig<F> {
         self
     }
 
-    /// A law, for the proofs of callers: the largest size that is probed is below 2^16, as its type says.
+    /// Proves for callers that the largest size that is probed is below 2^16, as its type says.
     pub fn upper_bound_fits(&self)
         ensures { ForSome self.now.mtu_discovery_config (λ config. config.upper_bound < u16_limit) }
     {
@@ -291,7 +291,7 @@ impl<F> TransportConfig<F> {
         }
     }
 
-    /// The size of datagrams that a path begins with, in bytes: the greater of `initial_mtu` and `min_mtu`.
+    /// Returns the initial size of a path's datagrams, in bytes: the larger of `initial_mtu` and `min_mtu`.
     pub fn get_initial_mtu(&self) -> u16
         ensures value { result ≡ initial_mtu_of self.now }
         ensures positive { 0 < result }
@@ -299,7 +299,7 @@ impl<F> TransportConfig<F> {
         self.initial_mtu.get().max(self.min_mtu.get())
     }
 
-    /// The size of datagrams that the path is known to carry, in bytes.
+    /// Returns the size of datagrams that the path is known to carry, in bytes.
     pub fn get_min_mtu(&self) -> u16
         ensures value { result ≡ self.now.min_mtu }
         ensures positive { 0 < result }
@@ -309,7 +309,7 @@ impl<F> TransportConfig<F> {
 }
 
 impl<F: Drop> TransportConfig<F> {
-    /// What makes the congestion controllers of paths.
+    /// Sets the factory of the congestion controllers of paths.
     pub fn congestion_controller_factory(&mut self, factory: F) -> &mut Self
         ensures same { result.ghost_name ≡ self.entry.ghost_name }
         ensures value { result.now ≡ record self.old { congestion_controller_factory = factory } }

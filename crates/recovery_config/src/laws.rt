@@ -7,7 +7,7 @@ ghost use Rattle.recovery_config.specs.declared.config.idle.IdleTimeout.{IdleTim
 use crate::config::IdleTimeout;
 use std::hash::Hash;
 
-/// Idle timeouts are equal, ordered and hashed as their milliseconds: so the three agree.
+/// Proves that idle timeouts are equal, ordered and hashed as their milliseconds: so the three agree.
 pub fn idle_timeouts_agree()
     ensures equality { (timeout other : IdleTimeout) →
         ⟦<IdleTimeout as PartialEq>⟧.eq timeout other ≡ (timeout == other) }

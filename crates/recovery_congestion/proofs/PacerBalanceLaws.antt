@@ -6,12 +6,12 @@ use Rattle.std.proofs.lemmas.Bool.{cases_lt}
 use Rattle.recovery_congestion.specs.Pacing.{Bucket, PacerCall, capacity_of}
 use Rattle.recovery_congestion.specs.PacerLog.{PacerMark, changed, credited, transmitted, IsCapPoint, credits_in, bytes_in, refills_in, capacity_in, greatest_moment, balance_from, balance_in, IsBalance}
 
--- the calls have at most this window, at least this RTT and no later moment
+-- the calls have at most this window, no smaller RTT and no later time
 abbrev AreWithin : ℕ → ℕ → ℕ → List PacerCall → Type 0
 AreWithin window rtt latest calls =
     AllByRecursion (λ call. (rtt ≤ call.rtt) × (call.window ≤ window) × (call.now ≤ latest)) calls
 
--- one credit more
+-- one more credit
 step_bound : (r r' w w' x c n g g0 : ℕ) → r ≤ r' → w' ≤ w → g0 ≤ g → 4 * r' * x ≤ 5 * w' * (n - g)
     → 4 * r * c ≤ 5 * w * (g - g0) → 4 * r * (x + c) ≤ 5 * w * (max n g - g0)
 step_bound r r' w w' x c n g g0 rtts windows rises one rest =
@@ -39,14 +39,14 @@ module _ (made : Bucket) where
       × NoDebt (credits + credit) bytes past
   NoDebt credits bytes (transmitted sent ∷ past) = NoDebt credits (bytes + sent) past
 
-  -- each credit is at most five fourths of a window for each RTT since the greatest moment
+  -- each credit is at most five fourths of a window for each RTT since the latest time
   abbrev pub AreEarned : List PacerMark → Type 0
   AreEarned [] = Unit {0}
   AreEarned (credited call credit ∷ past) =
       (4 * call.rtt * credit ≤ 5 * call.window * (call.now - greatest_moment made past)) × AreEarned past
   AreEarned (mark ∷ past) = AreEarned past
 
-  -- credits and bytes that come after a history without debt move its balance by as much
+  -- credits and bytes after a history without debt change its balance by as much
   pub credits_more : (credits bytes more : ℕ) (past : List PacerMark) → NoDebt credits bytes past
       → NoDebt (credits + more) bytes past
       × (balance_from made (credits + more) bytes past ≡ balance_from made credits bytes past + more)
@@ -59,7 +59,7 @@ module _ (made : Bucket) where
   bytes_more _ _ _ [] h low = grind arith
   bytes_more _ _ more (_ ∷ past) h low = grind (arith, λ (c b : ℕ). bytes_more c b more past)
 
-  -- what was transmitted after a cap point is within its capacity and the credits after it, by the balance at least
+  -- what was transmitted after a cap point is within its capacity and the credits after it, minus the balance
   below_each : (credits bytes : ℕ) (later past : List PacerMark) → IsCapPoint past
       → NoDebt credits bytes (later ++ past)
       → balance_from made credits bytes (later ++ past) + bytes + bytes_in later ≤ capacity_in made past + credits +
@@ -67,7 +67,7 @@ module _ (made : Bucket) where
   below_each _ _ [] _ p h = grind arith
   below_each _ _ (_ ∷ later) past p h = grind (arith, λ (c b : ℕ). below_each c b later past p)
 
-  -- the greatest moment rises, and is at most the latest of the calls
+  -- the latest time increases, and is at most that of the latest call
   greatest_rises : (later past : List PacerMark) → greatest_moment made past ≤ greatest_moment made (later ++ past)
   greatest_rises [] _ = omega arith
   greatest_rises (_ ∷ later) past = grind (arith, greatest_rises later past)
@@ -77,7 +77,7 @@ module _ (made : Bucket) where
   greatest_below w r _ [] _ h = omega arith
   greatest_below w r latest (_ ∷ later) past h = grind (arith, greatest_below w r latest later past)
 
-  -- all credits together are at most five fourths of the greatest window for each least RTT
+  -- all credits together are at most five fourths of the largest window for each smallest RTT
   credits_below : (w r latest : ℕ) (later past : List PacerMark) → AreWithin w r latest (refills_in later)
       → AreEarned (later ++ past)
       → 4 * r * credits_in later ≤ 5 * w * (greatest_moment made (later ++ past) - greatest_moment made past)
@@ -88,7 +88,7 @@ module _ (made : Bucket) where
       (credits_below w r latest later past h.1 e.1)
   credits_below w r latest (_ ∷ later) past h e = grind (arith, credits_below w r latest later past)
 
-  -- the pacing bound, from a point on: what was transmitted since is covered by what was there and the credits since
+  -- the pacing bound, from a point on: what was transmitted since is covered by the tokens there and the credits since
   bound_from : (there : ℕ) (later past : List PacerMark) (rtt window moment : ℕ) → AreEarned (later ++ past)
       → AreWithin window rtt moment (refills_in later) → bytes_in later ≤ there + credits_in later
       → 4 * rtt * (bytes_in later - there) ≤ 5 * window * (moment - greatest_moment made past)
@@ -105,7 +105,7 @@ module _ (made : Bucket) where
       bound_from (capacity_in made past) later past rtt window moment (rw is earned) within
       (omega (arith, below_each 0 0 later past point (rw is debt)))
 
-  -- from any point on, by the balance there: credits that come after it add to it, and bytes take from it
+  -- from any point on, by the balance there: credits after it add to it, and bytes subtract from it
   moves_by : (more taken credits bytes : ℕ) (past : List PacerMark) → NoDebt (credits + more) (bytes + taken) past
       → balance_from made (credits + more) (bytes + taken) past + taken ≤ balance_from made credits bytes past + more
   moves_by _ _ _ _ [] h = omega (arith, h)
@@ -125,7 +125,7 @@ module _ (made : Bucket) where
       bound_from (balance_from made 0 0 past) later past rtt window moment (rw is earned) within
       (omega (arith, covered_by 0 0 later past (rw is debt)))
 
-  -- ---- the balance is the least over the cap points
+  -- ---- the balance is the minimum over the cap points
 
   abbrev Met : ℕ → ℕ → List PacerMark → Type 0
   Met credits bytes history =

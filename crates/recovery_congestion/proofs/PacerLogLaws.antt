@@ -1,4 +1,4 @@
--- What a pacer holds is what its history says, as long as all that was transmitted was checked. The clauses of `run` on
+-- The state of a pacer is what its history says, if all that was transmitted was checked. The clauses of `run` on
 -- pacers rest on it.
 use Rattle.std.proofs.lemmas.Bool.Decides.{nat_tests}
 use Rattle.std.proofs.Common.{◌≡◌, ℕ, ◌-◌, ◌≤◌, min, true, false, List, [], ◌∷◌, None, arith}
@@ -10,7 +10,7 @@ use Rattle.recovery_congestion.proofs.PacerBalanceLaws.{NoDebt, AreEarned, credi
 
 -- ---- what was transmitted checked
 
--- the last that happened is that so many bytes were asked for, and not delayed
+-- the last entry is a call for this many bytes, which was not delayed
 abbrev pub HasPassed : Bucket → ℕ → List PacerEntry → Type 0
 HasPassed made bytes [] = ⊥
 HasPassed made bytes (asked call ∷ earlier) =
@@ -24,7 +24,7 @@ HavePassed made (asked call ∷ earlier) = HavePassed made earlier
 HavePassed made (took bytes checked ∷ earlier) = (checked ≡ true → HasPassed made bytes earlier)
     × HavePassed made earlier
 
--- ---- the ties
+-- ---- the invariants
 
 module _ (made : Bucket) where
   -- the bucket has the window and the MTU of the last change, or of the making
@@ -32,7 +32,7 @@ module _ (made : Bucket) where
   HasLast past bucket = (call : PacerCall)
       → is_as_before made call past ≡ ((call.window == bucket.window) && (call.mtu == bucket.mtu))
 
-  -- the bucket holds what the history says: its tokens are the balance, its last moment the greatest one
+  -- the bucket has what the history says: its tokens are the balance, its last time the latest one
   pub record Tied (past : List PacerMark) (bucket : Bucket) : Type 0 where
     pub capacity : bucket.capacity ≡ capacity_in made past
     pub last_change : HasLast past bucket
@@ -62,7 +62,7 @@ module _ (made : Bucket) where
       let credit = credit_of call.rtt call.window (call.now - greatest_moment made past) in
       grind (arith, credits_more made 0 0 credit past)
 
-  -- bytes are transmitted, and paid for as far as the tokens go
+  -- bytes are transmitted, and paid for as far as there are tokens
   pub tied_took : (bytes paid : ℕ) (past : List PacerMark) (bucket : Bucket) → paid ≡ min bytes bucket.tokens
       → Tied past bucket → Tied (transmitted paid ∷ past) (less_tokens bytes bucket)
   unfolding balance_in
@@ -73,7 +73,7 @@ module _ (made : Bucket) where
 is_bounded : (call : PacerCall) → IsPaced call → is_unpaced call ≡ false
 is_bounded _ bounds = grind arith
 
--- what passes is covered, where the call is paced
+-- what passes is covered, if the call is paced
 pub passed_is_covered : (call : PacerCall) (bucket : Bucket) → IsPaced call → pacer_delay call bucket ≡ None
     → call.bytes ≤ bucket.tokens
 passed_is_covered _ _ bounds passes = grind arith
@@ -86,7 +86,7 @@ module _ (made : Bucket) where
       let changed = tied_change _ call past bucket t in
       grind (arith, tied_credit made call _ _ changed)
 
-  -- what the pacer holds is what the history says
+  -- the state of the pacer is what the history says
   pub tied_by : (entries : List PacerEntry) → made.tokens ≡ made.capacity → AreChecked entries → HavePassed made entries
       → Tied made (marks_by made entries) (bucket_by made entries)
   tied_by [] full _ _ = tied_made made full

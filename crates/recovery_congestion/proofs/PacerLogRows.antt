@@ -1,4 +1,4 @@
--- A worked row: what the history of one pacer comes to, computed. Nothing rests on it.
+-- A worked row: the results of one pacer's history, computed. Nothing rests on it.
 use Rattle.std.proofs.Common.{◌≡◌, ℕ, zero, suc, ◌-◌, ◌*◌, true, List, [], ◌∷◌, Some, refl, arith}
 use Rattle.recovery_congestion.specs.Pacing.{Bucket, PacerCall, bucket_made, next_moment, paced, pacer_delay}
 use Rattle.recovery_congestion.specs.PacerLog.{PacerEntry, asked, took, bucket_by, AreChecked, PacerMark, bytes_in, capacity_in, greatest_moment, balance_in, marks_by, marks_asking}
@@ -10,12 +10,12 @@ asks now = record { bytes = 1_200; rtt = 333_000_000; mtu = 1_200; window = 12_0
 abbrev made : Bucket
 made = bucket_made 333_000_000 12_000 1_200 0
 
--- so many packets are checked and sent at a moment
+-- this many packets are checked and sent at one time
 abbrev sends : ℕ → ℕ → List PacerEntry → List PacerEntry
 sends zero now earlier = earlier
 sends (suc count) now earlier = took 1_200 true ∷ asked (asks now) ∷ sends count now earlier
 
--- ten packets; the eleventh is delayed; ten more at the moment that it was told
+-- ten packets; the eleventh is delayed; ten more at the reported time
 abbrev first_ten : List PacerEntry
 first_ten = sends 10 0 []
 
@@ -26,7 +26,7 @@ all_twenty = sends 10 266_400_000 (asked (asks 0) ∷ first_ten)
 abbrev history : List PacerMark
 history = marks_by made (asked (asks 266_400_000) ∷ all_twenty)
 
--- the row meets the premise
+-- the row satisfies the premise
 sends_checked : (count now : ℕ) (earlier : List PacerEntry) → AreChecked earlier → AreChecked (sends count now earlier)
 sends_checked zero now earlier checked = checked
 sends_checked (suc count) now earlier checked =
@@ -59,7 +59,7 @@ second_moment = refl
 second_delay : pacer_delay (asks 266_400_000) (paced (asks 266_400_000) (bucket_by made all_twenty)) ≡ Some 532_800_000
 second_delay = refl
 
--- from the making the bound is met with equality, at this RTT, this window and the last moment
+-- from the making the bound is met with equality, at this RTT, this window and the last time
 rate_met : 4 * 333_000_000 * (bytes_in history - made.capacity) ≡ 5 * 12_000 * (266_400_000 - made.last)
 unfolding balance_in
 rate_met = refl

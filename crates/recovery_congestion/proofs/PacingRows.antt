@@ -1,4 +1,4 @@
--- Worked rows: what the definitions come to on one bucket, computed. Nothing rests on them.
+-- Worked rows: the results of the definitions on one bucket, computed. Nothing rests on them.
 use Rattle.std.proofs.Common.{◌≡◌, ℕ, ◌^◌, None, Some, refl}
 use Rattle.recovery_congestion.specs.Pacing.{Bucket, PacerCall, capacity_of, wait_of, bucket_made, paced, pacer_delay, less_tokens}
 

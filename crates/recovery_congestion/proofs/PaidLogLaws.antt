@@ -1,5 +1,5 @@
--- What a pacer holds is the balance of what was paid for, whatever was checked. The clauses `covered` and `paid` of
--- `run` rest on it.
+-- The tokens of a pacer are the balance of the bytes paid for, whatever was checked. The clauses
+-- `delayed_when_uncovered` and `paid_rate` of `run` rest on it.
 use Rattle.std.proofs.lemmas.Bool.Decides.{nat_tests}
 use Rattle.std.proofs.Common.{◌≡◌, ◌<◌, List, [], ◌∷◌, arith, sym}
 use Rattle.std.specs.Prelude.{SomeIff}
@@ -9,14 +9,14 @@ use Rattle.recovery_congestion.specs.PaidLog.{IsPaced, paid_of, marks_paid, Dela
 use Rattle.recovery_congestion.proofs.PacerBalanceLaws.{balance_is, paid_bound}
 use Rattle.recovery_congestion.proofs.PacerLogLaws.{Tied, tied_made, tied_took, tied_asking, passed_is_covered}
 
--- a call is delayed exactly where it is paced and tokens lack
+-- a call is delayed exactly if it is paced and tokens are missing
 lacks_tokens : (call : PacerCall) (bucket : Bucket)
     → SomeIff (pacer_delay call bucket) (IsPaced call × (bucket.tokens < call.bytes))
     (next_moment call bucket.capacity bucket.tokens bucket.last)
 lacks_tokens call bucket = grind (arith, nat_tests)
 
 module _ (made : Bucket) where
-  -- what the pacer holds is what the history of what was paid for says
+  -- the state of the pacer is what the history of the bytes paid for says
   tied_paid : (entries : List PacerEntry) → made.tokens ≡ made.capacity
       → Tied made (marks_paid made entries) (bucket_by made entries)
   tied_paid [] full = tied_made made full
@@ -25,7 +25,7 @@ module _ (made : Bucket) where
       let t = tied_paid earlier full in
       tied_took made bytes (paid_of made bytes (marks_paid made earlier)) _ _ (grind (arith, t.tokens)) t
 
-  -- behind one more call
+  -- after one more call
   tied_call : (earlier : List PacerEntry) (call : PacerCall) → made.tokens ≡ made.capacity
       → Tied made (marks_asking made call (marks_paid made earlier)) (paced call (bucket_by made earlier))
   tied_call earlier call full = tied_paid (asked call ∷ earlier) full

@@ -1,4 +1,4 @@
--- Worked rows: a probe goes out unchecked that is more than the balance, and what is delayed and paid for behind it,
+-- Worked rows: an unchecked probe is sent that exceeds the balance, and what is delayed and paid for after it,
 -- computed. Nothing rests on them.
 use Rattle.std.proofs.Common.{◌≡◌, ℕ, ◌-◌, ◌*◌, ◌^◌, true, false, List, [], ◌∷◌, None, Some, refl, arith}
 use Rattle.recovery_congestion.specs.Pacing.{Bucket, PacerCall, bucket_made}
@@ -17,7 +17,7 @@ made = bucket_made 333_000_000 12_000 1_200 0
 abbrev sent : List PacerEntry
 sent = took 10_800 true ∷ asked (asks 10_800 0) ∷ []
 
--- a probe of 2,400 goes out unchecked, of which the balance pays for 1,200
+-- a probe of 2,400 is sent unchecked, of which the balance pays for 1,200
 abbrev probed : List PacerEntry
 probed = took 2_400 false ∷ sent
 
@@ -29,21 +29,21 @@ nothing_is_left : balance_in made (marks_paid made probed) ≡ 0
 unfolding balance_in
 nothing_is_left = refl
 
--- so one packet more is delayed until a full bucket has come
+-- so one more packet is delayed until the tokens of a full bucket are added
 waits : DelaysUncovered made probed (asks 1_200 0) (Some 266_400_000)
 waits = delays_uncovered made probed (asks 1_200 0) refl
 
--- it does not pass, as it would where unchecked bytes took no tokens
+-- it does not pass, as it would if unchecked bytes took no tokens
 passing_is_wrong : ¬ DelaysUncovered made probed (asks 1_200 0) None
 unfolding balance_in
 passing_is_wrong delays = delays.1 ((omega arith, omega arith), omega arith)
 
--- nor does it wait for 13,200 bytes, as it would where a debt were kept
+-- nor does it wait for 13,200 bytes, as it would if a debt were stored
 debt_is_wrong : ¬ DelaysUncovered made probed (asks 1_200 0) (Some 293_040_000)
 unfolding balance_in
 debt_is_wrong delays = let is = delays.1.1 in omega (arith, is)
 
--- and it passes, paid for in full, once its own bytes have come
+-- and it passes, paid for in full, once its own tokens are added
 abbrev waited : List PacerEntry
 waited = asked (asks 1_200 0) ∷ probed
 
@@ -62,7 +62,7 @@ too_early : ¬ DelaysUncovered made waited (asks 1_200 26_639_999) None
 unfolding balance_in
 too_early delays = delays.1 ((omega arith, omega arith), omega arith)
 
--- ---- the rate of what is paid for, behind the probe: met with equality
+-- ---- the rate of what is paid for, after the probe: met with equality
 
 abbrev since : List PacerMark
 since = marks_paid made (took 1_200 true ∷ asked (asks 1_200 26_640_000) ∷ waited)
@@ -71,7 +71,7 @@ rate_met : 4 * 333_000_000 * (bytes_in since - 12_000) ≡ 5 * 12_000 * (greates
 unfolding balance_in
 rate_met = refl
 
--- what goes out unchecked does not keep to the rate: 1,200 bytes too much went out at once
+-- what is sent unchecked does not observe the rate: 1,200 bytes too many were sent at once
 all_is_too_much : ¬ KeepsRate made probed
 unfolding balance_in
 all_is_too_much keeps =
@@ -81,7 +81,7 @@ all_is_too_much keeps =
 paid_is_within : PaysRate made probed
 paid_is_within = pays_rate made probed refl
 
--- ---- at a window past 32 bits nothing is delayed
+-- ---- at a window of 2^32 bytes nothing is delayed
 
 abbrev wide : PacerCall
 wide = record (asks 13_000 0) { window = 2 ^ 32 }

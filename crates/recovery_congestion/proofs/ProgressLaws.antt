@@ -1,5 +1,5 @@
--- What was delayed passes in time, and a bucket that is only asked fills up as it was said. The clause `soon` of `run`
--- and `ReportedTimeLaws` rest on it.
+-- A delayed call passes in time, and a bucket that is only asked is refilled as reported. The clause
+-- `passes_after_delay` of `run` and `ReportedTimeLaws` rest on it.
 use Rattle.std.proofs.lemmas.Bool.Decides.{nat_tests}
 use Rattle.std.proofs.Common.{◌≡◌, ℕ, suc, ◌+◌, ◌-◌, ◌*◌, ◌/◌, ◌^◌, ◌<◌, ◌≤◌, min, max, List, ◌∷◌, None, Some, ap, refl, arith, inl, inr}
 use Rattle.std.proofs.Math.Nat.{mul-le-mul_left, mul-le-mul_right}
@@ -9,11 +9,11 @@ use Rattle.recovery_congestion.specs.PacerLog.{PacerEntry, asked, bucket_by}
 use Rattle.recovery_congestion.specs.Pacing.{Bucket, PacerCall, credit_of, wait_of, resized, refilled, paced, next_moment, pacer_delay}
 use Rattle.recovery_congestion.specs.Progress.{IsInReach, PassesBehind}
 
--- the bucket knows the call's window and MTU
+-- the bucket has the call's window and MTU
 abbrev pub Knows : PacerCall → Bucket → Type 0
 Knows call bucket = (bucket.window ≡ call.window) × (bucket.mtu ≡ call.mtu)
 
--- so it does after a call
+-- so it has after a call
 pub paced-knows : (call : PacerCall) (old : Bucket) → Knows call (paced call old)
 paced-knows call old =
     let sized : Knows call (resized call.rtt call.window call.mtu old) = grind arith in
@@ -28,7 +28,7 @@ wait_comes rtt window short some uncut =
     let fifth : q + 1 ≤ 5 * (q / 5 + 1) = omega arith in
     rw least (omega (arith, mul-le-mul_right window fifth))
 
--- where tokens are wanting in spite of the time that passed, there was no room
+-- if tokens are missing in spite of the time that passed, there was no room
 no_room : (r w bytes questions capacity before lacking first last wait slack tokens : ℕ)
     → 4 * r * before + 5 * w * last ≤ 4 * r * (tokens + suc questions) + 5 * w * first
     → 4 * (r * lacking) + 4 ≤ 5 * w * wait + 20 * w → 5 * w * (first + wait + slack) ≤ 5 * w * last
@@ -38,13 +38,13 @@ no_room r w _ _ _ _ _ _ _ _ _ _ filled waits passed wants all room =
     omega arith
 
 module _ (call : PacerCall) (first : Bucket) where
-  -- so many questions behind a delayed call: where the bucket is not full, no more than a byte each was lost
+  -- this many calls after a delayed one: if the bucket is not full, at most a byte each was lost
   abbrev pub Fills : ℕ → Bucket → Type 0
   Fills questions bucket = (bucket.capacity ≡ first.capacity) × Knows call bucket
       × (bucket.tokens < first.capacity → 4 * call.rtt * first.tokens + 5 * call.window * bucket.last
       ≤ 4 * call.rtt * (bucket.tokens + questions) + 5 * call.window * first.last)
 
-  -- one question more refills
+  -- one more call refills
   pub fills_refilled : (now questions : ℕ) (bucket : Bucket) → 0 < call.rtt → Fills questions bucket
       → Fills (suc questions) (refilled call.rtt call.window now bucket)
   fills_refilled now _ bucket some fills =
@@ -60,7 +60,7 @@ module _ (call : PacerCall) (first : Bucket) where
             rw (least, later) (omega arith),
       )
 
-  -- the bucket fills enough by the moment that was named
+  -- the bucket has enough tokens by the reported time
   covers : (questions slack now : ℕ) (bucket : Bucket) → 0 < call.rtt → Fills questions bucket → IsInReach call first
       → first.tokens ≤ first.capacity
       → first.last + wait_of call.rtt call.window (first.capacity - first.tokens) + slack ≤ now
@@ -84,8 +84,8 @@ module _ (call : PacerCall) (first : Bucket) where
         | inr enough ↦ enough
       ]
 
--- what was delayed until a moment passes as much later as the roundings take: a call that is delayed is paced, the
--- tokens do not cover it, and a bucket that was refilled holds no more than it takes
+-- a call that was delayed until a time passes as much later as the roundings take: a delayed call is paced, the tokens
+-- do not cover it, and a refilled bucket has at most its capacity
 pub passes : (call later : PacerCall) (old bucket : Bucket) (until questions slack : ℕ) → (let first = paced call old in
     pacer_delay call first ≡ Some until → later ≡ record call { now = later.now } → IsInReach call first
     → until < 2 ^ 64 - 1 → until + slack ≤ later.now

@@ -6,7 +6,7 @@ use Rattle.recovery_base.specs.Units.{largest_u64}
 use Rattle.recovery_congestion.specs.declared.congestion.new_reno.NewReno.{NewReno}
 use Rattle.recovery_congestion.specs.NewReno.{sum_to_most, avoided, AvoidsBelowMost, CountsBytes}
 
--- a window of bytes is taken off the count, and the window grows by one MTU
+-- a window of bytes is subtracted from the count, and the window grows by one MTU
 counts-grown : (w m c b counted grown : ℕ) → counted ≡ c + b → grown ≡ w + m → w ≤ counted
     → grown * grown + 2 * m * (counted - w) + m * w ≡ w * w + 2 * m * c + m * grown + 2 * m * b
 counts-grown w m c b counted grown sum grows enough =
@@ -17,7 +17,7 @@ counts-grown w m c b counted grown sum grows enough =
     omega (arith, scaled) in
     subst (λ (x : ℕ). x * x + 2 * m * left + m * w ≡ w * w + 2 * m * c + m * x + 2 * m * b) (sym grows) here
 
--- the window stays
+-- the window is unchanged
 counts-kept : (w m c b counted : ℕ) → counted ≡ c + b
     → w * w + 2 * m * counted + m * w ≡ w * w + 2 * m * c + m * w + 2 * m * b
 counts-kept w m c b counted sum =

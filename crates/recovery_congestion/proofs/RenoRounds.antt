@@ -1,4 +1,4 @@
--- NewReno's window falls once a round trip.
+-- NewReno's window is reduced once a round trip.
 use Rattle.std.proofs.Common.{◌≡◌, ℕ, ◌-◌, ◌≤◌, ◌⊎◌, inl, inr, arith, Bool, true, false, nat_le, nat_lt, List, refl}
 use Rattle.std.proofs.lemmas.Bool.Decides.{nat_tests}
 use Rattle.std.specs.Prelude.{if◌then◌else◌}

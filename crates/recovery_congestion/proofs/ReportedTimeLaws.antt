@@ -1,5 +1,5 @@
--- What was delayed until a moment passes from that moment on, whoever asks in between. The clause `named` of `run`
--- rests on it.
+-- A call that was delayed until a time passes from that time on, even if others ask in between. The clause
+-- `passes_at_reported_time` of `run` rests on it.
 use Rattle.std.proofs.Common.{◌≡◌, ℕ, suc, ◌<◌, ◌≤◌, List, [], ◌∷◌, ◌++◌, map, length, cond, Bool, true, false, ap, refl, arith, inl, inr}
 use Rattle.std.proofs.Math.Nat.{mul-le-mul_left}
 use Rattle.std.proofs.lemmas.Bool.{cases_lt}
@@ -18,7 +18,7 @@ module _ (call : PacerCall) (made : Bucket) (earlier : List PacerEntry) (some : 
   abbrev IsAlike : PacerCall → Type 0
   IsAlike other = other ≡ record call { bytes = other.bytes; now = other.now }
 
-  -- one question more, whatever it asks
+  -- one more call, whatever it asks
   fills_asked : (other : PacerCall) (questions : ℕ) (bucket : Bucket) → IsAlike other
       → Fills call first questions bucket → Fills call first (suc questions) (paced other bucket)
   fills_asked other questions bucket alike fills = rw same (by_test (may_send other bucket))
@@ -32,7 +32,7 @@ module _ (call : PacerCall) (made : Bucket) (earlier : List PacerEntry) (some : 
       by_test false = rw (ap (λ (c : PacerCall). c.rtt) alike, ap (λ (c : PacerCall). c.window) alike)
           (fills_refilled call first _ _ _ some fills)
 
-  -- what so many questions leave
+  -- the state after this many calls
   fills_by : (between : List PacerCall) → AllByRecursion IsAlike between
       → Fills call first (length between) (bucket_by made (map asked between ++ asked call ∷ earlier))
   fills_by [] _ = (refl, paced-knows _ _, λ below. omega arith)

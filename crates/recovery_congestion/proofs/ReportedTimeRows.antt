@@ -1,10 +1,10 @@
--- Worked rows: the room that the named moment wants, met and missed by one byte, computed. Nothing rests on them.
+-- Worked rows: the room that the reported time needs, met and missed by one byte, computed. Nothing rests on them.
 use Rattle.std.proofs.Common.{◌≡◌, ℕ, true, List, [], ◌∷◌, None, Some, refl, arith}
 use Rattle.recovery_congestion.specs.ReportedTime.{HasRoom}
 use Rattle.recovery_congestion.specs.PacerLog.{PacerEntry, asked, took, bucket_by}
 use Rattle.recovery_congestion.specs.Pacing.{Bucket, PacerCall, bucket_made, paced, pacer_delay}
 
--- at an RTT of 4 ns, a window of 3 bytes and an MTU of 1, where 256 bytes fit and 191 went out
+-- at an RTT of 4 ns, a window of 3 bytes and an MTU of 1; 256 bytes fit and 191 were sent
 abbrev asks : ℕ → ℕ → PacerCall
 asks bytes now = record { bytes = bytes; rtt = 4; mtu = 1; window = 3; now = now }
 
@@ -14,7 +14,7 @@ after = bucket_by (bucket_made 4 3 1 0)
 abbrev took_191 : List PacerEntry
 took_191 = took 191 true ∷ asked (asks 191 0) ∷ []
 
--- 252 bytes and the 15 / 4 that come in four nanoseconds fit, and pass at the moment that was named
+-- 252 bytes and the 15 / 4 of four nanoseconds fit, and pass at the reported time
 has_room : HasRoom (asks 252 0) 0 (paced (asks 252 0) (after took_191))
 has_room = (omega arith, omega arith, omega arith)
 
@@ -24,7 +24,7 @@ until = refl
 passes : pacer_delay (asks 252 200) (paced (asks 252 200) (after (asked (asks 252 0) ∷ took_191))) ≡ None
 passes = refl
 
--- 253 bytes do not fit beside them, and are delayed again
+-- 253 bytes do not fit in addition to them, and are delayed again
 no_room : ¬ HasRoom (asks 253 0) 0 (paced (asks 253 0) (after took_191))
 no_room room = omega (arith, room.2)
 
@@ -34,7 +34,7 @@ until_too = refl
 delayed_again : pacer_delay (asks 253 200) (paced (asks 253 200) (after (asked (asks 253 0) ∷ took_191))) ≡ Some 204
 delayed_again = refl
 
--- each question in between may cost a byte: with two of them 251 bytes have no room, and are delayed again
+-- each call in between may cost a byte: with two of them 251 bytes have no room, and are delayed again
 abbrev sent_less : List PacerEntry
 sent_less = took 251 true ∷ asked (asks 251 0) ∷ []
 

@@ -1,4 +1,4 @@
--- A controller that reduces its window only as it begins a recovery does so once a round trip.
+-- A controller that reduces its window only when it begins a recovery does so once a round trip.
 use Rattle.std.proofs.Common.{◌≡◌, ℕ, ◌+◌, ◌<◌, ◌≤◌, ◌⊎◌, inl, inr, arith, Bool, List, [], ◌∷◌}
 use Rattle.recovery_congestion.specs.Calls.{ControllerCall, acks, congests, ends_acks, sends, takes_mtu}
 use Rattle.recovery_congestion.specs.Controllers.{ControllerSemantics}
@@ -21,7 +21,7 @@ module _ {K : Type 0} (words : ControllerSemantics K) (start : K → ℕ) where
     pub later : start old < sent
     pub start_is : start new ≡ now
 
-  -- what a controller proves: congestion alone begins a recovery, and the window falls by nothing else
+  -- what a controller proves: only congestion begins a recovery, and nothing else reduces the window
   pub record ReducesInRecovery : Type 0 where
     pub other : (call : ControllerCall) (k : K) → IsNoCongestion call → KeepsRecovery k (words.after call k)
     pub congested : (now sent : ℕ) (persistent : Bool) (lost : ℕ) (k : K)

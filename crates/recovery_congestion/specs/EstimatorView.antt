@@ -1,4 +1,4 @@
--- What an `RttEstimator` holds.
+-- The value of an `RttEstimator` in contracts.
 use Rattle.recovery_congestion.specs.Rtt.{Rtt}
 use Rattle.recovery_congestion.specs.declared.rtt.RttEstimator.TheInside.{Inside}
 

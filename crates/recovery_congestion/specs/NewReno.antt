@@ -1,5 +1,5 @@
--- NewReno (RFC 9002, 7 and appendix B), with whole numbers: a fraction in place of the reduction factor, sums that stop
--- at the end of 64 bits, and growth in congestion avoidance by counted bytes (RFC 3465, 2.1).
+-- NewReno (RFC 9002, 7 and appendix B), with whole numbers: a fraction as the reduction factor, sums that saturate at
+-- 64 bits, and growth in congestion avoidance by counted bytes (RFC 3465, 2.1).
 use Rattle.std.specs.Prelude.{ℕ, ◌≡◌, ◌+◌, ◌-◌, ◌*◌, ◌/◌, ◌<◌, ◌≤◌, min, max, Bool, false, Some, None, ◌||◌, nat_le, nat_lt, if◌then◌else◌}
 use Rattle.recovery_base.specs.Units.{largest_u64}
 use Rattle.recovery_congestion.specs.declared.congestion.ControllerMetrics.{ControllerMetrics}
@@ -8,7 +8,7 @@ use Rattle.recovery_congestion.specs.RenoSettings.{RenoSettings}
 use Rattle.recovery_congestion.specs.Calls.{ControllerCall, acks, congests, takes_mtu}
 use Rattle.recovery_congestion.specs.Controllers.{ControllerSemantics}
 
--- a sum that stops at the largest number of 64 bits
+-- a sum that saturates at the largest 64-bit number
 abbrev pub sum_to_most : ℕ → ℕ → ℕ
 sum_to_most a b = min (a + b) largest_u64
 
@@ -27,16 +27,16 @@ reno_made config now mtu = record {
 abbrev pub minimum_window : NewReno → ℕ
 minimum_window reno = 2 * reno.current_mtu
 
--- a reduction factor above 1 reduces no window, so that each is the least one
+-- a reduction factor above 1 reduces no window, so that each window is the minimum
 abbrev pub least_window : NewReno → ℕ
 least_window reno = if nat_le reno.config.numerator reno.config.denominator then minimum_window reno else reno.window
 
--- an acknowledgement is ignored where the application limited what was sent (RFC 9002, 7.8), and where the packet was
--- sent before recovery began, or at that moment (RFC 9002, 7.3.2)
+-- an acknowledgement is ignored if the sender was application-limited (RFC 9002, 7.8), or if the packet was sent before
+-- the recovery began, or at that time (RFC 9002, 7.3.2)
 abbrev pub is_ignored : ℕ → Bool → NewReno → Bool
 is_ignored sent limited reno = limited || nat_le sent reno.recovery_start_time
 
--- in slow start the window grows by the bytes acknowledged; what goes past the threshold is counted (RFC 9002, 7.3.1)
+-- in slow start the window grows by the bytes acknowledged; those beyond the threshold are counted (RFC 9002, 7.3.1)
 abbrev pub slow_started : ℕ → NewReno → NewReno
 slow_started bytes reno =
     let window = sum_to_most reno.window bytes in
@@ -46,7 +46,7 @@ slow_started bytes reno =
           else reno.bytes_acked;
     }
 
--- in congestion avoidance each window of bytes acknowledged makes it greater by one MTU (RFC 9002, 7.3.3)
+-- in congestion avoidance each acknowledged window of bytes increases it by one MTU (RFC 9002, 7.3.3)
 abbrev pub avoided : ℕ → NewReno → NewReno
 avoided counted reno =
     if nat_le reno.window counted
@@ -67,7 +67,7 @@ abbrev pub reduced_window : NewReno → ℕ
 reduced_window reno = max (min (reno.window * reno.config.numerator / reno.config.denominator) largest_u64)
     (minimum_window reno)
 
--- a recovery begins; persistent congestion leaves the least window (RFC 9002, 7.3.2 and 7.6.2)
+-- a recovery begins; persistent congestion leaves the minimum window (RFC 9002, 7.3.2 and 7.6.2)
 abbrev pub reno_recovering : ℕ → Bool → NewReno → NewReno
 reno_recovering now persistent reno = record reno {
   recovery_start_time = now;
@@ -105,7 +105,7 @@ reno_words = record {
   initial = λ reno. reno.config.initial_window;
 }
 
--- a packet's acknowledgement counts in congestion avoidance, and no sum stops at its end
+-- a packet's acknowledgement counts in congestion avoidance, and no sum saturates
 pub record AvoidsBelowMost (sent bytes : ℕ) (limited : Bool) (reno : NewReno) : Type 0 where
   pub counts : is_ignored sent limited reno ≡ false
   pub above : reno.ssthresh ≤ reno.window
@@ -113,8 +113,8 @@ pub record AvoidsBelowMost (sent bytes : ℕ) (limited : Bool) (reno : NewReno) 
   pub grown : reno.window ≤ reno.bytes_acked + bytes → reno.window + reno.current_mtu ≤ largest_u64
 
 -- every byte counts once: to grow from a window of one MTU m to w, by m for each window of bytes, takes w·(w - m) /
--- (2·m) bytes; these and the bytes counted since then rise by exactly the bytes acknowledged (here times 2·m, and with
--- m·w of the other window on each side, so that nothing is divided or goes below zero)
+-- (2·m) bytes. These and the bytes counted since then increase by exactly the bytes acknowledged. Here all is
+-- multiplied by 2·m, with m·w of the other window on each side, so that nothing is divided or below zero
 abbrev pub CountsBytes : ℕ → NewReno → NewReno → Type 0
 CountsBytes bytes old new =
     let mtu = old.current_mtu in

@@ -1,17 +1,16 @@
--- What happened to a pacer since it was made, and what it lets pass by that alone (RFC 9002, 7.7). Lists are newest
--- first.
+-- The log of a pacer since it was made, and what it lets pass by that alone (RFC 9002, 7.7). Lists are newest first.
 use Rattle.std.specs.Prelude.{◌≡◌, ℕ, ◌+◌, ◌-◌, ◌*◌, ◌<◌, ◌≤◌, min, max, Bool, true, ◌&&◌, ◌||◌, ◌==◌, nat_le, if◌then◌else◌, List, [], ◌∷◌, ◌++◌, Option, SomeIff}
 use Rattle.std.specs.List.{AllByRecursion}
 use Rattle.recovery_base.specs.Units.{u32_limit}
 use Rattle.recovery_congestion.specs.Pacing.{Bucket, PacerCall, capacity_of, credit_of, is_unpaced, paced, next_moment, less_tokens}
 
 pub data PacerEntry : Type 0 where
-  -- may so many bytes be sent?
+  -- may these bytes be sent?
   asked : (call : PacerCall) → PacerEntry
-  -- so many bytes were transmitted, after a call or unchecked
+  -- these bytes were transmitted, after a call or unchecked
   took : (bytes : ℕ) (checked : Bool) → PacerEntry
 
--- the bucket after all that, where it was made so
+-- the bucket after all that, if it was made so
 abbrev pub bucket_by : Bucket → List PacerEntry → Bucket
 bucket_by made [] = made
 bucket_by made (asked call ∷ earlier) = paced call (bucket_by made earlier)
@@ -19,7 +18,7 @@ bucket_by made (took bytes checked ∷ earlier) = less_tokens bytes (bucket_by m
 
 -- ---- the premise
 
--- all that was transmitted was checked, and all calls came with a window within 32 bits and an RTT above zero
+-- all that was transmitted was checked, and all calls had a window below 2^32 bytes and an RTT above zero
 abbrev pub AreChecked : List PacerEntry → Type 0
 AreChecked [] = Unit {0}
 AreChecked (asked call ∷ earlier) = ((call.window < u32_limit) × (0 < call.rtt)) × AreChecked earlier
@@ -28,14 +27,14 @@ AreChecked (took bytes checked ∷ earlier) = (checked ≡ true) × AreChecked e
 -- ---- the history: what calls did, and what was transmitted
 
 pub data PacerMark : Type 0 where
-  -- a call came with another window or MTU: the capacity was computed anew
+  -- a call had another window or MTU: the capacity was computed again
   changed : (call : PacerCall) → PacerMark
-  -- a call found too little, and refilled: so many bytes were credited
+  -- a call found too few tokens, and refilled: these bytes were credited
   credited : (call : PacerCall) (credit : ℕ) → PacerMark
-  -- so many bytes were transmitted
+  -- these bytes were transmitted
   transmitted : (bytes : ℕ) → PacerMark
 
--- the cap points, at which no more than the capacity is kept: the making, each change of capacity and each refill
+-- the cap points, at which at most the capacity is stored: the making, each change of capacity and each refill
 abbrev pub IsCapPoint : List PacerMark → Type 0
 IsCapPoint (transmitted bytes ∷ past) = ⊥
 IsCapPoint past = Unit {0}
@@ -65,7 +64,7 @@ module _ (made : Bucket) where
   capacity_in (changed call ∷ past) = capacity_of call.rtt call.window call.mtu
   capacity_in (mark ∷ past) = capacity_in past
 
-  -- the greatest moment among the making and all refills
+  -- the latest time of the making and all refills
   abbrev pub greatest_moment : List PacerMark → ℕ
   greatest_moment [] = made.last
   greatest_moment (credited call credit ∷ past) = max call.now (greatest_moment past)
@@ -73,8 +72,8 @@ module _ (made : Bucket) where
 
   -- ---- the balance
 
-  -- the least, over all cap points, of the capacity there and the credits after it, less the bytes transmitted after
-  -- it; so many credits and bytes come after the marks that are still to be seen
+  -- the minimum, over all cap points, of the capacity there plus the credits and minus the bytes transmitted after it;
+  -- the arguments are the credits and bytes after the marks that remain
   abbrev pub balance_from : ℕ → ℕ → List PacerMark → ℕ
   balance_from credits bytes [] = made.capacity + credits - bytes
   balance_from credits bytes (changed call ∷ past) =
@@ -86,7 +85,7 @@ module _ (made : Bucket) where
   unfoldable pub balance_in : List PacerMark → ℕ
   balance_in history = balance_from 0 0 history
 
-  -- the same as a fact, without a difference: at no cap point is the balance more than that, and at one it is just that
+  -- the same without subtraction: at no cap point is the balance more than that, and at one it is exactly that
   pub record IsBalance (history : List PacerMark) (balance : ℕ) : Type 0 where
     pub at_most : (later past : List PacerMark) → later ++ past ≡ history → IsCapPoint past
         → balance + bytes_in later ≤ capacity_in past + credits_in later
@@ -101,15 +100,15 @@ module _ (made : Bucket) where
   is_as_before call (changed before ∷ past) = (call.window == before.window) && (call.mtu == before.mtu)
   is_as_before call (mark ∷ past) = is_as_before call past
 
-  -- a call changes the capacity where they are not; it refills exactly where the balance is then below the bytes asked,
-  -- if it is paced at all; its credit is for the time since the greatest moment: where it comes earlier, there is none
+  -- if they are not, a call changes the capacity. If it is paced, it refills exactly if the balance is then below the
+  -- bytes asked. Its credit is for the time since the latest time, and none if the call is earlier
   abbrev pub marks_asking : PacerCall → List PacerMark → List PacerMark
   marks_asking call past =
       let now = if is_as_before call past then past else changed call ∷ past in
       let credit = credit_of call.rtt call.window (call.now - greatest_moment now) in
       if nat_le call.bytes (balance_in now) || is_unpaced call then now else credited call credit ∷ now
 
-  -- the history that these entries make
+  -- the marks that these entries make
   abbrev pub marks_by : List PacerEntry → List PacerMark
   marks_by [] = []
   marks_by (asked call ∷ earlier) = marks_asking call (marks_by earlier)
@@ -117,8 +116,8 @@ module _ (made : Bucket) where
 
   -- ---- the promises
 
-  -- one more call is delayed exactly where the balance, after its own refill, is below the bytes asked, and until the
-  -- bytes that the balance lacks have come, or a full bucket where that is more
+  -- one more call is delayed exactly if the balance, after its own refill, is below the bytes asked. It is delayed
+  -- until the tokens that it lacks are added, or those of a full bucket if that is more
   abbrev pub DelaysBy : List PacerEntry → PacerCall → Option ℕ → Type 0
   DelaysBy earlier call given =
       let past = marks_asking call (marks_by earlier) in
@@ -126,9 +125,9 @@ module _ (made : Bucket) where
       let moment = next_moment call (capacity_in past) balance (greatest_moment past) in
       IsBalance past balance × SomeIff given (balance < call.bytes) moment
 
-  -- from each cap point on: where the calls that refilled since have at least this RTT, at most this window and no
-  -- later moment, the bytes transmitted beyond the capacity there are at most five fourths of the window for each such
-  -- RTT in the time from the greatest moment there to this one (none if that is earlier)
+  -- from each cap point on, take an RTT, a window and a time that bound those of all calls that refilled since. The
+  -- bytes transmitted beyond the capacity there are at most five fourths of the window for each RTT since the latest
+  -- time there (none if this time is earlier)
   abbrev pub KeepsRate : List PacerEntry → Type 0
   KeepsRate entries =
       (later past : List PacerMark) (rtt window moment : ℕ) → later ++ past ≡ marks_by entries → IsCapPoint past

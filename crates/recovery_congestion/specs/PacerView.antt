@@ -1,4 +1,4 @@
--- What a `Pacer` holds, and what a `PacerState` says that it does.
+-- The values of a `Pacer` and a `PacerState` in contracts.
 use Rattle.recovery_congestion.specs.Pacing.{Bucket}
 use Rattle.recovery_congestion.specs.declared.pacing.Pacer.TheInside.{Inside}
 use Rattle.recovery_congestion.specs.declared.pacing.PacerState.{PacerState}

@@ -1,4 +1,4 @@
--- What a `NewRenoConfig` holds.
+-- The value of a `NewRenoConfig` in contracts.
 use Rattle.recovery_congestion.specs.RenoSettings.{RenoSettings}
 use Rattle.recovery_congestion.specs.declared.congestion.new_reno.NewRenoConfig.TheInside.{Inside}
 

@@ -1,4 +1,4 @@
--- NewReno (RFC 9002, 7.3) keeps the laws of controllers.
+-- NewReno (RFC 9002, 7.3) satisfies the laws of controllers.
 use Rattle.std.specs.Prelude.{ℕ, ◌-◌, ◌*◌, ◌/◌, ◌<◌, min, max, Bool, true, false, nat_le, nat_lt, if◌then◌else◌, ◌≡◌, ◌≤◌}
 use Rattle.std.proofs.Common.{arith, refl}
 use Rattle.recovery_base.specs.Units.{largest_u64}
@@ -83,7 +83,7 @@ start-after (takes_mtu mtu) reno = omega arith
 start-after (sends now bytes number) reno = omega arith
 start-after (ends_acks now in_flight limited largest) reno = omega arith
 
--- ---- the least window
+-- ---- the minimum window
 
 persists : (now sent : ℕ) (reno : NewReno) (test : Bool) → nat_le sent reno.recovery_start_time ≡ test
     → reno.recovery_start_time < sent

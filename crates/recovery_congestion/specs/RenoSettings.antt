@@ -1,8 +1,8 @@
--- How a NewReno begins, and how a loss reduces its window (RFC 9002, 7.2 and 7.3.2).
+-- The settings of NewReno: its initial window, and how a loss reduces the window (RFC 9002, 7.2 and 7.3.2).
 use Rattle.std.specs.Prelude.{ℕ, ◌<◌}
 
 pub record RenoSettings : Type 0 where
-  -- the window at first, in bytes
+  -- the initial window, in bytes
   pub initial_window : ℕ
   -- the factor of the window at a loss
   pub numerator : ℕ

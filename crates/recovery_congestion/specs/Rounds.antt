@@ -1,10 +1,10 @@
--- A controller's window falls once for all that was in flight as it fell (RFC 9002, 7.3.2). Lists are newest first.
+-- A controller's window is reduced once for all that was in flight then (RFC 9002, 7.3.2). Lists are newest first.
 use Rattle.std.specs.Prelude.{ℕ, ◌<◌, ◌≤◌, List, [], ◌∷◌}
 use Rattle.recovery_congestion.specs.Calls.{ControllerCall, congests}
 use Rattle.recovery_congestion.specs.Controllers.{ControllerSemantics}
 use Rattle.recovery_base.specs.Units.{largest_u64}
 
--- congestion is told in the order of time
+-- congestion is reported in order of time
 abbrev pub IsBehind : ℕ → List ControllerCall → Type 0
 IsBehind now [] = Unit {0}
 IsBehind now (congests before sent persistent lost ∷ earlier) = (before ≤ now) × IsBehind now earlier
@@ -15,9 +15,9 @@ AreInOrder [] = Unit {0}
 AreInOrder (congests now sent persistent lost ∷ earlier) = IsBehind now earlier × AreInOrder earlier
 AreInOrder (call ∷ earlier) = AreInOrder earlier
 
--- a controller is built with a content
+-- a controller is built with these contents
 module _ {K : Type 0} (words : ControllerSemantics K) (built : K) where
-  -- the content after calls
+  -- the contents after calls
   abbrev pub content_by : List ControllerCall → K
   content_by [] = built
   content_by (call ∷ earlier) = words.after call (content_by earlier)
@@ -33,7 +33,7 @@ module _ {K : Type 0} (words : ControllerSemantics K) (built : K) where
       (LowersWindow (congests now sent persistent lost) earlier → now < time) × ReducedBefore time earlier
   ReducedBefore time (call ∷ earlier) = ReducedBefore time earlier
 
-  -- congestion alone reduces the window, and for a packet that was sent after each time at which it did so before
+  -- only congestion reduces the window, and only for a packet that was sent after each earlier reduction
   abbrev pub ReducesOncePerRound : ControllerCall → List ControllerCall → Type 0
   ReducesOncePerRound (congests now sent persistent lost) earlier =
       LowersWindow (congests now sent persistent lost) earlier → ReducedBefore sent earlier

@@ -11,42 +11,42 @@ mod new_reno;
 
 pub use new_reno::{NewReno, NewRenoConfig};
 
-/// What a controller shows of itself.
+/// The values that a controller reports.
 #[derive(Default, Drop)]
 pub struct ControllerMetrics {
     /// Congestion window, in bytes.
     pub congestion_window: u64,
     /// Slow start threshold, in bytes.
     pub ssthresh: Option<u64>,
-    /// Pacing rate, in bits a second.
+    /// Pacing rate, in bits per second.
     pub pacing_rate: Option<u64>,
 }
 
-/// How much may be in flight on a path (RFC 9002, 7).
+/// A congestion controller: how much may be in flight on a path (RFC 9002, 7).
 ///
-/// An implementation says by functions of its own (`words`) what each call does to what contracts see of it
-/// (`content`), and keeps the laws (`ControllerLaws`). A sound content stays sound as long as MTUs are above zero, and
-/// its window is above zero. No call moves the start of the recovery past its own time. Persistent congestion after
-/// that start leaves the least window, and congestion leaves a least window least (RFC 9002, 7.6.2).
+/// An implementation defines by functions of its own (`words`) what each call does to its value in contracts
+/// (`content`), and proves the laws (`ControllerLaws`). Sound contents stay sound while MTUs are above zero, and their
+/// window is above zero. No call moves the start of the recovery past its own time. Persistent congestion after that
+/// start leaves the minimum window, and further congestion leaves it there (RFC 9002, 7.6.2).
 pub trait Controller: Sized {
-    /// What contracts see of a controller. No code makes a value of it.
+    /// The type of a controller in contracts. No code makes a value of it.
     type Content;
 
     ghost content: { Self → Self.Content };
 
-    /// What each call does to the content.
+    /// What each call does to the contents.
     ghost words: { ControllerSemantics Self.Content };
 
-    /// Holds of every content that was built with an MTU above zero.
+    /// Holds for all contents that were built with an MTU above zero.
     ghost is_sound: { Self.Content → Type 0 };
 
-    /// Packets went out: how many bytes, up to which number.
+    /// Reports that packets were sent: how many bytes, up to which number.
     fn on_sent(&mut self, now: Instant, bytes: u64, last_packet_number: u64)
         ensures { content self.new
             ≡ words.after (sends now bytes last_packet_number) (content self.old) };
 
-    /// A packet was acknowledged: when it was sent, its bytes, and whether the sender was limited by the application
-    /// and not by the window (RFC 9002, 7.8).
+    /// Reports that a packet was acknowledged: when it was sent, its bytes, and whether the sender was limited by the
+    /// application and not by the window (RFC 9002, 7.8).
     fn on_ack(
         &mut self,
         now: Instant,
@@ -58,7 +58,8 @@ pub trait Controller: Sized {
         ensures { content self.new
             ≡ words.after (acks now sent bytes app_limited rtt.now) (content self.old) };
 
-    /// All packets of one ACK were told, with the bytes still in flight and the largest number acknowledged.
+    /// Reports that all packets of one ACK were reported, with the bytes still in flight and the largest acknowledged
+    /// number.
     fn on_end_acks(
         &mut self,
         now: Instant,
@@ -70,8 +71,8 @@ pub trait Controller: Sized {
             ≡ words.after (ends_acks now in_flight app_limited largest_packet_num_acked)
             (content self.old) };
 
-    /// Packets were lost, or marked by ECN: when the last of them was sent, whether the congestion is persistent
-    /// (RFC 9002, 7.6), and the bytes lost, none for ECN.
+    /// Reports that packets were lost, or marked by ECN: when the last of them was sent, whether the congestion is
+    /// persistent (RFC 9002, 7.6), and the bytes lost, 0 for ECN.
     fn on_congestion_event(
         &mut self,
         now: Instant,
@@ -83,45 +84,45 @@ pub trait Controller: Sized {
             ≡ words.after (congests now sent is_persistent_congestion lost_bytes)
             (content self.old) };
 
-    /// The path's MTU changed, in bytes.
+    /// Reports that the path's MTU changed, in bytes.
     fn on_mtu_update(&mut self, new_mtu: u16)
         ensures { content self.new ≡ words.after (takes_mtu new_mtu) (content self.old) };
 
-    /// The congestion window: how many bytes may be in flight (RFC 9002, 7 and 7.2). It is above zero where the content
-    /// is sound.
+    /// Returns the congestion window: how many bytes may be in flight (RFC 9002, 7 and 7.2). It is above zero if the
+    /// contents are sound.
     fn window(&self) -> u64
         ensures { result ≡ words.window (content self.now) };
 
-    /// What the controller shows of itself.
+    /// Returns the values that the controller reports.
     fn metrics(&self) -> ControllerMetrics
         ensures { result ≡ words.metrics (content self.now) };
 
-    /// The window at first, in bytes: what `window` is of a controller just built (RFC 9002, 7.2).
+    /// Returns the initial window in bytes: `window` of a controller just built (RFC 9002, 7.2).
     fn initial_window(&self) -> u64
         ensures { result ≡ words.initial (content self.now) };
 
-    /// A second controller of the same content. An implementation that takes memory may be refused it.
+    /// Returns a second controller with the same contents. An implementation that allocates may fail.
     fn try_clone(&self) -> Result<Self, NoMemory>
         ensures { IfOk result (λ clone. content clone ≡ content self.now) };
 
-    /// Sound contents, the start of the recovery, and the least window.
+    /// Sound contents, the start of the recovery, and the minimum window.
     ghost laws: { ControllerLaws words is_sound };
 }
 
-/// What makes the controllers of paths.
+/// Makes the controllers of paths.
 pub trait ControllerFactory: Drop {
     type Controller: Controller + Drop;
 
-    /// The content of a controller that is made at a moment, with an MTU in bytes.
+    /// The contents of a controller that is made at a time, with an MTU in bytes.
     ghost built: { Self → ℕ → ℕ → Self.Controller.Content };
 
-    /// A controller for a path, made at this moment, with this MTU in bytes.
+    /// Returns a controller for a path, made at this time, with this MTU in bytes.
     fn build(&self, now: Instant, current_mtu: u16) -> Self::Controller
         ensures content { Self.Controller.content result ≡ built self.now now current_mtu }
         ensures sound { 0 < current_mtu
             → Self.Controller.is_sound (Self.Controller.content result) };
 
-    /// The window is the initial one at first.
+    /// The window starts as the initial one.
     ghost starts_at_initial: { (factory : Self) (now mtu : ℕ) →
         let built_content = built factory now mtu in
         Self.Controller.words.window built_content ≡ Self.Controller.words.initial built_content };

@@ -1,4 +1,4 @@
-//! The RTT estimator (RFC 9002, 5); congestion control as a trait with its laws, and NewReno (RFC 9002, 7); the pacer,
+//! The RTT estimator (RFC 9002, 5), congestion control as a trait with its laws, NewReno (RFC 9002, 7), and the pacer,
 //! a token bucket (RFC 9002, 7.7). Begin at `congestion.rt`.
 #![tactic(auto)]
 

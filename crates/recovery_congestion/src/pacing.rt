@@ -8,21 +8,22 @@ ghost use Rattle.recovery_congestion.specs.Pacing.{capacity_of, credit_of, wait_
 use recovery_base::time::{Duration, Instant};
 use std::marker::Model;
 
-/// A full bucket lasts this long: timers of user space are good to a millisecond, and longer bursts would undo the
+/// A full bucket lasts this long: user-space timers are accurate to a millisecond, and longer bursts would undo the
 /// pacing.
 const BURST_INTERVAL_NANOS: u128 = 2_000_000;
 
-/// This many packets may go out at once at any rate: the first flight is not held up, and several packets are handed to
-/// the kernel by one call.
+/// A burst of this many packets is allowed at any rate: the first flight is not delayed, and one call passes several
+/// packets to the kernel.
 const MIN_BURST_SIZE: u128 = 10;
 
-/// No more packets go out at once: nothing else is done while they are made.
+/// No larger burst is allowed: nothing else is done while it is made.
 const MAX_BURST_SIZE: u128 = 256;
 
-/// A bucket of tokens, one a byte: sending takes tokens, and time brings them at 5/4 of a window in each RTT
-/// (RFC 9002, 7.7).
+/// A token bucket, one token a byte: sending removes tokens, and time adds them at 5/4 of a window in each RTT (RFC
+/// 9002, 7.7).
 ///
-/// Contracts see a `Bucket`. It holds at most its capacity, which is 10 to 256 times the MTU of the last call.
+/// In contracts its value is a `Bucket`. It holds at most its capacity, which is 10 to 256 times the MTU of the last
+/// call.
 #[derive(Drop)]
 pub struct Pacer {
     capacity: u64,
@@ -32,10 +33,10 @@ pub struct Pacer {
     prev: Instant,
 }
 
-/// What a pacer holds, as plain numbers: for a caller that keeps them itself. Bytes, and `prev` a moment.
+/// The state of a pacer in plain numbers, for a caller that stores it itself: bytes, and `prev` in nanoseconds.
 #[derive(Clone, Copy)]
 pub struct PacerState {
-    /// The most bytes that the bucket takes.
+    /// The capacity of the bucket in bytes.
     pub capacity: u64,
     /// The congestion window of the last call of `delay`, or the first one.
     pub last_window: u64,
@@ -43,7 +44,7 @@ pub struct PacerState {
     pub last_mtu: u16,
     /// The bytes in the bucket.
     pub tokens: u64,
-    /// The latest moment at which it was refilled, or made.
+    /// The latest time at which it was refilled, or made.
     pub prev: Instant,
 }
 
@@ -59,7 +60,7 @@ impl Model for Pacer {
 }
 
 impl Pacer {
-    /// A full bucket at the moment `now`. The congestion window and the MTU are in bytes, and neither is 0.
+    /// Returns a full bucket at time `now`. The congestion window and the MTU are in bytes, and neither is 0.
     pub fn new(rtt: Duration, window: u64, mtu: u16, now: Instant) -> Self
         requires window { 0 < window }
         requires mtu { 0 < mtu }
@@ -76,8 +77,8 @@ impl Pacer {
         }
     }
 
-    /// A pacer that holds this; none where no pacer can: more tokens than the capacity, a capacity that is not 10 to
-    /// 256 times the MTU, a window or an MTU of 0.
+    /// Returns a pacer with this state, or `None` if no pacer can have it. Then there are more tokens than the
+    /// capacity, the capacity is not 10 to 256 times the MTU, or the window or the MTU is 0.
     pub fn from_state(state: PacerState) -> Option<Self>
         ensures none { result ≡ None → ¬ IsBucketSound (bucket_of state) }
         ensures some { IfSome result (λ pacer. pacer ≡ bucket_of state) }
@@ -98,7 +99,7 @@ impl Pacer {
         })
     }
 
-    /// What it holds.
+    /// Returns its state.
     pub fn state(&self) -> PacerState
         ensures state { bucket_of result ≡ self.now }
         ensures sound { IsBucketSound (bucket_of result) }
@@ -112,14 +113,14 @@ impl Pacer {
         }
     }
 
-    /// The most bytes that may go out at once, as the last call of `delay` had it: 10 to 256 times its MTU.
+    /// Returns the largest burst in bytes, as of the last call of `delay`: 10 to 256 times its MTU.
     pub fn capacity(&self) -> u64
         ensures { result ≡ self.now.capacity }
     {
         self.capacity
     }
 
-    /// The bytes in the bucket, as the last call left them: what time has brought since is not among them.
+    /// Returns the bytes in the bucket as of the last call, without the tokens of the time since.
     pub fn tokens(&self) -> u64
         ensures value { result ≡ self.now.tokens }
         ensures within { result ≤ self.now.capacity }
@@ -127,7 +128,7 @@ impl Pacer {
         self.tokens
     }
 
-    /// A packet of so many bytes was sent. Where fewer tokens are left, none are.
+    /// Removes the tokens of a packet of this size. If there are fewer, none are left.
     pub fn on_transmit(&mut self, packet_length: u16)
         ensures leaves { self.new ≡ less_tokens packet_length self.old }
         ensures sound { IsBucketSound self.new }
@@ -135,11 +136,11 @@ impl Pacer {
         self.tokens = self.tokens.saturating_sub(u64::from(packet_length));
     }
 
-    /// When to ask again whether so many bytes may be sent, or `None` where they may be sent now.
+    /// Returns when to ask again whether these bytes may be sent, or `None` if they may be sent now.
     ///
-    /// The RTT, the MTU and the congestion window (bytes, neither is 0) are those of the moment `now`, which may be
-    /// earlier than that of a call before: then no time has passed. Nothing is delayed at an RTT of 0 or a window above
-    /// `u32::MAX`. The answer stops at `u64::MAX` nanoseconds.
+    /// The RTT, the MTU and the congestion window (bytes, neither is 0) are those of the time `now`. If that is earlier
+    /// than the time of a previous call, no time has passed. Nothing is delayed at an RTT of 0 or a window above
+    /// `u32::MAX`. The answer is at most `u64::MAX` nanoseconds.
     pub fn delay(
         &mut self,
         rtt: Duration,
@@ -209,7 +210,7 @@ fn optimal_capacity(rtt: Duration, window: u64, mtu: u16) -> u64
     capacity.clamp(MIN_BURST_SIZE * mtu, MAX_BURST_SIZE * mtu) as u64
 }
 
-/// The bytes that time brings. They may be more than 64 bits hold.
+/// Returns the bytes that time adds. They may exceed 64 bits.
 fn credit(rtt: Duration, window: u64, elapsed: u64) -> u128
     requires window { window < u32_limit }
     requires rtt { 0 < rtt }
@@ -222,8 +223,8 @@ fn credit(rtt: Duration, window: u64, elapsed: u64) -> u128
     )
 }
 
-/// Nanoseconds until so many bytes have come. The division by 5 goes before the product with 4, so that no product
-/// wraps.
+/// Returns the nanoseconds until these bytes are added. The division by 5 comes before the multiplication by 4, so that
+/// no product wraps.
 fn wait(rtt: Duration, window: u64, short: u64) -> u128
     requires { 0 < window }
     ensures value { result ≡ wait_of rtt window short }
@@ -242,7 +243,7 @@ fn later_by(moment: Instant, nanos: u128) -> Instant
     Instant::from_nanos(sum.min(u128::from(u64::MAX)) as u64)
 }
 
-/// Operands of 64 bits are divided as such: a division of 128 bits is a call.
+/// Divides operands of 64 bits as such, since a division of 128 bits is a call.
 fn quotient(dividend: u128, divisor: u128) -> u128
     requires { 0 < divisor }
     ensures { result ≡ dividend / divisor }

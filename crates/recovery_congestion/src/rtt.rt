@@ -1,4 +1,4 @@
-//! The estimate of the round-trip time (RFC 9002, 5).
+//! The RTT estimate (RFC 9002, 5).
 ghost use Rattle.std.specs.Prelude.{◌≡◌, ◌<◌, ◌≤◌, ◌*◌, min, max, IsSomeAnd, is_some};
 ghost use Rattle.recovery_base.specs.Times.{span_limit};
 ghost use Rattle.recovery_congestion.specs.Rtt.{rtt_made, rtt_updated, rtt_get, rtt_conservative, pto_base_of, adjusted_rtt, greatest_of, IsAboveLeast, KeepsLeast};
@@ -6,13 +6,13 @@ ghost use Rattle.recovery_congestion.specs.Rtt.{rtt_made, rtt_updated, rtt_get, 
 use recovery_base::time::Duration;
 use std::marker::Model;
 
-/// The least span that timers can keep (RFC 9002, 6.1.2).
+/// The timer granularity (RFC 9002, 6.1.2).
 const TIMER_GRANULARITY_NANOS: u128 = 1_000_000;
 
-/// The round-trip time of one path, from the samples that its ACKs give (RFC 9002, 5).
+/// The RTT estimate of one path, from the samples that its ACKs give (RFC 9002, 5).
 ///
-/// All is in whole nanoseconds, exact, and halves are rounded down. Samples and delays may be any span, zero and the
-/// longest included.
+/// All values are whole nanoseconds, exact; halves are rounded down. Samples and delays may be any span, including zero
+/// and the longest.
 #[derive(Clone, Copy)]
 pub struct RttEstimator {
     latest: Duration,
@@ -36,7 +36,8 @@ impl Model for RttEstimator {
 }
 
 impl RttEstimator {
-    /// No sample was taken yet: the RTT counts as this one, and half of it as its variance (RFC 9002, 6.2.2).
+    /// Returns the estimate before the first sample: the initial RTT, with half of it as the RTT variation (RFC 9002,
+    /// 6.2.2).
     pub fn new(initial_rtt: Duration) -> Self
         ensures value { result ≡ rtt_made initial_rtt }
         ensures above_least { IsAboveLeast result }
@@ -49,7 +50,7 @@ impl RttEstimator {
         }
     }
 
-    /// The best estimate: the smoothed RTT, or the initial one before the first sample.
+    /// Returns the smoothed RTT, or the initial RTT before the first sample.
     pub fn get(&self) -> Duration
         ensures value { result ≡ rtt_get self.now }
         ensures above_least { self.now.least ≤ result }
@@ -67,37 +68,37 @@ impl RttEstimator {
         self.smoothed.is_some()
     }
 
-    /// The last sample, without any delay taken off, or the initial RTT before the first one (RFC 9002, 5.1).
+    /// Returns the last sample, without subtracting any delay, or the initial RTT before the first one (RFC 9002, 5.1).
     pub fn latest(&self) -> Duration
         ensures { result ≡ self.now.latest }
     {
         self.latest
     }
 
-    /// The mean deviation of the samples, exact and with no least span, or half of the initial RTT before the first one
-    /// (RFC 9002, 5.3: `rttvar`).
+    /// Returns the mean deviation of the samples, exact and with no minimum, or half of the initial RTT before the
+    /// first one (RFC 9002, 5.3: `rttvar`).
     pub fn variance(&self) -> Duration
         ensures { result ≡ self.now.variance }
     {
         self.variance
     }
 
-    /// The greater of the best estimate and the last sample, by which losses are judged (RFC 9002, 6.1.2).
+    /// Returns the larger of `get` and the last sample, which is used to declare losses (RFC 9002, 6.1.2).
     pub fn conservative(&self) -> Duration
         ensures { result ≡ rtt_conservative self.now }
     {
         self.get().max(self.latest)
     }
 
-    /// The least sample, or the initial RTT before the first one.
+    /// Returns the smallest sample, or the initial RTT before the first one.
     pub fn min(&self) -> Duration
         ensures { result ≡ self.now.least }
     {
         self.min
     }
 
-    /// The probe timeout without the delay of ACKs (RFC 9002, 6.2.1): the best estimate and four times the variance,
-    /// which counts as 1 ms at least. It stops at the longest span.
+    /// Returns the probe timeout without the max_ack_delay (RFC 9002, 6.2.1): `get` plus four times the RTT variation,
+    /// or plus 1 ms if that is more. It is at most the longest span.
     pub fn pto_base(&self) -> Duration
         ensures { result ≡ pto_base_of self.now }
     {
@@ -108,11 +109,11 @@ impl RttEstimator {
         }
     }
 
-    /// Takes a sample: the time from a packet's sending to the ACK that newly acknowledges it, and how long the peer
-    /// says that it delayed that ACK (RFC 9002, 5.3).
+    /// Updates the estimate by a sample: the time from the sending of a packet to the ACK that newly acknowledges it,
+    /// and the delay of that ACK that the peer reported (RFC 9002, 5.3).
     ///
-    /// The first sample starts the estimate anew, whatever the initial RTT was. A later one counts without the delay,
-    /// unless it would then fall below the least RTT.
+    /// The first sample replaces the estimate, whatever the initial RTT was. From a later one the delay is subtracted,
+    /// unless it would then be below the smallest RTT.
     pub fn update(&mut self, ack_delay: Duration, rtt: Duration)
         ensures value { self.new ≡ rtt_updated ack_delay rtt self.old }
         ensures between { IsSomeAnd self.new.smoothed (λ smoothed.
@@ -139,7 +140,7 @@ impl RttEstimator {
     }
 }
 
-/// A sample without the delay of its ACK, unless that would fall below the least RTT.
+/// Returns a sample minus the delay of its ACK, unless that would be below the smallest RTT.
 fn without_delay(least: Duration, ack_delay: Duration, rtt: Duration) -> Duration
     ensures { result ≡ adjusted_rtt least ack_delay rtt }
 {

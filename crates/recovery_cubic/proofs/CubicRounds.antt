@@ -1,4 +1,4 @@
--- CUBIC's window falls once a round trip.
+-- CUBIC's window is reduced once a round trip.
 use Rattle.std.proofs.Common.{◌≡◌, ℕ, ◌≤◌, ◌⊎◌, inl, inr, arith, Bool, true, false, nat_eq, nat_le, nat_lt, List, refl}
 use Rattle.std.proofs.lemmas.Bool.Decides.{nat_tests}
 use Rattle.std.specs.Prelude.{if◌then◌else◌}

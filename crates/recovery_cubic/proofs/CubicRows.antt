@@ -1,4 +1,4 @@
--- Worked rows: a loss at a window of 120,000 bytes with datagrams of 1,200, and what is acknowledged behind it. Nothing
+-- Worked rows: a loss at a window of 120,000 bytes with datagrams of 1,200, and what is acknowledged after it. Nothing
 -- rests on them.
 use Rattle.std.proofs.Common.{◌≡◌, true, false, [], ◌∷◌, None, Some, refl, lit<, lit≤, arith}
 use Rattle.recovery_congestion.specs.Calls.{ControllerCall, acks, congests, ends_acks, sends}
@@ -12,7 +12,7 @@ use Rattle.recovery_cubic.proofs.FollowingLaws.{goes_to_curve, real_curve}
 abbrev rtt : Rtt
 rtt = record { latest = 0; smoothed = None; variance = 0; least = 0 }
 
--- a loss at one second, an acknowledgement a second later, and one long behind it while the application limits
+-- a loss at one second, an acknowledgement a second later, and one long after it, application-limited
 abbrev loss : ControllerCall
 loss = congests 1_000_000_000 1 false 1_200
 
@@ -22,7 +22,7 @@ acked = acks 2_000_000_000 1_500_000_000 84_000 false rtt
 abbrev limited : ControllerCall
 limited = acks 100_000_000_000 1_500_000_000 84_000 true rtt
 
--- 30 datagrams are to go: K is the cube root of 75, 4.217163 seconds
+-- 30 datagrams are missing: K is the cube root of 75, 4.217163 seconds
 k_is : IsGreatestK micros 1_200 36_000 4_217_163
 k_is = record { fits = lit≤ tt; greatest = lit< tt }
 
@@ -41,7 +41,7 @@ begins = record {
   k_is = k_is;
 }
 
--- a second counts, and what passes while the application limits does not
+-- a second counts, and application-limited time does not
 second_counts : time_by 120_000 0 1_200 (acked ∷ loss ∷ []) ≡ 1_000_000_000
 second_counts = refl
 
@@ -80,6 +80,6 @@ goes_there =
     (goes_to_curve 120_000 0 1_200 loss [] 4_217_163 begins acked [] 2_000_000_000 84_000 tt refl).on
     (lit≤ tt) (lit≤ tt) (lit≤ tt)
 
--- within a datagram of the real one, as every number of parts of a nanosecond has it
+-- within a datagram of the real one, for every number of fractions of a nanosecond
 near : IsNearReal (curve_of 120_000 0 1_200 loss [] 4_217_163) 84_000 1_000_000_000
 near = real_curve 120_000 0 1_200 loss [] 4_217_163 begins (acked ∷ []) (lit< tt) (lit≤ tt)

@@ -1,4 +1,4 @@
--- Cubes and their roots; what stops at the end of 128 bits is above what 64 bits hold.
+-- Cubes and their roots; what saturates at 128 bits exceeds 64 bits.
 use Rattle.std.proofs.Common.{◌≡◌, ℕ, zero, suc, ◌+◌, ◌-◌, ◌*◌, ◌/◌, ◌^◌, ◌<◌, ◌≤◌, min, Bool, true, false, nat_le, arith, refl, inl, inr}
 use Rattle.std.specs.Prelude.{if◌then◌else◌}
 use Rattle.std.proofs.lemmas.Bool.{cases_lt}
@@ -11,7 +11,7 @@ use Rattle.recovery_cubic.specs.Curve.{cube, cube_root, k_of, micros, IsCubeRoot
 pub cube-le : (a b : ℕ) → a ≤ b → cube a ≤ cube b
 cube-le a b less = mul-le (a * a) a (b * b) b (mul-le a a b b less less) less
 
--- ---- the function gives the greatest
+-- ---- the function returns the largest
 
 root-next : (n root : ℕ) (test : Bool) → nat_le (cube (root + 1)) (suc n) ≡ test → IsCubeRoot n root
     → IsCubeRoot (suc n) (if test then root + 1 else root)
@@ -31,7 +31,7 @@ unfolding cube_root
 root_is zero = record { fits = omega arith; greatest = omega arith }
 root_is (suc n) = root-next n (cube_root n) (nat_le (cube (cube_root n + 1)) (suc n)) refl (root_is n)
 
--- ---- there is one greatest
+-- ---- there is one largest
 
 not-less : (n a b : ℕ) → IsCubeRoot n a → IsCubeRoot n b → a < b → ⊥
 not-less n a b here there less = let up = cube-le (a + 1) b (omega arith) in omega (arith, here.greatest, there.fits)
@@ -45,7 +45,7 @@ one_root n a b here there = elim (cases_lt a b) [
   ]
 ]
 
--- where two numbers in a row lie around it, it is the lesser
+-- if two consecutive numbers enclose it, it is the smaller
 pub root_between : (n root above : ℕ) → cube root ≤ n → n < cube above → above ≤ root + 1 → root ≡ cube_root n
 root_between n root above fits under near =
     let up = cube-le above (root + 1) near in
@@ -88,7 +88,7 @@ one_k a_second datagram distance a b here there = elim (cases_lt a b) [
 pub cube_fits : (n : ℕ) → n < 6981463658332 → cube n < 2 ^ 128
 cube_fits n low = let up = cube-le n 6981463658331 (omega (arith, low)) in omega (arith, up)
 
--- a product that stops at the end of 128 bits, divided, is that of the whole one, as far as 64 bits go
+-- a saturated 128-bit product, divided, is that of the whole one, as far as 64 bits go
 pub stops : (x y : ℕ)
     → min (min (min x (2 ^ 128 - 1) * y) (2 ^ 128 - 1) / (5 * 10 ^ 18)) largest_u64
     ≡ min (x * y / (5 * 10 ^ 18)) largest_u64
@@ -101,7 +101,7 @@ stops x (suc y) =
       | inr over ↦ omega (arith, up, cut, over)
     ]
 
--- what Reno's window grows by, before it is divided
+-- how much Reno's window grows, before it is divided
 pub step_fits : (alpha datagram bytes : ℕ) → alpha ≤ 17 → datagram < 2 ^ 16 → bytes < 2 ^ 64
     → 2 ^ 32 * alpha * datagram * bytes < 2 ^ 120
 step_fits alpha datagram bytes few small fits =

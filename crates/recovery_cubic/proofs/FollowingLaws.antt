@@ -1,4 +1,4 @@
--- CUBIC's window goes by the curve from a reduction until the next.
+-- CUBIC's window follows the curve from a reduction until the next.
 use Rattle.std.proofs.Common.{◌≡◌, ℕ, ◌+◌, ◌-◌, ◌*◌, ◌/◌, ◌<◌, ◌≤◌, min, max, Bool, true, false, nat_le, List, [], ◌∷◌, ◌++◌, Option, None, Some, refl, ap, ◌∙◌, subst, sym, arith}
 use Rattle.std.specs.Prelude.{if◌then◌else◌}
 use Rattle.std.proofs.lemmas.Bool.Decides.{nat_tests}
@@ -20,7 +20,7 @@ use Rattle.recovery_cubic.proofs.GrowthLaws.{holds}
 use Rattle.recovery_cubic.proofs.RealLaws.{near_real}
 use Rattle.recovery_cubic.proofs.TurnLaws.{Turns, by_turn}
 
--- ---- the curve never falls
+-- ---- the curve never decreases
 
 rise-le : (datagram a b : ℕ) → a ≤ b → rise datagram a ≤ rise datagram b
 rise-le datagram a b less =
@@ -50,7 +50,7 @@ curve-le curve s t within less =
 from_k : (curve : Curve) (t : ℕ) → curve.w_max ≤ largest_u64 → curve.k ≤ t → curve.w_max ≤ curve_at curve t
 from_k curve t within past = grind (arith, nat_tests)
 
--- the curve of these numbers has the greatest K
+-- the curve of these numbers has the largest K
 curve_from_is : (w p r a d e k : ℕ) → w ≡ p → r ≡ a → d ≡ e → 0 < e → IsGreatestK micros e (p - a) k
     → curve_from w r d ≡ record { w_max = p; k = k; datagram = e }
 curve_from_is w p r a d e k plateau reduced datagram some greatest =
@@ -61,7 +61,7 @@ curve_from_is w p r a d e k plateau reduced datagram some greatest =
 to_k : (curve : Curve) (t : ℕ) → t < curve.k → curve_at curve t ≤ curve.w_max
 to_k curve t before = grind (arith, nat_tests)
 
--- ---- what the state holds of time and plateau is what the history says
+-- ---- time and plateau in the state are what the history says
 
 -- an idle period that was found, or ends
 found_is : (now in_flight : ℕ) (idle : Option ℕ)
@@ -196,7 +196,7 @@ module _ (window now mtu : ℕ) where
         let low : next_w_max old ≤ old.window = grind arith in
         omega (arith, plateau, low, b.before)
 
-  -- ---- behind it, as congestion avoidance goes on
+  -- ---- after it, while congestion avoidance continues
 
   record Below (curve : Curve) (reduced : ℕ) (cubic : Cubic) : Type 0 where
     curve_is : cubic.stage.curve ≡ curve
@@ -313,7 +313,7 @@ module _ (window now mtu : ℕ) where
         (time_by window now mtu (later ++ reduction ∷ earlier)) (omega arith) (plateau_fits reduction earlier k b)
         b.k_is room steady
 
-    -- what an acknowledgement that counts makes of the window
+    -- how an acknowledgement that counts changes the window
     makes : (cubic : Cubic) (call : ControllerCall) (at bytes : ℕ) → turn_of call cubic ≡ grows at bytes
         → min (curve_window (cubic_after call cubic).stage) (sum_to_most cubic.window (bytes / 2))
         ≤ (cubic_after call cubic).window
@@ -331,7 +331,7 @@ module _ (window now mtu : ℕ) where
           passing = λ is. absurd (cc);
         }) call
 
-    -- it goes on
+    -- it continues
     goes_on : (call : ControllerCall) (calls : List ControllerCall) (at bytes : ℕ)
         → turn_at window now mtu call calls ≡ grows at bytes → ContinuesEpoch (turn_at window now mtu call calls)
     goes_on call calls at bytes is = subst (λ (turn : CubicEntry). ContinuesEpoch turn) (sym is) tt

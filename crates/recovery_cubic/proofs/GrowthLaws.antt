@@ -1,5 +1,5 @@
--- CUBIC's window in congestion avoidance: never below Reno's, and by at most half of the bytes acknowledged above what
--- it was.
+-- CUBIC's window in congestion avoidance: never below Reno's, and at most half of the bytes acknowledged above what it
+-- was.
 use Rattle.std.proofs.Common.{◌≡◌, ℕ, ◌+◌, ◌-◌, ◌*◌, ◌^◌, ◌<◌, ◌≤◌, max, nat_le, List, [], ◌∷◌, ◌++◌, refl, arith}
 use Rattle.std.specs.Prelude.{if◌then◌else◌}
 use Rattle.std.proofs.lemmas.Nat.{mul-le, div_below}
@@ -21,7 +21,7 @@ up-le a b m positive fits =
     let low : a + (b - 1) < (m + 1) * b = omega (arith, positive, fits) in
     omega (arith, div_below (a + (b - 1)) b (m + 1) positive low)
 
--- it is half of the bytes at most, as the window counts as two datagrams at least
+-- it is at most half of the bytes, as the window counts as two datagrams or more
 half-of : (alpha bytes window datagram : ℕ) → alpha ≤ 17 → 0 < datagram
     → 2 * quotient_up (parts * alpha * datagram * bytes) (17 * max window (2 * datagram)) ≤ parts * bytes
 half-of alpha bytes window datagram few some =
@@ -39,7 +39,7 @@ pub growth_half : (bytes window datagram prior estimate : ℕ) → 0 < datagram
 growth_half bytes window datagram prior estimate some =
     half-of (if nat_le (parts * prior) estimate then 17 else 9) bytes window datagram (grind arith) some
 
--- ---- what the state holds is what the history says, and no more than the window
+-- ---- the state is what the history says, and at most the window
 
 pub record Holds (window now mtu : ℕ) (calls : List ControllerCall) (cubic : Cubic) : Type 0 where
   pub estimate : cubic.stage.estimate ≡ reno_by window now mtu calls
@@ -48,7 +48,7 @@ pub record Holds (window now mtu : ℕ) (calls : List ControllerCall) (cubic : C
   pub below : cubic.stage.estimate ≤ parts * cubic.window
 
 module _ (window now mtu : ℕ) where
-  -- what a turn leaves, over what held before it
+  -- the state after a call, by what held before it
   record Next (earlier : List ControllerCall) (turn : CubicEntry) (new : Cubic) : Type 0 where
     estimate : new.stage.estimate
         ≡ reno_next turn (window_by window now mtu earlier) new.window (datagram_of (mtu_by window now mtu earlier))

@@ -12,12 +12,12 @@ use Rattle.recovery_cubic.specs.Curve.{cube, micros, rise, curve_at, IsGreatestK
 use Rattle.recovery_cubic.specs.RealCurve.{AreNear, IsSteady, IsNearReal}
 use Rattle.recovery_cubic.proofs.CurveLaws.{cube-le}
 
--- ---- K in parts lies in the microsecond of K
+-- ---- K in fractions is in the microsecond of K
 
 cube_of : (a b : ℕ) → cube (a * b) ≡ cube a * cube b
 cube_of a b = omega arith
 
--- a microsecond has q parts
+-- a microsecond has q fractions
 k-from : (q datagram distance whole k : ℕ) → IsGreatestK micros datagram distance whole
     → IsGreatestK (micros * q) datagram distance k → whole * q ≤ k
 k-from q datagram distance whole k coarse fine = elim (cases_lt k (whole * q)) [
@@ -42,9 +42,9 @@ k-below q datagram distance whole k some coarse fine = elim (cases_lt k ((whole 
       absurd (omega (arith, fine.fits, here, there, one))
 ]
 
--- ---- cubes of what is apart
+-- ---- cubes of distances
 
--- where y parts are at most a whole one more than x whole ones, and at least one less
+-- if y fractions are at most one whole unit more than x, and at most one less
 cube-up : (q x y : ℕ) → y ≤ (x + 1) * q → cube y ≤ cube (x + 1) * cube q
 cube-up q x y fits = let up = cube-le y ((x + 1) * q) fits in omega (arith, up, cube_of (x + 1) q)
 
@@ -56,7 +56,7 @@ cube-down q (suc x) y fits =
     let scaled = mul-le-mul_left (cube q) bend in
     omega (arith, down, scaled, cube_of x q)
 
--- a steady curve, in parts: c is twice the datagram, d a whole byte's worth
+-- a steady curve, in fractions: c is twice the datagram, d one byte
 steady-up : (c d q datagram x y v : ℕ) → c * cube (x + 1) + d ≤ c * cube x + d * datagram
     → c * cube x < d * (v + 1) → cube y ≤ cube (x + 1) * cube q
     → c * cube y ≤ d * cube q * v + d * cube q * datagram
@@ -75,9 +75,9 @@ steady-down c d q datagram x y v steady floor down =
     let two = mul-le-mul_left (cube q) floor in
     omega (arith, here, one, two)
 
--- ---- all together, over plain numbers: t whole microseconds of q parts each, T parts
+-- ---- all together, over plain numbers: t whole microseconds of q fractions each, T fractions
 
--- what is apart, rounded down: v bytes for x microseconds
+-- the distance, rounded down: v bytes for x microseconds
 record Floors (datagram x v : ℕ) : Type 0 where
   low : 5 * cube micros * v ≤ 2 * datagram * cube x
   high : 2 * datagram * cube x < 5 * cube micros * (v + 1)
@@ -89,7 +89,7 @@ record Apart (q x y : ℕ) : Type 0 where
   most_apart : y ≤ (x + 1) * q
   least_apart : x * q ≤ y + q
 
--- about K the real way is at most a datagram off
+-- near K the real curve differs by at most a datagram
 record Ways (datagram q x y v : ℕ) : Type 0 where
   up : 2 * datagram * cube y ≤ 5 * cube micros * cube q * v + 5 * cube micros * cube q * datagram
   down : 5 * cube micros * cube q * v ≤ 2 * datagram * cube y + 5 * cube micros * cube q * datagram
@@ -102,7 +102,7 @@ ways datagram q x y v steady f a = record {
   down = steady-down (2 * datagram) (5 * cube micros) q datagram x y v steady f.low (cube-down q x y a.least_apart);
 }
 
--- behind K, in front of it, and in its own microsecond
+-- after K, before it, and in its own microsecond
 behind : (one datagram plateau v c : ℕ) → c ≤ one * v + one * datagram → one * v ≤ c + one * datagram
     → AreNear (one * (plateau + v)) (one * plateau + c) (one * datagram)
 behind one datagram plateau v c up down = record { below = omega (arith, down); above = omega (arith, up) }
@@ -114,7 +114,7 @@ before one datagram plateau w v c is up down =
     let all : one * w + one * v ≡ one * plateau = omega (arith, scaled) in
     record { below = omega (arith, all, up); above = omega (arith, all, down) }
 
--- a time and K in parts, and the whole microseconds that they lie in
+-- a time and K in fractions, and the whole microseconds in which they are
 record InParts (q t T k K : ℕ) : Type 0 where
   time_from : t * q ≤ T
   time_below : T < (t + 1) * q
@@ -143,7 +143,7 @@ apart-sooner q t T k K x p is =
       least_apart = omega (arith, all, p.time_below, p.k_from);
     }
 
--- K lies in front of a time, in whole microseconds
+-- K is before a time, in whole microseconds
 real-later : (datagram plateau q t T k K x v : ℕ) → InParts q t T k K → x + k ≡ t → Steady datagram x
     → Floors datagram x v
     → (K ≤ T → AreNear (one q * (plateau + v)) (one q * plateau + 2 * datagram * cube (T - K)) (one q * datagram))
@@ -167,7 +167,7 @@ real-later datagram plateau q t T k K x v p is steady f = (
   ],
 )
 
--- K lies behind it
+-- K is after it
 real-sooner : (datagram plateau q t T k K x v w : ℕ) → InParts q t T k K → x + t ≡ k → 0 < x → Steady datagram x
     → Floors datagram x v → w + v ≡ plateau
     → (K ≤ T → AreNear (one q * w) (one q * plateau + 2 * datagram * cube (T - K)) (one q * datagram))
@@ -232,7 +232,7 @@ module _ (curve : Curve) (window time : ℕ) (some : 0 < curve.datagram) (within
       (curve.w_max - rise curve.datagram x) parts (omega (arith, sooner)) (omega (arith, sooner))
       (subst (λ n. Steady curve.datagram n) apart steady) f down
 
-  -- times in parts, as the statement has them
+  -- times in fractions, as in the statement
   near_then : (a k : ℕ) → IsGreatestK (micros * (1000 * a)) curve.datagram (curve.w_max - window) k → 0 < a
       → Near a k (curve_at curve (time / 1000))
   near_then a k fine any =

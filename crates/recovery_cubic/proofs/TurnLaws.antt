@@ -1,4 +1,4 @@
--- What holds by the turns of calls: each law over calls is a case for each turn.
+-- Properties by the kinds of calls: each law over calls is a case for each kind.
 use Rattle.std.proofs.Common.{ℕ, Bool, true, false, nat_eq, nat_le, nat_lt}
 use Rattle.std.specs.Prelude.{if◌then◌else◌}
 use Rattle.recovery_congestion.specs.Calls.{ControllerCall, acks, congests, ends_acks, sends, takes_mtu}
@@ -7,7 +7,7 @@ use Rattle.recovery_cubic.specs.Stage.{uncounted}
 use Rattle.recovery_cubic.specs.Cubic.{cubic_resumed, cubic_found, slow_started, avoided, cubic_after, cubic_recovering, cubic_with_mtu}
 use Rattle.recovery_cubic.specs.History.{CubicEntry, resumes, finds, grows, waits, reduces, persists, starts, resizes, passes, turn_of}
 
--- what a property of a turn and of what it leaves needs, over a CUBIC
+-- the premises of a property of a call and of the state after it, for a CUBIC
 pub record Turns (cubic : Cubic) (P : CubicEntry → Cubic → Type 0) : Type 0 where
   pub resuming : (now : ℕ) → P (resumes now) (cubic_resumed now cubic)
   pub finding : (now in_flight : ℕ) → P (finds now in_flight) (cubic_found now in_flight cubic)

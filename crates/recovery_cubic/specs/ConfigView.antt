@@ -1,4 +1,4 @@
--- What a `CubicConfig` holds: the window at first, in bytes.
+-- The value of a `CubicConfig` in contracts: the initial window, in bytes.
 use Rattle.std.specs.Prelude.{ℕ}
 use Rattle.recovery_cubic.specs.declared.cubic.CubicConfig.TheInside.{Inside}
 

@@ -1,4 +1,4 @@
--- CUBIC (RFC 9438), with whole numbers: what each call does. Each division says how it is rounded.
+-- CUBIC (RFC 9438), with whole numbers: what each call does. Each division states its rounding.
 use Rattle.std.specs.Prelude.{ℕ, ◌*◌, ◌/◌, ◌<◌, min, max, Bool, Some, None, nat_le, nat_lt, if◌then◌else◌, Option, unwrap_or, nat_eq}
 use Rattle.recovery_base.specs.Units.{largest_u64}
 use Rattle.recovery_congestion.specs.declared.congestion.ControllerMetrics.{ControllerMetrics}
@@ -15,7 +15,7 @@ use Rattle.recovery_cubic.specs.Fractions.{alpha_denominator, alpha_numerator, b
 abbrev pub datagram_of : ℕ → ℕ
 datagram_of mtu = max mtu 1
 
--- the least window (RFC 9002, 7.2; RFC 9438, 4.6)
+-- the minimum window (RFC 9002, 7.2; RFC 9438, 4.6)
 abbrev pub least_window : Cubic → ℕ
 least_window cubic = 2 * datagram_of cubic.current_mtu
 
@@ -56,8 +56,8 @@ slow_started now bytes cubic =
     let window = sum_to_most cubic.window bytes in
     record cubic { window = window; stage = flat_stage window (datagram_of cubic.current_mtu) now }
 
--- how much Reno's window grows, in parts of a byte, rounded up: alpha datagrams for each window of bytes acknowledged,
--- where alpha is 9/17, and 1 once Reno's window is where the window was before the reduction (RFC 9438, 4.3)
+-- how much Reno's window grows, in fractions of a byte, rounded up: alpha datagrams for each window of bytes
+-- acknowledged. Alpha is 9/17, and 1 once Reno's window reached the window before the reduction (RFC 9438, 4.3)
 abbrev pub friendly_step : ℕ → Cubic → ℕ
 friendly_step bytes cubic =
     let alpha =
@@ -65,8 +65,8 @@ friendly_step bytes cubic =
     quotient_up (parts * alpha * datagram_of cubic.current_mtu * bytes)
     (alpha_denominator * max cubic.window (least_window cubic))
 
--- the window of the curve, but no more than half the bytes acknowledged above the window; the window before, where that
--- is greater; and Reno's, where that is the greatest (RFC 9438, 4.2 and 4.3)
+-- the curve's value, but at most half the bytes acknowledged above the window; or the window before, or Reno's, if that
+-- is larger (RFC 9438, 4.2 and 4.3)
 abbrev pub grown_window : ℕ → ℕ → ℕ → ℕ → ℕ
 grown_window window bytes curve estimate =
     max (max window (min curve (sum_to_most window (bytes / 2)))) (quotient_up estimate parts)
@@ -81,8 +81,8 @@ abbrev pub cubic_grown : ℕ → ℕ → Cubic → Cubic
 cubic_grown now bytes cubic =
     if nat_lt cubic.window cubic.ssthresh then slow_started now bytes cubic else avoided now bytes cubic
 
--- a packet was acknowledged: nothing changes where it was sent before the recovery began, or at that moment (RFC 9002,
--- 7.3.2); where the application limits, the time passes by and nothing else changes (RFC 9438, 5.8)
+-- a packet was acknowledged: nothing changes if it was sent before the recovery began, or at that time (RFC 9002,
+-- 7.3.2); if application-limited, only time passes, uncounted (RFC 9438, 5.8)
 abbrev pub cubic_acked : ℕ → ℕ → ℕ → Bool → Cubic → Cubic
 cubic_acked now sent bytes limited cubic =
     if nat_le sent cubic.recovery_start_time then cubic
@@ -90,11 +90,11 @@ cubic_acked now sent bytes limited cubic =
 
 -- ---- congestion
 
--- beta is 7/10, rounded down, and no less than the least window (RFC 9438, 4.6)
+-- beta is 7/10, rounded down, or the minimum window if that is larger (RFC 9438, 4.6)
 abbrev pub reduced_window : Cubic → ℕ
 reduced_window cubic = max (cubic.window * beta_numerator / beta_denominator) (least_window cubic)
 
--- W_max: the window before the reduction; where it had not reached the last plateau, (1 + beta)/2 of it, rounded down,
+-- W_max: the window before the reduction. If that had not reached the last plateau, (1 + beta)/2 of it, rounded down,
 -- so that a new flow finds room sooner (fast convergence: RFC 9438, 4.7)
 abbrev pub next_w_max : Cubic → ℕ
 next_w_max cubic =
@@ -107,8 +107,8 @@ next_stage now cubic =
     let reduced = reduced_window cubic in
     stage_from (curve_from (next_w_max cubic) reduced (datagram_of cubic.current_mtu)) reduced now
 
--- a recovery begins; persistent congestion leaves the least window, from which slow start goes on (RFC 9002, 7.6.2; RFC
--- 9438, 4.8)
+-- a recovery begins; persistent congestion leaves the minimum window, from which slow start continues (RFC 9002, 7.6.2;
+-- RFC 9438, 4.8)
 abbrev pub cubic_recovering : ℕ → Bool → Cubic → Cubic
 cubic_recovering now persistent cubic = record cubic {
   window = if persistent then least_window cubic else reduced_window cubic;
@@ -124,9 +124,9 @@ abbrev pub cubic_congested : ℕ → ℕ → Bool → Cubic → Cubic
 cubic_congested now sent persistent cubic =
     if nat_le sent cubic.recovery_start_time then cubic else cubic_recovering now persistent cubic
 
--- ---- all that it is told
+-- ---- all calls
 
--- the curve of a stage keeps the datagram that it began with
+-- the curve of a stage has the datagram size with which it began
 abbrev pub cubic_with_mtu : ℕ → Cubic → Cubic
 cubic_with_mtu mtu cubic = record cubic { current_mtu = mtu; window = max cubic.window (2 * datagram_of mtu) }
 

@@ -1,4 +1,4 @@
--- CUBIC keeps the laws of controllers.
+-- CUBIC satisfies the laws of controllers.
 use Rattle.std.specs.Prelude.{◌≡◌, ℕ, ◌*◌, ◌/◌, ◌<◌, ◌≤◌, max, Bool, true, false, nat_eq, nat_le, nat_lt, if◌then◌else◌}
 use Rattle.std.proofs.Common.{arith, refl}
 use Rattle.std.proofs.lemmas.Bool.Decides.{nat_tests}
@@ -84,7 +84,7 @@ start-after (congests now sent persistent lost) cubic =
 start-after (ends_acks now in_flight limited largest) cubic = omega arith
 start-after (takes_mtu mtu) cubic = omega arith
 
--- ---- the least window
+-- ---- the minimum window
 
 persists : (now sent : ℕ) (cubic : Cubic) (test : Bool) → nat_le sent cubic.recovery_start_time ≡ test
     → cubic.recovery_start_time < sent

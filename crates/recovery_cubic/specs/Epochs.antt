@@ -1,4 +1,4 @@
--- CUBIC's window goes by the curve from a reduction until the next (RFC 9438, 4.2). Lists are newest first.
+-- CUBIC's window follows the curve from a reduction until the next (RFC 9438, 4.2). Lists are newest first.
 use Rattle.std.specs.Prelude.{ℕ, ◌≡◌, ◌+◌, ◌-◌, ◌*◌, ◌/◌, ◌<◌, ◌≤◌, min, max, nat_lt, if◌then◌else◌, List, [], ◌∷◌, ◌++◌, nat_eq, Option, None, Some}
 use Rattle.recovery_base.specs.Units.{largest_u64, microseconds}
 use Rattle.recovery_congestion.specs.Calls.{ControllerCall}
@@ -22,7 +22,7 @@ idle_next (finds now in_flight) None = if nat_eq in_flight 0 then Some now else 
 idle_next (resumes now) idle = None
 idle_next turn idle = idle
 
--- up to where time has passed: from the beginning of a stage to each acknowledgement, and by the length of each idle
+-- up to when time has passed: from the beginning of a stage to each acknowledgement, and by the length of each idle
 -- period in between, at most to its end
 abbrev pub last_next : CubicEntry → Option ℕ → ℕ → ℕ
 last_next (resumes now) (Some since) last = max last (min now (last + (now - since)))
@@ -33,7 +33,7 @@ last_next (persists now) idle last = now
 last_next (starts now bytes) idle last = now
 last_next turn idle last = last
 
--- what passes up to an acknowledgement counts, unless the application limits then
+-- the time up to an acknowledgement counts, unless application-limited then
 abbrev pub time_next : CubicEntry → ℕ → ℕ → ℕ
 time_next (grows now bytes) last time = sum_to_most time (now - last)
 time_next (reduces now) last time = 0
@@ -69,7 +69,7 @@ module _ (window now mtu : ℕ) where
       plateau_next (turn_at window now mtu call earlier) (window_by window now mtu earlier)
       (window_by window now mtu (call ∷ earlier)) (plateau_by earlier)
 
-  -- a call reduced the window, both within 64 bits, and K is that of the way back to the plateau
+  -- a call reduced the window, both within 64 bits, and K is the time back to the plateau
   pub record BeginsEpoch (reduction : ControllerCall) (earlier : List ControllerCall) (k : ℕ) : Type 0 where
     pub moment : ℕ
     pub reduced : turn_at window now mtu reduction earlier ≡ reduces moment
@@ -78,7 +78,7 @@ module _ (window now mtu : ℕ) where
     pub k_is : IsGreatestK micros (datagram_of (mtu_by window now mtu earlier))
         (plateau_by (reduction ∷ earlier) - window_by window now mtu (reduction ∷ earlier)) k
 
-  -- the curve behind a reduction, and what it is at the whole microseconds that count
+  -- the curve after a reduction, and its value at the whole microseconds counted
   abbrev pub curve_of : ControllerCall → List ControllerCall → ℕ → Curve
   curve_of reduction earlier k = record {
     w_max = plateau_by (reduction ∷ earlier);
@@ -90,7 +90,7 @@ module _ (window now mtu : ℕ) where
   curve_then later reduction earlier k =
       curve_at (curve_of reduction earlier k) (time_by (later ++ reduction ∷ earlier) / microseconds)
 
-  -- the window is at most the greatest of the curve, of Reno's, and of the window that the reduction left
+  -- the window is at most the maximum of the curve, of Reno's window, and of the window that the reduction left
   abbrev pub IsBelowCurve : List ControllerCall → ControllerCall → List ControllerCall → ℕ → Type 0
   IsBelowCurve later reduction earlier k =
       window_by window now mtu (later ++ reduction ∷ earlier)
@@ -105,15 +105,15 @@ module _ (window now mtu : ℕ) where
       curve_then later reduction earlier k < largest_u64 → IsSteady curve time
       → IsNearReal curve (window_by window now mtu (reduction ∷ earlier)) time
 
-  -- an acknowledgement in congestion avoidance, of so many bytes, behind later calls behind a reduction
+  -- an acknowledgement of these bytes in congestion avoidance, after later calls after a reduction
   pub record MovesTowardCurve (call : ControllerCall) (later : List ControllerCall) (reduction : ControllerCall)
       (earlier : List ControllerCall) (k bytes : ℕ) : Type 0 where
-    -- it makes the window the curve's, or half of its bytes above what it was
+    -- it raises the window to the curve's value or higher, or by half of its bytes if that is less
     pub up : min (curve_then (call ∷ later) reduction earlier k)
         (sum_to_most (window_by window now mtu (later ++ reduction ∷ earlier)) (bytes / 2))
         ≤ window_by window now mtu (call ∷ later ++ reduction ∷ earlier)
-    -- just the curve's, where half of the bytes reach the curve, and neither Reno's window nor what the reduction left
-    -- is above it
+    -- exactly to the curve's value, if half of the bytes reach the curve, and neither Reno's window nor what the
+    -- reduction left is above it
     pub on : curve_then (call ∷ later) reduction earlier k
         ≤ sum_to_most (window_by window now mtu (later ++ reduction ∷ earlier)) (bytes / 2)
         → window_by window now mtu (reduction ∷ earlier) ≤ curve_then (call ∷ later) reduction earlier k
@@ -122,13 +122,13 @@ module _ (window now mtu : ℕ) where
         → window_by window now mtu (call ∷ later ++ reduction ∷ earlier)
         ≡ curve_then (call ∷ later) reduction earlier k
 
-  -- the sum of half the bytes of each acknowledgement behind earlier calls
+  -- the sum of half the bytes of each acknowledgement after earlier calls
   abbrev pub halves_in : List ControllerCall → List ControllerCall → ℕ
   halves_in [] earlier = 0
   halves_in (call ∷ later) earlier =
       bytes_of (turn_at window now mtu call (later ++ earlier)) / 2 + halves_in later earlier
 
-  -- the window is back at the plateau, as far as acknowledgements let it rise since: by half of their bytes each
+  -- the window is back at the plateau, as far as acknowledgements raised it since: by half of their bytes each
   abbrev pub HasReturnedToWmax : List ControllerCall → List ControllerCall → ControllerCall → List ControllerCall
       → Type 0
   HasReturnedToWmax later until reduction earlier =
@@ -142,8 +142,8 @@ module _ (window now mtu : ℕ) where
   ReturnsToWmax later until reduction earlier k =
       k ≤ time_by (until ++ reduction ∷ earlier) / microseconds → HasReturnedToWmax later until reduction earlier
 
-  -- so the window before the reduction is reached again at K, in whole microseconds, as soon as acknowledgements let
-  -- it: until then no more than 3/10 of it is lacking, which those of a round trip come up for
+  -- so the window before the reduction is reached again at K, in whole microseconds, as soon as acknowledgements raise
+  -- it that far. At most 3/10 of it is missing, which those of a round trip make up for
   pub record IsReachedAtK (later until : List ControllerCall) (reduction : ControllerCall)
       (earlier : List ControllerCall) (k : ℕ) : Type 0 where
     -- the plateau is the window before, unless that was below the last plateau

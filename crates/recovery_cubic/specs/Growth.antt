@@ -4,7 +4,7 @@ use Rattle.std.specs.Prelude.{ℕ, ◌+◌, ◌*◌, ◌≤◌, List, [], ◌∷
 use Rattle.recovery_congestion.specs.Calls.{ControllerCall}
 use Rattle.recovery_cubic.specs.History.{CubicEntry, resumes, finds, grows, waits, passes, turn_at, window_by}
 
--- congestion avoidance goes on: no slow start, no reduction, no other MTU
+-- congestion avoidance continues: no slow start, no reduction, no other MTU
 abbrev pub ContinuesEpoch : CubicEntry → Type 0
 ContinuesEpoch (resumes now) = Unit {0}
 ContinuesEpoch (finds now in_flight) = Unit {0}
@@ -19,19 +19,19 @@ bytes_of (grows now bytes) = bytes
 bytes_of turn = 0
 
 module _ (window now mtu : ℕ) where
-  -- it goes on at each call behind earlier ones
+  -- it continues at each call after earlier ones
   abbrev pub ContinuesEpochThrough : List ControllerCall → List ControllerCall → Type 0
   ContinuesEpochThrough [] earlier = Unit {0}
   ContinuesEpochThrough (call ∷ later) earlier = ContinuesEpoch (turn_at window now mtu call (later ++ earlier))
       × ContinuesEpochThrough later earlier
 
-  -- the bytes acknowledged behind earlier calls, as far as they count
+  -- the bytes acknowledged after earlier calls, as far as they count
   abbrev pub acked_in : List ControllerCall → List ControllerCall → ℕ
   acked_in [] earlier = 0
   acked_in (call ∷ later) earlier = bytes_of (turn_at window now mtu call (later ++ earlier)) + acked_in later earlier
 
-  -- the window is at most half of them above what it was, rounded up; so in a round trip, in which no more than a
-  -- window of bytes is acknowledged, by no more than half a window
+  -- the window grew by at most half of them, rounded up; so in a round trip, in which at most a window of bytes is
+  -- acknowledged, by at most half a window
   pub record GrowsByHalf (later earlier : List ControllerCall) : Type 0 where
     pub bytes : 2 * window_by window now mtu (later ++ earlier)
         ≤ 2 * window_by window now mtu earlier + acked_in later earlier + 1

@@ -1,25 +1,25 @@
--- The curve of RFC 9438, 4.2, as a real number, and how near to it the curve in whole microseconds and bytes is.
+-- The curve of RFC 9438, 4.2, as a real number, and how near the curve in whole microseconds and bytes is to it.
 use Rattle.std.specs.Prelude.{ℕ, ◌+◌, ◌-◌, ◌*◌, ◌/◌, ◌<◌, ◌≤◌}
 use Rattle.std.specs.Int.{abs_diff}
 use Rattle.recovery_base.specs.Units.{microseconds, seconds}
 use Rattle.recovery_cubic.specs.declared.curve.Curve.{Curve}
 use Rattle.recovery_cubic.specs.Curve.{cube, curve_at, micros, IsGreatestK}
 
--- two numbers are at most so much apart
+-- two numbers differ by at most this
 pub record AreNear (a b apart : ℕ) : Type 0 where
   pub below : a ≤ b + apart
   pub above : b ≤ a + apart
 
--- about a time in nanoseconds the real curve moves by no more than a byte less than a datagram in a microsecond: for
--- 1200 bytes that is 15 minutes to both sides of K
+-- at a time in nanoseconds the real curve moves in a microsecond by at most a byte less than a datagram. For 1200 bytes
+-- that is 15 minutes to both sides of K
 abbrev pub IsSteady : Curve → ℕ → Type 0
 IsSteady curve time =
     let apart = abs_diff (time / microseconds) curve.k in
     2 * curve.datagram * cube (apart + 1) + 5 * cube micros
     ≤ 2 * curve.datagram * cube apart + 5 * cube micros * curve.datagram
 
--- K to a part of a nanosecond, of which there are so many: with more and more of them it is the cube root of the RFC.
--- Then W(t) = C·(t - K)^3 + W_max, here times 5·s^3 where a second has s parts, is within one datagram of the curve
+-- K in fractions of a nanosecond: with more and more of them it becomes the cube root of the RFC. Then W(t) = C·(t -
+-- K)^3 + W_max is within one datagram of the curve. Here it is multiplied by 5·s^3, if a second has s fractions
 abbrev pub IsNearReal : Curve → ℕ → ℕ → Type 0
 IsNearReal curve window time = (a_nano k : ℕ) → 0 < a_nano
     → let a_second = seconds * a_nano in

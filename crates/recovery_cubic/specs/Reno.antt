@@ -1,4 +1,4 @@
--- What Reno's window would be (RFC 9438, 4.3), in parts of a byte. Lists are newest first.
+-- What Reno's window would be (RFC 9438, 4.3), in fractions of a byte. Lists are newest first.
 use Rattle.std.specs.Prelude.{ℕ, ◌+◌, ◌*◌, ◌≤◌, min, max, nat_le, if◌then◌else◌, List, [], ◌∷◌}
 use Rattle.recovery_base.specs.Units.{largest_u64}
 use Rattle.recovery_congestion.specs.Calls.{ControllerCall}
@@ -7,8 +7,8 @@ use Rattle.recovery_cubic.specs.Cubic.{datagram_of}
 use Rattle.recovery_cubic.specs.History.{CubicEntry, grows, reduces, persists, starts, resizes, turn_at, window_by}
 use Rattle.recovery_cubic.specs.Fractions.{alpha_denominator, alpha_numerator}
 
--- the growth by bytes acknowledged, where the window is at least two datagrams: alpha datagrams for a window of them,
--- rounded up; alpha is 9/17, and 1 once the estimate is at the window before the reduction
+-- the growth by bytes acknowledged, for a window of two datagrams or more: alpha datagrams for a window of bytes,
+-- rounded up. Alpha is 9/17, and 1 once the estimate reached the window before the reduction
 abbrev pub reno_growth : ℕ → ℕ → ℕ → ℕ → ℕ → ℕ
 reno_growth bytes window datagram prior estimate =
     let alpha = if nat_le (parts * prior) estimate then alpha_denominator else alpha_numerator in
@@ -24,7 +24,7 @@ abbrev pub mtu_next : CubicEntry → ℕ → ℕ
 mtu_next (resizes mtu) before = mtu
 mtu_next turn before = before
 
--- a stage begins with the window that a turn leaves; it stops at the end of 64 bits
+-- a stage begins with the window after a call; the estimate saturates at 64 bits
 abbrev pub reno_next : CubicEntry → ℕ → ℕ → ℕ → ℕ → ℕ → ℕ
 reno_next (grows now bytes) before after datagram prior estimate =
     min (estimate + reno_growth bytes before datagram prior estimate) (parts * largest_u64)

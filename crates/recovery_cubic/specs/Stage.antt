@@ -6,7 +6,7 @@ use Rattle.recovery_cubic.specs.declared.curve.Curve.{Curve}
 use Rattle.recovery_cubic.specs.declared.stage.Stage.{Stage}
 use Rattle.recovery_cubic.specs.Curve.{flat_curve, curve_at}
 
--- the estimate counts in parts of a byte: so many are one
+-- the estimate counts in fractions of a byte, of which this many are a byte
 abbrev pub parts : ℕ
 parts = 2 ^ 32
 
@@ -14,7 +14,7 @@ parts = 2 ^ 32
 abbrev pub quotient_up : ℕ → ℕ → ℕ
 quotient_up a b = (a + (b - 1)) / b
 
--- it begins with this window, and Reno would begin with the same (RFC 9438, 4.3)
+-- it begins with this window, as Reno would (RFC 9438, 4.3)
 abbrev pub stage_from : Curve → ℕ → ℕ → Stage
 stage_from curve window now = record { curve = curve; estimate = parts * window; elapsed = 0; last = now }
 
@@ -22,18 +22,19 @@ stage_from curve window now = record { curve = curve; estimate = parts * window;
 abbrev pub flat_stage : ℕ → ℕ → ℕ → Stage
 flat_stage window datagram now = stage_from (flat_curve window datagram) window now
 
--- the time since the moment before counts (RFC 9438, 4.2)
+-- the time since the previous time counts (RFC 9438, 4.2)
 abbrev pub counted : ℕ → Stage → Stage
 counted now stage = record stage {
   elapsed = sum_to_most stage.elapsed (now - stage.last);
   last = max stage.last now;
 }
 
--- it does not count: the application limited (RFC 9438, 5.8)
+-- it does not count: application-limited (RFC 9438, 5.8)
 abbrev pub uncounted : ℕ → Stage → Stage
 uncounted now stage = record stage { last = max stage.last now }
 
--- an idle period ended now, if there was one: time has passed up to as much later, but not past its end (RFC 9438, 5.8)
+-- an idle period ended now, if there was one: the counted time begins later by its length, but not after its end (RFC
+-- 9438, 5.8)
 abbrev pub past_idle : ℕ → Option ℕ → ℕ → ℕ
 past_idle now None last = last
 past_idle now (Some since) last = max last (min now (last + (now - since)))
@@ -45,6 +46,6 @@ resumed now idle stage = record stage { last = past_idle now idle stage.last }
 abbrev pub raised : ℕ → Stage → Stage
 raised step stage = record stage { estimate = min (stage.estimate + step) (parts * largest_u64) }
 
--- the curve at the whole microseconds that count
+-- the curve at the whole microseconds counted
 abbrev pub curve_window : Stage → ℕ
 curve_window stage = curve_at stage.curve (stage.elapsed / microseconds)

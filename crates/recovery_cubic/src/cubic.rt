@@ -1,4 +1,4 @@
-//! CUBIC as a controller (RFC 9438), and what makes it.
+//! CUBIC as a controller (RFC 9438), and its factory.
 ghost use Rattle.std.specs.Prelude.{◌≡◌, ◌<◌, ◌≤◌, true, nat_le, Ok, refl, ◌^◌};
 ghost use Rattle.recovery_base.specs.Units.{u16_limit};
 ghost use Rattle.std.proofs.Math.Nat.{le_refl};
@@ -17,13 +17,13 @@ use std::marker::Model;
 /// The default initial window, in bytes: ten datagrams of 1200 bytes (RFC 9002, 7.2).
 const INITIAL_WINDOW: u64 = 12_000;
 
-/// Beta is 7/10: what a reduction leaves of the window (RFC 9438, 4.6).
+/// Beta is 7/10, the factor of the window in a reduction (RFC 9438, 4.6).
 const BETA_NUMERATOR: u128 = 7;
 
 /// The denominator of beta.
 const BETA_DENOMINATOR: u128 = 10;
 
-/// (1 + beta) / 2 is 17/20: the plateau of a window that falls below the last one (RFC 9438, 4.7).
+/// (1 + beta) / 2 is 17/20: the factor of the plateau if the window is reduced below the last one (RFC 9438, 4.7).
 const CONVERGENCE_NUMERATOR: u128 = 17;
 
 /// The denominator of that fraction.
@@ -35,7 +35,7 @@ const ALPHA_NUMERATOR: u128 = 9;
 /// The denominator of alpha.
 const ALPHA_DENOMINATOR: u128 = 17;
 
-/// How a [`Cubic`] begins.
+/// The settings of a [`Cubic`].
 #[derive(Clone, Copy)]
 pub struct CubicConfig {
     initial_window: u64,
@@ -56,7 +56,7 @@ impl Model for CubicConfig {
 }
 
 impl CubicConfig {
-    /// The window at first, in bytes, above zero. Default 12000 (RFC 9002, 7.2).
+    /// Sets the initial window, in bytes, above zero. Default 12000 (RFC 9002, 7.2).
     pub fn initial_window(&mut self, value: u64) -> &mut Self
         requires { 0 < value }
         ensures same { result.ghost_name ≡ self.entry.ghost_name }
@@ -91,15 +91,15 @@ impl ControllerFactory for CubicConfig {
     ghost starts_by_now = { λ factory now mtu. le_refl now };
 }
 
-/// A window that falls to 7/10 at a loss, once in a recovery, and then goes by the time: fast towards the window
-/// before, the plateau, slowly near it, and fast again beyond (RFC 9438).
+/// CUBIC (RFC 9438). A loss reduces the window to 7/10, once in a recovery. The window then is a function of time: it
+/// grows fast toward the window before the loss (the plateau), slowly near it, and fast again beyond it.
 ///
-/// RFC 9438, 4.2, goes up to the curve of a round trip later in steps, one for each acknowledgement. Here each sets the
-/// window to the curve's at its own time, by at most half of its bytes: as in 4.2 half a window in a round trip. The
-/// window is never below what Reno's would be (4.3). Idle time does not count (5.8): it runs from an ACK that leaves
-/// nothing in flight to the next packet that counts in flight. If losses alone empty the flight, time counts until an
-/// ACK. An MTU of zero counts as one byte. Not here: a way back from a reduction for losses that were none (4.9), and
-/// another slow start (4.10).
+/// RFC 9438, 4.2, moves toward the curve's value one round trip later, in one step for each acknowledgement. Here each
+/// acknowledgement sets the window to the curve's value at its own time, but increases it by at most half of its bytes.
+/// As in 4.2 that is half a window in a round trip. The window is never below what Reno's would be (4.3). Idle time
+/// does not count (5.8): it lasts from an ACK that leaves nothing in flight to the next packet that counts in flight.
+/// If losses alone empty the flight, time counts until an ACK. An MTU of zero counts as one byte. Not implemented:
+/// undoing a reduction after a spurious loss (4.9), and other slow starts such as HyStart++ (4.10).
 #[derive(Clone, Drop)]
 pub struct Cubic {
     initial_window: u64,
@@ -110,13 +110,13 @@ pub struct Cubic {
     /// The window before the last reduction (`cwnd_prior`).
     prior_window: u64,
     stage: Stage,
-    /// When an ACK found nothing in flight, if no packet was sent since.
+    /// When an ACK left nothing in flight, if no packet was sent since.
     idle_since: Option<Instant>,
 }
 
 impl Cubic {
-    /// In slow start, with the window of the configuration, for a path of this MTU in bytes. Packets sent at this
-    /// moment or before count as sent before it.
+    /// Returns a controller in slow start, with the window of the configuration, for a path of this MTU in bytes.
+    /// Packets sent at this time count as sent before it.
     pub fn new(config: CubicConfig, now: Instant, current_mtu: u16) -> Self
         ensures value { result ≡ cubic_made config now current_mtu }
         ensures sound { IsCubicSound result }
@@ -134,7 +134,7 @@ impl Cubic {
         }
     }
 
-    /// The size of a datagram, in bytes.
+    /// Returns the size of a datagram, in bytes.
     fn datagram(&self) -> u64
         ensures value { result ≡ datagram_of self.now.current_mtu }
         ensures small { result < u16_limit }
@@ -142,14 +142,14 @@ impl Cubic {
         u64::from(self.current_mtu).max(1)
     }
 
-    /// The least window (RFC 9002, 7.2).
+    /// Returns the minimum window (RFC 9002, 7.2).
     fn least_window(&self) -> u64
         ensures { result ≡ least_window self.now }
     {
         2 * self.datagram()
     }
 
-    /// The window after a loss (RFC 9438, 4.6).
+    /// Returns the window after a loss (RFC 9438, 4.6).
     fn reduced_window(&self) -> u64
         ensures { result ≡ reduced_window self.now }
     {
@@ -157,7 +157,7 @@ impl Cubic {
         (reduced as u64).max(self.least_window())
     }
 
-    /// The plateau after a loss (RFC 9438, 4.7).
+    /// Returns the plateau after a loss (RFC 9438, 4.7).
     fn next_w_max(&self) -> u64
         ensures { result ≡ next_w_max self.now }
     {
@@ -169,7 +169,7 @@ impl Cubic {
         }
     }
 
-    /// The stage that begins with a reduction.
+    /// Returns the stage that begins with a reduction.
     fn next_stage(&self, now: Instant) -> Stage
         ensures { result ≡ next_stage now self.now }
     {
@@ -178,7 +178,7 @@ impl Cubic {
         Stage::new(curve, reduced, now)
     }
 
-    /// Whether a packet was sent before the recovery began, or as it began.
+    /// Returns whether a packet was sent before the recovery began, or as it began.
     fn precedes_recovery(&self, sent: Instant) -> bool
         ensures { result ≡ nat_le sent self.now.recovery_start_time }
     {
@@ -195,7 +195,7 @@ impl Cubic {
         self.stage = Stage::flat(window, datagram, now);
     }
 
-    /// How much Reno's window grows, in parts of a byte, rounded up (RFC 9438, 4.3).
+    /// Returns how much Reno's window grows, in fractions of a byte, rounded up (RFC 9438, 4.3).
     fn friendly_step(&self, bytes: u64) -> u128
         ensures { result ≡ friendly_step bytes self.now }
     {
@@ -244,8 +244,8 @@ impl Controller for Cubic {
         self.idle_since = None;
     }
 
-    /// The window never falls. Where the application limits, it stays, and the time since what was acknowledged before
-    /// does not count (RFC 9438, 5.8).
+    /// Never reduces the window. If application-limited, the window stays, and the time since the previous
+    /// acknowledgement does not count (RFC 9438, 5.8).
     fn on_ack(
         &mut self,
         now: Instant,
@@ -270,7 +270,7 @@ impl Controller for Cubic {
         }
     }
 
-    /// Begins an idle period if nothing is in flight. One that has begun goes on.
+    /// Begins an idle period if nothing is in flight. One that has begun continues.
     fn on_end_acks(
         &mut self,
         now: Instant,
@@ -287,7 +287,7 @@ impl Controller for Cubic {
         };
     }
 
-    /// Does nothing for packets sent before the recovery began. Nothing else lets the window fall.
+    /// Does nothing for packets sent before the recovery began. Nothing else reduces the window.
     fn on_congestion_event(
         &mut self,
         now: Instant,
@@ -319,7 +319,8 @@ impl Controller for Cubic {
         };
     }
 
-    /// The window never falls, and is two MTUs at least. The curve goes on with the datagram that it began with.
+    /// Never reduces the window, which becomes two MTUs or more. The curve still has the datagram size with which it
+    /// began.
     fn on_mtu_update(&mut self, new_mtu: u16)
         ensures value { self.new ≡ cubic_with_mtu new_mtu self.old }
         ensures kept { self.old.window ≤ self.new.window }
@@ -334,7 +335,7 @@ impl Controller for Cubic {
         self.window
     }
 
-    /// The window and the threshold; there is no pacing rate.
+    /// Returns the window and the threshold; there is no pacing rate.
     fn metrics(&self) -> ControllerMetrics
         ensures { result ≡ cubic_metrics self.now }
     {
@@ -351,7 +352,7 @@ impl Controller for Cubic {
         self.initial_window
     }
 
-    /// Takes no memory, and never answers `NoMemory`.
+    /// Does not allocate, and never fails.
     fn try_clone(&self) -> Result<Self, NoMemory>
         ensures { result ≡ Ok self.now }
     {

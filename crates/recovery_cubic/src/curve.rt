@@ -8,7 +8,7 @@ const C_NUMERATOR: u128 = 2;
 /// The denominator of C, times the cubed microseconds of a cubed second.
 const C_DENOMINATOR: u128 = 5_000_000_000_000_000_000;
 
-/// The least number whose cube is above 128 bits.
+/// The smallest number whose cube exceeds 128 bits.
 const CUBE_LIMIT: u128 = 6_981_463_658_332;
 
 /// A window as a function of time: `W_max + C · (t - K)^3` (RFC 9438, 4.2).
@@ -18,13 +18,13 @@ pub struct Curve {
     w_max: u64,
     /// When the plateau is reached, in microseconds.
     k: u64,
-    /// The size of a datagram as the curve began, in bytes, above zero: C counts these.
+    /// The size of a datagram when the curve began, in bytes, above zero: C counts these.
     datagram: u64,
 }
 
 impl Curve {
-    /// From a window up to the plateau, with the greatest K that does not begin below this window. Where the plateau is
-    /// lower, K is zero.
+    /// Returns the curve from a window up to the plateau, with the largest K that does not begin below this window. If
+    /// the plateau is lower, K is zero.
     pub fn new(w_max: u64, window: u64, datagram: u64) -> Self
         requires { 0 < datagram }
         ensures value { result ≡ curve_from w_max window datagram }
@@ -39,7 +39,7 @@ impl Curve {
         }
     }
 
-    /// From the plateau on.
+    /// Returns the curve from the plateau on.
     pub fn flat(window: u64, datagram: u64) -> Self
         ensures { result ≡ flat_curve window datagram }
     {
@@ -50,14 +50,15 @@ impl Curve {
         }
     }
 
-    /// The window at the plateau, in bytes.
+    /// Returns the window at the plateau, in bytes.
     pub fn w_max(&self) -> u64
         ensures { result ≡ self.now.w_max }
     {
         self.w_max
     }
 
-    /// The window so many microseconds behind the beginning, in bytes. What is apart from the plateau is rounded down.
+    /// Returns the window this many microseconds after the beginning, in bytes. The distance from the plateau is
+    /// rounded down.
     pub fn window_at(&self, micros: u64) -> u64
         ensures { result ≡ curve_at self.now micros }
     {
@@ -71,7 +72,7 @@ impl Curve {
     }
 }
 
-/// `C · t^3` in bytes, rounded down. It stops at the end of 64 bits, above which the product of 128 bits stops.
+/// Returns `C · t^3` in bytes, rounded down. It saturates at 64 bits; before that the 128-bit product saturates.
 fn rise(datagram: u64, micros: u64) -> u64
     ensures { result ≡ rise datagram micros }
 {
@@ -81,7 +82,7 @@ fn rise(datagram: u64, micros: u64) -> u64
     u64::try_from(product / C_DENOMINATOR).unwrap_or(u64::MAX)
 }
 
-/// The greatest number whose cube is at most this one.
+/// Returns the largest number whose cube is at most this one.
 fn cube_root(n: u128) -> u64
     ensures { result ≡ cube_root n }
 {

@@ -1,5 +1,5 @@
-//! CUBIC (RFC 9438), a congestion controller from outside: `recovery_congestion` and all that stands on it know its
-//! traits alone. All is in whole bytes and microseconds, with no floating point. Begin at `cubic.rt`.
+//! CUBIC (RFC 9438). `recovery_congestion` and the crates above it know only the traits of a controller. All values are
+//! whole bytes and microseconds, without floating point. Begin at `cubic.rt`.
 #![tactic(auto)]
 
 mod cubic;

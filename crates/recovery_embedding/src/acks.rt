@@ -1,4 +1,4 @@
-//! ACKs that this end sends (RFC 9000, 13.2).
+//! ACKs that the local endpoint sends (RFC 9000, 13.2).
 use crate::connection::Connection;
 use quic_recovery::below::{AckFrequency, SpaceId};
 use quic_recovery::time::Instant;
@@ -8,21 +8,21 @@ use recovery_queue::items::ItemQueue;
 use recovery_sender::SenderError;
 use std::alloc::Global;
 
-/// What a packet that came in asks for.
+/// What a received packet asks for.
 #[derive(Clone, Copy, Debug)]
 pub enum Heard {
-    /// It may have come before: drop it.
+    /// Duplicate, or too old to know: drop the packet.
     Duplicate,
-    /// An ACK is to be sent at once.
+    /// Send an ACK at once.
     AckNow,
-    /// The timer for a late ACK runs.
+    /// The ACK delay timer runs.
     AckLater,
     /// Nothing, or the timer runs already.
     Nothing,
 }
 
 impl Connection {
-    /// An ack-eliciting packet comes in, before its frames are looked at.
+    /// Processes a received ack-eliciting packet, before its frames.
     pub fn hear(
         &mut self,
         space: SpaceId,
@@ -42,8 +42,8 @@ impl Connection {
         }
     }
 
-    /// The timer for a late ACK is to start: of 1-RTT packets as late as the peer asked last, while one of Initial and
-    /// Handshake packets goes out at once (RFC 9000, 13.2.1).
+    /// Starts the ACK delay timer: of 1-RTT packets, for the delay that the peer last asked for. An ACK of Initial and
+    /// Handshake packets is sent at once (RFC 9000, 13.2.1).
     fn plan_ack(&mut self, space: SpaceId, now: Instant, arm: bool) -> Result<Heard, SenderError> {
         if arm && space == SpaceId::Data {
             let delay = self.state().ack_frequency().max_ack_delay;
@@ -60,7 +60,7 @@ impl Connection {
         })
     }
 
-    /// Whether an ACK is to be sent in a packet of its own.
+    /// Returns whether to send an ACK in a packet of its own.
     fn must_acknowledge(&self, space: SpaceId) -> bool {
         match self.state().space(space) {
             Some(here) => here.pending_acks.can_send(),
@@ -68,7 +68,7 @@ impl Connection {
         }
     }
 
-    /// The timer for a late ACK expired: whether one is to be sent.
+    /// Processes the expiry of the ACK delay timer. Returns whether to send an ACK.
     pub fn ack_timer_expired(&mut self) -> Result<bool, SenderError> {
         self.stop_timer(Timer::MaxAckDelay)?;
         self.tell(Event::AckDelayTimeout {
@@ -77,8 +77,8 @@ impl Connection {
         Ok(self.must_acknowledge(SpaceId::Data))
     }
 
-    /// An ACK of all numbers goes out in a packet of its own, which congestion control does not count (RFC 9002, 7):
-    /// the largest number in it.
+    /// Sends an ACK of all numbers in a packet of its own, which congestion control does not count (RFC 9002, 7).
+    /// Returns the largest number in it.
     pub fn acknowledge(
         &mut self,
         alloc: Global,
@@ -97,7 +97,7 @@ impl Connection {
         Ok(largest)
     }
 
-    /// The largest number that is to be acknowledged. An ACK frame has all `ranges`, and `ack_delay(now)`.
+    /// Returns the largest number that is to be acknowledged. An ACK frame has all `ranges`, and `ack_delay(now)`.
     fn largest_heard(&self, space: SpaceId) -> Option<u64> {
         let here = self.state().space(space)?;
         let mut largest = None;
@@ -107,7 +107,7 @@ impl Connection {
         largest
     }
 
-    /// The peer asks for fewer ACKs: whether its frame is newer than the last one, and taken.
+    /// Processes an ACK_FREQUENCY frame. Returns whether it is newer than the last one, and accepted.
     pub fn ask_fewer_acks(&mut self, frame: AckFrequency) -> Result<bool, SenderError> {
         match self.sender.on_event(Event::AckFrequencyIn(frame)) {
             Ok(Answer::Flag(is_newer)) => Ok(is_newer),

@@ -1,4 +1,4 @@
-//! The life of a client's connection, over a path with an RTT of 40 ms.
+//! A client's connection from start to end, over a path with an RTT of 40 ms.
 use crate::acks::Heard;
 use crate::at;
 use crate::connection::Connection;
@@ -14,7 +14,7 @@ use recovery_queue::items::ItemQueue;
 use recovery_sender::{Acknowledged, EcnOutcome, SenderError};
 use std::alloc::Global;
 
-/// A queue of one item.
+/// Returns a queue of one item.
 fn item(alloc: Global, number: u64) -> Result<ItemQueue, SenderError> {
     let mut items = Vec::new(alloc);
     match items.push(number) {
@@ -23,7 +23,7 @@ fn item(alloc: Global, number: u64) -> Result<ItemQueue, SenderError> {
     }
 }
 
-/// All acts, in order.
+/// Runs all steps, in order.
 pub fn live(report: &mut Report, client: &mut Connection) -> Result<(), SenderError> {
     handshake(report, client)?;
     end_handshake(report, client)?;
@@ -42,7 +42,7 @@ pub fn live(report: &mut Report, client: &mut Connection) -> Result<(), SenderEr
     close(report, client)
 }
 
-/// The first packet goes out, and the server answers.
+/// The first packet is sent, and the server answers.
 fn handshake(report: &mut Report, client: &mut Connection) -> Result<(), SenderError> {
     let hello = say_hello(report, client)?;
     report.wake(client)?;
@@ -53,7 +53,7 @@ fn handshake(report: &mut Report, client: &mut Connection) -> Result<(), SenderE
     Ok(())
 }
 
-/// The first packet goes out: its number.
+/// Sends the first packet. Returns its number.
 fn say_hello(report: &mut Report, client: &mut Connection) -> Result<u64, SenderError> {
     let gone = client.transmit(at(0), 1200, SpaceId::Initial)?;
     let hello = client.send(SpaceId::Initial, at(0), 1200, item(report.alloc(), 1)?)?;
@@ -61,7 +61,7 @@ fn say_hello(report: &mut Report, client: &mut Connection) -> Result<u64, Sender
     Ok(hello)
 }
 
-/// Another connection: the first packet goes out, and a Retry comes (RFC 9000, 8.1.2).
+/// Another connection: the first packet is sent, and a Retry is received (RFC 9000, 8.1.2).
 pub fn try_again(report: &mut Report, client: &mut Connection) -> Result<(), SenderError> {
     say_hello(report, client)?;
     let packets = client.sent_in_vain(SpaceId::Initial, at(40))?.numbers.len();
@@ -76,7 +76,7 @@ pub fn try_again(report: &mut Report, client: &mut Connection) -> Result<(), Sen
     Ok(())
 }
 
-/// The server's first datagram comes in, with its id and the keys of Handshake packets.
+/// The server's first datagram is received, with its ID and the Handshake keys.
 fn hear_server(client: &mut Connection) -> Result<Heard, SenderError> {
     client.datagram_in(PathName::Current, 1200)?;
     client.server_id(ConnectionId::new(&[7; 8]))?;
@@ -84,7 +84,7 @@ fn hear_server(client: &mut Connection) -> Result<Heard, SenderError> {
     client.hear(SpaceId::Initial, at(40), 0)
 }
 
-/// An ACK frame with one range comes in, and with these counts of ECN, `millis` after the beginning.
+/// An ACK frame with one range and these ECN counts is received, `millis` after the beginning.
 fn ack(
     client: &mut Connection,
     space: SpaceId,
@@ -95,12 +95,12 @@ fn ack(
     client.hear_ack(at(millis), space, &[range], Duration::ZERO, ecn)
 }
 
-/// So many packets came with ECT(0), and so many with a mark.
+/// Returns counts of packets received with ECT(0), and with CE.
 fn counts(ect0: u64, ce: u64) -> Option<EcnCounts> {
     Some(EcnCounts { ect0, ect1: 0, ce })
 }
 
-/// Handshake packets, the end of the Initial and Handshake keys, and the peer's transport parameters.
+/// Handshake packets, the discarding of the Initial and Handshake keys, and the peer's transport parameters.
 fn end_handshake(report: &mut Report, client: &mut Connection) -> Result<(), SenderError> {
     confirm(client, item(report.alloc(), 2)?)?;
     if let Err(refused) = client.hear(SpaceId::Handshake, at(82), 1) {
@@ -109,7 +109,7 @@ fn end_handshake(report: &mut Report, client: &mut Connection) -> Result<(), Sen
     Ok(())
 }
 
-/// The handshake comes to its end.
+/// The handshake is confirmed.
 fn confirm(client: &mut Connection, items: ItemQueue) -> Result<(), SenderError> {
     client.hear(SpaceId::Handshake, at(41), 0)?;
     client.peer_parameters(1400, Duration::from_millis(25))?;
@@ -135,7 +135,7 @@ fn new_id(sequence: u64) -> NewConnectionId {
     }
 }
 
-/// The server issues an id, and the client uses it.
+/// The server issues an ID, and the client uses it.
 fn peer_ids(report: &mut Report, client: &mut Connection) -> Result<(), SenderError> {
     if client.new_id(new_id(1))?.is_none() {
         report.line("the server's id 1 is held");
@@ -150,7 +150,7 @@ fn peer_ids(report: &mut Report, client: &mut Connection) -> Result<(), SenderEr
     Ok(())
 }
 
-/// The client issues an id; its first one lasts for ten seconds, and the server retires it.
+/// The client issues an ID; its first one has a lifetime of ten seconds, and the server retires it.
 fn own_ids(report: &mut Report, client: &mut Connection) -> Result<(), SenderError> {
     let number = client.issue_id(report.alloc(), at(9_000), 9)?;
     report.between("id ", &number, " is issued");
@@ -164,7 +164,7 @@ fn own_ids(report: &mut Report, client: &mut Connection) -> Result<(), SenderErr
     Ok(())
 }
 
-/// Packets come in: ACKs at once, and late ones.
+/// Packets are received: immediate ACKs, and delayed ones.
 fn acknowledge(report: &mut Report, client: &mut Connection) -> Result<(), SenderError> {
     for number in 0..3 {
         let heard = client.hear(SpaceId::Data, at(11_000), number / 2 * 2)?;
@@ -186,7 +186,7 @@ fn acknowledge(report: &mut Report, client: &mut Connection) -> Result<(), Sende
     Ok(())
 }
 
-/// The timer for a late ACK runs for 40 ms.
+/// The ACK delay timer runs for 40 ms.
 fn wait_for_ack(report: &mut Report, client: &mut Connection) -> Result<(), SenderError> {
     let is_due = client.has_expired(Timer::MaxAckDelay, at(11_049));
     report.value("an ACK after 39 ms", &is_due);
@@ -195,7 +195,7 @@ fn wait_for_ack(report: &mut Report, client: &mut Connection) -> Result<(), Send
     Ok(())
 }
 
-/// An ACK_FREQUENCY frame: an ACK for every tenth packet, 40 ms late at most.
+/// An ACK_FREQUENCY frame: an ACK for every tenth packet, at most 40 ms late.
 fn fewer_acks() -> AckFrequency {
     AckFrequency {
         sequence: VarInt::from_u32(0),
@@ -205,8 +205,8 @@ fn fewer_acks() -> AckFrequency {
     }
 }
 
-/// Packets go out, marked with ECT(0), until the window is full: the number of the first. Then the pacer has no tokens
-/// left.
+/// Sends packets, marked with ECT(0), until the window is full. Returns the number of the first. Then the pacer has no
+/// tokens left.
 fn fill_window(report: &mut Report, client: &mut Connection) -> Result<Option<u64>, SenderError> {
     client.app_limited = false;
     let burst = client.may_burst(at(11_100), 12_000)?;
@@ -226,7 +226,7 @@ fn fill_window(report: &mut Report, client: &mut Connection) -> Result<Option<u6
     Ok(first)
 }
 
-/// What the window has room for goes out: the number of the first packet.
+/// Sends what the window has room for. Returns the number of the first packet.
 fn send_all(alloc: Global, client: &mut Connection) -> Result<Option<u64>, SenderError> {
     let mut first = None;
     for number in 100..120 {
@@ -240,7 +240,7 @@ fn send_all(alloc: Global, client: &mut Connection) -> Result<Option<u64>, Sende
     Ok(first)
 }
 
-/// One ACK comes in, of nine packets behind the first one, which is held for lost (RFC 9002, 6.1.1).
+/// One ACK of nine packets after the first one is received, which is declared lost (RFC 9002, 6.1.1).
 fn lose(report: &mut Report, client: &mut Connection, first: u64) -> Result<(), SenderError> {
     let range = (first.saturating_add(1), first.saturating_add(9));
     let heard = ack(client, SpaceId::Data, 11_140, range, counts(9, 0))?;
@@ -249,7 +249,7 @@ fn lose(report: &mut Report, client: &mut Connection, first: u64) -> Result<(), 
     Ok(())
 }
 
-/// What was lost goes out again, and arrives with a mark.
+/// What was lost is retransmitted, and arrives marked with CE.
 fn send_again(report: &mut Report, client: &mut Connection) -> Result<(), SenderError> {
     let items = client.pending(SpaceId::Data)?;
     report.between("the items ", &items.items(), " wait to be sent again");
@@ -267,7 +267,7 @@ fn send_again(report: &mut Report, client: &mut Connection) -> Result<(), Sender
     Ok(())
 }
 
-/// More packets were marked.
+/// Returns whether more packets were marked.
 fn is_marked(heard: &Acknowledged) -> bool {
     match heard.ecn {
         EcnOutcome::Marked => true,
@@ -275,7 +275,7 @@ fn is_marked(heard: &Acknowledged) -> bool {
     }
 }
 
-/// A packet arrives, and the server counts fewer than before.
+/// A packet arrives, and the server reports smaller counts than before.
 fn count_less(report: &mut Report, client: &mut Connection) -> Result<(), SenderError> {
     let sent = client.send(SpaceId::Data, at(11_156), 1200, item(report.alloc(), 101)?)?;
     ack(client, SpaceId::Data, 11_196, (sent, sent), counts(8, 1))?;
@@ -295,8 +295,8 @@ fn mistrust(report: &mut Report, client: &mut Connection) -> Result<(), SenderEr
     Ok(())
 }
 
-/// No ACK comes for a packet: probes go out, the first with what is to be sent again. Their ACK shows that the packet
-/// is lost.
+/// No ACK is received for a packet: probes are sent, the first with what is to be retransmitted. Their ACK shows that
+/// the packet is lost.
 fn probe(report: &mut Report, client: &mut Connection) -> Result<(), SenderError> {
     client.send(SpaceId::Data, at(11_200), 600, item(report.alloc(), 200)?)?;
     report.wake(client)?;
@@ -311,7 +311,7 @@ fn probe(report: &mut Report, client: &mut Connection) -> Result<(), SenderError
     Ok(())
 }
 
-/// So many probes go out at once, and arrive.
+/// This many probes are sent at once, and arrive.
 fn send_probes(
     report: &mut Report,
     client: &mut Connection,
@@ -328,8 +328,8 @@ fn send_probes(
     Ok(())
 }
 
-/// A probe goes out, with what waits to be sent again, and else as a PING (RFC 9002, 6.2.4): its number. As one is due,
-/// window and pacer are not asked.
+/// Sends a probe, with what waits for retransmission, or else as a PING (RFC 9002, 6.2.4). Returns its number. Since a
+/// probe is due, window and pacer do not apply.
 fn send_probe(
     report: &mut Report,
     client: &mut Connection,
@@ -341,7 +341,7 @@ fn send_probe(
     client.send(space, at(12_000), 600, items)
 }
 
-/// The size of datagrams on the path in use.
+/// Adds the size of datagrams on the path in use.
 fn show_mtu(report: &mut Report, client: &Connection, text: &str) {
     let size = client.state().current().current_mtu();
     report.between(text, &size, " bytes");
@@ -360,7 +360,7 @@ fn grow(report: &mut Report, client: &mut Connection) -> Result<(), SenderError>
     Ok(())
 }
 
-/// A probe of the MTU goes out, and arrives: its size.
+/// An MTU probe is sent, and arrives. Returns its size.
 fn arrive_large(client: &mut Connection) -> Result<Option<u16>, SenderError> {
     let Some((number, size)) = client.probe_mtu(at(13_000))? else {
         return Ok(None);
@@ -369,7 +369,7 @@ fn arrive_large(client: &mut Connection) -> Result<Option<u16>, SenderError> {
     Ok(Some(size))
 }
 
-/// A probe of the MTU goes out and is lost, while a small packet behind it arrives: the size of the probe.
+/// An MTU probe is sent and lost, while a small packet after it arrives. Returns the size of the probe.
 fn lose_large(client: &mut Connection, items: ItemQueue) -> Result<Option<u16>, SenderError> {
     let Some((probe, size)) = client.probe_mtu(at(13_100))? else {
         return Ok(None);
@@ -383,7 +383,7 @@ fn lose_large(client: &mut Connection, items: ItemQueue) -> Result<Option<u16>, 
     })
 }
 
-/// Large packets vanish, and small ones arrive.
+/// Large packets are lost, and small ones arrive.
 fn vanish(report: &mut Report, client: &mut Connection) -> Result<(), SenderError> {
     for round in 140..144 {
         let large = item(report.alloc(), round)?;
@@ -398,7 +398,7 @@ fn vanish(report: &mut Report, client: &mut Connection) -> Result<(), SenderErro
     Ok(())
 }
 
-/// A large and a small packet go out, `millis` after the beginning, and the small one alone arrives.
+/// A large and a small packet are sent, `millis` after the beginning, and only the small one arrives.
 fn send_both(
     client: &mut Connection,
     millis: u64,

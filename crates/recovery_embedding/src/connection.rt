@@ -1,4 +1,4 @@
-//! One end of a connection, as far as its loss recovery sees it.
+//! One endpoint of a connection, as its loss recovery sees it.
 ghost use Rattle.std.specs.Prelude.{◌≡◌};
 ghost use Rattle.recovery_sender.specs.Calls.{IsPassedThrough};
 ghost use Rattle.recovery_packet_numbers.specs.Skips.{IsSkips};
@@ -13,9 +13,9 @@ use recovery_queue::items::ItemQueue;
 use recovery_sender::{Sender, SenderError};
 use std::net::SocketAddr;
 
-/// What the recovery starts with: the defaults, with NewReno, but for packet numbers that are skipped here and there
-/// (RFC 9000, 21.4). A client's peer is validated, whatever stands here, and a server's is not until it was seen to
-/// receive at its address (RFC 9000, 8.1).
+/// Returns the settings: the defaults, with NewReno, except that some packet numbers are skipped (RFC 9000, 21.4). For
+/// a client the peer is validated, whatever the settings are. For a server it is not until its address was validated
+/// (RFC 9000, 8.1).
 pub fn config(remote: SocketAddr) -> RecoveryConfig<NewRenoConfig>
     ensures issued { result.issued ≡ 1 }
     ensures skips { IsSkips result.skips }
@@ -26,19 +26,20 @@ pub fn config(remote: SocketAddr) -> RecoveryConfig<NewRenoConfig>
     config
 }
 
-/// The sender of this stack, with its past: its controllers are NewReno's, its packets carry numbered items, and its
-/// skips are drawn from the words of `Pcg32`.
+/// The sender of this stack: its controllers are NewReno's, its packets carry numbered items, and `Pcg32` draws the
+/// skipped numbers.
 pub type StackSender = Sender<NewRenoConfig, ItemQueue, Pcg32>;
 
-/// One end of a connection.
+/// One endpoint of a connection.
 #[derive(Drop)]
 pub struct Connection {
     pub sender: StackSender,
-    /// The token by which the peer resets the connection (RFC 9000, 10.3), where it came with the id in use.
+    /// The token with which the peer resets the connection (RFC 9000, 10.3), if it was issued with the ID in use.
     pub peer_token: Option<ResetToken>,
-    /// Which challenge was sent on the path in use, and not answered yet (RFC 9000, 8.2).
+    /// The challenge that was sent on the path in use and not answered yet (RFC 9000, 8.2).
     pub challenge: Option<u64>,
-    /// There was nothing more to send, though the window had room: then it does not grow (RFC 9002, 7.8).
+    /// Whether there was nothing more to send, though the window had room: then the window does not grow (RFC 9002,
+    /// 7.8).
     pub app_limited: bool,
 }
 
@@ -52,12 +53,12 @@ impl Connection {
         }
     }
 
-    /// The recovery, to look at.
+    /// Returns the recovery, to be read.
     pub fn state(&self) -> &Recovery<NewRenoConfig, ItemQueue, Pcg32> {
         self.sender.recovery()
     }
 
-    /// An event that passes, and whose answer asks for nothing.
+    /// Passes an event whose answer asks for nothing.
     pub fn tell(&mut self, event: Event<ItemQueue>) -> Result<(), SenderError>
         requires { IsPassedThrough event }
     {

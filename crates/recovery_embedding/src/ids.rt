@@ -1,4 +1,4 @@
-//! Connection ids of both ends (RFC 9000, 5.1).
+//! Connection IDs of both endpoints (RFC 9000, 5.1).
 ghost use Rattle.recovery_sender.specs.Calls.{IsPassedThrough};
 
 use crate::connection::Connection;
@@ -11,23 +11,23 @@ use recovery_sender::SenderError;
 use std::alloc::Global;
 
 impl Connection {
-    /// The server's first packet brings the id that it chose, to which all others go (RFC 9000, 7.2).
+    /// Stores the ID that the server chose in its first packet, to which all later packets are sent (RFC 9000, 7.2).
     pub fn server_id(&mut self, id: ConnectionId) -> Result<(), SenderError> {
         self.tell(Event::InitialId(id))
     }
 
-    /// The peer issues an id, and may ask for the retirement of others: the numbers for which RETIRE_CONNECTION_ID is
-    /// to be sent, from the first to below the second.
+    /// Processes an ID that the peer issues, which may ask for the retirement of others. Returns the numbers for which
+    /// to send RETIRE_CONNECTION_ID, from the first to below the second.
     pub fn new_id(&mut self, frame: NewConnectionId) -> Result<Option<(u64, u64)>, SenderError> {
         self.retire(Event::NewId(frame))
     }
 
-    /// Another id of the peer is to be used, as on another path (RFC 9000, 9.5): none where no other is held.
+    /// Uses another ID of the peer, as on another path (RFC 9000, 9.5). Returns `None` if no other is held.
     pub fn next_id(&mut self) -> Result<Option<(u64, u64)>, SenderError> {
         self.retire(Event::NextId)
     }
 
-    /// With another id comes the token by which the peer resets a connection (RFC 9000, 10.3).
+    /// Stores the token of the new ID, with which the peer resets a connection (RFC 9000, 10.3).
     fn retire(&mut self, event: Event<ItemQueue>) -> Result<Option<(u64, u64)>, SenderError>
         requires { IsPassedThrough event }
     {
@@ -41,7 +41,7 @@ impl Connection {
         }
     }
 
-    /// Whether a datagram that ends with these bytes resets the connection.
+    /// Returns whether a datagram that ends with these bytes resets the connection.
     pub fn is_reset(&self, last: [u8; 16]) -> bool {
         match &self.peer_token {
             Some(token) => *token == ResetToken::from(last),
@@ -49,7 +49,7 @@ impl Connection {
         }
     }
 
-    /// This end issues one more id, by a NEW_CONNECTION_ID frame: its number.
+    /// Issues one more local ID, by a NEW_CONNECTION_ID frame. Returns its number.
     pub fn issue_id(&mut self, alloc: Global, now: Instant, byte: u8) -> Result<u64, SenderError> {
         let sequence = self.state().local_ids().issued();
         let mut ids = Vec::new(alloc);
@@ -66,7 +66,7 @@ impl Connection {
         Ok(sequence)
     }
 
-    /// The timer for new ids is set to the oldest deadline, or stopped where there is none.
+    /// Sets the timer for new IDs to the oldest deadline, or stops it if there is none.
     fn arm_id_timer(&mut self) -> Result<(), SenderError> {
         match self.state().local_ids().next_timeout() {
             Some(moment) => self.set_timer(Timer::PushNewCid, moment),
@@ -74,7 +74,7 @@ impl Connection {
         }
     }
 
-    /// That timer expired: whether ids are to be issued with `retire_prior_to` in their frames.
+    /// Processes that timer. Returns whether to issue IDs with `retire_prior_to` in their frames.
     pub fn id_timer_expired(&mut self) -> Result<bool, SenderError> {
         let is_asked = match self.sender.on_event(Event::IdTimeout) {
             Ok(Answer::Flag(is_asked)) => is_asked,
@@ -85,7 +85,8 @@ impl Connection {
         Ok(is_asked)
     }
 
-    /// The peer retires an id of this end: whether it has room for one more (`limit`: its active_connection_id_limit).
+    /// Processes a local ID that the peer retires. Returns whether the peer has room for one more (`limit`: its
+    /// active_connection_id_limit).
     pub fn peer_retired(&mut self, sequence: u64, limit: u64) -> Result<bool, SenderError> {
         match self.sender.on_event(Event::PeerRetired { sequence, limit }) {
             Ok(Answer::Flag(has_room)) => Ok(has_room),

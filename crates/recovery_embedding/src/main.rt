@@ -1,5 +1,5 @@
 //! An example of a QUIC stack over the sender: which calls it makes, and what it does with the answers.
-//! docs/EMBEDDING.md walks through it.
+//! docs/EMBEDDING.md explains it.
 #![tactic(auto)]
 
 mod acks;
@@ -27,17 +27,17 @@ use report::Report;
 use std::alloc::Global;
 use std::net::{IpAddr, Ipv4Addr, SocketAddr};
 
-/// So many milliseconds after the beginning.
+/// Returns the time this many milliseconds after the beginning.
 fn at(millis: u64) -> Instant {
     Instant::from_nanos(0) + Duration::from_millis(millis)
 }
 
-/// An address of the peer's.
+/// Returns an address of the peer.
 fn address(host: u8, port: u16) -> SocketAddr {
     SocketAddr::new(IpAddr::V4(Ipv4Addr::new(192, 0, 2, host)), port)
 }
 
-/// One end of a connection to which nothing has happened yet.
+/// Returns one endpoint of a connection without any event.
 fn begin(alloc: Global, side: Side) -> Result<Connection, SenderError> {
     let config = connection::config(address(1, 4433));
     // A program that prints the same each time: a stack seeds a generator that its peers cannot guess.
@@ -62,7 +62,7 @@ fn live_as_server(report: &mut Report) -> Result<(), SenderError> {
     lived
 }
 
-/// A client whose server wants to see its address first.
+/// A client whose server first validates its address.
 fn live_behind_retry(report: &mut Report) -> Result<(), SenderError> {
     let mut client = begin(report.alloc(), Side::Client)?;
     let lived = client::try_again(report, &mut client);
@@ -70,7 +70,7 @@ fn live_behind_retry(report: &mut Report) -> Result<(), SenderError> {
     lived
 }
 
-/// All of them: what they show, as far as they come.
+/// Runs all of them. Returns what they print, as far as they ran.
 fn live(report: &mut Report) -> Result<(), SenderError> {
     live_as_client(report)?;
     live_as_server(report)?;

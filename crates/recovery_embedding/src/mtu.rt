@@ -6,7 +6,7 @@ use quic_recovery::{Answer, Event};
 use recovery_sender::SenderError;
 
 impl Connection {
-    /// The peer's transport parameters come in: max_udp_payload_size and max_ack_delay (RFC 9000, 18.2).
+    /// Processes the peer's transport parameters: max_udp_payload_size and max_ack_delay (RFC 9000, 18.2).
     pub fn peer_parameters(
         &mut self,
         size: u16,
@@ -16,9 +16,8 @@ impl Connection {
         self.tell(Event::PeerLimit { size })
     }
 
-    /// A larger size may be looked for: number and size of the packet that goes out now, and fills its datagram, if
-    /// any. It is tracked already, and acknowledged or lost as any other. Window and pacer are not asked for it (RFC
-    /// 9000, 14.4).
+    /// Returns number and size of an MTU probe to send now, if any; the packet fills its datagram. It is tracked
+    /// already, and acknowledged or lost as any other. Window and pacer do not apply (RFC 9000, 14.4).
     pub fn probe_mtu(&mut self, now: Instant) -> Result<Option<(u64, u16)>, SenderError> {
         let (number, size) = match self.sender.poll_mtu(now) {
             Ok(Answer::Probe { number, size }) => (number, size),

@@ -1,4 +1,4 @@
-//! Packets that go out, and what waits to be sent again (RFC 9002, A.5).
+//! Packets to send, and the retransmission queue (RFC 9002, A.5).
 use crate::connection::Connection;
 use quic_recovery::below::SpaceId;
 use quic_recovery::time::Instant;
@@ -7,8 +7,8 @@ use recovery_queue::items::ItemQueue;
 use recovery_sender::SenderError;
 
 impl Connection {
-    /// A packet that elicits an ACK goes out with these items, in a datagram that was asked for: its number. The table
-    /// of replies says that the answer is one: no other arm can come.
+    /// Sends an ack-eliciting packet with these items, in a datagram that was asked for. Returns its number. The table
+    /// of replies states that the answer is `Sent`: no other arm is reached.
     pub fn send(
         &mut self,
         space: SpaceId,
@@ -23,7 +23,7 @@ impl Connection {
         }
     }
 
-    /// The items that wait to be sent again.
+    /// Returns the items that wait for retransmission.
     pub fn pending(&mut self, space: SpaceId) -> Result<ItemQueue, SenderError> {
         match self.sender.on_event(Event::TakePending { space }) {
             Ok(Answer::Queue(items)) => Ok(items),

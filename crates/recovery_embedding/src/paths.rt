@@ -1,4 +1,4 @@
-//! Datagrams, and the paths that they go by (RFC 9000, 8 and 9; RFC 9002, 7 and 7.7).
+//! Datagrams, and the paths on which they are sent (RFC 9000, 8 and 9; RFC 9002, 7 and 7.7).
 use crate::connection::Connection;
 use quic_recovery::below::SpaceId;
 use quic_recovery::time::Instant;
@@ -8,12 +8,12 @@ use recovery_queue::items::ItemQueue;
 use recovery_sender::{SenderError, Transmission};
 use std::net::SocketAddr;
 
-/// What becomes of a datagram that is to go out.
+/// Whether a datagram may be sent.
 #[derive(Clone, Copy, Debug)]
 pub enum Departure {
-    /// It goes out.
+    /// It is sent.
     Now,
-    /// It waits for the pacer's timer, which expires at this moment, in nanoseconds.
+    /// It waits for the pacer's timer, which expires at this time, in nanoseconds.
     Later(u64),
     /// It waits for an ACK or a loss: the window has no room for it.
     Full,
@@ -21,7 +21,7 @@ pub enum Departure {
     Blocked,
 }
 
-/// What the answer for a datagram says.
+/// Returns the departure for the answer to a datagram.
 fn departure_of(sent: &Transmission) -> Departure {
     match sent {
         Transmission::Transmitted => Departure::Now,
@@ -31,7 +31,7 @@ fn departure_of(sent: &Transmission) -> Departure {
     }
 }
 
-/// What the answer for a burst says.
+/// Returns the departure for the answer to a burst.
 fn burst_by(answer: &Answer<ItemQueue>) -> Departure {
     match answer {
         Answer::Delayed(moment) => Departure::Later(moment.as_nanos()),
@@ -39,7 +39,7 @@ fn burst_by(answer: &Answer<ItemQueue>) -> Departure {
     }
 }
 
-/// The bytes in flight, as the answer says.
+/// Returns the bytes in flight in an answer.
 fn bytes_by(answer: &Answer<ItemQueue>) -> u64 {
     match answer {
         Answer::InFlight { bytes, .. } => *bytes,
@@ -48,7 +48,7 @@ fn bytes_by(answer: &Answer<ItemQueue>) -> u64 {
 }
 
 impl Connection {
-    /// A datagram of the peer comes in, before its packets are looked at.
+    /// Processes a received datagram, before its packets.
     pub fn datagram_in(&mut self, path: PathName, bytes: u64) -> Result<(), SenderError> {
         match path {
             PathName::Current => self.sender.on_datagram(bytes),
@@ -56,8 +56,8 @@ impl Connection {
         }
     }
 
-    /// A datagram is to go out, with packets of a space that count in flight. Where it is delayed, it is to be tried
-    /// again when the timer of the pacer expires.
+    /// Asks for a datagram, with packets of a space that count in flight. If it is delayed, try again when the pacer's
+    /// timer expires.
     pub fn transmit(
         &mut self,
         now: Instant,
@@ -78,7 +78,7 @@ impl Connection {
         Ok(departure)
     }
 
-    /// May a burst go out, as far as the pacer goes?
+    /// Asks the pacer whether a burst may be sent.
     pub fn may_burst(&mut self, now: Instant, bytes: u64) -> Result<Departure, SenderError> {
         let departure = match self.sender.on_event(Event::PacerCheck { now, bytes }) {
             Ok(answer) => burst_by(&answer),
@@ -87,7 +87,7 @@ impl Connection {
         self.wait_for_pacer(departure)
     }
 
-    /// What is in flight on a path, in bytes.
+    /// Returns what is in flight on a path, in bytes.
     pub fn in_flight(&mut self, path: PathName) -> Result<u64, SenderError> {
         match self.sender.on_event(Event::InFlight { path }) {
             Ok(answer) => Ok(bytes_by(&answer)),
@@ -95,9 +95,9 @@ impl Connection {
         }
     }
 
-    /// The peer is at another address. Where a port alone changed the way is most likely the same, behind a NAT, and
-    /// what is known of it is kept; else all begins anew (RFC 9000, 9.4). The address is to be validated by a challenge
-    /// (RFC 9000, 8.2).
+    /// Processes a change of the peer's address. If only a port changed, the network path is most likely the same (a
+    /// NAT rebinding), and its state is inherited; otherwise all starts again (RFC 9000, 9.4). A challenge validates
+    /// the address (RFC 9000, 8.2).
     pub fn peer_moved(
         &mut self,
         now: Instant,
@@ -111,8 +111,8 @@ impl Connection {
         self.set_timer(Timer::PathValidation, now + patience + patience + patience)
     }
 
-    /// A PATH_RESPONSE comes in: whether it answers the challenge, so that the peer is known to receive at the address
-    /// of the current path. The previous one is then used no more.
+    /// Processes a PATH_RESPONSE. Returns whether it answers the challenge, so that the address of the current path is
+    /// validated. The previous path is then dropped.
     pub fn path_response(&mut self, answered: u64) -> Result<bool, SenderError> {
         if self.challenge != Some(answered) {
             return Ok(false);
@@ -124,16 +124,16 @@ impl Connection {
         Ok(true)
     }
 
-    /// The timer of path validation expired: no answer came to the challenge, as where the address was a forged one.
-    /// The path before it is used again as it was (RFC 9000, 9.3.2).
+    /// Processes the timer of path validation: the challenge was not answered, for example because the address was
+    /// spoofed. The previous path is in use again (RFC 9000, 9.3.2).
     pub fn path_failed(&mut self) -> Result<(), SenderError> {
         self.challenge = None;
         self.stop_timer(Timer::PathValidation)?;
         self.tell(Event::RevertPath)
     }
 
-    /// The network under the current path is another one, though the addresses stay, as when this end changes from one
-    /// network to another behind a tunnel.
+    /// The network of the current path is another one, though the addresses stay, for example if the local endpoint
+    /// changes networks under a tunnel.
     pub fn network_changed(&mut self, now: Instant) -> Result<(), SenderError> {
         self.tell(Event::ResetPath { now })
     }

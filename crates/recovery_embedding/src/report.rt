@@ -1,4 +1,4 @@
-//! What the example prints: lines by their form.
+//! The output of the example: lines by their form.
 use crate::connection::Connection;
 use crate::failure::Failure;
 use quic_recovery::below::NoMemory;
@@ -7,18 +7,18 @@ use recovery_sender::SenderError;
 use std::alloc::{AllocError, Global};
 use std::fmt::Debug;
 
-/// A text that grows by lines. Where memory is refused it is a part: `finish` tells that, and nobody who adds a line
-/// has to ask.
+/// A text that grows by lines. If an allocation fails, the text is incomplete: `finish` reports it, so that other calls
+/// need no result.
 #[derive(Drop)]
 pub struct Report {
     alloc: Global,
     text: String,
-    /// Whether memory was refused.
+    /// Whether an allocation failed.
     is_cut: bool,
 }
 
 impl Report {
-    /// No line yet.
+    /// Returns an empty report.
     pub fn new(alloc: Global) -> Self {
         Report {
             alloc,
@@ -27,19 +27,19 @@ impl Report {
         }
     }
 
-    /// What its memory comes from.
+    /// Returns its allocator.
     pub fn alloc(&self) -> Global {
         self.alloc
     }
 
-    /// Keeps whether memory was refused for a line.
+    /// Records whether an allocation failed for a line.
     fn keep(&mut self, written: Result<(), AllocError>) {
         if written.is_err() {
             self.is_cut = true;
         }
     }
 
-    /// The text, if memory was never refused.
+    /// Returns the text, if no allocation failed.
     pub fn finish(self) -> Result<String, NoMemory> {
         if self.is_cut {
             Err(NoMemory)
@@ -48,32 +48,32 @@ impl Report {
         }
     }
 
-    /// A line.
+    /// Adds a line.
     pub fn line(&mut self, text: &str) {
         let written = writeln!(self.text, "{text}");
         self.keep(written);
     }
 
-    /// What is asked or done, and what it comes to.
+    /// Adds a question or an action, with its result.
     pub fn value(&mut self, text: &str, value: &impl Debug) {
         let written = writeln!(self.text, "{text}: {value:?}");
         self.keep(written);
     }
 
-    /// What is done, and why it fails.
+    /// Adds an action, with its error.
     pub fn refusal(&mut self, text: &str, refused: SenderError) {
         let failure = Failure::from(refused);
         let written = writeln!(self.text, "{text}: {failure}");
         self.keep(written);
     }
 
-    /// A value between two texts.
+    /// Adds a value between two texts.
     pub fn between(&mut self, before: &str, value: &impl Debug, after: &str) {
         let written = writeln!(self.text, "{before}{value:?}{after}");
         self.keep(written);
     }
 
-    /// Two values, each with a text before it, and a text behind them.
+    /// Adds two values, each with a text before it, and a text after them.
     pub fn pair(
         &mut self,
         before: &str,
@@ -86,13 +86,13 @@ impl Report {
         self.keep(written);
     }
 
-    /// What becomes of a packet, by its number.
+    /// Adds the outcome of a packet, by its number.
     pub fn packet(&mut self, kind: &str, number: u64, what: &str, value: &impl Debug) {
         let written = writeln!(self.text, "{kind} {number} {what}: {value:?}");
         self.keep(written);
     }
 
-    /// When the stack is to wake up.
+    /// Adds when the stack is to wake up.
     pub fn wake(&mut self, client: &mut Connection) -> Result<(), SenderError> {
         match client.next_timeout()? {
             Some(nanos) => self.between("wake up at ", &(nanos / 1000), " us"),
@@ -101,7 +101,7 @@ impl Report {
         Ok(())
     }
 
-    /// What the path in use has room for.
+    /// Adds how much room the path in use has.
     pub fn window(&mut self, client: &Connection, why: &str) {
         let path = client.state().current();
         let window = path.congestion.window();
@@ -109,13 +109,13 @@ impl Report {
         self.room(why, window, bytes);
     }
 
-    /// The smoothed round-trip time of the path in use.
+    /// Adds the smoothed RTT of the path in use.
     pub fn round_trip(&mut self, end: &Connection, text: &str) {
         let micros = end.state().current().rtt.get().as_nanos() / 1000;
         self.between(text, &micros, " us");
     }
 
-    /// A window, and what of it is in flight.
+    /// Adds a window, and how much of it is in flight.
     fn room(&mut self, why: &str, window: u64, bytes: u64) {
         let written = writeln!(
             self.text,

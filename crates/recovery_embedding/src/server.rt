@@ -1,4 +1,4 @@
-//! A server whose client is validated, and moves.
+//! A server whose client's address is validated, and changes.
 use crate::connection::Connection;
 use crate::report::Report;
 use crate::{address, at};
@@ -8,13 +8,13 @@ use quic_recovery::time::Duration;
 use recovery_queue::items::ItemQueue;
 use recovery_sender::SenderError;
 
-/// All acts, in order.
+/// Runs all steps, in order.
 pub fn live(report: &mut Report, server: &mut Connection) -> Result<(), SenderError> {
     validate(report, server)?;
     follow(report, server)
 }
 
-/// Until the client's address is validated, three times what came from it goes out at most (RFC 9000, 8.1).
+/// Until the client's address is validated, at most three times the bytes received from it are sent (RFC 9000, 8.1).
 fn validate(report: &mut Report, server: &mut Connection) -> Result<(), SenderError> {
     server.datagram_in(PathName::Current, 1200)?;
     for _ in 0..4 {
@@ -48,7 +48,7 @@ fn empty(report: &Report) -> ItemQueue {
     ItemQueue::from_items(Vec::new(report.alloc()))
 }
 
-/// A packet arrives within 40 ms.
+/// A packet is acknowledged within 40 ms.
 fn hear_client(report: &mut Report, server: &mut Connection) -> Result<(), SenderError> {
     let number = server.send(SpaceId::Data, at(800), 1000, empty(report))?;
     let ranges = [(number, number)];
@@ -58,7 +58,7 @@ fn hear_client(report: &mut Report, server: &mut Connection) -> Result<(), Sende
     }
 }
 
-/// A packet is in flight as the client's port changes: what is known of the way is kept.
+/// A packet is in flight when the client's port changes: the state of the network path is inherited.
 fn change_port(report: &mut Report, server: &mut Connection) -> Result<(), SenderError> {
     server.send(SpaceId::Data, at(900), 1000, empty(report))?;
     server.peer_moved(at(1_000), address(1, 4434), 55)?;

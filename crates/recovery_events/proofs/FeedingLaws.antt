@@ -1,4 +1,4 @@
--- What is carried over all items that a sink takes.
+-- Laws of a sink that takes several items.
 use Rattle.std.proofs.Common.{◌≡◌, ◌≤◌, ◌+◌, arith, List, [], ◌∷◌, ◌++◌, length, vec_capacity, refl, ap, sym, ◌∙◌}
 use Rattle.std.specs.Global.{Vec}
 use Rattle.std.proofs.lemmas.List.{length-append, append-nil, append_assoc}
@@ -18,7 +18,7 @@ pub takes_push : {S T : Type 0} (takes : S → T → S → Type 0) (old : S) (it
 takes_push takes old items between item new is here =
     takes_more takes old items between (item ∷ []) new is (new, here, refl)
 
--- where there is room, a list takes all of them
+-- a list with enough capacity takes all of them
 pub fills : {T : Type 0} (old new : Vec T) (items : List T) → TakesAll PushesInto old items new
     → length old.items + length items ≤ vec_capacity old → new.items ≡ old.items ++ items
 fills old new [] is room = ap (λ v. v.items) is ∙ sym (append-nil old.items)

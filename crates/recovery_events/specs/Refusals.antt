@@ -1,4 +1,4 @@
--- The numbers and names of refusals.
+-- The numbers and names of errors.
 use Rattle.std.specs.Prelude.{ℕ, ◌+◌, List}
 use denote.Enum.Declared.{tag_of}
 use Rattle.recovery_events.specs.contracts.event.Refusal.{the_type}
@@ -6,7 +6,7 @@ use lib.Chars.{codes}
 use Rattle.recovery_events.specs.declared.event.Refusal.{Refusal}
 use Rattle.recovery_events.specs.declared.event.Refusal.TheVariants.{NoMemory, NumberTooLarge, NumbersExhausted, NotTracked, SpaceDiscarded, NoSuchPath, Searching, ZeroMtu, Overflow, Retired, ExceedsLimit, BadRetirePriorTo, CidsNotInUse, UnissuedCid, DelayTooSmall, SkippedAcked, Ecn, NotInitialId, BadRange, Conflict}
 
--- a refusal's place in the enum, from 1 on
+-- an error's place in the enum, from 1 on
 abbrev pub refusal_number : Refusal → ℕ
 refusal_number refusal = tag_of the_type refusal + 1
 

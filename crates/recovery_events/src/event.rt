@@ -1,4 +1,4 @@
-//! What happens to a connection, what is answered, and why an event is refused.
+//! The events of a connection, their answers, and the errors with which they are rejected.
 ghost use Rattle.std.specs.Prelude.{◌≡◌};
 ghost use Rattle.recovery_events.specs.Refusals.{refusal_number, refusal_name};
 
@@ -14,228 +14,231 @@ use std::net::SocketAddr;
 use std::ops::Range;
 use thiserror::Error;
 
-/// What happens; `Q` is what packets carry that is sent again when they are lost.
+/// An event of the connection. `Q` is the type of a packet's contents, which are retransmitted if the packet is lost.
 #[derive(Drop)]
 pub enum Event<Q: RetransmitQueue> {
-    /// A packet came in (RFC 9000, 12.3). Refused by `SpaceDiscarded`, by `NumberTooLarge` where the number is 2^62 or
-    /// more, then by `NoMemory`; a duplicate takes no memory.
+    /// A packet was received (RFC 9000, 12.3). Rejected with `SpaceDiscarded`, with `NumberTooLarge` if the number is
+    /// 2^62 or more, then with `NoMemory`. A duplicate allocates nothing.
     Received {
         /// The packet number space.
         space: SpaceId,
-        /// When it came.
+        /// When it was received.
         now: Instant,
         /// Its packet number.
         number: u64,
-        /// Whether it holds a frame that elicits an ACK (RFC 9002, 2).
+        /// Whether it is ack-eliciting (RFC 9002, 2).
         ack_eliciting: bool,
     },
-    /// A packet goes out on the current path, under the next number of its space (RFC 9002, A.5). Refused by
-    /// `SpaceDiscarded`, by `NumberTooLarge` where the largest acknowledged number is 2^62 or more, by
-    /// `NumbersExhausted` where the next number is 2^62 or more, by `Overflow` where the bytes in flight, or the count
-    /// of packets that elicit an ACK, would pass `u64::MAX`, then by `NoMemory`. Cost: constant over all calls, but for
-    /// a packet that is forgotten, which costs what `Acked` does.
+    /// A packet is sent on the current path, under the next number of its space (RFC 9002, A.5). Rejected with
+    /// `SpaceDiscarded`, with `NumberTooLarge` if `largest_acked` is 2^62 or more, with `NumbersExhausted` if the next
+    /// number is 2^62 or more, with `Overflow`, then with `NoMemory`. `Overflow` means that the bytes in flight, or the
+    /// count of ack-eliciting packets, would exceed `u64::MAX`. Cost: amortized constant. If a packet is forgotten, the
+    /// cost of `Acked` is added.
     Send {
         /// The packet number space.
         space: SpaceId,
         /// When it is sent.
         now: Instant,
-        /// Its size in bytes; 0 where congestion control does not count it.
+        /// Its size in bytes; 0 if congestion control does not count it.
         size: u16,
-        /// Whether it holds a frame that elicits an ACK (RFC 9002, 2).
+        /// Whether it is ack-eliciting (RFC 9002, 2).
         ack_eliciting: bool,
-        /// The largest packet number that its ACK frame acknowledges, where it holds one.
+        /// The largest packet number that its ACK frame acknowledges, if it has one.
         largest_acked: Option<u64>,
-        /// What is sent again when it is lost (RFC 9000, 13.3).
+        /// Its contents, which are retransmitted if it is lost (RFC 9000, 13.3).
         queue: Q,
-        /// What the layer above keeps of its STREAM frames.
+        /// What the caller stores about its STREAM frames.
         stream_frames: Q::Meta,
     },
-    /// A packet that was sent is acknowledged (RFC 9002, A.7). Refused by `SpaceDiscarded`, then by `NotTracked`. Cost:
-    /// logarithmic in the packets tracked.
+    /// A packet that was sent is acknowledged (RFC 9002, A.7). Rejected with `SpaceDiscarded`, then with `NotTracked`.
+    /// Cost: logarithmic in the packets tracked.
     Acked {
         /// The packet number space.
         space: SpaceId,
-        /// When the ACK came in.
+        /// When the ACK was received.
         now: Instant,
         /// The packet's number.
         number: u64,
         /// Whether the sender had too little to send to fill its window (RFC 9002, 7.8).
         app_limited: bool,
     },
-    /// A packet that was sent is declared lost (RFC 9002, A.10): its queue is to be sent again, behind what is so
-    /// already. Refused by `SpaceDiscarded`, by `NotTracked`, then by `NoMemory`, where the queues could not be joined.
-    /// Cost: logarithmic in the packets tracked, beside that of joining.
+    /// A packet that was sent is declared lost (RFC 9002, A.10). Its contents are appended to the retransmission queue.
+    /// Rejected with `SpaceDiscarded`, with `NotTracked`, then with `NoMemory` if the queues could not be joined. Cost:
+    /// logarithmic in the packets tracked, plus that of joining.
     Lost {
         /// The packet number space.
         space: SpaceId,
         /// The packet's number.
         number: u64,
     },
-    /// A NEW_CONNECTION_ID frame came in (RFC 9000, 19.15). Refused by `NumberTooLarge` where its number is 2^62 or
-    /// more, by `BadRetirePriorTo` where its retire-prior-to exceeds its number, by `Retired` where its number lies
-    /// below the active one, by `ExceedsLimit` where it lies past the eight numbers that begin at the active one or,
-    /// where that is greater, at its retire-prior-to, then by `Conflict` where its number is held with another id or
-    /// another token.
+    /// A NEW_CONNECTION_ID frame was received (RFC 9000, 19.15). Rejected with the first of these errors that applies.
+    /// `NumberTooLarge`: its number is 2^62 or more. `BadRetirePriorTo`: its retire-prior-to exceeds its number.
+    /// `Retired`: its number is below the active one. `ExceedsLimit`: its number is not among the eight numbers that
+    /// start at the active one, or at its retire-prior-to if that is larger. `Conflict`: its number is held with
+    /// another ID or another token.
     NewId(NewConnectionId),
-    /// The next id of the peer is to be used, where one is held (RFC 9000, 5.1.2). Never refused.
+    /// Use the peer's next ID, if one is held (RFC 9000, 5.1.2). Never rejected.
     NextId,
-    /// The server chose another id for the handshake (RFC 9000, 7.2). Refused by `NotInitialId` where the active id is
+    /// The server chose another ID for the handshake (RFC 9000, 7.2). Rejected with `NotInitialId` if the active ID is
     /// no longer the initial one.
     InitialId(ConnectionId),
-    /// This end issues ids (RFC 9000, 5.1.1). Refused by `NumberTooLarge` where more than 2^62 would be issued, by
-    /// `BadRange` where the numbers do not go on from the count issued, then by `NoMemory`. An empty list is never
-    /// refused.
+    /// The local endpoint issues IDs (RFC 9000, 5.1.1). Rejected with `NumberTooLarge` if more than 2^62 would be
+    /// issued, with `BadRange` if the numbers do not continue from the count issued, then with `NoMemory`. An empty
+    /// list is never rejected.
     IssueIds {
-        /// When they are issued: their lifetime begins.
+        /// When they are issued. Their lifetime begins then.
         now: Instant,
-        /// The ids, in the order of their numbers.
+        /// The IDs, in the order of their numbers.
         ids: Vec<IssuedCid>,
     },
-    /// The timer for new ids expired (`Timer::PushNewCid`): the oldest deadline is taken. The answer is whether the
-    /// peer is to be asked by a NEW_CONNECTION_ID frame to retire numbers (RFC 9000, 5.1.2). Never refused.
+    /// The timer for new IDs expired (`Timer::PushNewCid`): the oldest deadline is removed. The answer is whether to
+    /// ask the peer, by a NEW_CONNECTION_ID frame, to retire numbers (RFC 9000, 5.1.2). Never rejected.
     IdTimeout,
-    /// A RETIRE_CONNECTION_ID frame came in (RFC 9000, 19.16). Refused by `CidsNotInUse`, then by `UnissuedCid`.
+    /// A RETIRE_CONNECTION_ID frame was received (RFC 9000, 19.16). Rejected with `CidsNotInUse`, then with
+    /// `UnissuedCid`.
     PeerRetired {
-        /// The number of the id that the peer retires.
+        /// The number of the ID that the peer retires.
         sequence: u64,
-        /// How many ids the peer is ready to hold (RFC 9000, 18.2: active_connection_id_limit).
+        /// How many IDs the peer can hold (RFC 9000, 18.2: active_connection_id_limit).
         limit: u64,
     },
-    /// An ACK_FREQUENCY frame came in (draft-ietf-quic-ack-frequency-04, section 4). Refused by `SpaceDiscarded` once
-    /// the space of 1-RTT packets is discarded, then by `DelayTooSmall` where it is newer than the last one and asks
-    /// for less than 1 ms; then its number is kept.
+    /// An ACK_FREQUENCY frame was received (draft-ietf-quic-ack-frequency-04, section 4). Rejected with
+    /// `SpaceDiscarded` once the Application Data space is discarded, then with `DelayTooSmall` if it is newer than the
+    /// last one and asks for less than 1 ms. `DelayTooSmall` still stores the frame's number.
     AckFrequencyIn(AckFrequency),
-    /// An ACK frame was sent that holds all numbers that are to be acknowledged (RFC 9000, 13.2.1). Refused by
+    /// An ACK frame was sent that contains all numbers that are to be acknowledged (RFC 9000, 13.2.1). Rejected with
     /// `SpaceDiscarded`.
     AcksSent {
         /// The packet number space.
         space: SpaceId,
     },
-    /// The timer for a late ACK expired (`Timer::MaxAckDelay`). Refused by `SpaceDiscarded`.
+    /// The ACK delay timer expired (`Timer::MaxAckDelay`). Rejected with `SpaceDiscarded`.
     AckDelayTimeout {
         /// The packet number space.
         space: SpaceId,
     },
-    /// A timer is set to a moment, as the one for losses and probes is (RFC 9002, A.3 and A.8). Never refused.
+    /// Set a timer, such as the loss detection timer (RFC 9002, A.3 and A.8). Never rejected.
     SetTimer {
-        /// The timer; the others stay.
+        /// The timer. The others are unchanged.
         timer: Timer,
         /// When it expires.
         time: Instant,
     },
-    /// A timer is stopped, as the one for losses and probes may be (RFC 9002, A.3 and A.8). Never refused.
+    /// Stop a timer, such as the loss detection timer (RFC 9002, A.3 and A.8). Never rejected.
     StopTimer {
-        /// The timer; the others stay.
+        /// The timer. The others are unchanged.
         timer: Timer,
     },
-    /// When does the next timer expire (for losses and probes: RFC 9002, A.3)? The answer is the least moment that a
-    /// timer is set to, if any is set. Never refused.
+    /// When does the next timer expire (for loss detection: RFC 9002, A.3)? The answer is the earliest running timer,
+    /// if any. Never rejected.
     NextTimeout,
-    /// The keys of a space are dropped, and with them all that it tracks (RFC 9002, 6.4). Every later event on the
-    /// space is refused by `SpaceDiscarded`, and so is this one. Cost: linear in the packets that the space tracks.
+    /// The keys of a space are dropped, and with them all packets that it tracks (RFC 9002, 6.4). Every later event on
+    /// the space, including this one, is rejected with `SpaceDiscarded`. Cost: linear in the packets that the space
+    /// tracks.
     DiscardSpace {
         /// The packet number space.
         space: SpaceId,
     },
-    /// What is in flight on a path (RFC 9002, B.2)? Refused by `NoSuchPath`.
+    /// How much is in flight on a path (RFC 9002, B.2)? Rejected with `NoSuchPath`.
     InFlight {
         /// The path.
         path: PathName,
     },
-    /// An ACK gave a sample of the current path's round-trip time (RFC 9002, 5). Never refused.
+    /// An ACK gave an RTT sample of the current path (RFC 9002, 5). Never rejected.
     Sample {
-        /// How long the peer says that it delayed the ACK; zero where that is to be left out.
+        /// The ACK delay that the peer reported; zero if it is to be ignored.
         delay: Duration,
-        /// The time from a packet's sending to the ACK that newly acknowledges it.
+        /// The time from the sending of a packet to the ACK that newly acknowledges it.
         rtt: Duration,
     },
-    /// A datagram came in on a path (RFC 9000, 8.1). Refused by `NoSuchPath`, then by `Overflow` where the bytes that
-    /// came in on the path would pass `u64::MAX`.
+    /// A datagram was received on a path (RFC 9000, 8.1). Rejected with `NoSuchPath`, then with `Overflow` if the bytes
+    /// received on the path would exceed `u64::MAX`.
     DatagramIn {
         /// The path.
         path: PathName,
         /// Its size in bytes.
         bytes: u64,
     },
-    /// The peer was seen to receive at the address of a path (RFC 9000, 8). Refused by `NoSuchPath`.
+    /// The peer's address on a path was validated (RFC 9000, 8). Rejected with `NoSuchPath`.
     Validated {
         /// The path.
         path: PathName,
     },
-    /// A datagram is to be transmitted on the current path. Refused by `Overflow` where the bytes transmitted would
-    /// pass `u64::MAX`. A checked one is `Blocked` by the amplification limit (RFC 9000, 8.1), or else `Delayed` by the
-    /// pacer (RFC 9002, 7.7); neither is counted.
+    /// A datagram is to be transmitted on the current path. Rejected with `Overflow` if the bytes transmitted would
+    /// exceed `u64::MAX`. A checked datagram may be `Blocked` by the anti-amplification limit (RFC 9000, 8.1), or else
+    /// `Delayed` by the pacer (RFC 9002, 7.7). A blocked or delayed datagram is not counted.
     Transmit {
         /// When it is transmitted.
         now: Instant,
         /// Its size in bytes.
         bytes: u16,
-        /// Whether the amplification limit and the pacer are asked.
+        /// Whether to check the anti-amplification limit and the pacer.
         checked: bool,
     },
-    /// May so many bytes be transmitted on the current path, as far as the pacer goes (RFC 9002, 7.7)? Never refused.
-    /// The question brings the pacer the tokens of the time that passed.
+    /// Does the pacer let this many bytes pass on the current path (RFC 9002, 7.7)? Never rejected. If its tokens do
+    /// not cover the bytes, the pacer is first refilled for the time since its last refill.
     PacerCheck {
         /// When it is asked.
         now: Instant,
-        /// How many bytes.
+        /// The number of bytes.
         bytes: u64,
     },
-    /// Packets of the current path were lost, or marked by ECN (RFC 9002, 7.3). Never refused.
+    /// Packets of the current path were lost, or ECN reported congestion (RFC 9002, 7.3). Never rejected.
     Congestion {
-        /// When that was found.
+        /// When that was detected.
         now: Instant,
-        /// When the last of them was sent.
+        /// When the last of these packets was sent.
         sent: Instant,
         /// Whether the congestion is persistent (RFC 9002, 7.6).
         persistent: bool,
         /// How many bytes were lost.
         bytes: u64,
     },
-    /// All packets that one ACK newly acknowledges were told: the controller of the current path learns what is still
-    /// in flight. Never refused.
+    /// All packets that one ACK newly acknowledges were reported. The controller of the current path is passed what is
+    /// still in flight. Never rejected.
     EndAcks {
-        /// When the ACK came in.
+        /// When the ACK was received.
         now: Instant,
         /// Whether the sender had too little to send to fill its window (RFC 9002, 7.8).
         app_limited: bool,
         /// The largest number that was acknowledged, if any.
         largest: Option<u64>,
     },
-    /// Is a probe of the current path's MTU due (RFC 8899, 5; RFC 9000, 14.3)? One that is due goes out as a packet of
-    /// 1-RTT keys that elicits an ACK, under the next number, and is tracked like any other. Refused by
-    /// `SpaceDiscarded`, by `NumbersExhausted` where the next number is 2^62 or more, and where a probe is due by
-    /// `Overflow`, where the bytes in flight, or the count of packets that elicit an ACK, would pass `u64::MAX`, then
-    /// by `NoMemory`.
+    /// Is a probe of the current path's MTU due (RFC 8899, 5; RFC 9000, 14.3)? A probe that is due is sent as an
+    /// ack-eliciting 1-RTT packet under the next number, and is tracked like any other. Rejected with `SpaceDiscarded`,
+    /// then with `NumbersExhausted` if the next number is 2^62 or more. If a probe is due, rejected also with
+    /// `Overflow`, then with `NoMemory`. `Overflow` means that the bytes in flight, or the count of ack-eliciting
+    /// packets, would exceed `u64::MAX`.
     PollMtu {
         /// When it is asked.
         now: Instant,
     },
-    /// The peer takes datagrams of at most so many bytes (RFC 9000, 18.2: max_udp_payload_size). Refused by `ZeroMtu`,
-    /// then by `Searching` while the current path's MTU is searched for.
+    /// The peer stated the largest datagram that it accepts (RFC 9000, 18.2: max_udp_payload_size). Rejected with
+    /// `ZeroMtu`, then with `Searching` while an MTU search runs on the current path.
     PeerLimit {
         /// The largest size in bytes, above zero.
         size: u16,
     },
-    /// All packets that were found lost together were told: was there a black hole for large datagrams (RFC 8899, 4.3)?
-    /// Never refused.
+    /// All packets of one loss detection pass were reported. Was there a black hole for large datagrams (RFC 8899,
+    /// 4.3)? Never rejected.
     LossesDone {
-        /// When they were found lost.
+        /// When they were declared lost.
         now: Instant,
     },
-    /// The counts of ECN of an ACK frame (RFC 9000, 13.4.2). Refused by `SpaceDiscarded`, then by `Ecn` where the check
-    /// of RFC 9000, 13.4.2.1 fails; the answer is whether more packets were marked as congested.
+    /// The ECN counts of an ACK frame were received (RFC 9000, 13.4.2). Rejected with `SpaceDiscarded`, then with `Ecn`
+    /// if they fail the check of RFC 9000, 13.4.2.1. The answer is whether more packets were marked with ECN-CE.
     Ecn {
         /// The packet number space.
         space: SpaceId,
         /// How many packets the ACK frame newly acknowledges.
         newly_acked: u64,
-        /// Its counts.
+        /// The frame's counts.
         counts: EcnCounts,
     },
-    /// An ACK frame acknowledges a range of numbers (RFC 9000, 13.1). Refused by `SpaceDiscarded`, by `NumberTooLarge`
-    /// where the last number is 2^62 or more, by `BadRange` where the range ends before it begins, then by
-    /// `SkippedAcked` where it holds the last number of 1-RTT packets that was skipped (RFC 9000, 21.4).
+    /// An ACK frame acknowledges a range of numbers (RFC 9000, 13.1). Rejected with `SpaceDiscarded`, with
+    /// `NumberTooLarge` if the last number is 2^62 or more, with `BadRange` if the range ends before it begins, then
+    /// with `SkippedAcked`. `SkippedAcked` means that the range contains the 1-RTT number that was skipped last (RFC
+    /// 9000, 21.4).
     CheckAck {
         /// The packet number space.
         space: SpaceId,
@@ -244,64 +247,67 @@ pub enum Event<Q: RetransmitQueue> {
         /// The last number.
         high: u64,
     },
-    /// A probe packet is to be sent (RFC 9002, 6.2.4): where nothing waits to be sent again, the first tracked packet
-    /// with a queue gives it up, and where none has one a PING is marked, unless the peer is to be asked for an ACK at
-    /// once. Refused by `SpaceDiscarded`, then by `NoMemory` where a queue is moved. Cost: linear in the packets that
-    /// are passed over; one whose queue is void is passed over once, and by later probes not again.
+    /// A probe packet is to be sent (RFC 9002, 6.2.4). If the retransmission queue is empty, the contents of the first
+    /// tracked packet that has any move into it. If no packet has any, a PING is requested, unless the peer is to be
+    /// asked for an immediate ACK. Rejected with `SpaceDiscarded`, then with `NoMemory` if contents are moved. Cost:
+    /// linear in the packets that are passed over. One whose contents are empty for all streams is passed over once,
+    /// and not again by later probes.
     QueueProbe {
         /// The packet number space.
         space: SpaceId,
-        /// Whether the peer is to be asked for an ACK at once.
+        /// Whether to ask the peer for an immediate ACK.
         immediate_ack: bool,
-        /// What queues are asked with, whether they are empty.
+        /// The argument of the test for empty contents.
         streams: Q::Streams,
     },
-    /// What waits to be sent again is handed out (RFC 9000, 13.3). Refused by `SpaceDiscarded`.
+    /// Return the retransmission queue and empty it (RFC 9000, 13.3). Rejected with `SpaceDiscarded`.
     TakePending {
         /// The packet number space.
         space: SpaceId,
     },
-    /// Another path is used from now on (RFC 9000, 9.3): the current path becomes the previous one, and an older
-    /// previous one is dropped. Refused by `Overflow` where 2^64 paths were made, then, where the path is not fresh, by
+    /// Another path is used from now on (RFC 9000, 9.3). The current path becomes the previous one, and an older
+    /// previous one is dropped. Rejected with `Overflow` if 2^64 paths were made, then, unless the path is fresh, with
     /// `NoMemory`.
     NewPath {
-        /// When it is made.
+        /// When the path is made.
         now: Instant,
-        /// The address of the peer.
+        /// The peer's address.
         remote: SocketAddr,
-        /// Whether round-trip times, controller and MTU begin anew, and are not those of the current path (RFC 9000,
-        /// 9.4).
+        /// Whether RTT, controller and MTU start from their initial values (RFC 9000, 9.4). If not, they are those of
+        /// the current path.
         fresh: bool,
     },
-    /// Round-trip times, controller, pacer and MTU of the current path begin anew (RFC 9000, 9.4). Never refused.
+    /// RTT, controller, pacer and MTU of the current path start from their initial values (RFC 9000, 9.4). Never
+    /// rejected.
     ResetPath {
-        /// When that is.
+        /// When the reset happens.
         now: Instant,
     },
-    /// The previous path is dropped (RFC 9000, 9.3.3). Its packets stay tracked. Refused by `NoSuchPath`.
+    /// The previous path is dropped (RFC 9000, 9.3.3). Its packets stay tracked. Rejected with `NoSuchPath`.
     DropPrevious,
-    /// The address of the current path was not validated: the previous path is used again (RFC 9000, 9.3.2), with all
-    /// that it holds, and the current one is dropped. Its MTU stays, within what the peer takes; the search for it and
-    /// the count of bursts of losses begin anew, since what came of its probe was told to the other path. The packets
-    /// of the path that is dropped stay tracked, and count nowhere. No previous path is left. Refused by `NoSuchPath`.
+    /// The validation of the current path failed. The previous path is in use again, unchanged except for its MTU
+    /// search, and the current one is dropped (RFC 9000, 9.3.2). The MTU stays, within the peer's limit. The MTU search
+    /// and the count of loss bursts start again, since the outcome of its probe was reported to the other path. The
+    /// packets of the dropped path stay tracked, but are in flight on no path. No previous path is left. Rejected with
+    /// `NoSuchPath`.
     RevertPath,
 }
 
-/// What an event that is not refused is answered.
+/// The answer to an event that is not rejected.
 #[derive(PartialEq, Eq, Drop)]
 pub enum Answer<Q> {
     /// The packet is new.
     New {
-        /// Whether to start the timer for a late ACK (`Timer::MaxAckDelay`).
+        /// Whether to start the ACK delay timer (`Timer::MaxAckDelay`).
         arm: bool,
     },
-    /// The packet may have come before: it is to be dropped.
+    /// Duplicate, or too old to tell: drop the packet.
     Duplicate,
     /// The packet is sent.
     Sent {
-        /// The number that it was given.
+        /// Its packet number.
         number: u64,
-        /// The number of the silent packet that is forgotten for it, if any.
+        /// The number of the non-ack-eliciting packet that is forgotten for it, if any.
         forgotten: Option<u64>,
     },
     /// The packet is no longer tracked.
@@ -314,61 +320,61 @@ pub enum Answer<Q> {
         /// Whether it was the probe of the path's MTU.
         probe: bool,
     },
-    /// Which numbers of the peer's ids are to be retired (RFC 9000, 5.1.2), with the stateless reset token of the id
-    /// that is active from now on; `None` where the active id stays.
+    /// The range of the peer's ID numbers to retire (RFC 9000, 5.1.2), and the stateless reset token of the ID that is
+    /// now active. `None` if the active ID is unchanged.
     Retire(Option<(Range<u64>, ResetToken)>),
-    /// Yes or no, as the event asks.
+    /// Yes or no, as the event defines.
     Flag(bool),
-    /// The least moment that a timer is set to, if any.
+    /// The earliest running timer, if any.
     Timeout(Option<Instant>),
-    /// What is in flight on a path (RFC 9002, B.2).
+    /// How much is in flight on a path (RFC 9002, B.2).
     InFlight {
         /// The sum of the packets' sizes, in bytes.
         bytes: u64,
-        /// How many of the packets elicit an ACK.
+        /// How many of the packets are ack-eliciting.
         ack_eliciting: u64,
     },
-    /// The datagram is transmitted.
+    /// Transmit the datagram.
     Transmitted,
-    /// The datagram is not transmitted: the address of the path is not validated, and it would get more than three
-    /// times the bytes that came from it (RFC 9000, 8.1).
+    /// Do not transmit the datagram: the path's address is not validated, and more than three times the bytes received
+    /// from it would be sent (RFC 9000, 8.1).
     Blocked,
-    /// The bytes are not to be transmitted yet: the pacer is to be asked again at this moment (RFC 9002, 7.7).
+    /// Do not transmit the bytes yet. Ask the pacer again at this time (RFC 9002, 7.7).
     Delayed(Instant),
-    /// The bytes may be transmitted now, as far as the pacer goes.
+    /// The pacer lets the bytes pass now.
     Ready,
-    /// A probe of the path's MTU goes out.
+    /// Send a probe of the path's MTU.
     Probe {
-        /// The number that it was given.
+        /// Its packet number.
         number: u64,
         /// Its size in bytes.
         size: u16,
     },
     /// No probe of the path's MTU is due.
     NoProbe,
-    /// Whether a black hole was reported.
+    /// Whether a black hole is reported.
     BlackHole(bool),
-    /// What can be sent.
+    /// The kinds of frames that can be sent.
     Sendable(SendableFrames),
-    /// What is to be sent again.
+    /// The contents to retransmit.
     Queue(Q),
     /// The event has no other answer.
     Done,
 }
 
-/// Why an event is refused. The state is then as it was before, but for the number that `DelayTooSmall` keeps.
+/// Why an event is rejected. The state is unchanged, except for the frame's number that `DelayTooSmall` stores.
 #[derive(Clone, Copy, Debug, PartialEq, Eq, Error)]
 pub enum Refusal {
-    /// A growth was refused by the allocator.
+    /// An allocation failed.
     #[error("out of memory")]
     NoMemory,
     /// A packet number is 2^62 or more (RFC 9000, 12.3).
     #[error("a number is 2^62 or more")]
     NumberTooLarge,
-    /// The space has given out all packet numbers below 2^62 (RFC 9000, 12.3).
+    /// The space has assigned all packet numbers below 2^62 (RFC 9000, 12.3).
     #[error("no packet number is left")]
     NumbersExhausted,
-    /// The packet is not tracked: it was not sent, or it was acknowledged, lost or forgotten.
+    /// The packet is not tracked: it was never sent, or it was acknowledged, lost or forgotten.
     #[error("the packet is not tracked")]
     NotTracked,
     /// The keys of the space were dropped (RFC 9001, 4.9).
@@ -377,53 +383,53 @@ pub enum Refusal {
     /// There is no such path.
     #[error("there is no such path")]
     NoSuchPath,
-    /// The MTU of the current path is searched for (RFC 8899, 5).
+    /// An MTU search runs on the current path (RFC 8899, 5).
     #[error("the MTU is searched for")]
     Searching,
-    /// A size of no bytes is none that a path carries.
+    /// A size is zero bytes.
     #[error("the size is zero")]
     ZeroMtu,
-    /// A counter would pass the end of its type.
+    /// A counter would exceed the maximum of its type.
     #[error("a counter passes 2^64 - 1")]
     Overflow,
-    /// The number of the peer's id lies below the active one (RFC 9000, 19.15).
+    /// The peer's ID number is below the active one (RFC 9000, 19.15).
     #[error("the connection id was already retired")]
     Retired,
-    /// The number of the peer's id lies past the ids that are held (RFC 9000, 5.1.1).
+    /// The peer's ID number exceeds those that can be held (RFC 9000, 5.1.1).
     #[error("the connection id exceeds the limit")]
     ExceedsLimit,
-    /// The frame retires numbers past its own (RFC 9000, 19.15).
+    /// The frame's retire-prior-to exceeds its own number (RFC 9000, 19.15).
     #[error("retire-prior-to exceeds the number of the frame")]
     BadRetirePriorTo,
-    /// This end uses ids of no bytes, of which none can be retired (RFC 9000, 19.16).
+    /// The local endpoint uses zero-length IDs, which cannot be retired (RFC 9000, 19.16).
     #[error("connection ids are not in use")]
     CidsNotInUse,
-    /// The number was not issued (RFC 9000, 19.16).
+    /// The ID number was not issued (RFC 9000, 19.16).
     #[error("the connection id was not issued")]
     UnissuedCid,
     /// An ACK_FREQUENCY frame asks for a delay below 1 ms (draft-ietf-quic-ack-frequency-04, section 4). The number of
-    /// the frame is kept.
+    /// the frame is stored.
     #[error("the requested delay is too small")]
     DelayTooSmall,
-    /// A number was acknowledged that was skipped, and never sent (RFC 9000, 21.4).
+    /// A skipped number, which was never sent, was acknowledged (RFC 9000, 21.4).
     #[error("a skipped packet number is acknowledged")]
     SkippedAcked,
-    /// The peer's counts of ECN cannot be right (RFC 9000, 13.4.2.1), in these words.
+    /// The peer's ECN counts fail the check of RFC 9000, 13.4.2.1. The text says how.
     #[error("{0}")]
     Ecn(&'static str),
-    /// The initial id is no longer the active one (RFC 9000, 7.2).
+    /// The initial ID is no longer the active one (RFC 9000, 7.2).
     #[error("the initial id is not active")]
     NotInitialId,
-    /// Numbers do not go on where they should, or a range ends before it begins.
+    /// Numbers do not continue from the expected one, or a range ends before it begins.
     #[error("the range of numbers is wrong")]
     BadRange,
-    /// The number of the peer's id is held with another id, or with a token that is not the frame's (RFC 9000, 19.15).
+    /// The peer's ID number is held with another ID, or with another token (RFC 9000, 19.15).
     #[error("the connection id conflicts with the one that is held")]
     Conflict,
 }
 
 impl Refusal {
-    /// The number by which scripts and logs know the refusal, 1 to 20.
+    /// Returns the number of the error in scripts and logs, 1 to 20.
     pub fn number(self) -> u8
         ensures { result ≡ refusal_number self }
     {
@@ -451,7 +457,7 @@ impl Refusal {
         }
     }
 
-    /// The name by which scripts and logs know the refusal.
+    /// Returns the name of the error in scripts and logs.
     pub fn name(self) -> &'static str
         ensures { result.now ≡ refusal_name self }
     {

@@ -1,34 +1,34 @@
-//! What gives items and what takes them, one at a time: the two ends of a run of which no list is kept.
+//! Traits for a source and a sink of items, one at a time, so that a run stores no list of them.
 //!
-//! A source is of events where a run reads them, and a sink of replies where it hands them on; what stands between the
-//! two is a sink of events itself. So one pair of traits serves, and a list is both.
+//! A source gives events to a run, which passes its replies to a sink. The run itself is a sink of events. A list is
+//! both a source and a sink.
 ghost use Rattle.std.specs.Prelude.{◌≡◌, List};
 ghost use Rattle.recovery_events.specs.Feeding.{Feeds, PushesInto};
 
 use std::mem;
 
-/// What takes items, one at a time.
+/// Takes items, one at a time.
 pub trait Sink<T> {
-    /// What the sink was before, an item that it takes, and what it is then.
+    /// Relates the sink before, an item that it takes, and the sink after.
     ghost takes: { Self → T → Self → Type 0 };
 
-    /// Takes an item, and says whether it asks for another one.
+    /// Takes an item. Returns whether it asks for another one.
     fn put(&mut self, item: T) -> bool
         ensures { takes self.old item self.new };
 }
 
 /// What gives items, one at a time.
 pub trait Source<T> {
-    /// What the source was before, the items that it gives, in order, and what is left of it. How it ended stands in
-    /// what is left.
+    /// Relates the source before, the items that it gives, in order, and the source after, which also records how it
+    /// ended.
     ghost gives: { Self → List T → Self → Type 0 };
 
-    /// Gives items to the sink, each before it makes the next one. Where the sink asks for no other one it may stop.
+    /// Passes items to the sink, each before it makes the next one. May stop if the sink asks for no more.
     fn feed<S: Sink<T>>(&mut self, sink: &mut S)
         ensures { Feeds gives S.takes self.old self.new sink.old sink.new };
 }
 
-/// A list gives all that it has, whatever the sink asks for.
+/// A list gives all its items, whatever the sink asks for.
 impl<T: Drop> Source<T> for Vec<T> {
     ghost gives = { λ old items new. items ≡ old.items };
 
@@ -41,7 +41,7 @@ impl<T: Drop> Source<T> for Vec<T> {
     }
 }
 
-/// A list takes what there is room for, and takes no memory: what it has no room for it drops.
+/// A list takes items within its capacity, and drops the others. It does not allocate.
 impl<T: Drop> Sink<T> for Vec<T> {
     ghost takes = { λ old item new. PushesInto old item new };
 

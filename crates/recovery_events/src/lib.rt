@@ -1,5 +1,4 @@
-//! The inputs and outputs of the state machine: what happens to a connection (`event.rt`, where to begin), what is
-//! answered, and why an event is refused.
+//! The inputs and outputs of the state machine: events of a connection, answers and errors. Begin at `event.rt`.
 #![tactic(auto)]
 
 pub mod event;

@@ -1,5 +1,5 @@
--- While an ack-eliciting packet waits, an ACK is required at once or the timer was started, by what each event is told:
--- the clause `ack_scheduled` of `run`.
+-- While an ack-eliciting packet waits, an ACK is required at once or the timer was started, by the replies: the clause
+-- `ack_scheduled` of `run`.
 use Rattle.std.proofs.lemmas.Bool.Decides.{nat_tests}
 use Rattle.std.proofs.Common.{◌≡◌, ◌<◌, ℕ, Bool, true, false, ◌||◌, cond, List, [], ◌∷◌, Option, None, Some, Ok, Err, ◌⊎◌, refl, arith}
 use Rattle.recovery_base.specs.declared.below.SpaceId.{SpaceId}
@@ -25,8 +25,8 @@ use Rattle.recovery_history.proofs.SearchSaid.{Keeps}
 
 -- ---- what a packet, an ACK and a timeout do
 
--- what waits was counted, and so was what the timer was started for; where the timer was started, an ACK is required or
--- it runs; and the duty is kept
+-- packets that wait were counted, and so were those that started the timer; if the timer was started, an ACK is
+-- required or it runs; and the duty holds
 pub record Attends (waiting running : Bool) (eliciting : ℕ) (Required Started : Type 0) : Type 0 where
   pub counts : waiting ≡ true → 0 < eliciting
   pub armed : Started → 0 < eliciting
@@ -48,7 +48,7 @@ module _ {P M S : Type 0} (words : QueueSemantics P S) (waiting running : Bool) 
 
 -- ---- what an event does
 
--- nothing that an ACK has to do with
+-- nothing that concerns an ACK
 abbrev pub is_silent : SpaceKind → Bool
 is_silent hearing = false
 is_silent answering = false
@@ -73,7 +73,7 @@ module _ {F K Q S M P : Type 0} (beginning : Beginning F K Q S M P) (before : Hi
   abbrev After : Option (SpaceEntry P M) → Bool → Bool → Type 0
   After entry waiting running = AttendsTo beginning.queue.words waiting running (onto entry (log space))
 
-  -- what an ACK has nothing to do with
+  -- what does not concern an ACK
   silent : (entry : SpaceEntry P M) → is_silent (space_kind entry) ≡ true → After (Some entry) waiting running
   silent entry is = grind (arith, is, here)
 

@@ -1,4 +1,4 @@
--- The timer for a late ACK starts exactly where the history says so: the clause `ack_timer` of `run`.
+-- The ACK delay timer starts exactly if the history says so: the clause `ack_timer` of `run`.
 use Rattle.std.proofs.lemmas.Bool.Decides.{nat_tests}
 use Rattle.std.proofs.Common.{◌≡◌, ℕ, ◌||◌, ◌↔◌, Bool, true, false, cond, List, ◌∷◌, Option, None, Some, Ok, Err, inr, refl, arith}
 use Rattle.recovery_base.specs.declared.below.SpaceId.{SpaceId}
@@ -30,7 +30,7 @@ not_true : (b : Bool) → ¬ (b ≡ true) → b ≡ false
 not_true true other = absurd (other refl)
 not_true false other = refl
 
--- ---- where the timer runs, it was started since the last ACK
+-- ---- if the timer runs, it was started since the last ACK
 
 abbrev WasStarted : {P M : Type 0} → List (SpaceEntry P M) → Type 0
 WasStarted log = (m : ℕ) × StartedAt log m
@@ -50,7 +50,7 @@ module _ {F K Q S M P : Type 0} (beginning : Beginning F K Q S M P) where
     abbrev After : Option (SpaceEntry P M) → Bool → Type 0
     After entry runs = runs ≡ true → WasStarted (onto entry (log space))
 
-    -- a packet came with which the timer starts
+    -- a packet was received with which the timer starts
     starts_told : (there : SpaceId) (now number : ℕ) (eliciting : Bool)
         → ((m : ℕ) × StartedAt (heard now number eliciting ∷ log there) m) → (b : Bool) → same_space there space ≡ b
         → After (cond b (Some (heard now number eliciting)) None) (b || running)
@@ -79,7 +79,7 @@ module _ {F K Q S M P : Type 0} (beginning : Beginning F K Q S M P) where
   abbrev Both : History Q S M P → Type 0
   Both history = AllAttended beginning history × AllStarted history
 
-  -- ---- what a packet is told
+  -- ---- the reply to a packet
 
   module _ (before : History Q S M P) (both : Both before) where
     timer_told : (event : Event Q S M P) (reply : Reply Q) → RepliesAfter beginning before event reply

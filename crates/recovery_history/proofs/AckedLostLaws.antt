@@ -1,4 +1,4 @@
--- A packet that is acknowledged or lost leaves its path, and the search for the MTU sees it. The call `acked` rests on
+-- A packet that is acknowledged or lost leaves its path, and is reported to the MTU search. The call `acked` rests on
 -- it.
 use Rattle.std.proofs.Common.{◌≡◌, ℕ, Bool, true, false, cond, ◌&&◌, ◌==◌, [], ◌∷◌, ◌++◌, Option, Some, option_map, Ok, refl, ap, ◌∙◌}
 use Rattle.recovery_base.specs.declared.below.SpaceId.{SpaceId}
@@ -71,7 +71,7 @@ module _ {K P M : Type 0} (old : RecoveryState K P M) (space : SpaceId) (number 
       go false true true = refl
       go own in_data probe = refl
 
--- ---- what the events come to
+-- ---- the events
 
 module _ {K Q S M P : Type 0} (q : QueueModel Q S M P) (old : RecoveryState K P M) (space : SpaceId) (number : ℕ)
     (packet : Packet P M) (there : Space P M) (paths : PerPath (Path K)) (probe : Bool)

@@ -1,5 +1,5 @@
--- What is to be acknowledged is by the table what the history says: new numbers, but those dropped since they came. The
--- clause `to_acknowledge` of `run` rests on it.
+-- By the table the pending ACKs are what the history says: new numbers, except those dropped since they were received.
+-- The clause `to_acknowledge` of `run` rests on it.
 use Rattle.std.proofs.lemmas.Bool.Decides.{nat_tests}
 use Rattle.std.proofs.Common.{◌≡◌, ◌≤◌, ℕ, ◌==◌, ◌&&◌, Bool, true, false, cond, List, ◌∷◌, length, Option, None, Some, Ok, Err, ◌⊎◌, inl, inr, ◌↔◌, IsTrue, IsSomeAnd, refl, arith}
 use Rattle.std.proofs.lemmas.Bool.{cases_lt}
@@ -28,7 +28,7 @@ use Rattle.recovery_history.proofs.CarriedLaws.{AllCarry, carries_largest, keeps
 use Rattle.recovery_history.proofs.Runs.{kept_after}
 use Rattle.recovery_history.proofs.EntryKinds.{SpaceKind, hearing, acknowledging, space_kind, space_kept}
 
--- that there are at most so many is kept where its negation is refuted
+-- an upper bound on their count holds if its negation is refuted
 many_or_few : (count : ℕ) (Ends : ℕ → Type 0) → ¬ (¬ AtMost count Ends) → AtMost count Ends
 many_or_few count Ends none numbers up = elim (cases_lt count (length numbers)) [
   | inl many ↦ absurd (none (λ few. let h : length numbers ≤ count = few numbers up in omega (arith, many, h)))
@@ -43,7 +43,7 @@ module _ {P M S : Type 0} (words : QueueSemantics P S) (log : List (SpaceEntry P
   abbrev Pending : ℕ → Type 0
   Pending n = ToAcknowledge words log n
 
-  -- with one entry more, where there is one
+  -- with one more entry, if there is one
   abbrev IsAfter : Option (SpaceEntry P M) → ℕ → Type 0 → Type 0 → Type 0
   IsAfter entry n Comes Drops = ToAcknowledge words (onto entry log) n ↔ (Comes × ¬ Drops)
 
@@ -94,7 +94,7 @@ module _ {P M S : Type 0} (words : QueueSemantics P S) (log : List (SpaceEntry P
 
 -- ---- what an event does
 
--- no packet comes, and none is acknowledged
+-- no packet is received, and none is acknowledged
 abbrev keeps_pending : SpaceKind → Bool
 keeps_pending hearing = false
 keeps_pending acknowledging = false
@@ -124,7 +124,7 @@ module _ {F K Q S M P : Type 0} (beginning : Beginning F K Q S M P) (before : Hi
   After entry event reply = Pending_then entry
       ↔ (WasReceived space n ((event, reply) ∷ before) × ¬ WasDropped space n ((event, reply) ∷ before))
 
-  -- an entry that leaves it
+  -- an entry that leaves them unchanged
   unmoved : (entry : SpaceEntry P M) → keeps_pending (space_kind entry) ≡ true
       → Pending_then (Some entry) ↔ (Came n × ¬ Dropped n)
   unmoved entry keeps = grind (arith, keeps, kept)
@@ -150,7 +150,7 @@ module _ {F K Q S M P : Type 0} (beginning : Beginning F K Q S M P) (before : Hi
 -- ---- throughout a run
 
 module _ {F K Q S M P : Type 0} (beginning : Beginning F K Q S M P) where
-  -- what tracked packets carry, and what is to be acknowledged, is what the history says
+  -- what tracked packets carry, and the pending ACKs, are what the history says
   record Tied (history : History Q S M P) : Type 0 where
     pub carried : AllCarry beginning history
     pub keeps : TracksPendingAcks beginning history

@@ -20,13 +20,13 @@ use Rattle.recovery_history.specs.ReplyInputs.{ReplyInputs}
 use Rattle.recovery_history.specs.PartReplies.{delayed_or}
 use Rattle.recovery_history.proofs.EntryKinds.{PathKind, passing, limiting, elsewhere, path_kind, paths_kept}
 
--- what was transmitted was neither blocked nor delayed
+-- what was transmitted was not blocked or delayed
 pub sent_freely : {K Q : Type 0} (words : ControllerSemantics K) (blocked : Bool) (delay : Option ℕ)
     → (let t : Answer Q = Transmitted in t ≡ cond blocked Blocked (delayed_or words t delay)) → (blocked ≡ false)
     × (delay ≡ None)
 sent_freely words blocked delay is = grind (arith, is)
 
--- nothing passes, and no limit is told to a search
+-- nothing passes, and no limit is reported to a search
 abbrev is_free : PathKind → Bool
 is_free passing = false
 is_free limiting = false
@@ -61,7 +61,7 @@ module _ {K Q S M P : Type 0} (q : QueueModel Q S M P) (settings : PathSettings 
       ))
       event (Ok answer) refl
 
-  -- what an event is to the paths, where it was told so
+  -- the entries of an event in the paths, by its reply
   pub is_allowed : (event : Event Q S M P) (reply : Reply Q) → ReplyTable q settings.words heard known event reply
       → AreAllowed settings known.paths (entries_of q known event reply).paths
   is_allowed event (Ok answer) told = answer_allowed event answer told

@@ -1,5 +1,5 @@
--- The bound on what goes to an address that is not validated, by events and answers: the clause `amplification_limit`
--- of `run`.
+-- The bound on what is sent to an address that is not validated, by events and answers: the clause
+-- `amplification_limit` of `run`.
 use Rattle.std.proofs.Common.{Bool, ◌∷◌, Option, None, Some, arith}
 use Rattle.recovery_paths.specs.declared.path_pair.PathName.TheVariants.{Current, Previous}
 use Rattle.recovery_paths.specs.PathLog.{PerPath, each_path}
@@ -11,7 +11,7 @@ use Rattle.recovery_history.proofs.Runs.{AllAlong, throughout_kept}
 use Rattle.recovery_history.proofs.DatagramLaws.{Flow, AreFlows, FlowsAgree, IsBounded, IsFlowWhereLives, flow_of, flows_at_first, flows_after}
 
 module _ {Q S M P : Type 0} where
-  -- a path that does not live has no datagrams
+  -- a missing path has no datagrams
   where_lives : (validated : Bool) (here : History Q S M P) (found : Option Flow)
       → IsFlowWhereLives validated here found → IsBounded validated here
   where_lives validated here None is = rw is (λ unproved checked. omega arith)

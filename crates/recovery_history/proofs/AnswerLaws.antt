@@ -1,7 +1,8 @@
--- What the table says of an answer, behind its causes of refusal, and of what was found. Laws of packets rest on it.
+-- What the table states about an answer, after its causes of errors, and about what was found. Laws of packets rest on
+-- it.
 use Rattle.std.proofs.Common.{◌≡◌, Option, None, Some, refl}
 
--- behind four causes
+-- after four causes
 pub past_four : {One Two Three Four Rest : Type 0} → One × (Two × (Three × (Four × Rest))) → Rest
 past_four told =
     let past_two = told.1.1 in

@@ -1,5 +1,5 @@
--- By the history alone reports of black holes need four bursts and come at four, as the entries of the search say: the
--- clause `black_holes` of `run`.
+-- By the history alone reports of black holes need four bursts and are made at four, as the entries of the search say:
+-- the clause `black_holes` of `run`.
 use Rattle.std.proofs.Common.{ℕ, ◌≡◌, true, List, [], ◌∷◌, Ok, Err, refl, ap, subst, ◌∙◌, arith}
 use Rattle.recovery_base.specs.declared.below.SpaceId.TheVariants as space
 use Rattle.recovery_mtud.specs.BurstRuns as entries_
@@ -19,9 +19,9 @@ use Rattle.recovery_history.proofs.SearchSteps.{Facts, Step, stepped, throughout
 use Rattle.recovery_history.proofs.Runs.{AllAlong}
 use Rattle.recovery_history.proofs.TrackedLaws.{AllTracked, keeps_tracked, none_tracked}
 
--- ---- the least MTU is that of the settings
+-- ---- the minimum MTU is that of the settings
 
--- each reset is to this least MTU
+-- each reset is to this minimum MTU
 abbrev ResetsTo : ℕ → List MtuEntry → Type 0
 ResetsTo least [] = Unit {0}
 ResetsTo least (reset mtu min_mtu ∷ earlier) = (min_mtu ≡ least) × ResetsTo least earlier
@@ -34,7 +34,7 @@ least_in_use : (made : Discovery) (least : ℕ) (entries : List MtuEntry) → ma
 least_in_use made least [] is resets = is
 least_in_use made least (entry ∷ earlier) is resets = grind (arith, least_in_use made least earlier is)
 
--- ---- what is read off the history is what the entries say
+-- ---- what is read from the history is what the entries say
 
 module _ {Q S M P : Type 0} (least : ℕ) where
   abbrev pub TiedTo : History Q S M P → List MtuEntry → Type 0
@@ -59,13 +59,13 @@ module _ {Q S M P : Type 0} (least : ℕ) where
     step_tied event (Err refusal) = tied
 
 module _ {F K Q S M P : Type 0} (beginning : Beginning F K Q S M P) where
-  -- the least MTU of the settings
+  -- the minimum MTU of the settings
   abbrev least : ℕ
   least = beginning.config.transport.min_mtu
 
-  -- ---- what is kept
+  -- ---- the invariant
 
-  -- the path in use was made with the least MTU
+  -- the path in use was made with the minimum MTU
   abbrev IsMadeLeast : History Q S M P → Type 0
   IsMadeLeast history = (made_in beginning history).bursts.min_mtu ≡ least
 
@@ -98,7 +98,7 @@ module _ {F K Q S M P : Type 0} (beginning : Beginning F K Q S M P) where
   least_known history kept = least_in_use (made_in beginning history) least (entered_so_far beginning history) kept.made
       kept.tied.4
 
-  -- ---- what is promised
+  -- ---- the promise
 
   holes_one : Follows (Facts beginning) Kept (ReportsBlackHoleAtFour least)
   holes_one history (LossesDone now) reply known kept =

@@ -1,4 +1,4 @@
--- A datagram is blocked exactly where the events and answers before it say so: the clause `blocked` of `run`.
+-- A datagram is blocked exactly if the events and answers before it say so: the clause `blocked` of `run`.
 use Rattle.std.proofs.Common.{arith, ℕ, ◌≡◌, ◌≤◌, ◌+◌, ◌^◌, Bool, true, false, Ok, Err, refl}
 use Rattle.std.proofs.lemmas.Bool.{leb-true, le-leb}
 use Rattle.recovery_congestion.specs.Controllers.{ControllerSemantics}
@@ -16,7 +16,7 @@ use Rattle.recovery_history.proofs.Runs.{AllAlong, throughout_kept}
 use Rattle.recovery_history.proofs.DatagramLaws.{FlowsAgree, flows_at_first, flows_after}
 use Rattle.recovery_history.proofs.SearchSaid.{Follows}
 
--- what the table answers is one of what the promise allows
+-- the answer of the table is one that the promise allows
 module _ {K : Type 0} (Q : Type 0) (words : ControllerSemantics K) where
   fits : (now bytes : ℕ) (checked : Bool) (path : PathState K)
       → (let answer : Answer Q = transmit_answer words now bytes checked path in IsTransmitReply false checked

@@ -1,5 +1,5 @@
--- A report of a black hole needs four bursts, and comes at four, throughout a run. `BlackHolesLaws` say it of events
--- alone.
+-- A report of a black hole needs four bursts, and is made at four, throughout a run. `BlackHolesLaws` state it of
+-- events alone.
 use Rattle.std.proofs.Common.{◌≡◌, ◌≤◌, ℕ, Bool, true, false, Option, None, Ok, Err, refl, arith}
 use Rattle.recovery_base.specs.declared.below.SpaceId.TheVariants.{Data}
 use Rattle.recovery_mtud.specs.Discovery.{reports}
@@ -21,10 +21,10 @@ use Rattle.recovery_history.proofs.SearchOutcomeLaws.{fates_depart}
 use Rattle.recovery_history.proofs.OneOutcomeLaws.{leave_once, one_fate}
 use Rattle.recovery_history.proofs.TrackedLaws.{AllTracked}
 
--- ---- the search of the path in use was told nothing as it was made
+-- ---- the search of the path in use had no call when it was made
 
 module _ {F K Q S M P : Type 0} (beginning : Beginning F K Q S M P) where
-  -- at each moment
+  -- at each time
   untold_in : (history : History Q S M P) → WasUntold (pasts_of beginning history).current
   untold_in history =
       let made : (limit : Option ℕ) → IsFreshDiscovery ((settings_of beginning).discovery limit) =
@@ -36,9 +36,9 @@ module _ {F K Q S M P : Type 0} (beginning : Beginning F K Q S M P) where
   reports_there before = let past =
       (pasts_of beginning before).current in reports (discovery_by past.kept.discovery past.searched)
 
-  -- ---- a report comes at four
+  -- ---- a report is made at four
 
-  -- where four have closed unanswered, the answer is a report
+  -- if four have closed unanswered, the answer is a report
   pub comes_one : (before : History Q S M P) (event : Event Q S M P) (reply : Reply Q)
       → RepliesAfter beginning before event reply
       → ComesAtFourBursts beginning before event reply
@@ -55,7 +55,7 @@ module _ {F K Q S M P : Type 0} (beginning : Beginning F K Q S M P) where
   abbrev HaveLeftOnce : History Q S M P → Type 0
   HaveLeftOnce history = (number : ℕ) → departures_of Data number history ≤ 1
 
-  -- where a hole is reported, four stand
+  -- if a hole is reported, four bursts are unrefuted
   needs_by : (before : History Q S M P) (now : ℕ) → HaveLeftOnce before → (hole : Bool) → reports_there before ≡ hole
       → NeedsFourBursts beginning before (LossesDone now) (Ok (BlackHole hole))
   needs_by before now once true is =
@@ -65,7 +65,7 @@ module _ {F K Q S M P : Type 0} (beginning : Beginning F K Q S M P) where
       four_stand past.kept.discovery (untold_in before) past.searched apart is
   needs_by before now once false is = tt
 
-  -- so where the answer says one
+  -- the same for the answer
   pub needs_one : Follows (RepliesAfter beginning) (AllTracked beginning) (NeedsFourBursts beginning)
   needs_one before (LossesDone now) (Ok answer) told all =
       rw told (needs_by before now (leave_once before (one_fate beginning before all) Data) (reports_there before) refl)

@@ -1,5 +1,4 @@
--- What the layer above keeps with paths and spaces stays as events go by. `StateAfterLaws` and the steps of calls rest
--- on it.
+-- The caller's state of paths and spaces is unchanged by events. `StateAfterLaws` and the steps of calls rest on it.
 use Rattle.std.proofs.Common.{◌≡◌, ℕ, true, false, Option, None, Some, option_map, Ok, Err, refl, ap, ◌∙◌, arith}
 use Rattle.std.proofs.lemmas.Option.{none-some}
 use Rattle.recovery_base.specs.declared.below.frames.EcnCounts.{EcnCounts}
@@ -39,19 +38,19 @@ fresh_after RevertPath (Ok given) marks fresh = returned marks.previous fresh
     returned (Some before) fresh = (fresh.1 before refl, λ other is. absurd (none-some _ is))
 fresh_after event reply marks fresh = fresh
 
--- a refused event leaves them
+-- a rejected event does not change them
 pub marks_refused : {Q S M P : Type 0} (event : Event Q S M P) (refusal : Refusal) (marks : PerPath PathMarks)
     → marks_after {Q = Q} event (Err refusal) marks ≡ marks
 marks_refused (NewPath now remote true) refusal marks = refl
 marks_refused event refusal marks = refl
 
--- what a change leaves of a path it leaves of the previous one
+-- what a change does not change in a path it does not change in the previous one
 pub previous_same : {A B : Type 0} (part : A → B) (change : A → A) → ((a : A) → part (change a) ≡ part a)
     → (previous : Option A) → option_map part (option_map change previous) ≡ option_map part previous
 previous_same part change keeps None = refl
 previous_same {A} {B} part change keeps (Some a) = ap (λ (b : B). Some b) (keeps a)
 
--- what leaves the marks of a path leaves those of the previous one
+-- what does not change the marks of a path does not change those of the previous one
 module _ {K : Type 0} (change : Path K → Path K) (keeps : (path : Path K) → (change path).marks ≡ path.marks) where
   pub both_marks : (current : Path K) (paths : PerPath (Path K)) → current.marks ≡ paths.current.marks
       → (let new : PerPath (Path K) = record paths {
@@ -63,13 +62,13 @@ module _ {K : Type 0} (change : Path K → Path K) (keeps : (path : Path K) → 
 
 -- ---- spaces
 
--- a space as it is made
+-- a space when it is made
 pub untouched_made : (ecn : EcnCounts) (offset : ℕ) → ecn ≡ no_ecn → offset ≡ 0
     → (let found : EcnCounts × ℕ = (ecn, offset) in found) ≡ (no_ecn, 0)
 untouched_made ecn offset no_counts none = cc
 
 module _ {P M S : Type 0} (words : QueueSemantics P S) where
-  -- no entry touches what is kept beside
+  -- no entry changes the caller's other fields
   beside_stays : (entry : Option (SpaceEntry P M)) (old new : Space P M) → OptionalStep (SpaceStep words) entry old new
       → caller_fields_of new ≡ caller_fields_of old
   beside_stays None old new step = ap caller_fields_of step

@@ -1,5 +1,4 @@
--- Each tracked packet carries the ACK of the numbers that the history says, up to a largest one. `AcknowledgedLaws`
--- rest on it.
+-- Each tracked packet carries the ACK that the history says, up to a largest number. `AcknowledgedLaws` rest on it.
 use Rattle.std.proofs.Common.{◌≡◌, ℕ, true, [], ◌∷◌, Option, None, Ok, refl, ap, ◌∙◌}
 use Rattle.recovery_base.specs.declared.below.SpaceId.{SpaceId}
 use Rattle.recovery_base.specs.Spaces.{same_space}
@@ -15,7 +14,7 @@ use Rattle.recovery_history.proofs.AnswerLaws.{is_there}
 use Rattle.recovery_history.proofs.FieldLaws.{IsSaid, said_found, said_then, said_told}
 use Rattle.recovery_history.proofs.TrackedLaws.{one_space, sent_in}
 
--- the largest number whose ACK a packet carries
+-- the largest number in the ACK that a packet carries
 abbrev carried_by : {P M : Type 0} → Packet P M → Option ℕ
 carried_by packet = packet.largest_acked
 
@@ -27,7 +26,7 @@ module _ {F K Q S M P : Type 0} (beginning : Beginning F K Q S M P) where
   pub none_carry : AllCarry []
   none_carry = λ space. tt
 
-  -- an event that was told keeps that
+  -- an event preserves that
   pub keeps_carried : (before : History Q S M P) (event : Event Q S M P) (reply : Reply Q)
       → RepliesAfter beginning before event reply → AllCarry before → AllCarry ((event, reply) ∷ before)
   keeps_carried before event reply told all = λ space.
@@ -41,7 +40,7 @@ module _ {F K Q S M P : Type 0} (beginning : Beginning F K Q S M P) where
       same space (PollMtu now) (Ok (Probe number size)) n = refl
       same space event reply n = refl
 
-  -- the packet of a tracked number carries what it went out with
+  -- the packet of a tracked number carries what it was sent with
   pub carries_largest : (history : History Q S M P) → AllCarry history → (there space : SpaceId) (number : ℕ)
       → ¬ (packet_at (sent_in beginning history there).tracked number ≡ None) → same_space there space ≡ true
       → largest_acked_by (packet_at (sent_in beginning history space).tracked number) ≡ largest_in space number history

@@ -1,4 +1,4 @@
--- Contents are neither lost nor doubled: what was sent is what is tracked and waits, and what is gone. The clause
+-- Contents are neither lost nor duplicated: what was sent is what is tracked and waits, plus what is gone. The clause
 -- `conserved_data` of `run` rests on it.
 use Rattle.std.proofs.Common.{◌≡◌, ℕ, Bool, true, false, cond, List, [], ◌∷◌, ◌++◌, Option, None, Some, Ok, Err, refl, sym, ap, subst, ◌∙◌, option_map, arith}
 use Rattle.recovery_base.specs.declared.below.SpaceId.{SpaceId}
@@ -35,11 +35,11 @@ module _ {T : Type 0} (totals : Totals T) where
   unit_right : (a : T) → plus a totals.zero ≡ a
   unit_right a = totals.commutes a totals.zero ∙ totals.unit a
 
-  -- the last two change places
+  -- the last two are exchanged
   turned : (a b c : T) → plus (plus a b) c ≡ plus (plus a c) b
   turned a b c = totals.associates a b c ∙ ap (plus a) (totals.commutes b c) ∙ sym (totals.associates a c b)
 
-  -- what one leaves of all, and what it is: it waits
+  -- one is removed from all, and waits
   waits : (left one all waiting : T) → plus left one ≡ all → plus left (plus waiting one) ≡ plus all waiting
   waits left one all waiting leaves =
       sym (totals.associates left waiting one) ∙ turned left waiting one ∙ ap (λ a. plus a waiting) leaves
@@ -51,21 +51,21 @@ module _ {T : Type 0} (totals : Totals T) where
       sym (totals.associates (plus left waiting) one gone)
       ∙ ap (λ a. plus a gone) (turned left waiting one ∙ ap (λ a. plus a waiting) leaves)
 
-  -- one comes, and one is gone
+  -- one is added, and one is gone
   comes : (left one all waiting more : T) → plus left one ≡ all
       → plus (plus (plus left more) waiting) one ≡ plus (plus all waiting) more
   comes left one all waiting more leaves =
       ap (λ a. plus a one) (turned left more waiting) ∙ turned (plus left waiting) more one
       ∙ ap (λ a. plus a more) (turned left waiting one ∙ ap (λ a. plus a waiting) leaves)
 
-  -- what goes out is held, and what leaves is gone
+  -- what is sent is held, and what leaves is gone
   balanced : (out held gone after left : T) → plus after left ≡ plus held out
       → plus out (plus held gone) ≡ plus after (plus left gone)
   balanced out held gone after left changes =
       sym (totals.associates out held gone) ∙ ap (λ a. plus a gone) (totals.commutes out held ∙ sym changes)
       ∙ totals.associates after left gone
 
-  -- one stands for another
+  -- one replaces another
   exchanged : (first rest one other after : T) → plus after one ≡ plus rest other
       → plus (plus first after) one ≡ plus (plus first rest) other
   exchanged first rest one other after same =
@@ -85,7 +85,7 @@ module _ {F K Q S M P T : Type 0} (run : Beginning F K Q S M P) (totals : Totals
   abbrev measured : Option (Packet P M) → T
   measured packet = measure (contents_or run.queue.words.empty packet)
 
-  -- a packet leaves with what it carries
+  -- a packet leaves with its contents
   all_leaves : (packets : Packets P M) (n : ℕ)
       → totals.plus (all_of (without packets n)) (measured (packet_at packets n)) ≡ all_of packets
   all_leaves [] n = totals.unit (measure run.queue.words.empty) ∙ adds.empty
@@ -98,7 +98,7 @@ module _ {F K Q S M P T : Type 0} (run : Beginning F K Q S M P) (totals : Totals
         totals.associates (measure entry.1.retransmits) (all_of (without packets n)) (measured (packet_at packets n)),
       )
 
-  -- a packet carries something else
+  -- a packet gets other contents
   all_replaced : (packets : Packets P M) (n : ℕ) (packet other : Packet P M) → packet_at packets n ≡ Some packet
       → totals.plus (all_of (replaced n (Some other) packets)) (measure packet.retransmits)
       ≡ totals.plus (all_of packets) (measure other.retransmits)
@@ -114,7 +114,7 @@ module _ {F K Q S M P T : Type 0} (run : Beginning F K Q S M P) (totals : Totals
             (all_replaced packets n packet other there),
       )
 
-  -- one comes behind them
+  -- one is appended
   all_behind : (packets : Packets P M) (n : ℕ) (packet : Packet P M)
       → all_of (packets ++ (n, packet) ∷ []) ≡ totals.plus (all_of packets) (measure packet.retransmits)
   all_behind [] n packet = totals.commutes (measure packet.retransmits) totals.zero
@@ -122,7 +122,7 @@ module _ {F K Q S M P T : Type 0} (run : Beginning F K Q S M P) (totals : Totals
       ap (totals.plus (measure entry.1.retransmits)) (all_behind packets n packet)
       ∙ sym (totals.associates (measure entry.1.retransmits) (all_of packets) (measure packet.retransmits))
 
-  -- what a packet carried waits, where it is tracked
+  -- the contents of a packet wait, if it is tracked
   joins : (pending : P) (found : Option (Packet P M))
       → measure (joined_with run.queue.words pending found) ≡ totals.plus (measure pending) (measured found)
   joins pending None = sym (ap (totals.plus (measure pending)) adds.empty ∙ unit_right totals (measure pending))
@@ -148,7 +148,7 @@ module _ {F K Q S M P T : Type 0} (run : Beginning F K Q S M P) (totals : Totals
 
 -- ---- what an event does to them
 
--- no contents come or go
+-- no contents are added or removed
 abbrev keeps_contents : SpaceKind → Bool
 keeps_contents sending = false
 keeps_contents acknowledging = false
@@ -192,7 +192,7 @@ module _ {F K Q S M P T : Type 0} (beginning : Beginning F K Q S M P) (before : 
   goes false entry out left changes =
       totals.unit outgoing_now ∙ same ∙ ap (totals.plus (held_by log)) (sym (totals.unit gone_now))
 
-  -- nothing goes out
+  -- nothing is sent
   leaves : (b : Bool) (entry : SpaceEntry P M) (left : T)
       → (b ≡ true → totals.plus (held_by (entry ∷ log)) (totals.plus left gone_now)
       ≡ totals.plus (held_by log) gone_now)
@@ -209,7 +209,7 @@ module _ {F K Q S M P T : Type 0} (beginning : Beginning F K Q S M P) (before : 
   abbrev pending : P
   pending = (queued_by words log).pending
 
-  -- the packet of a number is tracked no more
+  -- the packet of a number is no longer tracked
   leaves_some : (number : Option ℕ)
       → totals.plus (all_now (without_some sent.tracked number)) (carried beginning totals measure space number before)
       ≡ all_now sent.tracked
@@ -222,7 +222,7 @@ module _ {F K Q S M P T : Type 0} (beginning : Beginning F K Q S M P) (before : 
   forgets number other is = subst (λ other. totals.plus (all_now (without_some sent.tracked other))
       (carried beginning totals measure space number before) ≡ all_now sent.tracked) is (leaves_some number)
 
-  -- a packet goes out, and another one is perhaps forgotten
+  -- a packet is sent, and perhaps another one is forgotten
   sends_more : (k : ℕ) (packet : Packet P M) (forgotten : Option ℕ) → forgotten ≡ forgotten_by sent packet
       → totals.plus (held_by (sends k packet ∷ log)) (carried beginning totals measure space forgotten before)
       ≡ totals.plus (held_by log) (measure packet.retransmits)
@@ -233,7 +233,7 @@ module _ {F K Q S M P T : Type 0} (beginning : Beginning F K Q S M P) (before : 
       ∙ comes totals (all_now (without_some sent.tracked (forgotten_by sent packet))) one (all_now sent.tracked)
       (measure pending) (measure packet.retransmits) (forgets forgotten (forgotten_by sent packet) is)
 
-  -- an entry by which no contents come or go
+  -- an entry that adds and removes no contents
   unmoved : (entry : SpaceEntry P M) → keeps_contents (space_kind entry) ≡ true
       → outgoing_now ≡ totals.plus (held_by (entry ∷ log)) gone_now
   unmoved (loses number) keeps = same ∙ ap (λ held. totals.plus held gone_now) (sym (ap (totals.plus _)
@@ -243,7 +243,7 @@ module _ {F K Q S M P T : Type 0} (beginning : Beginning F K Q S M P) (before : 
       (sym (moves_none beginning totals measure adds space pending found.moved sent))
   unmoved entry keeps = grind (arith, keeps, same)
 
-  -- what waits is handed out
+  -- the retransmission queue is returned
   taken : (out : P) → out ≡ pending
       → totals.plus (totals.plus (all_now sent.tracked) (measure words.empty)) (totals.plus (measure out) gone_now)
       ≡ totals.plus (held_by log) gone_now
@@ -253,7 +253,7 @@ module _ {F K Q S M P T : Type 0} (beginning : Beginning F K Q S M P) (before : 
       ∙ ap (λ one. totals.plus (all_now sent.tracked) (totals.plus (measure one) gone_now)) is
       ∙ sym (totals.associates (all_now sent.tracked) (measure pending) gone_now)
 
-  -- a probe of the MTU goes out, which carries nothing
+  -- an MTU probe is sent, which has no contents
   probed : (b : Bool) (k : ℕ) (packet : Packet P M) → packet.retransmits ≡ words.empty
       → None ≡ forgotten_by sent packet → outgoing_now ≡ totals.plus (held_after b (sends k packet)) gone_now
   probed true k packet none kept = same ∙ ap (λ held. totals.plus held gone_now)

@@ -1,5 +1,5 @@
--- By the history alone a search ends near the best size of an honest link, as its entries say: the clause `convergence`
--- of `run`.
+-- By the history alone a search ends near the best size of such a link, as its entries say: the clause `convergence` of
+-- `run`.
 use Rattle.std.proofs.Common.{ℕ, ◌≡◌, ◌||◌, min, max, Bool, true, false, if◌then◌else◌, List, [], ◌∷◌, Option, None, Some, Ok, Err, refl, sym, ap, ap₂, subst, ◌∙◌, is_some, arith}
 use Rattle.std.specs.Prelude.{nat_le, nat_lt, length}
 use Rattle.std.proofs.lemmas.Bool.Decides.{nat_tests}
@@ -32,12 +32,12 @@ use Rattle.recovery_history.proofs.SearchLaws.{ends_one, mtu_one}
 use Rattle.recovery_history.proofs.SearchSteps.{Facts, Step, stepped, throughout_facts}
 use Rattle.recovery_history.proofs.Runs.{AllAlong}
 
--- ---- the limit that the peer told last
+-- ---- the limit that the peer stated last
 
 -- ---- the entries of the search that runs
 
--- where none runs there are none; one runs exactly where it probed some, and while a probe is in flight; its entries
--- have that probe
+-- if none runs there are none; one runs exactly if it probed some, and while a probe is in flight; its entries have
+-- that probe
 abbrev Seen : List MtuEntry → Type 0
 Seen entries =
     (search_runs entries ≡ false → search_of entries ≡ [])
@@ -55,13 +55,13 @@ limit_before : (made : Discovery) (entries : List MtuEntry) → AreLimitsOutside
 limit_before made [] outside = refl
 limit_before made (entry ∷ earlier) outside = grind (arith, limit_before made earlier)
 
--- ---- what is read off the history is what the entries say
+-- ---- what is read from the history is what the entries say
 
--- a search that goes on began as before
+-- a search that continues began as before
 abbrev Carries : Discovery → Discovery → List MtuEntry → List MtuEntry → Type 0
 Carries made old after entries = search_runs after ≡ true → (before_search after ≡ before_search entries) × (made ≡ old)
 
--- a search runs by the history where one does by its entries
+-- a search runs by the history if one does by its entries
 pub runs_same : {Q S M P : Type 0} (history : History Q S M P) (entries : List MtuEntry) → few.TiedTo history entries
     → runs history ≡ search_runs entries
 runs_same history entries tied = ap (λ sizes. nat_lt 0 (length sizes)) tied.1 ∙ (seen entries).1
@@ -95,7 +95,7 @@ module _ {Q S M P : Type 0} (first least : ℕ) (settings : MtuDiscoveryConfig) 
       × (within first (limit history) ≡ fresh.mtu))
       (back_is : (kept_limit back ≡ Some (limit_or_greatest (limit history)))
       × (within (mtu_on true first least Previous history) (limit history) ≡ back.mtu)) where
-    -- where nothing is entered
+    -- if there is no entry
     stays : ((if runs history then acked_probes history else []) ≡ acked_sizes (search_of entries))
         × ((if runs history then lost_probes history else []) ≡ lost_sizes (search_of entries))
     stays = grind (arith, seen entries)
@@ -136,7 +136,7 @@ module _ {F K Q S M P : Type 0} (beginning : Beginning F K Q S M P) (settings : 
       × (within left (limit history) ≡ back.mtu))
   back_searched history = ((fresh_searched (limit history)).0, refl)
 
-  -- ---- what is kept
+  -- ---- the invariant
 
   pub record Searched (history : History Q S M P) : Type 0 where
     pub tied : TiedTo first least settings (made_in beginning history) history (entered_so_far beginning history)
@@ -145,7 +145,7 @@ module _ {F K Q S M P : Type 0} (beginning : Beginning F K Q S M P) (settings : 
     now : IsNow beginning true history
     left : IsLeft beginning true history
 
-  -- the MTU before a search stays so while it runs
+  -- the MTU before a search is unchanged while it runs
   start_after : (now before : Discovery) (history : History Q S M P) (happened : Event Q S M P × Reply Q)
       (after entries : List MtuEntry) → few.TiedTo (happened ∷ history) after
       → mtu true first least (happened ∷ history) ≡ mtu_in_use now after → Carries now before after entries

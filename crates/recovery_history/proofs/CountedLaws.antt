@@ -36,13 +36,13 @@ use Rattle.recovery_history.proofs.EntryKinds.{keeps_packets, space_kind, space_
 use Rattle.recovery_history.proofs.PathLaws.{generation_told}
 use Rattle.recovery_history.proofs.TrackedLaws.{at_itself, AllTracked, keeps_tracked, none_tracked, probe_number, one_space, sent_in, times}
 
--- ---- sums over tracked packets, but for the numbers that are gone
+-- ---- sums over tracked packets, except for the numbers that are gone
 
 -- a number is gone too
 abbrev pub gone_too : (ℕ → Bool) → ℕ → ℕ → Bool
 gone_too gone number n = number == n || gone n
 
--- one is perhaps forgotten, in this space or in another one
+-- perhaps one is forgotten, in this space or in another one
 abbrev pub gone_with : Bool → Option ℕ → (ℕ → Bool) → ℕ → Bool
 gone_with b None gone n = gone n
 gone_with b (Some m) gone n = (b && m == n) || gone n
@@ -56,7 +56,7 @@ module _ {P M : Type 0} (weigh : ℕ → Bool → ℕ) (generation : ℕ) where
   abbrev pub sum_in : (ℕ → Bool) → Packets P M → ℕ
   sum_in gone packets = sum_by (weigh_in gone) packets
 
-  -- where all numbers are gone
+  -- if all numbers are gone
   sum_of_none : (packets : Packets P M) → sum_in (λ n. true) packets ≡ 0
   sum_of_none [] = refl
   sum_of_none (entry ∷ packets) =
@@ -78,7 +78,7 @@ module _ {P M : Type 0} (weigh : ℕ → Bool → ℕ) (generation : ℕ) where
           sum_of_others packets,
         )
 
-    -- the packet of a number, where it stands there once at most
+    -- the packet of a number, if that occurs at most once
     sum_without : (packets : Packets P M) → times number packets ≤ 1
         → sum_in gone (without packets number) ≡ sum_in (gone_too gone number) packets
     sum_without [] once = refl
@@ -96,9 +96,9 @@ module _ {P M : Type 0} (weigh : ℕ → Bool → ℕ) (generation : ℕ) where
           sum_without packets,
         )
 
-  -- ---- one entry more, in this space or in another one
+  -- ---- one more entry, in this space or in another one
 
-  -- a packet goes out
+  -- a packet is sent
   sum_sent : (sent : SentState P M) (gone : ℕ → Bool) (number : ℕ) (packet : Packet P M) (forgotten : Option ℕ)
       → forgotten ≡ forgotten_by sent packet → ((m : ℕ) → times m sent.tracked ≤ 1)
       → sum_in gone (sent_more number packet sent).tracked ≡ sum_in (λ n. gone_with true forgotten gone n) sent.tracked
@@ -121,7 +121,7 @@ spaces_same f g same = omega (arith, same Initial, same Handshake, same Data)
 
 -- ---- the table
 
--- what spaces track weighs as much as the history says, whatever numbers are gone
+-- the sum over what spaces track is what the history says, whatever numbers are gone
 abbrev pub Counts : {F K Q S M P : Type 0} → Beginning F K Q S M P → History Q S M P → Type 0
 Counts beginning history = (weigh : ℕ → Bool → ℕ) (generation : ℕ) (gone : SpaceId → ℕ → Bool)
     → sum_on weigh generation gone history ≡ over_spaces
@@ -158,14 +158,14 @@ module _ {F K Q S M P : Type 0} (beginning : Beginning F K Q S M P) (before : Hi
   nothing : cond is_path 0 0 + sum_on weigh generation gone before ≡ over_spaces (λ space. sum_of space (sent space))
   nothing = grind (arith, nat_tests, same weigh generation gone)
 
-  -- an entry of a space that keeps the sum
+  -- an entry of a space that preserves the sum
   unmoved : (space : SpaceId) (entry : SpaceEntry P M) → keeps_packets (space_kind entry) ≡ true
       → sum_of space (sent space) ≡ sum_of space (sent_by beginning.queue.words (entry ∷ log space))
   unmoved space (probes immediate found) keeps =
       sum_moved weigh generation (sent space) (gone space) beginning.queue.words.empty found.moved
   unmoved space entry keeps = grind (arith, keeps)
 
-  -- an entry of one space, by which numbers there are gone and a packet may go out
+  -- an entry of one space, by which numbers there are gone and a packet may be sent
   changes : (there : SpaceId) (entry : SpaceEntry P M) (left : Bool → SpaceId → ℕ → Bool) (weight : ℕ)
       → ((space : SpaceId) → same_space there space ≡ true → sum_of space
       (sent_by beginning.queue.words (entry ∷ log space))
@@ -196,7 +196,7 @@ module _ {F K Q S M P : Type 0} (beginning : Beginning F K Q S M P) (before : Hi
       ))
       (λ space. refl)
 
-  -- a packet goes out
+  -- a packet is sent
   made_now : (generations before).current ≡ known.paths.current.generation
   made_now = let told = generation_told beginning before Current in cc
 
@@ -251,7 +251,7 @@ module _ {F K Q S M P : Type 0} (beginning : Beginning F K Q S M P) (before : Hi
   reply_counts event (Err refusal) told =
       nothing
 
--- ---- what is told of it
+-- ---- the replies
 
 module _ {F K Q S M P : Type 0} (beginning : Beginning F K Q S M P) where
   abbrev pub Kept : History Q S M P → Type 0

@@ -1,5 +1,5 @@
--- The datagrams of each path by the history itself are those that its past in the logs has, and keep the bound on what
--- goes to an address that is not validated. `AmplificationLaws` and `BlockedLaws` rest on it.
+-- The datagrams of each path by the history are those of its log, and observe the bound on what is sent to an address
+-- that is not validated. `AmplificationLaws` and `BlockedLaws` rest on it.
 use Rattle.std.proofs.Common.{ℕ, ◌≡◌, ◌≤◌, ◌*◌, ◌+◌, Bool, true, false, List, [], ◌∷◌, ◌++◌, Option, None, Some, Ok, Err, refl, ap, arith}
 use Rattle.std.proofs.lemmas.Bool.{false≢true}
 use Rattle.std.specs.Prelude.{option_map, sum_by}
@@ -33,7 +33,7 @@ pub record Flow : Type 0 where
 abbrev flow : Bool → ℕ → ℕ → Flow
 flow validated came went = record { validated = validated; came = came; went = went }
 
--- by its past in the logs
+-- by its history in the logs
 abbrev pub flow_of : {K : Type 0} → PathHistory K → Flow
 flow_of past = flow past.kept.validated past.kept.total_recvd past.kept.total_sent
 
@@ -41,7 +41,7 @@ module _ {Q S M P : Type 0} where
   abbrev pub flow_by : Bool → History Q S M P → Flow
   flow_by validated here = flow validated (sum_by bytes_in here) (sum_by bytes_out here)
 
-  -- both are the same, and the bound on what goes to an address that is not validated holds
+  -- both are the same, and the bound on what is sent to an address that is not validated holds
   abbrev pub IsBounded : Bool → History Q S M P → Type 0
   IsBounded validated here =
       validated ≡ false → list_all is_checked here ≡ true → sum_by bytes_out here ≤ 3 * sum_by bytes_in here
@@ -49,7 +49,7 @@ module _ {Q S M P : Type 0} where
   abbrev IsFlow : Bool → History Q S M P → Flow → Type 0
   IsFlow validated here found = (flow_by validated here ≡ found) × IsBounded validated here
 
-  -- one went out, within the bound where it was checked
+  -- one was sent, within the bound if it was checked
   went_more : (validated : Bool) (here : History Q S M P) (now bytes : ℕ) (checked : Bool) (reply : Reply Q)
       (old : Flow) → (validated ≡ false → checked ≡ true → old.went + bytes ≤ 3 * old.came) → IsFlow validated here old
       → IsFlow validated ((Transmit now bytes checked, reply) ∷ here) (flow old.validated old.came (old.went + bytes))
@@ -57,7 +57,7 @@ module _ {Q S M P : Type 0} where
       let happened : Event Q S M P × Reply Q = (Transmit now bytes checked, reply) in
       grind (arith, same, within, sum_by-cons bytes_in happened here, sum_by-cons bytes_out happened here)
 
-  -- so it is of each path, and no datagrams are those of a path that does not live
+  -- it holds for each path, and a missing path has no datagrams
   abbrev pub IsFlowWhereLives : Bool → History Q S M P → Option Flow → Type 0
   IsFlowWhereLives validated here None = here ≡ []
   IsFlowWhereLives validated here (Some found) = IsFlow validated here found
@@ -98,7 +98,7 @@ module _ {F K Q S M P : Type 0} (beginning : Beginning F K Q S M P) (earlier : H
   abbrev pasts : PerPath (PathHistory K)
   pasts = pasts_by (settings_of beginning) (first_path beginning) log
 
-  -- the path before is used again, with all that it had
+  -- the previous path is used again, with all that it had
   flows_returned : (answer : Answer Q) (previous : Option (PathHistory K))
       → UnlessPathMissing (option_map known_of previous) (λ there. AnswersDone {Q = Q}) (Ok answer)
       → IsFlowWhereLives (is_validated first Previous earlier) (datagrams_on Previous earlier)
@@ -117,7 +117,7 @@ module _ {F K Q S M P : Type 0} (beginning : Beginning F K Q S M P) (earlier : H
     one_more (on Previous (receives bytes)) entries quiet flows = absurd (false≢true quiet)
     one_more entry entries quiet flows = grind (arith, quiet, flows)
 
-    -- one event more
+    -- one more event
     pub reply_flows : (event : Event Q S M P) (reply : Reply Q) → RepliesAfter beginning earlier event reply
         → AreFlows first ((event, reply) ∷ earlier) (each_path flow_of (pasts_of beginning ((event, reply) ∷ earlier)))
     reply_flows (DatagramIn Current bytes) (Ok answer) told =
@@ -158,7 +158,7 @@ module _ {F K Q S M P : Type 0} (beginning : Beginning F K Q S M P) (earlier : H
     reply_flows event (Err refusal) told = same
 
 module _ {F K Q S M P : Type 0} (beginning : Beginning F K Q S M P) where
-  -- in a history that was told so, the flows by events and answers are those of the pasts
+  -- after any history, the flows by events and answers are those of the logs
   abbrev pub FlowsAgree : History Q S M P → Type 0
   FlowsAgree history = AreFlows beginning.config.validated history (each_path flow_of (pasts_of beginning history))
 

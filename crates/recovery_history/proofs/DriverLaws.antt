@@ -29,20 +29,20 @@ use Rattle.recovery_history.specs.RecoveryState.{RecoveryState}
 use Rattle.recovery_history.specs.Replies.{reply_to}
 use Rattle.recovery_history.specs.Transitions.{StateTransition, ComponentSteps, SkippingStep, inputs_of, acks_to}
 
--- a space that is put back as it was
+-- a space that is put back unchanged
 pub with_same_space : {P M : Type 0} (spaces : Spaces P M) (space : SpaceId) (there : Space P M)
     → there ≡ space_of space spaces → with_space spaces space there ≡ spaces
 with_same_space spaces Initial there same = ap (with_space spaces Initial) same
 with_same_space spaces space there same = ap (with_space spaces space) same
 
--- what is no packet of 1-RTT keys that is sent leaves the skipped numbers
+-- anything but a sent 1-RTT packet leaves the skipped numbers unchanged
 pub skips_nothing : {P M : Type 0} (space : SpaceId) (entry : SpaceEntry P M) (n : ℕ) (skipping : SkipState)
     → SkippingStep (Some entry) n skipping skipping → SkippingStep (here space Data entry) n skipping skipping
 skips_nothing Data entry n skipping same = same
 skips_nothing space entry n skipping same = refl
 
 module _ {P M S : Type 0} (words : QueueSemantics P S) where
-  -- one space changes, and the others stay
+  -- one space changes, and the others are unchanged
   pub spaces_step : (entry : SpaceEntry P M) (spaces : Spaces P M) (changed : SpaceId) (there : Space P M)
       → SpaceStep words entry (space_of changed spaces) there
       → (space : SpaceId) → OptionalStep (SpaceStep words) (here changed space entry) (space_of space spaces)
@@ -52,14 +52,14 @@ module _ {P M S : Type 0} (words : QueueSemantics P S) where
   spaces_step entry spaces Data there change Data = change
   spaces_step entry spaces changed there change space = refl
 
--- ---- frames: what an event that is something to few parts does to all of them
+-- ---- frames: what an event with few entries does to all parts
 
 module _ {K P M S : Type 0} (words : QueueSemantics P S) where
-  -- an event that is nothing to any part
+  -- an event without entries
   pub nothing_changes : (old new : RecoveryState K P M) → new ≡ old → ComponentSteps words nothing old new
   nothing_changes old new same = rw same (grind arith)
 
-  -- an event in one space, which may draw the next skip, and be something to the paths
+  -- an event in one space, which may draw the next skip, and have entries on the paths
   pub space_changes : (old : RecoveryState K P M) (space : SpaceId) (entry : SpaceEntry P M) (there : Space P M)
       (skipping : SkipState) (entries : List PathsEntry) (paths : PerPath (Path K))
       → SpaceStep words entry (space_of space old.spaces) there
@@ -70,7 +70,7 @@ module _ {K P M S : Type 0} (words : QueueSemantics P S) where
   space_changes old space entry there skipping entries paths step skips same =
       grind (arith, spaces_step words entry old.spaces space there step, skips, same)
 
--- a refusal for which a space is put back as it was
+-- an error after which a space is put back unchanged
 pub put_back : {K Q S M P : Type 0} (q : QueueModel Q S M P) (old : RecoveryState K P M) (event : Event Q S M P)
     (refusal : Refusal) (space : SpaceId) (there : Space P M) → there ≡ space_of space old.spaces
     → UnloggedStep event (Err refusal) (plain_of old) (plain_of old)
@@ -119,7 +119,7 @@ module _ {K Q S M P : Type 0} (q : QueueModel Q S M P) (old : RecoveryState K P 
   received_changes (Err NoMemory) is step kept =
       put_back q old (Received space now number ack_eliciting) _ space there kept refl (grind (arith, live, is))
 
--- what a received packet changes leaves the tracked packets, and the greatest ack-eliciting number was received
+-- what a received packet changes leaves the tracked packets, and the largest ack-eliciting number was received
 pub received_keeps : {P M S : Type 0} (words : QueueSemantics P S) (now number : ℕ) (ack_eliciting : Bool)
     (receipt : Result Receipt ReceiveError) (old new : Space P M) → HasGreatestCome old
     → IfOk receipt (λ r. SpaceStep words (arrives now number ack_eliciting r) old new) → OnErr receipt (new ≡ old)

@@ -1,4 +1,4 @@
--- The counts of ECN that a space keeps are the last that the history says were taken: the clause `ecn` of `run`.
+-- The ECN counts of a space are the last that the history says were accepted: the clause `ecn` of `run`.
 use Rattle.std.proofs.Common.{◌≡◌, Bool, true, false, cond, List, [], ◌∷◌, None, Some, Ok, Err, refl, arith}
 use Rattle.recovery_base.specs.declared.below.SpaceId.{SpaceId}
 use Rattle.recovery_base.specs.declared.below.frames.EcnCounts.{EcnCounts}
@@ -23,13 +23,13 @@ module _ {F K Q S M P : Type 0} (beginning : Beginning F K Q S M P) where
   abbrev kept_counts : List (SpaceEntry P M) → EcnCounts
   kept_counts log = (queued_by beginning.queue.words log).ecn
 
-  -- counts are taken, in this space or in another one
+  -- counts are accepted, in this space or in another one
   taken : (log : List (SpaceEntry P M)) (b : Bool) (counts last : EcnCounts) → kept_counts log ≡ last
       → kept_counts (onto (cond b (Some (feeds_back counts)) None) log) ≡ cond b counts last
   taken log true counts last is = refl
   taken log false counts last is = is
 
-  -- what is not of counts keeps them
+  -- other entries leave them unchanged
   untaken : (log : List (SpaceEntry P M)) (last : EcnCounts) → kept_counts log ≡ last → (entry : SpaceEntry P M)
       → counts_none (space_kind entry) ≡ true → kept_counts (entry ∷ log) ≡ last
   untaken log last is entry none = grind (arith, none, is)
@@ -48,7 +48,7 @@ module _ {F K Q S M P : Type 0} (beginning : Beginning F K Q S M P) where
   same_counts ((Ecn there newly counts, Err refusal) ∷ earlier) space = same_counts earlier space
   same_counts ((event, Err refusal) ∷ earlier) space = same_counts earlier space
 
-  -- what an event is told, it is told of these counts
+  -- the reply to an event follows from these counts
   pub checks_ecn : (before : History Q S M P) (event : Event Q S M P) (reply : Reply Q)
       → RepliesAfter beginning before event reply → ChecksEcn before event reply
   checks_ecn before (Ecn space newly counts) (Ok given) told = rw (← same_counts before space) told.1

@@ -1,4 +1,4 @@
--- What each event is to the search on the path in use is read off its answer. `SearchSteps` go on from it.
+-- The entries of each event in the search of the path in use follow from its answer. `SearchSteps` continue from it.
 use Rattle.std.proofs.Common.{arith, ℕ, ◌≡◌, Bool, true, false, List, [], ◌∷◌, ◌++◌, Option, None, Some, Ok, Err, refl, ◌∙◌}
 use Rattle.std.specs.Prelude.{option_map}
 use Rattle.std.proofs.lemmas.Bool.{false≢true}
@@ -21,7 +21,7 @@ use Rattle.recovery_history.specs.PartReplies.{AnswersDone, MtuProbeReply, Unles
 use Rattle.recovery_history.proofs.EntryKinds.{PathKind, departing, limiting, searching, resetting, moving, returning, elsewhere, path_kind, paths_kept}
 use Rattle.recovery_history.proofs.SearchSaid.{EntersAsTold, entries_on}
 
--- the search sees nothing of it, nor does it begin anew
+-- the search gets no report of it, and it does not start again
 abbrev is_unseen : PathKind → Bool
 is_unseen departing = false
 is_unseen limiting = false
@@ -47,7 +47,7 @@ module _ {F K Q S M P : Type 0} (beginning : Beginning F K Q S M P) (past : Hist
   abbrev log : List PathsEntry
   log = (logs_of beginning past).paths
 
-  -- the entries on the path in use, once all this happened too
+  -- the entries on the path in use after all this too
   abbrev entries_with : List PathsEntry → List MtuEntry
   entries_with entries = entries_on (pasts_by (settings_of beginning) (first_path beginning) (entries ++ log)).current
 

@@ -1,5 +1,5 @@
--- Of what kinds the entries are that an event may make in the log of a space and in that of the paths. A law over such
--- a log names the events of the kinds that it reads; what other events make keeps it (`space_kept`, `paths_kept`).
+-- The kinds of entries that an event may make in the log of a space and in that of the paths. A law over such a log
+-- names the events of the kinds that it reads; other events preserve it (`space_kept`, `paths_kept`).
 use Rattle.std.proofs.Common.{arith, ◌≡◌, ◌==◌, ℕ, ◌&&◌, Bool, true, false, cond, List, [], ◌∷◌, ◌++◌, Option, None, Some, Ok, Err}
 use Rattle.std.proofs.lemmas.Bool.{and_parts}
 use Rattle.recovery_base.specs.declared.below.SpaceId.{SpaceId}
@@ -41,7 +41,7 @@ space_kind ack_goes = answering
 space_kind ack_is_late = delaying
 space_kind (asked frame) = requesting
 
--- no packet goes out
+-- no packet is sent
 abbrev pub sends_none : SpaceKind → Bool
 sends_none sending = false
 sends_none kind = true
@@ -54,7 +54,7 @@ keeps_packets losing = false
 keeps_packets emptying = false
 keeps_packets kind = true
 
--- the search sees a packet leave, takes a limit, or sees something else; and what happens on the previous path is
+-- the search gets a report that a packet left, of a limit, or another one; what happens on the previous path is
 -- elsewhere
 pub data PathKind : Type 0 where
   receiving validating sampling telling congesting departing limiting searching : PathKind
@@ -87,7 +87,7 @@ path_kind (moves following) = moving
 path_kind drops_previous = dropping
 path_kind (reverts limit) = returning
 
--- ---- what an event may be, by the event alone
+-- ---- the kinds of an event, by the event alone
 
 module _ {Q S M P : Type 0} where
   abbrev pub kind_of : Event Q S M P → SpaceKind
@@ -105,7 +105,7 @@ module _ {Q S M P : Type 0} where
   kind_of (TakePending space) = taking
   kind_of event = idling
 
-  -- whether all that it may be to the paths is of these kinds
+  -- whether all its entries in the paths are of these kinds
   abbrev pub is_by : (PathKind → Bool) → Event Q S M P → Bool
   is_by is (Send space now size eliciting largest queue frames) = is telling
   is_by is (Acked space now number app_limited) = is telling && is departing
@@ -136,7 +136,7 @@ module _ {K Q S M P : Type 0} (q : QueueModel Q S M P) (known : ReplyInputs K P 
       → IsKept (cond (same_space there space) (Some entry) None)
   pick there entry idle = grind (arith, each entry idle, none)
 
-  -- what holds of none, and of entries of some kinds, holds of what an event of those kinds makes
+  -- what holds for no entry, and for entries of some kinds, holds for the entries of events of those kinds
   pub space_kept : (event : Event Q S M P) (reply : Reply Q) → is_idle (kind_of event) ≡ true
       → IsKept ((entries_of q known event reply).spaces space)
   space_kept (Received there now number eliciting) (Ok (New arm)) idle = pick there _ idle
@@ -192,7 +192,7 @@ module _ {K Q S M P : Type 0} (q : QueueModel Q S M P) (known : ReplyInputs K P 
         one (on_current (searches (loses_packet number packet.size))) departs,
       ))
 
-  -- what holds of none, and of one more that is of some kinds, holds of what an event of those kinds makes
+  -- what holds for no entry, and for one more of some kinds, holds for the entries of events of those kinds
   pub paths_kept : (event : Event Q S M P) (reply : Reply Q) → is_by is event ≡ true
       → IsKept (entries_of q known event reply).paths
   paths_kept (Acked space now number app_limited) (Ok answer) quiet =

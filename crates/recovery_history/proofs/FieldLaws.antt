@@ -1,5 +1,5 @@
--- What each tracked packet says of itself, as its size, goes with its number: so it stays as packets come and go, and
--- by each event. `PacketSizeLaws` and `CarriedLaws` rest on it.
+-- A value of each tracked packet, such as its size, is determined by its number: this is preserved as packets are sent
+-- and leave, and by each event. `PacketSizeLaws` and `CarriedLaws` rest on it.
 use Rattle.std.proofs.lemmas.Bool.Decides.{nat_tests}
 use Rattle.std.proofs.Math.Path.{fun_ext}
 use Rattle.std.proofs.Common.{ℕ, ◌≡◌, ◌+◌, ◌<◌, ◌≤◌, true, List, [], ◌∷◌, ◌++◌, Option, None, Some, refl, ◌∙◌, arith, ◌==◌, ◌&&◌, Bool, false, cond, Ok, Err, subst}
@@ -26,7 +26,7 @@ use Rattle.recovery_history.proofs.AnswerLaws.{past_four}
 use Rattle.recovery_history.proofs.TrackedLaws.{is_new, one_space, probe_number, sent_in}
 
 module _ {P M A : Type 0} (says : Packet P M → A) where
-  -- packets say what goes with their numbers, which are below another
+  -- packets have the values of their numbers, which are below a limit
   abbrev pub AreSaid : (ℕ → A) → ℕ → Packets P M → Type 0
   AreSaid by limit [] = Unit {0}
   AreSaid by limit (entry ∷ packets) = (says entry.1 ≡ by entry.0) × (entry.0 < limit) × AreSaid by limit packets
@@ -39,7 +39,7 @@ module _ {P M A : Type 0} (says : Packet P M → A) where
     said_found (entry ∷ packets) said number packet found =
         grind (arith, nat_tests, said, found, number_at number entry.0, said_found packets said.2 number packet)
 
-    -- some that are left
+    -- so do those that are left
     pub said_without : (packets : Packets P M) (number : ℕ) → AreSaid by limit packets
         → AreSaid by limit (without packets number)
     said_without [] number said = tt
@@ -51,7 +51,7 @@ module _ {P M A : Type 0} (says : Packet P M → A) where
     said_without_some packets None said = said
     said_without_some packets (Some number) said = said_without packets number said
 
-    -- one with other contents, of which nothing is said
+    -- one with other contents, which are no such value
     module _ (kept : (contents : P) (packet : Packet P M) → says (with_contents contents packet) ≡ says packet) where
       said_replaced : (packets : Packets P M) (number : ℕ) (packet : Packet P M) → says packet ≡ by number
           → AreSaid by limit packets → AreSaid by limit (replaced number (Some packet) packets)
@@ -91,11 +91,11 @@ module _ {P M A : Type 0} (says : Packet P M → A) where
           said_push (without_some packets (forgotten_number last packet packets)) packet own
           (said_without_some packets _ said)
 
-  -- so do the packets that are tracked, whose numbers were given out
+  -- so do the tracked packets, whose numbers were assigned
   abbrev pub IsSaid : (ℕ → A) → SentState P M → Type 0
   IsSaid by sent = AreSaid by sent.next sent.tracked
 
-  -- an entry by which no packet goes out
+  -- an entry by which no packet is sent
   module _ {S : Type 0}
       (kept : (contents : P) (packet : Packet P M) → says (with_contents contents packet) ≡ says packet)
       (words : QueueSemantics P S) (by : ℕ → A) (log : List (SpaceEntry P M))
@@ -128,11 +128,11 @@ module _ {F K Q S M P A : Type 0} (beginning : Beginning F K Q S M P) (space : S
   abbrev Says : Option (SpaceEntry P M) → (ℕ → A) → Type 0
   Says entry then_by = IsSaid says then_by (sent_by beginning.queue.words (onto entry log))
 
-  -- what goes with numbers once a packet went out under one, in this space or in another one
+  -- the values of numbers after a packet was sent under one, in this space or in another one
   abbrev with_one : Bool → ℕ → Packet P M → ℕ → A
   with_one b k packet n = cond (b && k == n) (says packet) (by n)
 
-  -- a packet goes out under the next number
+  -- a packet is sent under the next number
   goes_out : (there : SpaceId) (packet : Packet P M) (number : ℕ) → number ≡ number_in known there
       → Says (cond (same_space there space) (Some (sends (number_in known there) packet)) None)
       (with_one (same_space there space) number packet)
@@ -150,7 +150,7 @@ module _ {F K Q S M P A : Type 0} (beginning : Beginning F K Q S M P) (space : S
           (λ n below. grind (arith, nat_tests, new, below)) sent.last sent.tracked packet (grind (arith, nat_tests))
           said
 
-  -- what goes with them once an event was told
+  -- the values of numbers after an event
   abbrev pub said_then : Event Q S M P → Reply Q → ℕ → A
   said_then (Send there now size eliciting largest queue frames) (Ok (answers.Sent number forgotten)) =
       with_one (same_space there space) number
@@ -175,7 +175,7 @@ module _ {F K Q S M P A : Type 0} (beginning : Beginning F K Q S M P) (space : S
       (said_after says kept beginning.queue.words by log said) event (Ok answer) refl
   reply_says event (Err refusal) told = said
 
-  -- so the history says it, where that is its word
+  -- so the history says it, if it has this value
   pub said_told : (event : Event Q S M P) (reply : Reply Q) (then_by : ℕ → A)
       → RepliesAfter beginning before event reply
       → ((n : ℕ) → said_then event reply n ≡ then_by n)

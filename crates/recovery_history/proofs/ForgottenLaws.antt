@@ -1,5 +1,5 @@
--- The silent packets that a space tracks since the last that elicits an ACK are those that the history says, in their
--- order, so that the oldest is forgotten: the clause `forgotten` of `run`.
+-- The non-ack-eliciting packets that a space tracks since the last ack-eliciting one are those that the history says,
+-- in their order, so that the oldest is forgotten: the clause `forgotten` of `run`.
 use Rattle.std.proofs.lemmas.Bool.Decides.{nat_tests}
 use Rattle.std.proofs.lemmas.List.{append-nil}
 use Rattle.std.proofs.lemmas.List.Sums.{sum_by-cons}
@@ -27,7 +27,7 @@ use Rattle.recovery_history.proofs.EntryKinds.{keeps_packets, space_kind, space_
 use Rattle.recovery_history.proofs.Runs.{AllAlong, throughout_kept}
 use Rattle.recovery_history.proofs.TrackedLaws.{at_itself, times, AllTracked, keeps_tracked, none_tracked, is_new, one_space, sent_in}
 
--- ---- the numbers of silent packets above the last that elicits an ACK, but for those that are gone
+-- ---- the numbers of non-ack-eliciting packets after the last ack-eliciting one, except for those that are gone
 
 module _ {P M : Type 0} (last : Option ℕ) where
   abbrev pub silents : (ℕ → Bool) → Packets P M → List ℕ
@@ -41,12 +41,12 @@ module _ {P M : Type 0} (last : Option ℕ) where
   silents-append gone [] more = refl
   silents-append gone (entry ∷ packets) more = grind (arith, silents-append gone packets more)
 
-  -- where all are gone
+  -- if all are gone
   silents_of_none : (packets : Packets P M) → silents (λ n. true) packets ≡ []
   silents_of_none [] = refl
   silents_of_none (entry ∷ packets) = grind (arith, silents_of_none packets)
 
-  -- where none is
+  -- if none is
   silents_length : (packets : Packets P M) → length (silents (λ n. false) packets) ≡ length (silent_above last packets)
   silents_length [] = refl
   silents_length (entry ∷ packets) = grind (arith, silents_length packets)
@@ -91,7 +91,7 @@ module _ {P M : Type 0} (last : Option ℕ) where
           others_stay packets,
         )
 
-    -- the packet of a number, where it stands there once at most
+    -- the packet of a number, if that occurs at most once
     one_leaves : (packets : Packets P M) → times number packets ≤ 1
         → silents gone (without packets number) ≡ silents (gone_too gone number) packets
     one_leaves [] once = refl
@@ -130,7 +130,7 @@ at_end : (b : Bool) (n : ℕ) (numbers : List ℕ)
 at_end true n numbers = refl
 at_end false n numbers = sym (append-nil numbers)
 
--- ---- what a space tracks, and what the history says of its silent packets
+-- ---- what a space tracks, and what the history says about its non-ack-eliciting packets
 
 pub record Recalls {P M : Type 0} (sent : SentState P M) (since : (ℕ → Bool) → List ℕ) : Type 0 where
   pub below : (m : ℕ) → sent.last ≡ Some m → m < sent.next
@@ -146,7 +146,7 @@ module _ {P M : Type 0} (sent : SentState P M) (since : (ℕ → Bool) → List 
 
   module _ (none : (n : ℕ) → sent.next ≤ n → times n sent.tracked ≡ 0) (number : ℕ) (packet : Packet P M)
       (new : sent.next ≤ number) where
-    -- one that elicits an ACK goes out
+    -- an ack-eliciting one is sent
     recalls_eliciting : packet.ack_eliciting ≡ true → Recalls (sent_more number packet sent) (λ gone. [])
     recalls_eliciting elicits = record {
       below = λ m is. grind (arith, elicits, is);
@@ -163,7 +163,7 @@ module _ {P M : Type 0} (sent : SentState P M) (since : (ℕ → Bool) → List 
     is_last None below = refl
     is_last (Some m) below = let less = below m refl in grind (arith, nat_tests, less, new)
 
-    -- what is tracked then, but for the packet
+    -- what is then tracked, without the packet
     kept_silent : (gone : ℕ → Bool) (forgotten : Option ℕ) → forgotten ≡ forgotten_by sent packet
         → silents sent.last gone (sent_more number packet sent).tracked
         ≡ silents sent.last (gone_with true forgotten gone) sent.tracked
@@ -183,7 +183,7 @@ module _ {P M : Type 0} (sent : SentState P M) (since : (ℕ → Bool) → List 
         → silents sent.last gone ((number, packet) ∷ []) ≡ (if not (gone number) then number ∷ [] else [])
     it_stands gone silent = grind (arith, silent, is_last sent.last here.below)
 
-    -- a silent one goes out, and another is perhaps forgotten
+    -- a non-ack-eliciting one is sent, and perhaps another is forgotten
     recalls_silent : (forgotten : Option ℕ) → forgotten ≡ forgotten_by sent packet → packet.ack_eliciting ≡ false
         → Recalls (sent_more number packet sent) (λ gone. (let earlier = since (gone_with true forgotten gone) in
         if not (gone number) then earlier ++ number ∷ [] else earlier))
@@ -233,7 +233,7 @@ module _ {F K Q S M P : Type 0} (beginning : Beginning F K Q S M P) where
     }
     unmoved entry keeps = grind (arith, keeps, here)
 
-    -- a packet goes out, in this space or in another one
+    -- a packet is sent, in this space or in another one
     goes_told : (there : SpaceId) (eliciting : Bool) (packet : Packet P M) → packet.ack_eliciting ≡ eliciting
         → (number : ℕ) (forgotten : Option ℕ) → number ≡ number_in known there
         → forgotten ≡ forgotten_by (known.spaces there).sent packet → (b : Bool) → same_space there space ≡ b

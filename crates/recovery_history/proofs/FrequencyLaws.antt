@@ -1,4 +1,4 @@
--- A request for fewer ACKs is taken where the history says that it is the newest: the clause `frequency` of `run`.
+-- An ACK_FREQUENCY frame is accepted if the history says that it is the newest: the clause `frequency` of `run`.
 use Rattle.std.proofs.lemmas.Bool.Decides.{nat_tests}
 use Rattle.std.proofs.Common.{◌≡◌, ◌<◌, ◌^◌, ℕ, ◌&&◌, ◌↔◌, not, nat_lt, Bool, true, false, ◌∷◌, Option, None, Some, Ok, Err, refl, arith, if◌then◌else◌, IsTrue}
 use Rattle.recovery_base.specs.declared.below.SpaceId.TheVariants.{Data}
@@ -24,17 +24,17 @@ above_or_stale None n = (λ is stale. stale, λ other. refl)
 above_or_stale (Some m) n = grind (arith, nat_tests)
 
 module _ (last : Option ℕ) (sequence n : ℕ) (newest : Bool) (same : newest ≡ is_above last n) where
-  -- a newer frame came
+  -- a newer frame was received
   newer_came : ¬ IsStale last sequence → (nat_lt sequence n && newest) ≡ is_above (Some sequence) n
   newer_came newer = grind (arith, nat_tests, same, newer)
 
-  -- one came that is no newer
+  -- one was received that is no newer
   older_came : ¬ (¬ IsStale last sequence) → (nat_lt sequence n && newest) ≡ is_above last n
   older_came older = grind (arith, nat_tests, same, older)
 
 -- ---- one reply
 
--- what the table says, where tests decide its causes
+-- the table, if tests decide its causes
 by_tests : {Q : Type 0} (discarded newest small : Bool) (Newer Small : Type 0) → (newest ≡ true) ↔ Newer
     → (small ≡ true) ↔ Small → (reply : Reply Q)
     → RejectsWhen SpaceDiscarded (IsTrue discarded)

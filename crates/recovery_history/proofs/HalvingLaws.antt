@@ -1,4 +1,4 @@
--- The size of each probe of a search is the one that the history says, as its entries and what a discovery holds say:
+-- The size of each probe of a search is the one that the history says, as its entries and the state of a discovery say:
 -- the clause `bisection` of `run`.
 use Rattle.std.proofs.lemmas.Bool.Decides.{nat_tests}
 use Rattle.std.proofs.lemmas.Option.{none-some, same_Some}
@@ -38,14 +38,14 @@ use Rattle.recovery_history.proofs.SearchSteps.{Facts, throughout_facts}
 use Rattle.recovery_history.proofs.ProbesPerSizeLaws as few
 use Rattle.recovery_history.proofs.ProbesPerSizeLaws.{Tries, flying, tried, other_is_new, other_within}
 
--- ---- what a search that runs holds: its bounds are what gets through, and what may
+-- ---- the state of a search that runs: its bounds are what gets through, and what may
 
 -- the first of these sizes, or another one
 abbrev last_or : ℕ → List ℕ → ℕ
 last_or other [] = other
 last_or other (size ∷ sizes) = size
 
--- the size that comes next, by what gets through, the bound, and the sizes probed and lost
+-- the next size, by what gets through, the bound, and the sizes probed and lost
 abbrev size_by : ℕ → ℕ → ℕ → List ℕ → List ℕ → Option ℕ
 size_by change through bound probed lost =
     let last = last_or through probed in size_after change through (may_pass bound lost) last (tries last lost)
@@ -60,7 +60,7 @@ pub record Halves (through bound limit : ℕ) (probed lost : List ℕ) (p : Prob
 
 module _ (change through bound limit : ℕ) (probed lost : List ℕ) (p : Probing) (wide : 3 ≤ change)
     (here : Halves through bound limit probed lost p) (known : Tries probed p) where
-  -- it finds the size that comes next
+  -- it finds the next size
   finds : p.in_flight ≡ None → size_to_probe change p ≡ size_by change through bound probed lost
   finds empty = go (repeats p) refl
     where
@@ -68,7 +68,7 @@ module _ (change through bound limit : ℕ) (probed lost : List ℕ) (p : Probin
       go true same = grind (arith, nat_tests, same, empty, here, known.within, known.above)
       go false same = grind (arith, nat_tests, same, empty, here, known.within, known.above, wide)
 
-  -- a probe goes out
+  -- a probe is sent
   goes : (number size : ℕ) → p.in_flight ≡ None → size_to_probe change p ≡ Some size
       → Halves through bound limit (size ∷ probed) lost (record (narrowed p) { in_flight = Some number; last = size })
   goes number size empty is = go (repeats p) refl
@@ -98,7 +98,7 @@ begins mtu search = grind arith
 
 -- ---- what a call leaves
 
--- where no limit was told while it ran; where none runs, the next one begins when the entries say
+-- if no limit was reported while it ran; if none runs, the next one begins when the entries say
 abbrev Tied : Discovery → MtuDiscoveryConfig → List MtuEntry → ℕ → ℕ → ℕ → Option Probing → Type 0
 Tied made settings entries mtu limit activation None = next_activation settings entries ≡ activation
 Tied made settings entries mtu limit activation (Some p) = AreLimitsOutside entries
@@ -133,7 +133,7 @@ module _ (made : Discovery) (settings : MtuDiscoveryConfig) (wide : 3 ≤ settin
   HalvesNow p = AreLimitsOutside entries → Halves (min mtu limit) (start_upper made settings entries) limit
       (probed_sizes (search_of entries)) (lost_sizes (search_of entries)) p
 
-  -- a poll that goes on with a search
+  -- a poll that continues a search
   extends : (now number : ℕ) (probing : Option Probing) (p : Probing) → p.in_flight ≡ None → HalvesNow p
       → Tries (probed_sizes (search_of entries)) p → probe_in_flight entries ≡ None
       → is_searched settings now entries ≡ true → (answer : Option ℕ)
@@ -242,7 +242,7 @@ module _ (made : Discovery) (settings : MtuDiscoveryConfig) (wide : 3 ≤ settin
 
 -- ---- all calls
 
--- what comes next by the entries
+-- the next size by the entries
 abbrev next_by : Discovery → MtuDiscoveryConfig → List MtuEntry → Option ℕ
 next_by made settings entries =
     size_by settings.minimum_change (min (by_entries made entries) (limit_or_greatest (limit_in_use made entries)))
@@ -297,28 +297,28 @@ module _ (made : Discovery) (settings : MtuDiscoveryConfig) (new : IsFreshDiscov
 
 -- ---- throughout a run
 
--- by the same sizes comes the same
+-- equal sizes have equal results
 alike : (change through other bound most last : ℕ) (probed lost gone : List ℕ) → through ≡ other → bound ≡ most
     → lost ≡ gone → last ≡ last_or other probed
     → size_after change through (may_pass bound lost) last (tries last lost)
     ≡ size_by change other most probed gone
 alike change through other bound most last probed lost gone one two three four = rw (one, two, three, four) refl
 
--- so a search goes by the settings
+-- so a search follows the settings
 in_search : (settings : MtuDiscoveryConfig) (entries : List MtuEntry) (by : Option MtuDiscoveryConfig)
     → by ≡ Some settings → IsSomeAnd by (λ own. ProbesInSearch own entries) → ProbesInSearch settings entries
 in_search settings entries None is turn = absurd turn
 in_search settings entries (Some own) is turn =
     subst (λ own. ProbesInSearch own entries) (same_Some own settings is) turn
 
--- the first size of a search that runs is that of the probe that went out last
+-- the first size of a search that runs is that of the probe that was sent last
 first_is_last : {Q S M P : Type 0} (history : History Q S M P)
     → last_or (last_probe history).1 (sizes_probed history) ≡ (last_probe history).1
 first_is_last [] = refl
 first_is_last ((PollMtu now, Ok (answer.Probe number size)) ∷ earlier) = refl
 first_is_last (happened ∷ earlier) = grind (arith, first_is_last earlier)
 
--- so it is where there is one
+-- so it is if there is one
 last_is : {Q S M P : Type 0} (history : History Q S M P) (through : ℕ) (sizes : List ℕ) → sizes_probed history ≡ sizes
     → (if runs history then (last_probe history).1 else through) ≡ last_or through sizes
 last_is history through [] is = grind (arith, is)
@@ -336,7 +336,7 @@ module _ {F K Q S M P : Type 0} (beginning : Beginning F K Q S M P) where
         ap (λ (by : Option MtuDiscoveryConfig). mtu (is_some by) (initial_mtu_of config) config.min_mtu history) is
         ∙ (kept.searched settings is).tied.1
 
-    -- what comes next by the history is what comes next by the entries
+    -- the next size by the history is the next size by the entries
     next_same : next_size beginning settings history
         ≡ next_by (made_in beginning history) settings (entered_so_far beginning history)
     next_same =
@@ -360,7 +360,7 @@ module _ {F K Q S M P : Type 0} (beginning : Beginning F K Q S M P) where
         polled (past_in history).kept.discovery settings searched.0.untold (searched.0.settings_are ∙ is) wide
         (past_in history).searched now (kept.searched settings is).tied.5 quiet due ∙ sym next_same
 
-  -- what a poll is told, it is told of what it finds
+  -- the reply to a poll is what it finds
   module _ (known : ReplyInputs K P M) (now : ℕ) where
     told_probe : (found : Option ℕ) (number size : ℕ)
         → MtuProbeReply beginning.queue known now found (Ok (answer.Probe number size)) → found ≡ Some size

@@ -1,5 +1,5 @@
--- The MTU of the path before the one in use is that of when it was left, by the history alone: it is the one that a
--- path has which is used again. `ConvergenceLaws` and `MtuLaws` rest on it.
+-- The MTU of the previous path is the one with which it was left, by the history alone: a path that is used again has
+-- it. `ConvergenceLaws` and `MtuLaws` rest on it.
 use Rattle.std.proofs.Common.{◌≡◌, ℕ, Bool, true, false, [], ◌∷◌, Option, None, Some, Ok, refl, sym, ap, subst, ◌∙◌}
 use Rattle.std.proofs.lemmas.Option.{none-some}
 use Rattle.std.specs.Option.{ForSome}
@@ -22,7 +22,7 @@ before_same searched first least [] = refl
 before_same searched first least ((NewPath now remote is_fresh, Ok given) ∷ earlier) = refl
 before_same searched first least (happened ∷ earlier) = before_same searched first least earlier
 
--- where it lives it is no other
+-- if it exists it is no other
 only_one : (found : Option ℕ) (size left : ℕ) → found ≡ Some size → ForSome found (λ other. other ≡ left)
     → found ≡ Some left
 only_one found size left is each = is ∙ ap (λ n. Some n) (each size is)
@@ -50,7 +50,7 @@ module _ {F K Q S M P : Type 0} (beginning : Beginning F K Q S M P) (searched : 
   abbrev pub IsNow : History Q S M P → Type 0
   IsNow history = in_state (pasts_of beginning history).current ≡ mtu searched first least history
 
-  -- no path is left before one that is used again
+  -- there is no path before one that is used again
   none_left : (change : PathHistory K → PathHistory K) (paths : PerPath (PathHistory K))
       (previous : Option (PathHistory K))
       → (let with : PerPath (PathHistory K) = record paths { previous = previous } in
@@ -74,7 +74,7 @@ module _ {F K Q S M P : Type 0} (beginning : Beginning F K Q S M P) (searched : 
   pub left_at_first : IsLeft []
   left_at_first = λ size found. absurd (cc)
 
-  -- a path that is used again lived, and has that MTU
+  -- a path that is used again existed, and has that MTU
   pub left_is : (history : History Q S M P) (event : Event Q S M P) (reply : Reply Q)
       → RepliesAfter beginning history event reply → IsLeft history
       → IsLeftAt beginning history event reply (mtu_on searched first least Previous history)

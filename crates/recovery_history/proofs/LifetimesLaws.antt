@@ -1,4 +1,4 @@
--- When the peer is asked to retire ids, by the lifetimes that run and the numbers that it retired. `OwnIdsLaws` rest on
+-- When to ask the peer to retire IDs, by the lifetimes that run and the numbers that it retired. `OwnIdsLaws` rest on
 -- it for the clause `retirement_requests` of `run`.
 use Rattle.std.proofs.lemmas.Bool.Decides.{nat_tests}
 use Rattle.std.proofs.Common.{arith, ◌≡◌, ◌≤◌, ◌<◌, ◌+◌, ℕ, zero, suc, true, false, ◌==◌, ◌&&◌, nat_lt, nat_le, not, Bool, List, [], ◌∷◌, map, filter, refl, ap, sym, ◌∙◌}
@@ -49,17 +49,17 @@ found_any q from (suc count) n above below is =
         let other : ¬ (from ≡ n) = λ same. absurd (grind (arith, same, is, first)) in
         grind (arith, first, later (omega (arith, above, other)))
 
--- ---- the ids of this end
+-- ---- the local IDs
 
 abbrev pub numbers_of : List CidTimestamp → List ℕ
 numbers_of deadlines = map (λ deadline. deadline.sequence) deadlines
 
--- those are left that pass a test, which all do that are not issued yet
+-- the IDs that are left pass a test, which all do that are not issued yet
 abbrev pub AreLeft : (ℕ → Bool) → LocalIds → Type 0
 AreLeft p ids = (ids.unretired ≡ filter p (range_with_len 0 ids.issued))
     × ((n : ℕ) → ids.issued ≤ n → p n ≡ true)
 
--- the marks rise, and behind them the numbers of the lifetimes that run
+-- the marks increase, followed by the numbers of the lifetimes that run
 abbrev pub AreMarked : LocalIds → Type 0
 AreMarked ids =
     (ids.retired_below ≤ ids.retire_prior_to) × AreIncreasingWithin ids.retire_prior_to ids.issued
@@ -115,7 +115,7 @@ module _ (p : ℕ → Bool) (asked : ℕ) (ids : LocalIds) (left : AreLeft p ids
       go false is = is
       go true is = let none = held_found at at is in absurd (omega (arith, none.1, none.2))
 
-  -- where it waits for some that it was asked before
+  -- if it waits for some that the peer was asked to retire before
   waits : holds_unretired ids.retired_below ids.retire_prior_to ids ≡ true → (answer ≡ false) × (lives asked ≡ true)
   waits holds =
       let one = held_found ids.retired_below ids.retire_prior_to holds in (
@@ -241,7 +241,7 @@ module _ (p : ℕ → Bool) (asked : ℕ) (ids : LocalIds) (left : AreLeft p ids
           let asked_now = asks none ids.deadlines marked.1 in
           grind (arith, none_lives none, asked_now, moved none)
 
-  -- what a timeout leaves
+  -- the state after a timeout
   pub timed_marked : AreMarked (timed_out ids)
   timed_marked =
       let rises = mark_rises ids.retire_prior_to ids.issued ids.deadlines marked.1 in grind (arith, rises, marked.0)
@@ -260,7 +260,7 @@ module _ (p : ℕ → Bool) (asked : ℕ) (ids : LocalIds) (left : AreLeft p ids
       go true holds flag is = waiting flag is holds
       go false none flag is = asked_on none flag is
 
--- ---- ids that are issued
+-- ---- IDs that are issued
 
 pub marked_more : (count now : ℕ) (ids : LocalIds) → AreMarked ids → AreMarked (with_issued count now ids)
 marked_more zero now ids marked = marked

@@ -1,4 +1,4 @@
--- The layer above sets when a packet of a space is to be called lost: nothing that events touch changes.
+-- The caller sets when a packet of a space is to be declared lost: nothing that events change is changed.
 use Rattle.std.proofs.Common.{◌≡◌, ℕ, List, Option}
 use Rattle.recovery_base.specs.declared.below.SpaceId.{SpaceId}
 use Rattle.recovery_base.specs.declared.below.SpaceId.TheVariants.{Initial, Handshake, Data}
@@ -11,7 +11,7 @@ use Rattle.recovery_history.specs.History.{Beginning, History}
 use Rattle.recovery_history.specs.RecoveryState.{RecoveryState}
 use Rattle.recovery_history.specs.Reachability.{ReachedBy}
 
--- what holds of each space, whatever its loss time, holds of each where one is set
+-- what holds for each space, whatever its loss time, holds for each after one is set
 module _ {P M : Type 0} (Holds : SpaceId → Space P M → Type 0) (time : Option ℕ)
     (holds_with : (space : SpaceId) (there : Space P M) → Holds space there → Holds space (with_loss_time time there))
     (spaces : Spaces P M) (all : (space : SpaceId) → Holds space (space_of space spaces)) where
@@ -42,7 +42,7 @@ left_with_loss_time words start log time there left = record {
   queued = left.queued;
 }
 
--- so it is all the same for the past
+-- so the same pasts lead to the new state
 module _ {F K Q S M P : Type 0} (beginning : Beginning F K Q S M P) (past : History Q S M P) where
   pub reached_with_loss_time : (set : SpaceId) (time : Option ℕ) (there : Space P M) (recovery : RecoveryState K P M)
       → there ≡ space_of set recovery.spaces → ReachedBy beginning past recovery

@@ -1,4 +1,4 @@
--- The discovery that the path in use was made with stays until a fresh path, or until one is used again. The laws of
+-- The discovery with which the path in use was made stays until a fresh path, or until one is used again. The laws of
 -- searches by events alone (`ConvergenceLaws`, `BlackHolesLaws`, `MtuLaws`) rest on it.
 use Rattle.std.proofs.Common.{◌≡◌, ℕ, true, false, ◌∷◌, Option, None, Some, Ok, refl, ap}
 use Rattle.std.specs.Prelude.{option_map, unwrap_or}
@@ -17,7 +17,7 @@ module _ {K : Type 0} where
   abbrev pub in_state : PathHistory K → ℕ
   in_state past = (path_state_of past).discovery.mtu
 
-  -- the MTU of the path before the one in use, where it lives
+  -- the MTU of the previous path, if it exists
   abbrev pub mtu_before : PerPath (PathHistory K) → Option ℕ
   mtu_before paths = option_map in_state paths.previous
 
@@ -30,7 +30,7 @@ module _ {F K Q S M P : Type 0} (beginning : Beginning F K Q S M P) where
   abbrev pub left_size : History Q S M P → ℕ
   left_size history = unwrap_or (mtu_before (pasts_of beginning history)) 0
 
-  -- it had some: it lived
+  -- it had some: it existed
   pub left_there : (history : History Q S M P) (event : Event Q S M P) (reply : Reply Q)
       → RepliesAfter beginning history event reply → IsLeftAt history event reply (left_size history)
   left_there history RevertPath (Ok given) told = go (pasts_of beginning history).previous told
@@ -55,8 +55,8 @@ module _ {F K Q S M P : Type 0} (beginning : Beginning F K Q S M P) where
   abbrev pub made_in : History Q S M P → Discovery
   made_in history = made_of (pasts_of beginning history)
 
-  -- a fresh path has one of its own, by the limit that the peer told last, and so has one that is used again, with the
-  -- MTU of when it was left, within that limit
+  -- a fresh path has one of its own, by the limit that the peer stated last, and so has one that is used again, with
+  -- the MTU with which it was left, within that limit
   abbrev pub resumed : ℕ → History Q S M P → Discovery
   resumed left history =
       record ((settings_of beginning).discovery (limit history)) { mtu = within left (limit history) }

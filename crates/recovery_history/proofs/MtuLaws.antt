@@ -1,4 +1,4 @@
--- By the history alone the MTU in use is the one that is kept, on both paths: the clause `mtu` of `run`.
+-- By the history alone the MTU in use is the one in the state, on both paths: the clause `mtu` of `run`.
 use Rattle.std.proofs.Common.{ℕ, ◌≡◌, Bool, true, false, List, [], ◌∷◌, Option, None, Some, Ok, Err, refl, sym, subst, ◌∙◌, arith}
 use Rattle.std.specs.Prelude.{is_some, option_map}
 use Rattle.recovery_base.specs.declared.below.SpaceId.TheVariants as space
@@ -26,7 +26,7 @@ use Rattle.recovery_history.proofs.SearchSaid.{ProbesInTurn, entered_so_far, Kee
 use Rattle.recovery_history.proofs.SearchSteps.{Facts, Step, stepped, throughout_facts}
 use Rattle.recovery_history.proofs.Runs.{AllAlong}
 
--- ---- where paths are not searched: no probe goes out, and no limit is kept
+-- ---- if MTU discovery is disabled, no probe is sent, and no limit is stored
 
 module _ {Q S M P : Type 0} (first least : ℕ) where
   abbrev TiedTo : Discovery → History Q S M P → List MtuEntry → Type 0
@@ -103,7 +103,7 @@ module _ {F K Q S M P : Type 0} (beginning : Beginning F K Q S M P) (is : discov
 -- ---- on both paths
 
 module _ {F K Q S M P : Type 0} (beginning : Beginning F K Q S M P) where
-  -- whether paths are searched
+  -- whether MTU discovery is enabled
   abbrev is_searched : Bool
   is_searched = is_some (discovery_settings beginning)
 

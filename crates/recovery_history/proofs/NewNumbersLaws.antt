@@ -1,4 +1,4 @@
--- A number is called new exactly where the history itself says so: the clause `new` of `run` rests on it.
+-- A number is reported as new exactly if the history says so: the clause `new` of `run` rests on it.
 use Rattle.std.proofs.lemmas.Bool.Decides.{nat_tests}
 use Rattle.std.proofs.Common.{arith, ◌≡◌, ◌≤◌, ◌+◌, ◌^◌, ℕ, Bool, true, false, cond, nat_eq, nat_lt, nat_le, List, [], ◌∷◌, None, Some, Ok, Err, ◌⊎◌, inl, inr, ◌↔◌, refl}
 use Rattle.std.specs.List.{list_all, list_any}
@@ -62,7 +62,7 @@ module _ (Numbers : ℕ → Type 0) (came : List ℕ) (same : (m : ℕ) → In m
             λ m in_set. grind (arith, nat_tests, all_to _ came all m, same m, in_set),
           )
 
--- ---- what came, and which spaces were discarded
+-- ---- the numbers received, and which spaces were discarded
 
 abbrev Alike : {P M : Type 0} → List ℕ → List (SpaceEntry P M) → Type 0
 Alike came log = (m : ℕ) → In m came ↔ ReceivedNumbers log m
@@ -80,7 +80,7 @@ not_heard hearing = false
 not_heard kind = true
 
 module _ {P M : Type 0} (came : List ℕ) (log : List (SpaceEntry P M)) (alike : Alike came log) where
-  -- what is no packet that came
+  -- what is no received packet
   unheard : (entry : SpaceEntry P M) → not_heard (space_kind entry) ≡ true → Alike came (entry ∷ log)
   unheard (heard_again number) other = absurd (false≢true other)
   unheard entry other = grind (arith, other, alike)
@@ -104,7 +104,7 @@ module _ {F K Q S M P : Type 0} (beginning : Beginning F K Q S M P) where
       space_kept beginning.queue (inputs_after beginning earlier) space
       (λ made. Alike (came_in space earlier) (onto made log)) not_heard alike (unheard _ log alike) event reply refl
 
--- ---- the verdict
+-- ---- the result
 
 module _ {Q P M : Type 0} (known : SpaceReplyInputs P M) (heard : AckState) (number : ℕ) (eliciting large new : Bool)
     (sizes : (2 ^ 62 ≤ number) ↔ (large ≡ true)) (news : IsNewNumber heard.came number ↔ (new ≡ true)) where
@@ -115,7 +115,7 @@ module _ {Q P M : Type 0} (known : SpaceReplyInputs P M) (heard : AckState) (num
   verdict reply told = grind (arith, told, sizes, news)
 
 module _ {F K Q S M P : Type 0} (beginning : Beginning F K Q S M P) where
-  -- what an event is told, it is told of new numbers
+  -- the reply to an event follows from the new numbers
   pub numbers_told : (history : History Q S M P) (event : Event Q S M P) (reply : Reply Q)
       → RepliesAfter beginning history event reply → DetectsDuplicates history event reply
   numbers_told history (Received space now number eliciting) reply told =

@@ -1,4 +1,4 @@
--- Each number has one fate throughout a run, and so it leaves once: the clauses `one_outcome` and `resolved_once` of
+-- Each number has one outcome throughout a run, and so it leaves once: the clauses `one_outcome` and `resolved_once` of
 -- `run`.
 use Rattle.std.proofs.Common.{arith}
 use Rattle.recovery_history.specs.History.{AtEach, Beginning, History}
@@ -8,7 +8,7 @@ use Rattle.recovery_history.specs.RepliesAfter.{RepliesAfter}
 use Rattle.recovery_history.proofs.Runs.{kept_after}
 use Rattle.recovery_history.proofs.TrackedLaws.{AllTracked, keeps_tracked, none_tracked}
 
--- ---- what has one fate leaves once
+-- ---- what has one outcome leaves once
 
 pub leave_once : {Q S M P : Type 0} (history : History Q S M P) → HaveOneOutcome history → ResolvedOnce history
 leave_once history fates = λ space n. grind (arith, fates space n)
@@ -16,7 +16,7 @@ leave_once history fates = λ space n. grind (arith, fates space n)
 -- ---- throughout a run
 
 module _ {F K Q S M P : Type 0} (beginning : Beginning F K Q S M P) where
-  -- what is tracked where the history says so has one fate
+  -- if tracking follows the history, each number has one outcome
   pub one_fate : (history : History Q S M P) → AllTracked beginning history → HaveOneOutcome history
   one_fate history all = λ space n. ((all space n).once, (all space n).adds)
 

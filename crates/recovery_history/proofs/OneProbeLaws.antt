@@ -1,4 +1,4 @@
--- By the history alone the search for the MTU goes on in turn, as its entries say: the clause `one_probe` of `run`.
+-- By the history alone the MTU search is in order, as its entries say: the clause `one_probe` of `run`.
 use Rattle.std.proofs.Common.{ℕ, ◌≡◌, ◌||◌, true, false, List, ◌∷◌, Option, None, Some, Ok, Err, refl, ap, ◌∙◌, is_some, arith}
 use Rattle.std.specs.Prelude.{nat_le, IsSomeAnd}
 use Rattle.std.proofs.lemmas.Bool.Decides.{nat_tests}

@@ -1,4 +1,4 @@
--- Counters overflow exactly where the history says so: the clause `overflow` of `run`.
+-- Counters overflow exactly if the history says so: the clause `overflow` of `run`.
 use Rattle.std.proofs.Common.{◌≡◌, ◌≤◌, ◌+◌, ◌^◌, ℕ, Bool, not, IsTrue, Option, None, Some, Ok, Err, ap, arith, sym}
 use Rattle.std.specs.Prelude.{sum_by, option_map}
 use Rattle.recovery_paths.specs.declared.path_pair.PathName.TheVariants.{Current, Previous}
@@ -26,7 +26,7 @@ module _ {Q : Type 0} where
   counter n m is Otherwise (Err other) told = tt
 
 module _ {F K Q S M P : Type 0} (beginning : Beginning F K Q S M P) where
-  -- of the path before the one in use, where it lives
+  -- on the previous path, if it exists
   on_previous : (validated : Bool) (here : History Q S M P) (bytes : ℕ) (found : Option (PathHistory K))
       (reply : Reply Q)
       → IsFlowWhereLives validated here (option_map flow_of found)

@@ -1,4 +1,4 @@
--- Ids of this end are issued, retired and asked back as the history itself says: the clauses `own_ids` and
+-- Local IDs are issued, retired and asked to be retired as the history says: the clauses `own_ids` and
 -- `retirement_requests` of `run`.
 use Rattle.std.proofs.lemmas.Bool.Decides.{nat_tests}
 use Rattle.std.proofs.Common.{arith, ◌≡◌, ◌≤◌, ◌<◌, ◌+◌, ℕ, zero, suc, true, false, ◌++◌, ◌==◌, ◌||◌, nat_lt, nat_le, not, Bool, List, [], ◌∷◌, length, map, filter, Ok, Err, refl, ap, subst, sym, ◌∙◌}
@@ -24,7 +24,7 @@ use Rattle.recovery_history.proofs.SearchSaid.{Follows, Keeps}
 
 -- ---- lists
 
--- the numbers go on where they are those of a range
+-- the numbers are consecutive if they are those of a range
 go_on_decides : (n : ℕ) (ids : List IssuedCid)
     → Decides (go_on n ids) (map (λ id. id.sequence) ids ≡ range_with_len n (length ids))
 go_on_decides n [] = (λ e. refl, λ e. refl)
@@ -68,7 +68,7 @@ issued_more p (suc count) now ids is = (
   ),
 )
 
--- ---- ids that are issued
+-- ---- IDs that are issued
 
 module _ {Q : Type 0} where
   issues_told : (ids : LocalIds) (more : List IssuedCid) (reply : Reply Q) → IssueReply ids more reply
@@ -76,7 +76,7 @@ module _ {Q : Type 0} where
   issues_told ids [] (Err NoMemory) told = absurd (told.1.1 refl)
   issues_told ids more reply told = grind (arith, nat_tests, told, go_on_decides ids.issued more)
 
-  -- ---- ids that the peer retires
+  -- ---- IDs that the peer retires
 
   module _ (ids : LocalIds) (sequence limit left : ℕ)
       (same : sequence < ids.issued → length (without_number sequence ids).unretired ≡ left) where
@@ -90,7 +90,7 @@ module _ {Q : Type 0} where
 -- ---- throughout a run
 
 module _ {F K Q S M P : Type 0} (beginning : Beginning F K Q S M P) where
-  -- the history says which ids are issued and left
+  -- the history says which IDs are issued and left
   abbrev OwnHeld : History Q S M P → Type 0
   OwnHeld history = let ids = own_ids (first_ids beginning) history in
       (ids.cid_len ≡ beginning.config.cid_len) × (issued beginning.config.issued history ≡ ids.issued)
@@ -115,7 +115,7 @@ module _ {F K Q S M P : Type 0} (beginning : Beginning F K Q S M P) where
       λ n more. grind (arith, nat_tests, below, more, same.2.1 n more),
     )
 
-  -- an event that was told keeps that
+  -- an event preserves that
   own_after : Keeps (RepliesAfter beginning) OwnHeld
   own_after before (IssueIds now ids) (Ok answer) told same =
       let more = issued_more (λ n. not (is_retired before n)) (length ids.items) now (ids_before before same 0) same.2
@@ -126,7 +126,7 @@ module _ {F K Q S M P : Type 0} (beginning : Beginning F K Q S M P) where
       (same.0, same.1, without_one before same sequence (omega (arith, told.1.0)))
   own_after before event reply told same = same
 
-  -- what an event is told, it is told of the ids of this end
+  -- the reply to an event follows from the local IDs
   issues_here : Follows (RepliesAfter beginning) OwnHeld (IssuesIdsInOrder beginning.config.issued
       beginning.config.cid_len)
   issues_here before (IssueIds now ids) reply told same =
@@ -148,7 +148,7 @@ module _ {F K Q S M P : Type 0} (beginning : Beginning F K Q S M P) where
       throughout_kept beginning OwnHeld (IssuesIdsInOrder beginning.config.issued beginning.config.cid_len) own_after
       issues_here own_first
 
--- ---- lifetimes of ids
+-- ---- lifetimes of IDs
 
 module _ {F K Q S M P : Type 0} (beginning : Beginning F K Q S M P) where
   abbrev ids_by : History Q S M P → LocalIds
@@ -157,7 +157,7 @@ module _ {F K Q S M P : Type 0} (beginning : Beginning F K Q S M P) where
   abbrev still : History Q S M P → ℕ → Bool
   still history n = not (is_retired history n)
 
-  -- the ids that are held, the lifetimes that run, and which ids the peer was asked to retire
+  -- the IDs that are held, the lifetimes that run, and which IDs the peer was asked to retire
   abbrev Kept : History Q S M P → Type 0
   Kept history = OwnHeld beginning history × ((ids_by history).cid_lifetime ≡ beginning.config.cid_lifetime)
       × ((ids_by history).deadlines ≡ lifetimes beginning history) × AreMarked (ids_by history)

@@ -1,4 +1,4 @@
--- Each pacer delays by its balance and keeps its rate, throughout a run: the clauses `delayed`, `rate`,
+-- Each pacer delays by its balance and observes its rate, throughout a run: the clauses `delayed`, `rate`,
 -- `passes_after_delay`, `passes_at_reported_time`, `delayed_when_uncovered` and `paid_rate` of `run`.
 use Rattle.std.proofs.Common.{arith, ℕ, true, ◌∷◌, Option, Ok, refl}
 use Rattle.recovery_congestion.specs.PacerLog.{AreChecked, KeepsRate}
@@ -22,23 +22,23 @@ use Rattle.recovery_history.proofs.Runs.{AllAlong, throughout_kept}
 use Rattle.recovery_history.proofs.AllowedEntryLaws.{is_allowed}
 use Rattle.recovery_history.proofs.SearchSaid.{Follows, Keeps}
 
--- a pacer whose checked transmissions had passed keeps its rate
+-- a pacer whose checked transmissions had passed observes its rate
 keeps_pace : {K : Type 0} (past : PathHistory K) → HavePassedOn past → AreChecked past.pacing
     → KeepsRate past.kept.pacer past.pacing
 keeps_pace past passed checked = keeps_rate past.kept.pacer past.pacing passed.0 checked passed.1
 
 module _ {F K Q S M P : Type 0} (beginning : Beginning F K Q S M P) where
-  -- on each path that lives, what was transmitted checked had passed the pacer
+  -- on each existing path, what was transmitted checked had passed the pacer
   abbrev HavePassedThere : History Q S M P → Type 0
   HavePassedThere history = OnEachPath HavePassedOn (pasts_of beginning history)
 
-  -- an event keeps that
+  -- an event preserves that
   passed_one : Keeps (RepliesAfter beginning) HavePassedThere
   passed_one before event reply told passed =
       passed_after (settings_of beginning) (first_path beginning) _ (logs_of beginning before).paths
       (is_allowed beginning.queue (settings_of beginning) _ (inputs_after beginning before) event reply told) passed
 
-  -- what holds of each call and its answer holds at each event
+  -- what holds for each call and its answer holds at each event
   module _ (Holds : PathHistory K → PacerCall → Option ℕ → Type 0) where
     at_calls : (before : History Q S M P) (event : Event Q S M P) (reply : Reply Q)
         → RepliesAfter beginning before event reply
@@ -51,7 +51,7 @@ module _ {F K Q S M P : Type 0} (beginning : Beginning F K Q S M P) where
         rw told.1 (grind (arith, holds now bytes))
     at_calls before event reply told holds = tt
 
-  -- what follows at each event from that holds throughout a run
+  -- what follows at each event holds throughout a run
   paced : (Holds : History Q S M P → Event Q S M P → Reply Q → Type 0)
       → Follows (RepliesAfter beginning) HavePassedThere Holds → AllAlong beginning Holds
   paced Holds each =
@@ -72,19 +72,19 @@ module _ {F K Q S M P : Type 0} (beginning : Beginning F K Q S M P) where
       delays_by (pacing before).kept.pacer (pacing before).pacing (call before now bytes) passed.0.0 checked
       passed.0.1))
 
-  -- after an event each pacer keeps its rate
+  -- after an event each pacer observes its rate
   pub rate : AllAlong beginning (BoundsPacingRate beginning)
   rate = paced (BoundsPacingRate beginning) (λ before event reply told passed.
       let after = passed_one before event reply told passed in
       (keeps_pace (pacing ((event, reply) ∷ before)) after.0, λ past is. keeps_pace past (after.1 past is)))
 
-  -- what was delayed passes soon
+  -- a delayed call passes soon
   pub soon : AllAlong beginning (PassesAfterDelay beginning)
   soon = paced (PassesAfterDelay beginning) (λ before event reply told passed.
       at_calls (λ past. PassesBehind past.kept.pacer past.pacing) before event reply told (λ now bytes.
       passes_behind (pacing before).kept.pacer (pacing before).pacing (call before now bytes)))
 
-  -- and when it was named, where there is room
+  -- and at the reported time, if there is room
   pub named : AllAlong beginning (PassesAtReportedTime beginning)
   named = paced (PassesAtReportedTime beginning) (λ before event reply told passed.
       at_calls (λ past. PassesAtMoment past.kept.pacer past.pacing) before event reply told (λ now bytes.
@@ -96,7 +96,7 @@ module _ {F K Q S M P : Type 0} (beginning : Beginning F K Q S M P) where
       at_calls (λ past. DelaysUncovered past.kept.pacer past.pacing) before event reply told (λ now bytes.
       delays_uncovered (pacing before).kept.pacer (pacing before).pacing (call before now bytes) passed.0.0))
 
-  -- what passes is paid for in full, and what is paid for keeps the rate
+  -- what passes is paid for in full, and what is paid for observes the rate
   pub paid : AllAlong beginning (BoundsPaidRate beginning)
   paid = paced (BoundsPaidRate beginning) (λ before event reply told passed.
       let after = passed_one before event reply told passed in

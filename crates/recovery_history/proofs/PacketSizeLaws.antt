@@ -1,5 +1,4 @@
--- Each packet of 1-RTT keys that is tracked has the size with which the history says that it went out. `SearchSteps`
--- rests on it.
+-- Each tracked 1-RTT packet has the size with which the history says that it was sent. `SearchSteps` rests on it.
 use Rattle.std.proofs.Common.{ℕ, ◌≡◌, ◌∷◌, Ok, refl, arith}
 use Rattle.std.proofs.lemmas.Bool.Decides.{nat_tests}
 use Rattle.recovery_base.specs.declared.below.SpaceId.TheVariants.{Data}
@@ -21,7 +20,7 @@ module _ {F K Q S M P : Type 0} (beginning : Beginning F K Q S M P) where
   abbrev pub Sized : History Q S M P → Type 0
   Sized history = IsSaid size_in (size_of history) (sent_in beginning history Data)
 
-  -- an event keeps that
+  -- an event preserves that
   pub sized_after : (history : History Q S M P) (event : Event Q S M P) (reply : Reply Q)
       → RepliesAfter beginning history event reply → Sized history
       → Sized ((event, reply) ∷ history)

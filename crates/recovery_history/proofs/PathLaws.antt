@@ -1,5 +1,5 @@
--- The paths that live, and the generation of each, are those that the history says, and so is how many were made.
--- `RejectionsLaws`, `CountedLaws` and `OverflowLaws` rest on it.
+-- The existing paths, their generations, and how many were made are as the history says. `RejectionsLaws`,
+-- `CountedLaws` and `OverflowLaws` rest on it.
 use Rattle.std.proofs.Common.{◌≡◌, ◌+◌, ℕ, true, false, [], ◌∷◌, Option, None, Some, Ok, refl, ap, ◌∙◌}
 use Rattle.std.specs.Prelude.{option_map}
 use Rattle.recovery_paths.specs.declared.path_pair.PathName.{PathName}
@@ -12,7 +12,7 @@ use Rattle.recovery_history.specs.Table.{limit}
 use Rattle.recovery_history.specs.Promises.Paths.{paths_made, generations, generation_by}
 use Rattle.recovery_history.proofs.SeenLaws.{IsStill, IsStillOn, map_kept, stays_seen}
 
--- the generation of the path in use, with the others as they are
+-- the generation of the path in use, with the others unchanged
 abbrev beside : PerPath ℕ → Option ℕ → PerPath ℕ
 beside paths previous = record paths { previous = previous }
 
@@ -48,7 +48,7 @@ module _ {F K Q S M P : Type 0} (beginning : Beginning F K Q S M P) where
         (past_with (settings_of beginning) is_validated) (λ past. refl) paths.previous),
   )
 
-  -- a path that is used again keeps its own
+  -- a path that is used again has its own
   returned : (limit : Option ℕ) (paths : PerPath (PathHistory K)) (previous : Option (PathHistory K))
       → (let old : PerPath (PathHistory K) = record paths { previous = previous } in
       generations_in (reverted (past_following (settings_of beginning) (returns limit)) old)
@@ -72,11 +72,11 @@ module _ {F K Q S M P : Type 0} (beginning : Beginning F K Q S M P) where
   all_made ((event, reply) ∷ earlier) =
       stays_seen beginning generations_in still still_on earlier event reply ∙ all_made earlier
 
-  -- so many were made
+  -- this many were made
   pub made_told : (history : History Q S M P) → (inputs_after beginning history).paths.made ≡ paths_made history
   made_told history = ap (λ (g : PerPath ℕ). g.made) (all_made history) ∙ made_same history
 
-  -- a path that lives has the generation that the history says, and one that does not has none
+  -- a path that exists has the generation that the history says, and a missing one has none
   pub generation_told : (history : History Q S M P) (name : PathName)
       → option_map (λ path. path.generation) (path_of name (inputs_after beginning history).paths)
       ≡ generation_by name history

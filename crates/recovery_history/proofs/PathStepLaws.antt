@@ -1,4 +1,4 @@
--- What an event does to the paths that live, and to the search on the one in use, is a step of them. The calls
+-- What an event does to the existing paths, and to the search on the one in use, is a step of them. The calls
 -- `poll_mtu` and `discard` rest on it.
 use Rattle.std.proofs.Common.{◌≡◌, ℕ, arith, ap, ◌∙◌, refl, Bool, true, false, MatchBool, [], ◌∷◌, None, Some, Ok, Err}
 use Rattle.recovery_base.specs.declared.below.SpaceId.{SpaceId}
@@ -32,20 +32,20 @@ use Rattle.recovery_history.specs.Transitions.{StateTransition, inputs_of}
 use Rattle.recovery_history.proofs.CallerStateLaws.{previous_same, both_marks}
 use Rattle.recovery_history.proofs.DriverLaws.{spaces_step, skips_nothing}
 
--- ---- packets leave the paths: what is known of a path holds no counters
+-- ---- packets leave the paths: the inputs from a path have no counters
 
--- packets that leave a path leave its generation
+-- packets that leave a path do not change its generation
 generation_without : {P M : Type 0} (packets : Packets P M) (ledger : PathLedger)
     → generation_of (ledger_without packets ledger) ≡ generation_of ledger
 generation_without [] ledger = refl
 generation_without (entry ∷ packets) ledger = generation_without packets (after_leaving ledger entry.1)
 
 module _ {K P M : Type 0} (packets : Packets P M) where
-  -- what is known of a path stays
+  -- the inputs from a path are unchanged
   known_without : (path : Path K) → path_known (on_ledger (ledger_without packets) path) ≡ path_known path
   known_without path = ap (λ g. record { generation = g; state = path.state }) (generation_without packets path.ledger)
 
-  -- what is known of all paths stays
+  -- the inputs from all paths are unchanged
   pub paths_known_without : (paths : PerPath (Path K)) → paths_known (paths_without packets paths) ≡ paths_known paths
   paths_known_without paths = rw (
     known_without paths.current,
@@ -55,7 +55,7 @@ module _ {K P M : Type 0} (packets : Packets P M) where
 -- ---- a space is discarded
 
 module _ {K Q S M P : Type 0} (q : QueueModel Q S M P) (old : RecoveryState K P M) (space : SpaceId) where
-  -- its packets leave it and the paths, nothing is to be sent again, and it is noted
+  -- its packets leave it and the paths, its retransmission queue is empty, and it is recorded as discarded
   pub discard_changes : (there : Space P M) (discarded : DiscardedSpaces) (paths : PerPath (Path K))
       → is_discarded space old.discarded ≡ false
       → there ≡ space_discards q.words (space_of space old.spaces) → DiscardedStep space old.discarded discarded
@@ -78,9 +78,9 @@ module _ {K Q S M P : Type 0} (q : QueueModel Q S M P) (old : RecoveryState K P 
     refused = tt;
   }
 
--- ---- a probe of the MTU is sent
+-- ---- an MTU probe is sent
 
--- causes of refusal in their order, of which the second does not hold, are the others in theirs
+-- causes of errors in their order, of which the second does not hold, are the others in theirs
 module _ (First Second Third Fourth One Other : Type 0) (none : ¬ Second) (alike : One → Other) where
   pub but_second : (first second third fourth : Bool)
       → MatchBool first First ((¬ First) × MatchBool second Second
@@ -89,7 +89,7 @@ module _ (First Second Third Fourth One Other : Type 0) (none : ¬ Second) (alik
       ((¬ First) × MatchBool third Third ((¬ Third) × MatchBool fourth Fourth ((¬ Fourth) × Other)))
   but_second first second third fourth is = grind (arith, none, alike)
 
--- want of memory refuses whatever is answered else
+-- lack of memory is an error whatever the answer is
 refused_alike : {Q : Type 0} (Grows : Type 0) (One Other : Answer Q → Type 0) (refusal : Refusal)
     → AnswersOrNoMemory Grows One (Err refusal) → AnswersOrNoMemory Grows Other (Err refusal)
 refused_alike Grows One Other NoMemory is = is
@@ -101,11 +101,11 @@ module _ {K Q S M P : Type 0} (q : QueueModel Q S M P) (old then : RecoveryState
   abbrev known : ReplyInputs K P M
   known = inputs_of old
 
-  -- a probe carries nothing
+  -- a probe has no contents
   abbrev probe : Packet P M
   probe = packet_now known now size true None q.words.empty q.blank
 
-  -- where the probe cannot be sent the event is refused likewise
+  -- if the probe cannot be sent the event fails in the same way
   pub probe_refused : (refusal : Refusal) → StateTransition {M = M} q old (Send Data now size true None queue frames)
       (Err refusal) then → StateTransition {M = M} q old (PollMtu now) (Err refusal) then
   probe_refused refusal sent =
@@ -124,7 +124,7 @@ module _ {K Q S M P : Type 0} (q : QueueModel Q S M P) (old then : RecoveryState
         refused = sent.refused;
       }
 
-  -- once it is sent the search goes on from where it was asked
+  -- after it was sent the search continues from where it was asked
   pub probe_changes : (number : ℕ) (discovery : Discovery) (path : Path K) (answer : Answer Q)
       → number ≡ number_in known Data → discovery ≡ discovery_after (polls now number) old.paths.current.state.discovery
       → path ≡ on_state (with_discovery discovery) then.paths.current

@@ -1,4 +1,4 @@
--- Ids of the peer are taken, refused and moved to as the history itself says: the clause `peer_ids` of `run`.
+-- The peer's IDs are accepted, rejected and used as the history says: the clause `peer_ids` of `run`.
 use Rattle.std.proofs.Common.{◌≡◌, ◌≤◌, ◌<◌, ◌+◌, ℕ, ◌==◌, max, min, nat_lt, nat_le, not, List, [], ◌∷◌, Option, None, Some, IsSome, Ok, Err, refl, ap, subst, arith, leb-true, le-leb}
 use Rattle.std.specs.Prelude.{◌≢◌, IfSome, option_map, unwrap_or, if◌then◌else◌}
 use Rattle.std.specs.Bool.{Decides}
@@ -36,11 +36,11 @@ repeats_decides frame (Some (id, None)) = grind (arith, bytes_eq-Decides frame.i
 repeats_decides frame (Some (id, Some token)) =
     grind (arith, bytes_eq-Decides frame.id id, bytes_eq-Decides frame.reset_token token)
 
--- what a replaced id is told
+-- the reply to a replaced ID
 abbrev InitialReply : {Q : Type 0} → RemoteIds → Reply Q → Type 0
 InitialReply ids = RejectsWhen NotInitialId (ids.active ≢ 0) (AlwaysAnswers (λ answer. answer ≡ Done))
 
--- ---- the least number under which an id is held
+-- ---- the smallest number under which an ID is held
 
 abbrev IsLeastFrom : IdTable → ℕ → Option ℕ → Type 0
 IsLeastFrom held low None = (n : ℕ) → low ≤ n → held n ≡ None
@@ -54,20 +54,20 @@ same_least held low one (Some m) is_one is_other =
 same_least held low (Some n) None is_one is_other = grind (arith, is_other n, is_one.bound, is_one.is_held)
 
 module _ (held : IdTable) (low number : ℕ) (entry : HeldId) where
-  -- one more id is held
+  -- one more ID is held
   least_with : (least : Option ℕ) → IsLeastFrom held low least → IsLeastFrom (with_id number entry held) low
       (if nat_lt number low then least else Some (unwrap_or (option_map (min number) least) number))
   least_with None is = grind (arith, nat_tests, is)
   least_with (Some m) is = grind (arith, nat_tests, is.bound, is.is_held, is.least)
 
-  -- the id of a number that is held is another one
+  -- the ID of a number that is held is another one
   least_again : IsSome (held number) → (least : Option ℕ) → IsLeastFrom held low least
       → IsLeastFrom (with_id number entry held) low least
   least_again there None is = grind (arith, nat_tests, is, there)
   least_again there (Some m) is = grind (arith, nat_tests, is.bound, is.is_held, is.least, there)
 
 module _ {Q S M P : Type 0} (initial : List ℕ) where
-  -- what was given, as a table
+  -- the issued IDs, as a table
   abbrev ids_given : History Q S M P → IdTable
   ids_given history n = id_under initial n history
 
@@ -77,7 +77,7 @@ module _ {Q S M P : Type 0} (initial : List ℕ) where
   zero_given ((InitialId id, Ok answer) ∷ earlier) = refl
   zero_given (happened ∷ earlier) = zero_given earlier
 
-  -- the least one given is found
+  -- the smallest one issued is found
   least_is : (low : ℕ) (history : History Q S M P) → IsLeastFrom (ids_given history) low (least_from low history)
   least_is low [] = grind (arith, nat_tests)
   least_is low ((NewId frame, Ok answer) ∷ earlier) =
@@ -92,10 +92,10 @@ module _ {Q S M P : Type 0} (initial : List ℕ) where
       → least_from low history ≡ least
   least_found low history least = same_least _ low _ least (least_is low history)
 
-  -- ---- the ids that are held, by the history
+  -- ---- the IDs that are held, by the history
 
   module _ (history : History Q S M P) (ids : RemoteIds) (same : AreHeld initial history ids) where
-    -- the least number held from one on that is not retired is the least one given from there on
+    -- the smallest number held from one on that is not retired is the smallest one issued from there on
     least_held_found : (low next : ℕ) → retired_below history ≤ low → IsLeastHeld ids.held low next
         → least_from low history ≡ Some next
     least_held_found low next above is =
@@ -113,7 +113,7 @@ module _ {Q S M P : Type 0} (initial : List ℕ) where
         below : (n : ℕ) → ids.held n ≡ (if nat_lt n (active_id history) then None else id_under initial n history)
         below n = grind (arith, nat_tests, active_same, same.0 n, same.1, same.2.within n)
 
--- ---- what an event makes of them
+-- ---- what an event does to them
 
 module _ {Q S M P : Type 0} (initial : List ℕ) (history : History Q S M P) (ids : RemoteIds)
     (same : AreHeld initial history ids) where
@@ -123,7 +123,7 @@ module _ {Q S M P : Type 0} (initial : List ℕ) (history : History Q S M P) (id
       × (¬ (max ids.active frame.retire_prior_to + active_connection_id_limit ≤ frame.sequence))
 
   module _ (frame : NewConnectionId) (fine : IsFine frame) where
-    -- the ids, where a frame is accepted and the active number is next
+    -- the IDs, if a frame is accepted and the active number is next
     abbrev made : ℕ → RemoteIds
     made next = record { active = next; held = with_frame frame ids.held }
 
@@ -141,7 +141,7 @@ module _ {Q S M P : Type 0} (initial : List ℕ) (history : History Q S M P) (id
           fine,
         )
 
-    -- where the frame does not retire the active id, that stays
+    -- if the frame does not retire the active ID, that stays
     stays_least : frame.retire_prior_to ≤ ids.active → IsLeastHeld (with_frame frame ids.held) 0 ids.active
     stays_least kept = grind (arith, nat_tests, same.2.active_held, same.2.within, kept, fine)
 
@@ -266,7 +266,7 @@ module _ {F K Q S M P : Type 0} (beginning : Beginning F K Q S M P) where
   abbrev initial_id : List ℕ
   initial_id = beginning.config.initial_cid
 
-  -- the ids are held as the history says
+  -- the IDs are held as the history says
   abbrev pub HoldsIds : History Q S M P → Type 0
   HoldsIds history = AreHeld initial_id history (ids_held initial_id history)
 
@@ -276,7 +276,7 @@ module _ {F K Q S M P : Type 0} (beginning : Beginning F K Q S M P) where
   follows : (after : History Q S M P) (new : RemoteIds) → AreHeld initial_id after new → HoldsIds after
   follows after new held = subst (AreHeld initial_id after) (held_same initial_id after new held) held
 
-  -- an event that was told keeps that
+  -- an event preserves that
   keeps_ids : (before : History Q S M P) (event : Event Q S M P) (reply : Reply Q)
       → RepliesAfter beginning before event reply
       → HoldsIds before → HoldsIds ((event, reply) ∷ before)
@@ -288,7 +288,7 @@ module _ {F K Q S M P : Type 0} (beginning : Beginning F K Q S M P) where
       follows ((InitialId id, Ok answer) ∷ before) _ (initial_step initial_id before _ same id answer told)
   keeps_ids before event reply told same = same
 
-  -- what an event is told, it is told of the ids of the peer
+  -- the reply to an event follows from the peer's IDs
   accepts_told : (before : History Q S M P) (event : Event Q S M P) (reply : Reply Q)
       → RepliesAfter beginning before event reply → HoldsIds before → AcceptsIds initial_id before event reply
   accepts_told before (NewId frame) reply told same = frame_told initial_id before _ same frame reply told

@@ -1,4 +1,5 @@
--- What waits in a space is what the history says came to wait, in that order: the clause `pending` of `run`.
+-- The retransmission queue of a space is what the history says was queued, in that order: the clause `pending` of
+-- `run`.
 use Rattle.std.proofs.Common.{◌≡◌, Bool, true, false, cond, List, [], ◌∷◌, ◌++◌, Option, None, Some, Ok, Err, option_map, refl, ap, ◌∙◌, arith}
 use Rattle.std.specs.Prelude.{option_to_list}
 use Rattle.recovery_base.specs.declared.below.SpaceId.{SpaceId}
@@ -17,7 +18,7 @@ use Rattle.recovery_history.specs.Promises.Pending.{joined_all, waiting, HandsOu
 use Rattle.recovery_history.proofs.EntryKinds.{SpaceKind, losing, probing, taking, emptying, space_kind, space_kept}
 use Rattle.recovery_history.proofs.TrackedLaws.{one_space}
 
--- what waits stays
+-- the queue is unchanged
 abbrev waits_on : SpaceKind → Bool
 waits_on losing = false
 waits_on probing = false
@@ -29,7 +30,7 @@ module _ {F K Q S M P : Type 0} (beginning : Beginning F K Q S M P) where
   abbrev waits : List (SpaceEntry P M) → P
   waits log = (queued_by beginning.queue.words log).pending
 
-  -- the contents of a packet come behind those that wait
+  -- the contents of a packet are appended to those that wait
   comes : (packet : Option (Packet P M)) (pending : P) (before : List P) → pending ≡ joined_all beginning before
       → joined_with beginning.queue.words pending packet
       ≡ joined_all beginning (option_to_list (option_map (λ packet. packet.retransmits) packet) ++ before)
@@ -50,7 +51,7 @@ module _ {F K Q S M P : Type 0} (beginning : Beginning F K Q S M P) where
       here true entry after is = is refl
       here false entry after is = same
 
-      -- what takes none out and puts none in keeps them
+      -- what adds and removes nothing leaves them unchanged
       stays : (entry : SpaceEntry P M) → waits_on (space_kind entry) ≡ true
           → waits (entry ∷ log space) ≡ joined_all beginning (waiting beginning space earlier)
       stays entry none = grind (arith, none, same)

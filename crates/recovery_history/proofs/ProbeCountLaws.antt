@@ -1,4 +1,4 @@
--- By the history alone a search takes few probes, as its entries say: the clause `probe_count` of `run`.
+-- By the history alone a search sends few probes, as its entries say: the clause `probe_count` of `run`.
 use Rattle.std.proofs.Common.{ℕ, ◌≡◌, true, List, ◌∷◌, Option, Ok, Err, refl, ap, is_some, arith}
 use Rattle.std.specs.Option.{IfSome}
 use Rattle.recovery_base.specs.declared.below.SpaceId.TheVariants as space
@@ -24,7 +24,7 @@ abbrev IsLast : ℕ × ℕ → Option MtuProbe → Type 0
 IsLast last flight = IfSome flight (λ probe. (last.0 ≡ probe.number) × (last.1 ≡ probe.size))
 
 module _ {Q S M P : Type 0} where
-  -- the history tells whether a probe is in flight, and which, and the sizes probed
+  -- the history determines whether a probe is in flight, and which, and the sizes probed
   abbrev pub TiedTo : History Q S M P → List MtuEntry → Type 0
   TiedTo history entries = (is_in_flight history ≡ is_some (probe_in_flight entries))
       × (sizes_probed history ≡ probed_sizes (search_of entries))

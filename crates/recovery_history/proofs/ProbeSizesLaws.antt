@@ -1,4 +1,4 @@
--- By the history alone the size of a probe lies within the bounds of its search, as its entries say: the clause `sizes`
+-- By the history alone the size of a probe is within the bounds of its search, as its entries say: the clause `sizes`
 -- of `run`.
 use Rattle.std.proofs.Common.{ℕ, ◌≡◌, ◌<◌, ◌≤◌, max, true, ◌∷◌, Option, None, Some, Ok, Err, arith, refl, sym, ◌∙◌}
 use Rattle.std.proofs.lemmas.Option.{none-some}
@@ -36,7 +36,7 @@ use Rattle.recovery_history.proofs.Runs.{AllAlong}
 module _ {F K Q S M P : Type 0} (beginning : Beginning F K Q S M P) where
   module _ (history : History Q S M P) (now number size : ℕ) (kept : Kept beginning history)
       (known : Facts beginning history (PollMtu now) (Ok (answer.Probe number size))) where
-    -- the probe that goes out is the one in flight
+    -- the probe that is sent is the one in flight
     between : (settings : MtuDiscoveryConfig) → discovery_settings beginning ≡ Some settings
         → (size ≤ start_upper (made_in beginning history) settings (entered_so_far beginning history))
         × (3 ≤ settings.minimum_change

@@ -1,4 +1,4 @@
--- What probes, losses, queues and counts of ECN change leaves the balance of the paths. The calls for these rest on it.
+-- What probes, losses, queues and ECN counts change preserves the balance of the paths. The calls for these rest on it.
 use Rattle.std.proofs.Common.{◌∙◌, ◌≡◌, ℕ, ◌≤◌, nat_le, Bool, false, ◌&&◌, IsTrue, Option, None, Some, Result, Ok, Err, OnOk, OnErr, refl, ap, arith}
 use Rattle.std.proofs.lemmas.Bool.Decides.{nat_tests}
 use Rattle.std.specs.Option.{IsSomeAnd}
@@ -41,7 +41,7 @@ module _ {K P M : Type 0} (spaces : Spaces P M) (paths : PerPath (Path K)) (bala
       (come_kept (space_of space spaces) here (balanced.coherent space).received stays.acks stays.dedup)
       stays.tracking stays.next)
 
-  -- the ACKs change, and no packet comes or goes
+  -- the ACKs change, and no packet is sent or leaves
   pub acks_balanced : (space : SpaceId) (before here : Space P M) → before ≡ space_of space spaces
       → tracking_of here ≡ tracking_of before → next_number_of here ≡ next_number_of before
       → here.dedup ≡ before.dedup → (acks_of here).counts.greatest ≡ (acks_of before).counts.greatest
@@ -53,7 +53,7 @@ module _ {K P M : Type 0} (spaces : Spaces P M) (paths : PerPath (Path K)) (bala
       (tracking ∙ ap tracking_of is)
       (next ∙ ap next_number_of is))
 
-  -- a probe is asked for, unless memory is refused
+  -- a probe is requested, unless an allocation fails
   pub probe_balanced : {S A B : Type 0} (words : QueueSemantics P S) (space : SpaceId) (immediate : Bool)
       (found : ProbeFound) (result : Result A B) (here : Space P M)
       → OnOk result (SpaceStep words (probes immediate found) (space_of space spaces) here)
@@ -63,7 +63,7 @@ module _ {K P M : Type 0} (spaces : Spaces P M) (paths : PerPath (Path K)) (bala
   probe_balanced words space immediate found (Err error) here step same =
       rw (with_same_space spaces space here same) balanced
 
--- counts of ECN are kept, or refused
+-- ECN counts are stored, or rejected
 pub fed_back_stays : {P M S A B : Type 0} (words : QueueSemantics P S) (counts : EcnCounts) (result : Result A B)
     (old new : Space P M) → OnOk result (SpaceStep words (feeds_back counts) old new) → OnErr result (new ≡ old)
     → Stays old new
@@ -74,7 +74,7 @@ fed_back_stays words counts result old new step same = grind (arith, step, same)
 module _ {K P M : Type 0} (known : ReplyInputs K P M) (range : RangeInclusive ℕ) (low high : ℕ)
     (start : range_inclusive_start range ≡ low) (end : range_inclusive_end range ≡ high)
     (whole : range_inclusive_exhausted range ≡ false) where
-  -- where the range is whole, it holds what lies between its ends
+  -- if the range is not empty, it has what is between its ends
   holds_between : (n : ℕ) → range_holds range n ≡ (nat_le low n && nat_le n high)
   holds_between n = grind (arith, start, end, whole)
 

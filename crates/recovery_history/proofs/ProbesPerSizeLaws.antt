@@ -1,4 +1,4 @@
--- A search probes each size three times at most, as its entries and what a discovery holds say: the clause
+-- A search probes each size at most three times, as its entries and the state of a discovery say: the clause
 -- `probes_per_size` of `run`.
 use Rattle.std.proofs.lemmas.Bool.Decides.{nat_tests}
 use Rattle.std.proofs.lemmas.Option.{none-some, same_Some}
@@ -27,12 +27,12 @@ abbrev pub flying : Option ℕ → ℕ
 flying None = 0
 flying (Some number) = 1
 
--- so often was the last size tried: it is in flight, or was lost
+-- how often the last size was tried: it is in flight, or was lost
 abbrev pub tried : Probing → ℕ
 tried p = p.losses + flying p.in_flight
 
--- the last size lies within the bounds, above the lower one while it is tried; it was probed as often as it was tried,
--- at most three times; and no other size within the bounds was probed
+-- the last size is within the bounds, above the lower one while it is tried; it was probed as often as it was tried, at
+-- most three times; and no other size within the bounds was probed
 pub record Tries (probed : List ℕ) (p : Probing) : Type 0 where
   pub within : (p.lower ≤ p.last) × (p.last ≤ p.upper) × (tried p ≤ 3)
   pub above : 1 ≤ tried p → p.lower < p.last
@@ -43,7 +43,7 @@ pub record Tries (probed : List ℕ) (p : Probing) : Type 0 where
 -- the size that is probed next
 module _ (change size : ℕ) (probed : List ℕ) (p : Probing) (here : Tries probed p) (wide : 3 ≤ change)
     (empty : p.in_flight ≡ None) where
-  -- another one lies within the bounds then
+  -- another one is then within the bounds
   pub other_within : repeats p ≡ false → size_to_probe change p ≡ Some size
       → ((narrowed p).lower < size) × (size ≤ (narrowed p).upper)
   other_within same is = grind (arith, nat_tests, same, is, here.within, here.above, wide, empty)
@@ -52,7 +52,7 @@ module _ (change size : ℕ) (probed : List ℕ) (p : Probing) (here : Tries pro
   other_is_new same is =
       grind (arith, nat_tests, other_within same is, same, here.outside size, here.within, here.above, empty)
 
-  -- a probe of it goes out
+  -- a probe of it is sent
   abbrev then : ℕ → Probing
   then number = record (narrowed p) { in_flight = Some number; last = size }
 
@@ -93,7 +93,7 @@ module _ (made : Discovery) (settings : MtuDiscoveryConfig) (wide : 3 ≤ settin
   abbrev Leaves : MtuCall → Option Probing → Type 0
   Leaves call probing = Tied (entry_of call (old probing) ∷ entries) (probing_of (discovery_after call (old probing)))
 
-  -- a poll that goes on with a search
+  -- a poll that continues a search
   extends : (now number : ℕ) (probing : Option Probing) (p : Probing) → p.in_flight ≡ None
       → Tries (probed_sizes (search_of entries)) p → (answer : Option ℕ)
       → size_to_probe settings.minimum_change p ≡ answer

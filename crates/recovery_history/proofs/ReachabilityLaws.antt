@@ -1,4 +1,4 @@
--- A past goes on by one event: what `run` promises of a list of events, `apply` promises of the event behind a past.
+-- One event extends a past: what `run` guarantees for a list of events, `apply` guarantees for the event after a past.
 use Rattle.std.proofs.Common.{ℕ, ◌<◌, ◌^◌, ◌∷◌, None, if◌then◌else◌}
 use Rattle.std.specs.Option.{ForSome}
 use mathlib.Core.Logic.{∥∥₁_map}
@@ -44,12 +44,12 @@ use Rattle.recovery_history.proofs.ProbesPerSizeLaws.{tries_told}
 use Rattle.recovery_history.proofs.OneProbeLaws.{turns_told}
 
 module _ {F K Q S M P : Type 0} (beginning : Beginning F K Q S M P) where
-  -- the upper bound of a search, where paths are searched
+  -- the upper bound of a search, if MTU discovery is enabled
   abbrev pub UpperFits : Type 0
   UpperFits = ForSome (if beginning.config.allow_mtud then beginning.config.transport.mtu_discovery_config else None)
       (λ settings. settings.upper_bound < 2 ^ 16)
 
-  -- all that is promised of an event follows from what it and those before it were told
+  -- all promises of an event follow from the replies to it and to those before it
   pub keeps : UpperFits → (before : History Q S M P) (event : Event Q S M P) (reply : Reply Q)
       → AtEach (RepliesAfter beginning) ((event, reply) ∷ before) → StepGuarantees beginning before event reply
   keeps small before event reply all =
@@ -100,7 +100,7 @@ module _ {F K Q S M P : Type 0} (beginning : Beginning F K Q S M P) where
         allocates_to_grow = spares_memory beginning before event reply all.0;
       }
 
-  -- from every past by which it came here it goes on: each clause of whole runs, at the event that is put behind it
+  -- every past that led to the old state is extended: each clause of whole runs holds at the new event
   pub extends : (past : History Q S M P) (old : RecoveryState K P M) (event : Event Q S M P) (reply : Reply Q)
       (new : RecoveryState K P M)
       → ReachedBy beginning past old → StateTransition beginning.queue old event reply new
@@ -124,12 +124,12 @@ module _ {F K Q S M P : Type 0} {built : F → ℕ → ℕ → K} {words : Contr
     {old : RecoveryState K P M} {event : Event Q S M P} {reply : Reply Q} {new : RecoveryState K P M}
     (on : StepFromAnyPast built words queue old event reply new)
   where
-    -- from a past by which it came here it went on
+    -- from a past that led to the old state it continued
     pub extended : ∥ IsReachableState built words queue old ∥₁
         → ∥ StepFromSomePast built words queue old event reply new ∥₁
     extended by = ∥∥₁_map by (λ by. record { origin = by; goes = on by.config by.start by.random by.past by.came })
 
-    -- and came on
+    -- and it led to the new state
     pub still_came : ∥ IsReachableState built words queue old ∥₁ → ∥ IsReachableState built words queue new ∥₁
     still_came by = ∥∥₁_map by (λ by. record {
       config = by.config;
@@ -141,7 +141,7 @@ module _ {F K Q S M P : Type 0} {built : F → ℕ → ℕ → K} {words : Contr
 
 module _ {F K Q S M P : Type 0} {built : F → ℕ → ℕ → K} {words : ControllerSemantics K} {queue : QueueModel Q S M P}
     {old new : RecoveryState K P M} (stays : PreservesPastsOf built words queue old new) where
-  -- what is all the same for every past leaves that there is one
+  -- what preserves every past preserves that there is one
   pub stays_come : ∥ IsReachableState built words queue old ∥₁ → ∥ IsReachableState built words queue new ∥₁
   stays_come by = ∥∥₁_map by (λ by. record {
     config = by.config;

@@ -1,5 +1,5 @@
--- Refusals that follow from the history are given exactly where it says so, and memory is refused only where something
--- may grow: the clauses `rejections` and `allocates_to_grow` of `run`.
+-- Errors that follow from the history occur exactly if it says so, and an allocation fails only if something may grow:
+-- the clauses `rejections` and `allocates_to_grow` of `run`.
 use Rattle.std.proofs.Common.{◌≡◌, ℕ, ◌==◌, Bool, true, false, Option, None, Some, Ok, Err, refl, sym, ap, ◌∙◌, arith}
 use Rattle.std.specs.Prelude.{IsTrue, is_some, option_map}
 use Rattle.std.proofs.lemmas.Bool.Decides.{nat_tests}
@@ -39,7 +39,7 @@ module _ {Q : Type 0} where
   named (Err NotInitialId) = Some NotInitialId
   named reply = None
 
-  -- where this holds, the reply names the cause
+  -- if this holds, the reply names the cause
   abbrev Names : Option Refusal → (Reply Q → Type 0) → Type 0
   Names cause Holds = (reply : Reply Q) → Holds reply → named reply ≡ cause
 
@@ -56,7 +56,7 @@ module _ {Q : Type 0} where
       grind (arith, is, names (Err SpaceDiscarded), told)
   passes other Cause Otherwise is names reply told = grind (arith, is, names reply, told)
 
-  -- a cause that is one of them is named where it holds, and else what the others name
+  -- a cause that is one of them is named if it holds, and otherwise what the others name
   cause_names : (cause : Refusal) → (refusal_number cause == 17) ≡ false
       → (let reply : Reply Q = Err cause in named reply ≡ Some cause) → (Cause : Type 0) (Otherwise : Reply Q → Type 0)
       (rest expected : Option Refusal) → (Cause → expected ≡ Some cause) → (¬ Cause → expected ≡ rest)
@@ -79,7 +79,7 @@ module _ {Q : Type 0} where
   ecn_names here newly counts (Err (refusal.Ecn text)) told = refl
   ecn_names here newly counts (Err other) told = absurd told
 
--- what is named is refused rightly
+-- what is named is rejected rightly
 module _ {Q S M P : Type 0} (history : History Q S M P) (event : Event Q S M P) where
   by_name : (reply : Reply Q) → named reply ≡ first_cause history event → RejectsExactly history event reply
   by_name (Err SpaceDiscarded) is = sym is
@@ -108,7 +108,7 @@ module _ {F K Q S M P : Type 0} (beginning : Beginning F K Q S M P) where
         in_one space _ _ (cause_names NotTracked refl refl _ _ None _ (λ none. grind (arith, none, found))
         (λ some. grind (arith, some, found)) (answers Grows (EqualsAnswer given)))
 
-    -- a path that lives
+    -- an existing path
     on_path : (name : PathName) (Replies : PathReplyInputs K → Reply Q → Type 0)
         → ((path : PathReplyInputs K) → Names None (Replies path))
         → Names (unless (is_some (generation_by name history)) NoSuchPath)
@@ -141,10 +141,10 @@ module _ {F K Q S M P : Type 0} (beginning : Beginning F K Q S M P) where
       (λ before event reply here tracked. by_name before event reply (names before tracked event reply here))
       (none_tracked beginning)
 
--- ---- memory is refused only where something may grow
+-- ---- an allocation fails only if something may grow
 
 module _ {Q : Type 0} where
-  -- memory is refused only where this holds
+  -- an allocation fails only if this holds
   abbrev Only : Type 0 → (Reply Q → Type 0) → Type 0
   Only Grows Holds = Holds (Err NoMemory) → Grows
 

@@ -1,4 +1,5 @@
--- What the parts of a recovery tell is what the history tells: the clause `reply` of `run`, event by event.
+-- The replies by the parts of a recovery are the replies by the history: the clause `reply_after` of `run`, event by
+-- event.
 use Rattle.std.proofs.Common.{arith, ℕ, ◌↔◌, Bool, IsSome}
 use Rattle.recovery_base.specs.declared.below.SpaceId.{SpaceId}
 use Rattle.recovery_base.specs.Numbers.{RecentNumbers, IsNewNumber}
@@ -25,7 +26,7 @@ use Rattle.recovery_history.specs.PartReplies.{UnlessSpaceDiscarded, ReceivedAns
 use Rattle.recovery_history.specs.Table.{ReplyTable}
 use Rattle.recovery_history.proofs.ReplyLaws.{refuses_alike, answers_alike}
 
--- ---- what the window of a space tells is what all numbers tell
+-- ---- the window of a space gives the same replies as all numbers
 
 record HeardAlike (here there : AckState) : Type 0 where
   numbers : (n : ℕ) → here.came n ↔ RecentNumbers there.came n
@@ -58,7 +59,7 @@ module _ {here there : AckState} (alike : HeardAlike here there) where
 
   module _ {Q S M P : Type 0} (q : QueueModel Q S M P) (known : SpaceReplyInputs P M) (streams : S) (immediate : Bool)
       (found : ProbeFound) where
-    -- what can be sent, where a probe is asked for
+    -- what can be sent, if a probe is requested
     probe_answer_told : (answer : Answer Q) → IsQueueProbeAnswer q known streams here immediate found answer
         → IsQueueProbeAnswer q known streams there immediate found answer
     probe_answer_told (Sendable frames) told = grind (arith, told, alike.required, alike.pending)
@@ -72,7 +73,7 @@ module _ {here there : AckState} (alike : HeardAlike here there) where
     probe_told = refuses_alike SpaceDiscarded _ _ _ _ (λ h. h, λ h. h)
         (answers_alike _ (IsSome found.moved) _ _ (λ h. h) probe_answer_told)
 
--- the two events that are told by what came
+-- the two events whose replies depend on the numbers received
 told_alike : {K Q S M P : Type 0} (q : QueueModel Q S M P) (words : ControllerSemantics K)
     {here there : SpaceId → AckState}
     → ((space : SpaceId) → HeardAlike (here space) (there space))
@@ -88,7 +89,7 @@ told_alike q words alike known event reply told = told
 
 module _ {F K Q S M P : Type 0} (beginning : Beginning F K Q S M P) (history : History Q S M P)
     (state : RecoveryState K P M) (left : LoggedStateAfter beginning history state) where
-  -- what the logs say of the packets that came
+  -- what the logs say about the packets received
   abbrev heard_there : SpaceId → AckState
   heard_there space = acks_by beginning.queue.words ((logs_of beginning history).spaces space)
 
@@ -102,7 +103,7 @@ module _ {F K Q S M P : Type 0} (beginning : Beginning F K Q S M P) (history : H
         came_greatest ((logs_of beginning history).spaces space),
       )
 
-  -- told by the parts, an event is told by the history
+  -- the reply by the parts is the reply by the history
   pub told_by_logs : (event : Event Q S M P) (reply : Reply Q)
       → ReplyTable beginning.queue state.settings.words (acks_to state) (inputs_after beginning history) event reply
       → ReplyTable beginning.queue beginning.words heard_there (inputs_after beginning history) event reply

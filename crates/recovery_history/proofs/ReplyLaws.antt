@@ -1,4 +1,4 @@
--- One reply, by two tellings of the same causes and answers. `TableLaws`, `PeerIdsLaws`, `RejectionsLaws` and
+-- One reply, by two forms of the same causes and answers. `TableLaws`, `PeerIdsLaws`, `RejectionsLaws` and
 -- `RepliesAfterLaws` rest on it.
 use Rattle.std.proofs.Common.{◌≡◌, ◌==◌, ◌↔◌, Bool, true, false, Ok, Err, arith, if◌then◌else◌}
 use Rattle.std.proofs.lemmas.Bool.Decides.{nat_tests}
@@ -10,7 +10,7 @@ use Rattle.recovery_events.specs.Refusals.{refusal_number}
 use Rattle.recovery_history.specs.History.{Reply}
 use Rattle.recovery_history.specs.Replies.{same_refusal, RejectsWhen, AnswersOrNoMemory}
 
--- of a refusal that holds no text there is one alone with its number
+-- an error without a text is determined by its number
 pub only_refusal : (given of : Refusal) → (refusal_number of == 17) ≡ false → same_refusal given of ≡ true → given ≡ of
 only_refusal NoMemory of no_text same = grind (arith, nat_tests)
 only_refusal given of no_text same = grind (arith, nat_tests)
@@ -30,7 +30,7 @@ answers_alike Grows Takes IsAnswer IsOther grows alike (Ok answer) told = alike 
 answers_alike Grows Takes IsAnswer IsOther grows alike (Err NoMemory) told = grows told
 answers_alike Grows Takes IsAnswer IsOther grows alike (Err refusal) told = absurd told
 
--- a reply as a value: where a test decides the cause, and its refusal is the only one with its number
+-- a reply as a value: if a test decides the cause, and its error is the only one with its number
 pub refused_by : {Q : Type 0} (refusal : Refusal)
     → ((given : Refusal) → same_refusal given refusal ≡ true → given ≡ refusal)
     → (cause : Bool) (Cause : Type 0) (Otherwise : Reply Q → Type 0) (rest : Reply Q) → Decides cause Cause

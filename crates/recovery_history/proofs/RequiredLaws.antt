@@ -22,7 +22,7 @@ both first second = grind arith
 pub either : {A B : Type 0} → Decided A → Decided B → Decided (A ⊎ B)
 either first second = grind arith
 
--- ---- the least missing number, by a search
+-- ---- the smallest missing number, by a search
 
 module _ (Missing : ℕ → Type 0) (decided : (n : ℕ) → Decided (Missing n)) (low : ℕ) where
   abbrev IsFirst : ℕ → ℕ → Type 0
@@ -54,7 +54,7 @@ module _ (Missing : ℕ → Type 0) (decided : (n : ℕ) → Decided (Missing n)
           inl (high, (last.0, omega arith, last.1, λ m above inside missing. grind (arith, none m above)))
       go (inr none) (inr other) = inr (λ m above inside missing. grind (arith, none m above))
 
--- ---- of the numbers that came
+-- ---- over the numbers received
 
 module _ (Numbers : ℕ → Type 0) (greatest : HasGreatest Numbers) (came : (n : ℕ) → Decided (Numbers n)) where
   is_near : HasGreatest Numbers → (n : ℕ) → Decided (IsInWindow Numbers n)

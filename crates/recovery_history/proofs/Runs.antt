@@ -1,4 +1,4 @@
--- A run goes on by one event, and what each event keeps holds throughout. The clauses of `run` that are carried from
+-- One event extends a run, and what each event preserves holds throughout. The clauses of `run` that are carried from
 -- event to event rest on it.
 use Rattle.recovery_history.specs.RepliesAfter.{RepliesAfter}
 use Rattle.std.proofs.Common.{◌≡◌, List, [], ◌∷◌, ◌++◌, length, reverse, refl, ap, ◌∙◌, arith}
@@ -21,7 +21,7 @@ module _ {Q S M C : Type 0} (P : History Q S M C → Event Q S M C → Reply Q �
   history_push events replies same =
       ap (λ all. reverse all) (zip_push events replies same) ∙ reverse-append (zip events replies) ((event, reply) ∷ [])
 
-  -- what holds of the history with one event more, after a run that goes on by it
+  -- what holds for the history with one more event, after a run that is extended by it
   pub after_push : (Holds : History Q S M C → Type 0) (events : List (Event Q S M C)) (replies all : List (Reply Q))
       → Throughout P events replies → all ≡ replies ++ reply ∷ [] → Holds ((event, reply) ∷ history events replies)
       → Holds (history (events ++ event ∷ []) all)
@@ -35,8 +35,8 @@ module _ {Q S M C : Type 0} (P : History Q S M C → Event Q S M C → Reply Q �
         after_push (AtEach P) events replies all so_far is (here, so_far.1),
       )
 
--- What holds of an event because of what each one keeps, from before it to behind it, holds at each; and what is kept
--- is kept behind the last.
+-- What follows at an event from an invariant that each event preserves holds at each; and the invariant holds after the
+-- last.
 module _ {Q S M C : Type 0} (P : History Q S M C → Event Q S M C → Reply Q → Type 0) (Kept : History Q S M C → Type 0)
     (keeps : (before : History Q S M C) (event : Event Q S M C) (reply : Reply Q) → P before event reply → Kept before
     → Kept ((event, reply) ∷ before)) (first : Kept []) where
@@ -54,7 +54,7 @@ module _ {Q S M C : Type 0} (P : History Q S M C → Event Q S M C → Reply Q �
     at_each H holds before all.1,
   )
 
--- the same, with what is kept at first behind it
+-- the same, with what holds at first after it
 pub throughout_by : {Q S M C : Type 0} (P H : History Q S M C → Event Q S M C → Reply Q → Type 0)
     (Kept : History Q S M C → Type 0)
     → ((before : History Q S M C) (event : Event Q S M C) (reply : Reply Q) → P before event reply → Kept before
@@ -64,13 +64,13 @@ pub throughout_by : {Q S M C : Type 0} (P H : History Q S M C → Event Q S M C 
     → Kept [] → (history : History Q S M C) → AtEach P history → AtEach H history
 throughout_by P H Kept keeps holds first = at_each P Kept keeps first H holds
 
--- of every run whose events were told, it holds throughout
+-- for every run with such replies, it holds throughout
 abbrev pub AllAlong : {F K Q S M P : Type 0} → Beginning F K Q S M P
     → (History Q S M P → Event Q S M P → Reply Q → Type 0) → Type 0
 AllAlong {F} {K} {Q} {S} {M} {P} beginning H = (history : History Q S M P) → AtEach (RepliesAfter beginning) history
     → AtEach H history
 
--- what holds of an event because of what was kept before it holds throughout a run
+-- what follows at an event from an invariant holds throughout a run
 module _ {F K Q S M P : Type 0} (beginning : Beginning F K Q S M P) (Kept : History Q S M P → Type 0)
     (Holds : History Q S M P → Event Q S M P → Reply Q → Type 0) where
   pub throughout_kept : ((before : History Q S M P) (event : Event Q S M P) (reply : Reply Q)

@@ -1,5 +1,5 @@
--- Searches for the MTU take few probes and end near the best size, throughout a run. The promises on searches by events
--- alone (`ProbeCountLaws`, `ConvergenceLaws`, `MtuLaws`, `ProbeSizesLaws`, by `SearchSteps` the others) rest on it.
+-- MTU searches send few probes and end near the best size, throughout a run. The promises on searches by events alone
+-- (`ProbeCountLaws`, `ConvergenceLaws`, `MtuLaws`, `ProbeSizesLaws`, by `SearchSteps` the others) rest on it.
 use Rattle.std.proofs.Common.{arith, ℕ, ◌≡◌, Bool, true, false, ◌&&◌, if◌then◌else◌, List, [], ◌∷◌, Option, None, Some, Ok, Err, refl, sym, ap, ◌∙◌}
 use Rattle.std.specs.Prelude.{IsSomeAnd}
 use Rattle.std.specs.Option.{ForSome}
@@ -28,14 +28,14 @@ use Rattle.recovery_history.specs.PartReplies.{MtuProbeReply}
 use Rattle.recovery_history.proofs.SearchSaid.{EndsNear, LimitsOutside, ProbesInTurn, TellsProbes, entered_so_far, entries_on, is_in_flight, Follows, Keeps, IsSmall}
 use Rattle.recovery_history.proofs.AllowedEntryLaws.{is_allowed}
 
--- what holds of the settings holds where they are used
+-- what holds for the settings holds if they are used
 pub where_allowed : {A : Type 0} (P : A → Type 0) (allowed : Bool) (o : Option A) → ForSome o P
     → ForSome (if allowed then o else None) P
 where_allowed P true o holds = holds
 where_allowed P false o holds = λ x is. absurd cc
 
 module _ {K Q S M P : Type 0} (q : QueueModel Q S M P) (known : ReplyInputs K P M) (now : ℕ) where
-  -- a poll that gives none is not answered by a probe
+  -- a poll that returns none is not answered by a probe
   unanswered : {A : Type 0} (answer : Option ℕ) (number size : ℕ) → answer ≡ None
       → MtuProbeReply q known now answer (Ok (Probe number size)) → A
   unanswered None number size none told = absurd cc
@@ -43,14 +43,14 @@ module _ {K Q S M P : Type 0} (q : QueueModel Q S M P) (known : ReplyInputs K P 
 
 module _ {K Q S M P : Type 0} (q : QueueModel Q S M P) (known : ReplyInputs K P M) (settings : MtuDiscoveryConfig)
     (now next : ℕ) (earlier : List MtuEntry) where
-  -- a poll that is answered by a probe gives one
+  -- a poll that is answered by a probe returns one
   probe_out : (answer : Option ℕ) (number size : ℕ) → MtuProbeReply q known now answer (Ok (Probe number size))
       → ProbesInSearch settings (poll_entry now next answer ∷ earlier)
       → ProbesInSearch settings (probed now number size ∷ earlier)
   probe_out None number size told inside = absurd cc
   probe_out (Some own) number size told inside = inside
 
-  -- a poll that is answered by no probe gives none
+  -- a poll that is answered by no probe returns none
   none_out : (made : _) (answer : Option ℕ) → MtuProbeReply q known now answer (Ok NoProbe)
       → EndsNearBest made settings (poll_entry now next answer ∷ earlier)
       → EndsNearBest made settings (unprobed now ∷ earlier)
@@ -73,11 +73,11 @@ module _ {F K Q S M P : Type 0} (beginning : Beginning F K Q S M P) where
   abbrev past_in : History Q S M P → PathHistory K
   past_in history = (pasts_of beginning history).current
 
-  -- each path that lives is
+  -- so is each existing path
   abbrev pub AreSearched : History Q S M P → Type 0
   AreSearched history = OnEachPath (IsPathSearchedBy (discovery_settings beginning)) (pasts_of beginning history)
 
-  -- an event keeps that
+  -- an event preserves that
   pub searched_one : Keeps (RepliesAfter beginning) AreSearched
   searched_one before event reply told searched =
       searched_over (settings_of beginning) (discovery_settings beginning) (fresh_is beginning) (first_path beginning) _
@@ -124,7 +124,7 @@ module _ {F K Q S M P : Type 0} (beginning : Beginning F K Q S M P) where
           (polls now (inputs_after beginning before).next_number ∷ past.searched))
   probes_one before event reply told searched = tt
 
-  -- a search runs on the path in use exactly where its entries say so
+  -- a search runs on the path in use exactly if its entries say so
   pub limits_one : Follows (RepliesAfter beginning) AreSearched (LimitsOutside beginning)
   limits_one before (PeerLimit size) (Err Searching) told searched =
       sym (search_runs_by _ searched.0.untold (past_in before).searched) ∙ told.1

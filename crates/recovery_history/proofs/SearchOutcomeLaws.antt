@@ -1,4 +1,4 @@
--- What the search of the path in use is told of a number happened to that number in the space of 1-RTT packets.
+-- What is reported of a number to the search of the path in use happened to that number in the Application Data space.
 -- `BurstLaws` rest on it.
 use Rattle.std.proofs.lemmas.Bool.Decides.{nat_tests}
 use Rattle.std.proofs.Common.{◌≡◌, ℕ, ◌+◌, ◌≤◌, ◌==◌, ◌&&◌, Bool, true, false, if◌then◌else◌, List, [], ◌∷◌, ◌++◌, Option, Some, Ok, Err, refl, arith}
@@ -19,14 +19,14 @@ use Rattle.recovery_history.specs.ReplyInputs.{ReplyInputs, tracked_known}
 use Rattle.recovery_history.specs.Promises.ResolvedOnce.{departures_of}
 use Rattle.recovery_history.proofs.EntryKinds.{PathKind, departing, elsewhere, path_kind, paths_kept}
 
--- how often a number leaves the space of 1-RTT packets, where it is this one
+-- how often a number leaves the Application Data space, if it is this one
 abbrev leaves_data : SpaceId → ℕ → ℕ → ℕ
 leaves_data space other number = if same_space space Data && other == number then 1 else 0
 
 module _ {K P M : Type 0} (known : ReplyInputs K P M) (number : ℕ) where
-  -- ---- what each part of an event's entries tells
+  -- ---- the reports of each part of an event's entries
 
-  -- what is told of an acknowledged packet
+  -- the reports of an acknowledged packet
   acked_departs : (space : SpaceId) (now other : ℕ) (app_limited : Bool) (packet : Option (Packet P M))
       → told_in number (acked_entry known now app_limited packet ++ acked_search known space other packet) ≤ leaves_data
       space other number
@@ -41,7 +41,7 @@ module _ {K P M : Type 0} (known : ReplyInputs K P M) (number : ℕ) where
 
 -- ---- all else
 
--- the search sees no packet leave
+-- the search gets no report that a packet left
 abbrev is_silent : PathKind → Bool
 is_silent departing = false
 is_silent elsewhere = false
@@ -56,7 +56,7 @@ module _ (number : ℕ) where
 module _ {K Q S M P : Type 0} (q : QueueModel Q S M P) (known : ReplyInputs K P M) (number : ℕ)
     (earlier : History Q S M P)
   where
-    -- what is told of a number by an event's entries, it left by the event
+    -- if an event's entries report a number, it left by the event
     abbrev Departs : Entries P M → Event Q S M P × Reply Q → Type 0
     Departs entries happened =
         told_in number entries.paths + departures_of Data number earlier ≤ departures_of Data number
@@ -96,7 +96,7 @@ module _ {F K Q S M P : Type 0} (beginning : Beginning F K Q S M P) (number : �
         event_departs beginning.queue known number earlier happened.0 happened.1,
       )
 
-  -- at each moment a number was told at most as often to the search of the path in use as it left its space
+  -- at each time a number was reported at most as often to the search of the path in use as it left its space
   pub fates_depart : (history : History Q S M P)
       → fates number (pasts_of beginning history).current.searched ≤ departures_of Data number history
   fates_depart history =

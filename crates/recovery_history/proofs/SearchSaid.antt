@@ -1,5 +1,5 @@
--- What the search on the path in use was told and answered says of each event: words, from which all promises on
--- searches and black holes are proved.
+-- What the calls and answers of the search on the path in use state about each event: definitions, from which all
+-- promises on searches and black holes are proved.
 use Rattle.std.specs.Prelude.{◌≡◌, ℕ, ◌&&◌, Bool, true, false, List, [], ◌∷◌, ◌++◌, Option, Ok, Err, if◌then◌else◌, is_some, IsSomeAnd, option_to_list, option_map, ◌<◌, ◌^◌}
 use Rattle.recovery_base.specs.declared.below.SpaceId.{SpaceId}
 use Rattle.recovery_base.specs.Spaces.{same_space}
@@ -21,7 +21,7 @@ use Rattle.recovery_history.specs.Search.{WhereSearched, discovery_settings}
 use Rattle.std.specs.Option.{ForSome}
 
 module _ {Q S M C : Type 0} where
-  -- what follows at each event of what it was told, and of what was kept before
+  -- what follows at each event from its reply and from an invariant before it
   abbrev pub Follows : (P : History Q S M C → Event Q S M C → Reply Q → Type 0) (Kept : History Q S M C → Type 0)
       (Holds : History Q S M C → Event Q S M C → Reply Q → Type 0) → Type 0
   Follows P Kept Holds = (before : History Q S M C) (event : Event Q S M C) (reply : Reply Q)
@@ -30,25 +30,25 @@ module _ {Q S M C : Type 0} where
   abbrev pub Keeps : (P : History Q S M C → Event Q S M C → Reply Q → Type 0) (Kept : History Q S M C → Type 0) → Type 0
   Keeps P Kept = Follows P Kept (λ before event reply. Kept ((event, reply) ∷ before))
 
--- what the discovery of a path was told and answered since it was made
+-- the calls and answers of a path's discovery since it was made
 abbrev pub entries_on : {K : Type 0} → PathHistory K → List MtuEntry
 entries_on past = entries_by past.kept.discovery past.searched
 
--- what the size of a packet gives, where there is one
+-- the entries for the size of a packet, if there is one
 abbrev pub of_packet : {P M : Type 0} → (ℕ → MtuEntry) → Option (Packet P M) → List MtuEntry
 of_packet entry packet = option_to_list (option_map (λ packet. entry packet.size) packet)
 
 module _ {F K Q S M P : Type 0} (beginning : Beginning F K Q S M P) where
-  -- the packet of 1-RTT keys that is tracked under a number
+  -- the 1-RTT packet that is tracked under a number
   abbrev pub data_packet : History Q S M P → ℕ → Option (Packet P M)
   data_packet history = packet_at (tracked_known (inputs_after beginning history) Data)
 
-  -- what the search on the path in use was told and answered before
+  -- the calls and answers of the search on the path in use before
   abbrev pub entered_so_far : History Q S M P → List MtuEntry
   entered_so_far history = entries_on (pasts_of beginning history).current
 
-  -- and after an event, read off its answer: what the event is to the search, and what was before; a fresh path has
-  -- none, and neither has one that is used again
+  -- and after an event, by its answer: the entries of the event in the search, and those before; a fresh path has none,
+  -- and neither has one that is used again
   abbrev pub entered : History Q S M P → Event Q S M P → Reply Q → List MtuEntry
   entered history event (Err refusal) = entered_so_far history
   entered history (PollMtu now) (Ok (Probe number size)) = probed now number size ∷ entered_so_far history
@@ -74,51 +74,51 @@ module _ {F K Q S M P : Type 0} (beginning : Beginning F K Q S M P) where
   abbrev pub IsSmall : Type 0
   IsSmall = ForSome (discovery_settings beginning) (λ settings. settings.upper_bound < 2 ^ 16)
 
-  -- a limit of the peer is refused by `Searching` while a search runs, from its first probe until it ends, and taken
+  -- a limit of the peer fails with `Searching` while a search runs, from its first probe until it ends, and is accepted
   -- while none does
   abbrev pub LimitsOutside : History Q S M P → Event Q S M P → Reply Q → Type 0
   LimitsOutside history (PeerLimit size) (Err Searching) = search_runs (entered_so_far history) ≡ true
   LimitsOutside history (PeerLimit size) (Ok given) = search_runs (entered_so_far history) ≡ false
   LimitsOutside history event reply = Unit {0}
 
-  -- the packet of 1-RTT keys of this number is the probe in flight: one from the poll that gave it until it is
-  -- acknowledged or lost, or until a report or a reset
+  -- the 1-RTT packet of this number is the probe in flight: one from the poll that returned it until it is acknowledged
+  -- or lost, or until a report or a reset
   abbrev pub is_in_flight : History Q S M P → SpaceId → ℕ → Bool
   is_in_flight history space number =
       same_space space Data && is_some (size_at number (probe_in_flight (entered_so_far history)))
 
-  -- a packet that is acknowledged or lost is answered to be a probe exactly where it is the one in flight
+  -- a packet that is acknowledged or lost is reported as a probe exactly if it is the one in flight
   abbrev pub TellsProbes : History Q S M P → Event Q S M P → Reply Q → Type 0
   TellsProbes history (Acked space now number app_limited) (Ok given) =
       given ≡ answer.Acked (is_in_flight history space number)
   TellsProbes history (Lost space number) (Ok given) = given ≡ answer.Lost (is_in_flight history space number)
   TellsProbes history event reply = Unit {0}
 
-  -- a poll that is answered by a probe comes where paths are searched; it finds a search that runs, or begins one that
-  -- is due, and no probe in flight
+  -- a poll is answered by a probe only if MTU discovery is enabled; it continues a search that runs, or begins one that
+  -- is due, and no probe is in flight
   abbrev pub ProbesInTurn : History Q S M P → Event Q S M P → Reply Q → Type 0
   ProbesInTurn history (PollMtu now) (Ok (Probe number size)) =
       IsSomeAnd (discovery_settings beginning) (λ settings.
       ProbesInSearch settings (probed now number size ∷ entered_so_far history))
   ProbesInTurn history event reply = Unit {0}
 
-  -- a search that ends by a poll that is answered by no probe ends near the best size of an honest link
+  -- a search that ends by a poll without a probe ends near the best size of such a link
   abbrev pub EndsNear : History Q S M P → Event Q S M P → Reply Q → Type 0
   EndsNear history (PollMtu now) (Ok NoProbe) =
       let past = (pasts_of beginning history).current in
       WhereSearched beginning (λ settings. EndsNearBest past.kept.discovery settings (unprobed now ∷ entries_on past))
   EndsNear history event reply = Unit {0}
 
-  -- where the end of losses reports a black hole, four bursts of packets above the least MTU stand: closed since the
+  -- if the end of losses reports a black hole, there are four bursts of packets above the minimum MTU: closed since the
   -- last report, reset or fresh path, and not refuted
   abbrev pub NeedsFourBursts : History Q S M P → Event Q S M P → Reply Q → Type 0
   NeedsFourBursts history (LossesDone now) (Ok (BlackHole true)) =
       let past = (pasts_of beginning history).current in AreFourStanding past.kept.discovery (entries_on past)
   NeedsFourBursts history event reply = Unit {0}
 
-  -- where four such bursts have closed since then, the first of them past every acknowledged packet that is larger than
-  -- the least MTU, and neither a probe nor such a packet was acknowledged since it closed, the end of losses reports a
-  -- black hole
+  -- if four such bursts have closed since then, the first of them above every acknowledged packet that is larger than
+  -- the minimum MTU, and neither a probe nor such a packet was acknowledged since it closed, the end of losses reports
+  -- a black hole
   abbrev pub ComesAtFourBursts : History Q S M P → Event Q S M P → Reply Q → Type 0
   ComesAtFourBursts history (LossesDone now) reply =
       let past = (pasts_of beginning history).current in

@@ -1,5 +1,5 @@
--- What an event is to the search on the path in use, for what is read off the history: one step of its entries. The
--- promises on searches by events alone rest on it.
+-- The entry of an event in the search on the path in use, for what is read from the history: one step of its entries.
+-- The promises on searches by events alone rest on it.
 use Rattle.std.proofs.Common.{arith, ℕ, ◌≡◌, Bool, true, false, if◌then◌else◌, List, [], ◌∷◌, None, Some, Ok, Err, is_some}
 use Rattle.recovery_base.specs.declared.below.SpaceId.TheVariants.{Data}
 use Rattle.recovery_spaces.specs.Packets.{Packet}
@@ -64,7 +64,7 @@ is_probed entries number = is_some (size_at number (probe_in_flight entries))
 
 module _ {Q S M P : Type 0} (first least : ℕ) (history : History Q S M P) (entries : List MtuEntry)
     (G : Reply Q → List MtuEntry → Type 0) where
-  -- what is to show for an event, by each reply that it may have: that this holds of the reply and the entries then
+  -- the goal for an event, by each reply that it may have: that this holds for the reply and the entries then
   abbrev pub Step : Event Q S M P → Reply Q → Type 0
   Step event (Err refusal) = G (Err refusal) entries
   Step (PollMtu now) (Ok (answer.Probe number size)) =
@@ -92,7 +92,7 @@ module _ {F K Q S M P : Type 0} (beginning : Beginning F K Q S M P) (history : H
       let settings = settings_of beginning in
       Step settings.mtu settings.min_mtu history (entered_so_far beginning history) G
 
-  -- the packet of a number is there, and has the size that the history says
+  -- the packet of a number exists, and has the size that the history says
   found : (number : ℕ) → Sized beginning history → ¬ (data_packet beginning history number ≡ None)
       → (packet : Packet P M) × (data_packet beginning history number ≡ Some packet)
       × (packet.size ≡ size_of history number)

@@ -1,5 +1,5 @@
--- What is seen of the paths and is not changed by what happens on one of them stays through every event but those that
--- make a path, drop one or use one again. `MadeLaws` and `LeftMtuLaws` rest on it.
+-- What is read of the paths and is not changed by what happens on one of them is preserved by every event except those
+-- that make a path, drop one or use one again. `MadeLaws` and `LeftMtuLaws` rest on it.
 use Rattle.std.proofs.Common.{ℕ, ◌≡◌, Bool, true, false, List, ◌∷◌, ◌++◌, Ok, Err, refl, ◌∙◌, arith}
 use Rattle.recovery_paths.specs.PathMaking.{PathSettings}
 use Rattle.recovery_paths.specs.PathLog.{PerPath, PathEntry, PathHistory, PathsEntry, on, is_validated, on_path_of, past_with, pasts_by, receives}
@@ -13,18 +13,18 @@ use Rattle.recovery_history.specs.ReplyInputs.{ReplyInputs}
 use Rattle.recovery_history.proofs.EntryKinds.{PathKind, moving, dropping, returning, elsewhere, path_kind, paths_kept}
 use Rattle.std.specs.Prelude.{Option, option_map}
 
--- what happens on the path in use is not seen
+-- what happens on the path in use does not change it
 abbrev pub IsStill : {K A : Type 0} → PathSettings K → (PerPath (PathHistory K) → A) → Type 0
 IsStill {K} settings see = (entry : PathEntry) (paths : PerPath (PathHistory K))
     → see (on_path_of Current (past_with settings entry) paths) ≡ see paths
 
--- nor that datagrams come in on the path before it, or that it is validated
+-- nor do datagrams received on the previous path, or its validation
 abbrev pub IsStillOn : {K A : Type 0} → PathSettings K → (PerPath (PathHistory K) → A) → Type 0
 IsStillOn {K} settings see = (paths : PerPath (PathHistory K))
     → ((bytes : ℕ) → see (on_path_of Previous (past_with settings (receives bytes)) paths) ≡ see paths)
     × (see (on_path_of Previous (past_with settings is_validated) paths) ≡ see paths)
 
--- what nothing changes of a value stays so of an option
+-- what leaves a value unchanged leaves an option unchanged
 pub map_kept : {A B : Type 0} (see : A → B) (f : A → A) → ((a : A) → see (f a) ≡ see a) → (o : Option A)
     → option_map see (option_map f o) ≡ option_map see o
 map_kept see f same o = grind (arith, same)
@@ -55,7 +55,7 @@ module _ {F K Q S M P A : Type 0} (beginning : Beginning F K Q S M P) (see : Per
   abbrev log : List PathsEntry
   log = (logs_of beginning past).paths
 
-  -- of events that do so nothing is said
+  -- nothing is stated about events that do so
   abbrev Stays : Event Q S M P → Reply Q → Type 0
   Stays (NewPath now remote is_fresh) (Ok given) = Unit {0}
   Stays DropPrevious (Ok given) = Unit {0}

@@ -1,5 +1,5 @@
--- A packet that is sent: it may be tracked, the balance of the paths stays, and each part changes by its step. The call
--- `send` rests on it.
+-- A packet that is sent: it may be tracked, the balance of the paths is preserved, and each part changes by its step.
+-- The call `send` rests on it.
 use Rattle.recovery_spaces.specs.SpaceLog.{sends}
 use Rattle.recovery_history.specs.Entries.{here}
 use Rattle.std.proofs.Common.{◌≡◌, ℕ, ◌<◌, ◌≤◌, ◌^◌, Bool, false, Option, option_map, Ok, refl, sym, ap, subst, ◌∙◌, arith}
@@ -31,7 +31,7 @@ use Rattle.recovery_history.proofs.CallerStateLaws.{previous_same, both_marks}
 use Rattle.recovery_history.proofs.DriverLaws.{space_changes}
 use Rattle.recovery_history.proofs.NumberLaws.{number_above, number_known, number_skips}
 
--- the paths where a packet was sent, and another is perhaps forgotten for it, as the controller is told
+-- the paths after a packet was sent, and perhaps another forgotten for it, with the report to the controller
 abbrev pub paths_telling : {K P M : Type 0} → Packet P M → Space P M → (PathState K → PathState K) → PerPath (Path K)
     → PerPath (Path K)
 paths_telling packet there change paths =
@@ -48,7 +48,7 @@ module _ {K P M : Type 0} (spaces : Spaces P M) (paths : PerPath (Path K)) (bala
       rw counts (paths_balanced_sent spaces paths balanced space number packet here own above small
       (ap tracking_of is) (ap next_number_of is) (rw is (balanced.coherent space).received))
 
--- what is known of the paths then: the controller was told
+-- the inputs from the paths then: the controller got the report
 module _ {K P M : Type 0} (packet : Packet P M) (there : Space P M) (change : PathState K → PathState K)
     (paths : PerPath (Path K)) where
   abbrev forgotten : Option (ℕ × Packet P M)
@@ -66,12 +66,12 @@ module _ {K P M : Type 0} (packet : Packet P M) (there : Space P M) (change : Pa
   telling_known = ap (known_as (generation_of paths.current.ledger))
       (previous_same path_known (on_ledger (λ ledger. after_forgetting ledger forgotten)) (λ path. refl) paths.previous)
 
-  -- what the layer above keeps with the paths stays
+  -- the caller's marks of the paths are unchanged
   pub telling_marks : paths_marks (paths_telling packet there change paths) ≡ paths_marks paths
   telling_marks = both_marks (on_ledger (λ ledger. after_forgetting ledger forgotten)) (λ path. refl)
       (paths_telling packet there change paths).current paths refl
 
--- what the event comes to
+-- the event
 module _ {K Q S M P : Type 0} (q : QueueModel Q S M P) (old : RecoveryState K P M)
     (balanced : AreBalanced old.spaces old.paths) (space : SpaceId) (now size : ℕ) (ack_eliciting : Bool)
     (largest_acked : Option ℕ) (queue : Q) (frames : M)

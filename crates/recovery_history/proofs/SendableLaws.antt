@@ -1,4 +1,4 @@
--- A probe finds something to send, and an ACK where one is due: the clause `sendable` of `run`.
+-- A probe finds something to send, and an ACK if one is due: the clause `sendable` of `run`.
 use Rattle.std.proofs.lemmas.Bool.Decides.{nat_tests}
 use Rattle.std.proofs.lemmas.List.Sums.{sum_by-cons}
 use Rattle.std.proofs.Common.{◌≡◌, ◌≤◌, ℕ, not, Bool, true, false, cond, filter, [], ◌∷◌, Option, None, Some, Ok, refl, arith}
@@ -24,7 +24,7 @@ module _ {P M S : Type 0} (words : QueueSemantics P S) (streams : S) where
   abbrev is_filled : ℕ × Packet P M → Bool
   is_filled entry = not (words.is_empty entry.1.retransmits streams)
 
-  -- the packet that is found is there, with contents
+  -- the packet that is found exists, with contents
   first_full : (packets : Packets P M) (n : ℕ) → ((m : ℕ) → times m packets ≤ 1)
       → least_number (filter is_filled packets) ≡ Some n
       → (packet : Packet P M) × (packet_at packets n ≡ Some packet)
@@ -75,7 +75,7 @@ module _ {P M S : Type 0} (words : QueueSemantics P S) (streams : S) where
           let first = first_full packets n once is in
           grind (arith, empty, is, first.1, full queued.pending first.0.retransmits first.2)
 
--- ---- what it is told
+-- ---- the reply
 
 module _ {F K Q S M P : Type 0} (beginning : Beginning F K Q S M P) where
   pub finds_to_send : (before : History Q S M P) (event : Event Q S M P) (reply : Reply Q)

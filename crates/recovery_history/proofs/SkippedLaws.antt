@@ -1,5 +1,5 @@
--- Which number a packet goes out under, which numbers were skipped, and which packets are refused, by the history: the
--- clauses `next_number`, `no_skips`, `skipped_acks` and `send_result` of `run`.
+-- The number under which a packet is sent, which numbers were skipped, and which packets are rejected, by the history:
+-- the clauses `next_number`, `no_skips`, `skipped_acks` and `send_result` of `run`.
 use Rattle.std.proofs.lemmas.Bool.Decides.{nat_tests}
 use Rattle.std.proofs.lemmas.Bool.{cases_lt, false≢true}
 use Rattle.std.proofs.Common.{◌≡◌, ◌<◌, ◌≤◌, ◌+◌, ◌-◌, ◌^◌, ℕ, zero, suc, ◌==◌, ◌&&◌, nat_lt, Bool, true, false, cond, List, [], ◌∷◌, Option, None, Some, Ok, Err, ◌⊎◌, inl, inr, ◌↔◌, if◌then◌else◌, refl, sym, ap, ◌∙◌, arith}
@@ -36,21 +36,21 @@ use Rattle.recovery_history.proofs.EntryKinds.{sends_none, space_kind, space_kep
 use Rattle.recovery_history.proofs.Runs.{AllAlong, throughout_kept}
 use Rattle.recovery_history.proofs.TrackedLaws.{one_space, probe_number, sent_in}
 
--- ---- the numbers of a space, by how often each was given out
+-- ---- the numbers of a space, by how often each was assigned
 
--- of one: below the next it was given out, unless it is skipped; from there on it was not; and the last one was no skip
+-- of one: below the next it was assigned, unless it is skipped; from there on it was not; and the last one was no skip
 pub record Gives (skip : ℕ → Bool) (next n count : ℕ) : Type 0 where
   pub given : n < next → skip n ≡ false → 0 < count
   pub left_out : skip n ≡ true → count ≡ 0
   pub last : n + 1 ≡ next → skip n ≡ false
   pub late : next ≤ n → count ≡ 0
 
--- a number that goes out: the next one, or the one behind it where that is skipped
+-- a number that is sent: the next one, or the one after it if that is skipped
 abbrev MayGo : (ℕ → Bool) → ℕ → ℕ → Type 0
 MayGo skip next number = (skip number ≡ false) × ((number ≡ next) ⊎ ((number ≡ next + 1) × (skip next ≡ true)))
 
 module _ (skip : ℕ → Bool) (next n count : ℕ) (here : Gives skip next n count) where
-  -- the one number that lies between
+  -- the one number in between
   between_skipped : (number : ℕ) → MayGo skip next number → n < number → next ≤ n → skip n ≡ true
   between_skipped number goes below up =
       let is : n ≡ next = grind (arith, goes.1, below, up) in rw is (grind (arith, goes.1, below, up))
@@ -65,7 +65,7 @@ module _ (skip : ℕ → Bool) (next : ℕ) (count : ℕ → ℕ) (all : (n : �
   last_given : (k : ℕ) → k + 1 ≡ next → 0 < count k
   last_given k is = (all k).given (omega (arith, is)) ((all k).last is)
 
-  -- what lies above all that were given out is not below the next number
+  -- what is above all assigned numbers is not below the next number
   not_below : (m : ℕ) → Above m → next ≤ m
   not_below m above = elim (cases_lt m next) [
     | inl less ↦ grind (arith, less, last_given (next - 1), above (next - 1))
@@ -92,7 +92,7 @@ module _ (skip : ℕ → Bool) (next : ℕ) (count : ℕ → ℕ) (all : (n : �
   from_skipped : (n : ℕ) → Skipped n → (n < next) × (skip n ≡ true)
   from_skipped n was = grind (arith, was, all n, all was.1.0)
 
-  -- the greatest below the next number, where there is one
+  -- the largest below the next number, if there is one
   abbrev IsGreatest : Option ℕ → Type 0
   IsGreatest None = (m : ℕ) → m < next → skip m ≡ false
   IsGreatest (Some s) = (s < next) × (skip s ≡ true) × ((m : ℕ) → s < m → m < next → skip m ≡ false)
@@ -115,7 +115,7 @@ module _ (skip : ℕ → Bool) (next : ℕ) (count : ℕ → ℕ) (all : (n : �
   holds_from (Some s) greatest low high holds =
       grind (arith, holds, to_skipped s greatest.0 greatest.1, at_most s greatest holds.0 holds.1)
 
--- ---- where none are to be skipped
+-- ---- if skipping is disabled
 
 behind_none : (exponent : ℕ) (at : Option ℕ × Stream) → at.0 ≡ None → (next_skip exponent at).0 ≡ None
 behind_none exponent (None, words) none = refl
@@ -136,7 +136,7 @@ module _ {F K Q S M P : Type 0} (beginning : Beginning F K Q S M P) where
   skip_in Data n = is_skipped beginning.config.skips beginning.random n
   skip_in space n = false
 
-  -- where none are to be skipped none is
+  -- if skipping is disabled, no number is skipped
   never : beginning.config.skips ≡ Disabled → (space : SpaceId) (n : ℕ) → skip_in space n ≡ false
   never none Data n = rw none (none_is_skipped beginning.random n)
   never none space n = refl
@@ -154,7 +154,7 @@ module _ {F K Q S M P : Type 0} (beginning : Beginning F K Q S M P) where
       go true here = inr (refl, here)
       go false here = inl refl
 
-  -- the number that is given out may go
+  -- the number that is assigned may be sent
   may_go : (history : History Q S M P) (space : SpaceId)
       → MayGo (skip_in space) (sent_in beginning history space).next (number_in (inputs_after beginning history) space)
   may_go history Data =
@@ -185,7 +185,7 @@ module _ {F K Q S M P : Type 0} (beginning : Beginning F K Q S M P) where
     unmoved : (entry : SpaceEntry P M) → sends_none (space_kind entry) ≡ true → After (Some entry) count_now
     unmoved entry none = grind (arith, none, here)
 
-    -- a packet goes out, in this space or in another one
+    -- a packet is sent, in this space or in another one
     goes_told : (there : SpaceId) (packet : Packet P M) (number : ℕ) → number ≡ number_in known there → (b : Bool)
         → same_space there space ≡ b
         → After (cond b (Some (sends (number_in known there) packet)) None) (more_if (b && number == n) count_now)
@@ -235,7 +235,7 @@ module _ {F K Q S M P : Type 0} (beginning : Beginning F K Q S M P) where
               ),
         )
 
-    -- a packet that goes out has that number
+    -- a packet that is sent has that number
     goes_as : (there : SpaceId) (given : ℕ) → given ≡ number_in (inputs_after beginning before) there
         → (space : SpaceId) (number : ℕ) → (same_space there space && given == number) ≡ true
         → number ≡ number_in (inputs_after beginning before) space
@@ -258,7 +258,7 @@ module _ {F K Q S M P : Type 0} (beginning : Beginning F K Q S M P) where
     gives_next event reply told = λ space number goes.
         rw (number_told event reply told space number goes) (is_next space)
 
-    -- ---- where none is skipped
+    -- ---- if none is skipped
 
     is_first : beginning.config.skips ≡ Disabled → (space : SpaceId) (m : ℕ) → IsAboveAllSent space m before
         → number_in (inputs_after beginning before) space ≤ m
@@ -340,9 +340,9 @@ module _ {F K Q S M P : Type 0} (beginning : Beginning F K Q S M P) where
   keeps_skipped = throughout_kept beginning AllGiven RejectsSkippedAcks keeps_given
       (λ before event reply here all. checks_acks before all event reply here) none_given
 
--- ---- packets that are refused
+-- ---- packets that are rejected
 
--- a counter would come to 2^64
+-- a counter would reach 2^64
 abbrev pub Passes : ℕ → ℕ → ℕ → Bool → Type 0
 Passes bytes count size eliciting = (2 ^ 64 ≤ bytes + size) ⊎ (2 ^ 64 ≤ count + (if eliciting then 1 else 0))
 
@@ -354,7 +354,7 @@ module _ {F K Q S M P : Type 0} (beginning : Beginning F K Q S M P) where
   abbrev Both : History Q S M P → Type 0
   Both history = AllGiven beginning history × Kept beginning history
 
-  -- the history and the table tell overflow alike
+  -- the history and the table agree on overflow
   pub same_cause : (before : History Q S M P) → Kept beginning before → (size : ℕ) (eliciting : Bool)
       → (let now = current_in_flight (inputs_after beginning before) in
       OverflowsInFlight before size eliciting ↔ Passes now.bytes now.ack_eliciting size eliciting)

@@ -1,5 +1,5 @@
--- What the parts know is what their logs say, and one event more leaves what its entries say. The loop of `run` and
--- `ReachabilityLaws` carry it from event to event.
+-- The inputs from the parts are what their logs say, and one more event leaves what its entries say. The loop of `run`
+-- and `ReachabilityLaws` carry it from event to event.
 use Rattle.std.proofs.Common.{arith, ◌≡◌, ℕ, List, [], ◌∷◌, Option, None, Some, sym, ap, ◌∙◌}
 use Rattle.std.proofs.Math.Path.{fun_ext}
 use Rattle.recovery_base.specs.declared.below.SpaceId.{SpaceId}
@@ -49,7 +49,7 @@ module _ {F K Q S M P : Type 0} (beginning : Beginning F K Q S M P) where
         previous = λ path is. rw (← same) (balanced.previous path is);
       }
 
-  -- ---- what is known
+  -- ---- the inputs
 
   pub known_same : (history : History Q S M P) (state : RecoveryState K P M) → LoggedStateAfter beginning history state
       → inputs_of state ≡ inputs_after beginning history
@@ -73,10 +73,10 @@ module _ {F K Q S M P : Type 0} (beginning : Beginning F K Q S M P) where
       spaces space =
           let here = left.spaces space in grind (arith, left.discarded space, here.acks.counts, here.sent, here.queued)
 
--- ---- one event more
+-- ---- one more event
 
 module _ {F K Q S M P : Type 0} (beginning : Beginning F K Q S M P) where
-  -- the steps, by what the history knows
+  -- the steps, by the inputs from the history
   pub changes_by_logs : (history : History Q S M P) (old : RecoveryState K P M) (event : Event Q S M P)
       (reply : Reply Q)
       (new : RecoveryState K P M) → LoggedStateAfter beginning history old
@@ -85,7 +85,7 @@ module _ {F K Q S M P : Type 0} (beginning : Beginning F K Q S M P) where
   changes_by_logs history old event reply new left changes = rw (← known_same beginning history old left) changes
 
 module _ {F K Q S M P : Type 0} (beginning : Beginning F K Q S M P) where
-  -- the skips below the next number, with one entry more
+  -- the skips below the next number, with one more entry
   skipping_law : (entry : Option (SpaceEntry P M)) (log : List (SpaceEntry P M)) (n : ℕ) (old new : SkipState)
       → n ≡ (sent_by beginning.queue.words log).next
       → old ≡ skipping_at beginning.config.skips beginning.random (sent_by beginning.queue.words log).next
@@ -147,7 +147,7 @@ balanced_first spaces path paths is made ledger =
     rw is (fresh spaces path none (fresh_coherent spaces none (λ space. (made space).acks)) (ap counters_of ledger))
 
 module _ {F K Q S M P : Type 0} (beginning : Beginning F K Q S M P) where
-  -- the first path, as it was made
+  -- the first path, when it was made
   pub paths_first : (path : Path K) (paths : PerPath (Path K))
       → paths ≡ record { current = path; previous = None; made = generation_of path.ledger }
       → path.ledger ≡ fresh_ledger 0 → path.state ≡ first_path beginning

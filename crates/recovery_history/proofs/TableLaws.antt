@@ -1,4 +1,4 @@
--- The table of replies allows one reply, and what logs leave is one state: the laws `one_reply` and `one_state`.
+-- The table of replies allows one reply, and the logs determine one state: the laws `one_reply` and `one_state`.
 use Rattle.std.proofs.Common.{◌≡◌, ℕ, ◌↔◌, ◌+◌, Bool, true, false, MatchBool, Option, None, Some, Ok, Err, arith, refl, sym, ap, ◌∙◌}
 use Rattle.std.specs.Prelude.{◌==◌, ◌≢◌, option_map}
 use Rattle.std.specs.Option.{ForSome}
@@ -39,19 +39,19 @@ use Rattle.recovery_history.proofs.ReplyLaws.{only_refusal}
 use Rattle.recovery_history.specs.PartReplies.{EcnAnswer, EqualsAnswer, IsPendingQueue, IsQueueProbeAnswer, UnlessPathMissing, MtuProbeReply, ReceivedAnswer}
 use Rattle.recovery_history.specs.Table.{ReplyTable}
 
--- ---- refusals, by their numbers
+-- ---- errors, by their numbers
 
 same_as_itself : (e : Refusal) → SameRefusal e e
 same_as_itself (refusal.Ecn text) = refl
 same_as_itself other = refl
 
--- two that have the number of one that holds no text
+-- two that have the number of one without a text
 same_refusals : (e f of : Refusal) → (refusal_number of == 17) ≡ false → same_refusal e of ≡ true
     → same_refusal f of ≡ true → SameRefusal e f
 same_refusals e f of no_text is_e is_f =
     rw (only_refusal e of no_text is_e) (rw (only_refusal f of no_text is_f) (same_as_itself of))
 
--- ---- the least id that is held
+-- ---- the smallest ID that is held
 
 pub least_held : (held : IdTable) (low one other : ℕ) → IsLeastHeld held low one → IsLeastHeld held low other
     → one ≡ other
@@ -67,7 +67,7 @@ least_held held low one other is_one is_other =
     )
 
 module _ {Q S M P : Type 0} (q : QueueModel Q S M P) where
-  -- of two replies that may be given, neither of which says that memory was refused, both are the same
+  -- two allowed replies that are not `NoMemory` are the same
   abbrev Decides : (Reply Q → Type 0) → Type 0
   Decides Replies =
       (one other : Reply Q) → one ≢ Err NoMemory → other ≢ Err NoMemory → Replies one → Replies other
@@ -134,7 +134,7 @@ module _ {Q S M P : Type 0} (q : QueueModel Q S M P) where
       same_Some text.now too.now (sym is_one ∙ is_other)
   ecn_decides here newly counts one other m n is_one is_other = grind (arith, is_one, is_other)
 
-  -- ---- ids
+  -- ---- IDs
 
   frame_agree : (ids : RemoteIds) (frame : NewConnectionId) → Agree (IsFrameAnswer ids frame)
   frame_agree ids frame (Retire (Some one)) (Retire (Some other)) is_one is_other =
@@ -188,10 +188,10 @@ module _ {Q S M P : Type 0} (q : QueueModel Q S M P) where
           probe_out,
         ) depth 12
 
--- ---- what a history decides
+-- ---- what a history determines
 
 module _ {K P M : Type 0} (known : ReplyInputs K P M) where
-  -- what is in flight on the previous path, by what is known of it
+  -- what is in flight on the previous path, by the inputs from it
   previous_in_flight : (path : Option (Path K))
       → ForSome path (λ p. counters_of p.ledger ≡ in_flight_on known (path_known p))
       → option_map (λ p. counters_of p.ledger) path ≡ option_map (in_flight_on known) (option_map path_known path)
@@ -217,7 +217,7 @@ module _ {F K Q S M P : Type 0} (beginning : Beginning F K Q S M P) (history : H
       (λ space. acks_by beginning.queue.words ((logs_of beginning history).spaces space))
       (inputs_after beginning history) event one other here there told_one told_other
 
-  -- an option that says each number alike is the same
+  -- options that contain the same numbers are the same
   same_base : (one other : Option ℕ) → ((m : ℕ) → (one ≡ Some m) ↔ (other ≡ Some m)) → one ≡ other
   same_base None None alike = refl
   same_base (Some m) other alike = sym ((alike m).0 refl)

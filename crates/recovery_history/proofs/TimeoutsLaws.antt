@@ -1,5 +1,5 @@
--- The least moment that a timer is set to is the least in the list of all timers. The answer of `next_timeout` rests on
--- it.
+-- The earliest time for which a timer is set is the minimum over the list of all timers. The answer of `next_timeout`
+-- rests on it.
 use Rattle.std.proofs.Common.{◌≡◌, ◌≤◌, ℕ, min, map, option_map, unwrap_or, List, [], ◌∷◌, Option, None, Some, ◌⊎◌, inl, inr, refl, sym, ◌∙◌, ap, arith}
 use Rattle.std.proofs.lemmas.Option.{none-some}
 use Rattle.recovery_base.specs.declared.timer.Timer.{Timer}
@@ -7,7 +7,7 @@ use Rattle.recovery_base.specs.declared.timer.Timer.TheVariants.{LossDetection}
 use Rattle.recovery_base.specs.Timers.{IsLeastMoment}
 use Rattle.recovery_history.specs.Promises.Timeouts.{every_timer, least}
 
--- ---- the least of them
+-- ---- the minimum
 
 abbrev In : Option ℕ → List (Option ℕ) → Type 0
 In m [] = ⊥
@@ -55,6 +55,6 @@ module _ (f : Timer → Option ℕ) where
       let below = is.1 y (set_in told.0.0 y told.0.1) in
       ap Some (omega (arith, above, below))
 
-  -- the least moment that a timer is set to is the least of all timers
+  -- the earliest time for which a timer is set is the minimum over all timers
   pub least_moment : (told : Option ℕ) → IsLeastMoment f told → told ≡ least (map f every_timer)
   least_moment told is = one_least told (least (map f every_timer)) is (least_is (map f every_timer))

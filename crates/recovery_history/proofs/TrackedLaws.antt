@@ -1,5 +1,5 @@
--- A packet is tracked by its space exactly where the history says so; and each number that was given out, once at most,
--- has one fate. The promises on what is tracked rest on it.
+-- A packet is tracked by its space exactly if the history says so; and each number that was assigned, at most once, has
+-- one outcome. The promises on what is tracked rest on it.
 use Rattle.std.proofs.Common.{◌≡◌, ◌<◌, ◌≤◌, ◌+◌, ◌^◌, ℕ, ◌==◌, ◌&&◌, ◌||◌, not, Bool, true, false, cond, List, [], ◌∷◌, Option, None, Some, Ok, Err, refl, ap, arith}
 use Rattle.std.proofs.lemmas.Bool.{false≢true}
 use Rattle.std.specs.Prelude.{is_some, sum_by}
@@ -37,7 +37,7 @@ use Rattle.recovery_history.proofs.Runs.{AllAlong, throughout_kept}
 
 -- ---- a number among those that are tracked
 
--- how often it stands there
+-- how often it occurs there
 abbrev pub times : {P M : Type 0} → ℕ → Packets P M → ℕ
 times n packets = sum_by (λ entry. one_if_same entry.0 n) packets
 
@@ -50,11 +50,11 @@ module _ (n : ℕ) where
   is_it None = false
   is_it (Some m) = m == n
 
--- ---- what became of a number that was given out
+-- ---- the outcome of a number that was assigned
 
 module _ {P M : Type 0} (n : ℕ) where
-  -- the number stands there once where it is tracked, and else not; it was given out once at most, and not yet from the
-  -- next one on; and where it was it is tracked, or gone
+  -- the number occurs once if it is tracked, and else not; it was assigned at most once, and not yet from the next one
+  -- on; and if it was it is tracked, or gone
   pub record Tracks (sent : SentState P M) (tracked : Bool) (given departed : ℕ) : Type 0 where
     pub same : times n sent.tracked ≡ cond tracked 1 0
     pub adds : given ≡ more_if tracked departed
@@ -64,7 +64,7 @@ module _ {P M : Type 0} (n : ℕ) where
   abbrev pub counts : ℕ × Packet P M → ℕ
   counts entry = one_if_same entry.0 n
 
-  -- a number stands nowhere where it is not found, and else once at least
+  -- a number does not occur if it is not found, and otherwise occurs
   abbrev pub Stands : Option (Packet P M) → ℕ → Type 0
   Stands None count = count ≡ 0
   Stands (Some packet) count = 1 ≤ count
@@ -81,7 +81,7 @@ module _ {P M : Type 0} (n : ℕ) where
         stands packets,
       )
 
-  -- what is forgotten stands there
+  -- what is forgotten occurs there
   least_counts : (last : Option ℕ) (packets : Packets P M) → least_number (silent_above last packets) ≡ Some n
       → 1 ≤ times n packets
   least_counts last [] is = cc
@@ -96,7 +96,7 @@ module _ {P M : Type 0} (n : ℕ) where
 
   module _ (sent : SentState P M) (tracked : Bool) (given departed : ℕ)
       (here : Tracks sent tracked given departed) where
-    -- a packet goes out under a number that was not given out, and another is perhaps forgotten
+    -- a packet is sent under a number that was not assigned, and perhaps another is forgotten
     sent_tracks : (number : ℕ) (packet : Packet P M) → sent.next ≤ number
         → let forgotten = is_it n (forgotten_by sent packet) in
         Tracks (sent_more number packet sent) (number == n || (not forgotten && tracked)) (more_if (number == n) given)
@@ -116,11 +116,11 @@ module _ {P M : Type 0} (n : ℕ) where
 
 -- ---- what an event does to it
 
--- what a history leaves of the packets of a space
+-- the packets of a space after a history
 abbrev pub sent_in : {F K Q S M P : Type 0} → Beginning F K Q S M P → History Q S M P → SpaceId → SentState P M
 sent_in beginning history space = sent_by beginning.queue.words ((logs_of beginning history).spaces space)
 
--- the number that is given out was not given out before
+-- the number that is assigned was not assigned before
 pub is_new : {F K Q S M P : Type 0} (beginning : Beginning F K Q S M P) (before : History Q S M P) (space : SpaceId)
     → (sent_in beginning before space).next ≤ number_in (inputs_after beginning before) space
 is_new beginning before Data =
@@ -143,7 +143,7 @@ departed_in space n history =
     history
     + times_in (goes_with_space space n) history
 
--- the number is where the history says
+-- the number is as the history says
 abbrev TracksIn : {F K Q S M P : Type 0} → Beginning F K Q S M P → History Q S M P → SpaceId → ℕ → Type 0
 TracksIn beginning history space n =
     Tracks n (sent_in beginning history space) (is_tracked space n history) (times_in (is_given space n) history)
@@ -169,7 +169,7 @@ module _ {F K Q S M P : Type 0} (beginning : Beginning F K Q S M P) (before : Hi
   abbrev After : Option (SpaceEntry P M) → Bool → ℕ → ℕ → Type 0
   After entry tracked given departed = Tracks n (sent_by beginning.queue.words (onto entry log)) tracked given departed
 
-  -- an entry that leaves what is tracked
+  -- an entry that leaves what is tracked unchanged
   unmoved : (entry : SpaceEntry P M) → keeps_packets (space_kind entry) ≡ true
       → After (Some entry) tracked_now given_now departed_now
   unmoved (probes immediate found) keeps =
@@ -181,7 +181,7 @@ module _ {F K Q S M P : Type 0} (beginning : Beginning F K Q S M P) (before : Hi
       )
   unmoved entry keeps = grind (arith, keeps, here)
 
-  -- an entry in one space, by which a number may go out or leave
+  -- an entry in one space, by which a number may be sent or leave
   step : (b out left : Bool) (entry : SpaceEntry P M) (tracked : Bool) (given departed : ℕ)
       → (b ≡ true → After (Some entry) (out || (not left && tracked_now)) (more_if out given_now)
       (more_if left departed_now))
@@ -189,7 +189,7 @@ module _ {F K Q S M P : Type 0} (beginning : Beginning F K Q S M P) (before : Hi
       × (departed ≡ more_if (b && left) departed_now) → After (cond b (Some entry) None) tracked given departed
   step b out left entry tracked given departed first same = grind (arith, first, here, same)
 
-  -- a packet goes out as it is told
+  -- a packet is sent
   goes_told : (there : SpaceId) (packet : Packet P M) (number : ℕ) (forgotten : Option ℕ)
       → same_space there space ≡ true
       → number ≡ number_in known there → forgotten ≡ forgotten_by (known.spaces there).sent packet
@@ -248,11 +248,11 @@ module _ {F K Q S M P : Type 0} (beginning : Beginning F K Q S M P) (before : Hi
 -- ---- throughout a run
 
 module _ {F K Q S M P : Type 0} (beginning : Beginning F K Q S M P) where
-  -- each number of each space is tracked where the history says so
+  -- each number of each space is tracked if the history says so
   abbrev pub AllTracked : History Q S M P → Type 0
   AllTracked history = (space : SpaceId) (n : ℕ) → TracksIn beginning history space n
 
-  -- an event that was told keeps that
+  -- an event preserves that
   pub keeps_tracked : (before : History Q S M P) (event : Event Q S M P) (reply : Reply Q)
       → RepliesAfter beginning before event reply
       → AllTracked before → AllTracked ((event, reply) ∷ before)
@@ -262,20 +262,20 @@ module _ {F K Q S M P : Type 0} (beginning : Beginning F K Q S M P) where
   pub none_tracked : AllTracked []
   none_tracked = λ space n. grind arith
 
-  -- a packet is found where its number is tracked
+  -- a packet is found if its number is tracked
   pub tracked_found : (history : History Q S M P) → AllTracked history → (space : SpaceId) (n : ℕ)
       → is_some (packet_at (sent_in beginning history space).tracked n) ≡ is_tracked space n history
   tracked_found history all space n =
       grind (arith, nat_tests, stands n (sent_in beginning history space).tracked, (all space n).same)
 
--- ---- numbers rise
+-- ---- numbers increase
 
 module _ {F K Q S M P : Type 0} (beginning : Beginning F K Q S M P) where
   module _ (before : History Q S M P) (all : AllTracked beginning before) where
     abbrev known_before : ReplyInputs K P M
     known_before = inputs_after beginning before
 
-    -- the next number of a space is above all that were given out there
+    -- the next number of a space is above all that were assigned there
     next_rises : (there : SpaceId) (given : ℕ) → given ≡ number_in known_before there
         → ¬ (2 ^ 62 ≤ number_in known_before there) → (space : SpaceId) (number : ℕ)
         → (same_space there space && given == number) ≡ true

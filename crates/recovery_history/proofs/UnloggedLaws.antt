@@ -1,5 +1,4 @@
--- The parts of which no log is kept, one event at a time: what they hold is what the history says. `StateAfterLaws`
--- rest on it.
+-- The parts without a log, one event at a time: their state is what the history says. `StateAfterLaws` rest on it.
 use Rattle.std.proofs.Common.{arith, ◌≡◌, ℕ, true, List, ◌∷◌, Ok, Err, ap}
 use Rattle.recovery_base.specs.declared.below.SpaceId.{SpaceId}
 use Rattle.recovery_base.specs.declared.timer.Timer.{Timer}
@@ -54,7 +53,7 @@ module _ {K Q S M P : Type 0} (q : QueueModel Q S M P) (words : ControllerSemant
   plain_after history (AckFrequencyIn frame) (Err DelayTooSmall) old new left is told step = grind (arith, left, step)
   plain_after history event reply old new left is told step = grind (arith, left, step)
 
--- ---- what is told of timers: the clause `timers` of `run`
+-- ---- the replies of timers: the clause `timers` of `run`
 
 always : {Q : Type 0} (given : Answer Q) (reply : Reply Q) → AlwaysAnswers (λ answer. answer ≡ given) reply
     → reply ≡ Ok given
@@ -63,7 +62,7 @@ always given (Err NoMemory) told = absurd told
 always given (Err refusal) told = absurd told
 
 module _ {F K Q S M P : Type 0} (beginning : Beginning F K Q S M P) where
-  -- what an event is told, it is told of timers
+  -- the reply to an event follows from the timers
   pub timers_told : (history : History Q S M P) (event : Event Q S M P) (reply : Reply Q)
       → RepliesAfter beginning history event reply → ReportsNextTimeout history event reply
   timers_told history NextTimeout reply told = always _ reply told

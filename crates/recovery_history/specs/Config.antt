@@ -1,4 +1,4 @@
--- What a recovery starts with where nothing else is said (RFC 9000, 5.1, 8.1, 14.3 and 18.2).
+-- The default settings of a recovery (RFC 9000, 5.1, 8.1, 14.3 and 18.2).
 use Rattle.std.specs.Prelude.{ℕ, ◌*◌, true, false, List, Some}
 use Rattle.std.specs.declared.net.socket_addr.SocketAddr.{SocketAddr}
 use Rattle.recovery_base.specs.Units.{milliseconds, seconds}

@@ -1,4 +1,4 @@
--- What an event may be to the spaces and to the paths: the words of the table.
+-- What an event may be to the spaces and to the paths: the definitions that `Table.antt` uses.
 use Rattle.std.specs.declared.net.socket_addr.SocketAddr.{SocketAddr}
 use Rattle.recovery_queue.specs.Queues.{QueueSemantics}
 use Rattle.std.specs.Prelude.{ℕ, ◌+◌, Bool, true, false, ◌&&◌, ◌==◌, List, ◌∷◌, Option, None, Some, if◌then◌else◌, []}
@@ -14,35 +14,35 @@ use Rattle.recovery_paths.specs.PathLog.{PathsEntry, PathOrigin, fresh, extends,
 use Rattle.recovery_base.specs.Spaces.{same_space}
 use Rattle.recovery_spaces.specs.SpaceLog.{SpaceEntry, sends}
 
--- what happens in one space is nothing to another
+-- an entry of one space; another space gets none
 abbrev pub here : {P M : Type 0} → SpaceId → SpaceId → SpaceEntry P M → Option (SpaceEntry P M)
 here other space entry = if same_space other space then Some entry else None
 
--- what one event is to each part, if anything
+-- the entries that one event makes in each part, if any
 pub record Entries (P M : Type 0) : Type 0 where
   pub spaces : SpaceId → Option (SpaceEntry P M)
-  -- several, perhaps, the newest first
+  -- perhaps several, the newest first
   pub paths : List PathsEntry
 
 abbrev pub nothing : {P M : Type 0} → Entries P M
 nothing = record { spaces = λ space. None; paths = [] }
 
--- something that happens in one space, and on the paths
+-- an entry in one space, and entries on the paths
 abbrev pub happens : {P M : Type 0} → SpaceId → SpaceEntry P M → List PathsEntry → Entries P M
 happens space entry paths = record { spaces = λ other. here space other entry; paths = paths }
 
--- in one space alone
+-- an entry in one space only
 abbrev pub in_space : {P M : Type 0} → SpaceId → SpaceEntry P M → Entries P M
 in_space space entry = happens space entry []
 
--- something that happens on a path alone
+-- an entry on the paths only
 abbrev pub on_path : {P M : Type 0} → PathsEntry → Entries P M
 on_path entry = record nothing { paths = entry ∷ [] }
 
 module _ {K P M : Type 0} (known : ReplyInputs K P M) where
-  -- ---- what the controller of the path in use is told (RFC 9002, 7)
+  -- ---- what is reported to the controller of the path in use (RFC 9002, 7)
 
-  -- an acknowledged packet, where it was tracked, went out on the path and elicits an ACK
+  -- an acknowledged packet, if it was tracked, was sent on the path and is ack-eliciting
   abbrev pub acked_entry : ℕ → Bool → Option (Packet P M) → List PathsEntry
   acked_entry now app_limited None = []
   acked_entry now app_limited (Some packet) =
@@ -51,9 +51,9 @@ module _ {K P M : Type 0} (known : ReplyInputs K P M) where
       then on_current (tells (acks now packet.time_sent packet.size app_limited rtt)) ∷ []
       else []
 
-  -- ---- what the search for the MTU of the path in use sees (RFC 8899, 5; RFC 9000, 14.3): packets of 1-RTT keys alone
+  -- ---- what is reported to the MTU search of the path in use (RFC 8899, 5; RFC 9000, 14.3): 1-RTT packets only
 
-  -- what the search sees, and what the controller is told where that changes the MTU
+  -- what is reported to the search, and to the controller if that changes the MTU
   abbrev pub searched : Bool → MtuCall → List PathsEntry
   searched changes call =
       let after = discovery_after call known.paths.current.state.discovery in

@@ -1,4 +1,4 @@
--- What counts as the same: replies, and states as far as they can be looked at.
+-- Equality of replies, and of states as far as readers can observe them.
 use Rattle.std.specs.Prelude.{◌≡◌, ◌≢◌, ℕ, ◌↔◌, Ok, Err}
 use Rattle.rand_core.specs.Stream.{Stream}
 use Rattle.recovery_base.specs.declared.below.SpaceId.{SpaceId}
@@ -26,13 +26,13 @@ use Rattle.recovery_history.specs.RepliesAfter.{RepliesAfter}
 
 -- ---- replies
 
--- texts count by what they say
+-- texts are equal by their characters
 abbrev pub SameRefusal : Refusal → Refusal → Type 0
 SameRefusal (Ecn one) (Ecn other) = one.now ≡ other.now
 SameRefusal one other = one ≡ other
 
 module _ {Q P : Type 0} (contents : Q → P) where
-  -- queues count by what they hold
+  -- queues are equal by their contents
   abbrev pub SameAnswer : Answer Q → Answer Q → Type 0
   SameAnswer (Queue one) (Queue other) = contents one ≡ contents other
   SameAnswer one other = one ≡ other
@@ -44,7 +44,7 @@ module _ {Q P : Type 0} (contents : Q → P) where
 
 -- ---- states
 
--- what is to be acknowledged, and when
+-- the pending ACKs, and when they are due
 pub record AcksObservablyEqual (one other : Acks) : Type 0 where
   pub pending : (n : ℕ) → IsPending one n ↔ IsPending other n
   pub required : one.required ≡ other.required
@@ -64,7 +64,7 @@ pub record SpacesObservablyEqual {P M : Type 0} (one other : Space P M) : Type 0
   pub queued : queued_of one ≡ queued_of other
   pub beside : caller_fields_of one ≡ caller_fields_of other
 
--- two states that look alike to every reader, but for what the layer above sets with the paths
+-- two states that no reader can distinguish, except by the marks of paths, which the caller sets
 pub record IsObservablyEqual {K P M : Type 0} (one other : RecoveryState K P M) : Type 0 where
   pub settings : one.settings ≡ other.settings
   pub spaces : (space : SpaceId) → SpacesObservablyEqual (space_of space one.spaces) (space_of space other.spaces)
@@ -79,11 +79,11 @@ pub record IsObservablyEqual {K P M : Type 0} (one other : RecoveryState K P M) 
   pub remote_ids : remote_ids one.remote_cids ≡ remote_ids other.remote_cids
   pub local_ids : one.local_ids ≡ other.local_ids
 
--- ---- nothing is left open
+-- ---- replies and states are determined
 
 module _ {F K Q S M P : Type 0} (built : F → ℕ → ℕ → K) (words : ControllerSemantics K)
     (queue : QueueModel Q S M P) where
-  -- two replies that may be given to one event after one history are the same, unless memory was refused
+  -- two replies to one event after one history are equal, unless an allocation failed
   abbrev pub DecidesReplies : Type 0
   DecidesReplies = (config : RecoveryConfig F) (start : ℕ) (random : Stream) (history : History Q S M P)
       (event : Event Q S M P) (one other : Reply Q) →
@@ -92,7 +92,7 @@ module _ {F K Q S M P : Type 0} (built : F → ℕ → ℕ → K) (words : Contr
       → other ≢ Err NoMemory
       → SameReply queue.contents one other
 
-  -- two states that one history may leave look alike
+  -- two states after one history are observably equal
   abbrev pub DecidesStates : Type 0
   DecidesStates = (config : RecoveryConfig F) (start : ℕ) (random : Stream) (history : History Q S M P)
       (one other : RecoveryState K P M) →

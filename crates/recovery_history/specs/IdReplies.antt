@@ -1,4 +1,4 @@
--- What the events of connection ids are told (RFC 9000, 5.1, 19.15 and 19.16).
+-- The replies to the events of connection IDs (RFC 9000, 5.1, 19.15 and 19.16).
 use Rattle.std.specs.Prelude.{◌≡◌, ◌≢◌, ℕ, ◌+◌, ◌<◌, ◌≤◌, max, min, List, [], length, map, None, Some}
 use Rattle.std.specs.List.{range_with_len}
 use Rattle.recovery_base.specs.declared.below.ids.IssuedCid.{IssuedCid}
@@ -12,14 +12,14 @@ use Rattle.recovery_events.specs.declared.event.Refusal.TheVariants.{NumberTooLa
 use Rattle.recovery_history.specs.History.{Reply}
 use Rattle.recovery_history.specs.Replies.{IsFlag, RejectsWhen, AnswersOrNoMemory, AlwaysAnswers}
 
--- ---- ids of the peer
+-- ---- the peer's IDs
 
--- a number's id has this token
+-- the ID of a number has this token
 abbrev pub HasToken : IdTable → ℕ → List ℕ → Type 0
 HasToken held n token = (id : List ℕ) × (held n ≡ Some (id, Some token))
 
--- a frame that retires the active number is answered the numbers from it up to the least one that is held then, at most
--- as many as are stored, and that one's token; any other frame retires nothing
+-- a frame that retires the active number is answered with the numbers from it up to the smallest one held then, at most
+-- eight, and that one's token. Any other frame retires nothing
 abbrev pub IsFrameAnswer : {Q : Type 0} → RemoteIds → NewConnectionId → Answer Q → Type 0
 IsFrameAnswer ids frame (Retire None) = frame.retire_prior_to ≤ ids.active
 IsFrameAnswer ids frame (Retire (Some told)) =
@@ -28,7 +28,7 @@ IsFrameAnswer ids frame (Retire (Some told)) =
     × (told.0.end ≡ min next (ids.active + active_connection_id_limit)) × HasToken held next told.1
 IsFrameAnswer ids frame answer = ⊥
 
--- why a frame is refused, and what it is answered (19.15)
+-- the errors of a frame, and its answer (19.15)
 abbrev pub FrameReply : {Q : Type 0} → RemoteIds → NewConnectionId → Reply Q → Type 0
 FrameReply ids frame = RejectsWhen NumberTooLarge (number_limit ≤ frame.sequence)
     (RejectsWhen BadRetirePriorTo (frame.sequence < frame.retire_prior_to)
@@ -36,24 +36,24 @@ FrameReply ids frame = RejectsWhen NumberTooLarge (number_limit ≤ frame.sequen
     (RejectsWhen ExceedsLimit (max ids.active frame.retire_prior_to + active_connection_id_limit ≤ frame.sequence)
     (RejectsWhen Conflict (¬ RepeatsFrame frame ids.held) (AlwaysAnswers (IsFrameAnswer ids frame))))))
 
--- the next id is the least one held above the active one: the numbers from the active one up to it are retired, and its
--- token is told; where none is held the active one stays
+-- the next ID is the smallest one held above the active one. The numbers from the active one up to it are retired, and
+-- its token is returned. If none is held the active one stays
 abbrev pub IsNextAnswer : {Q : Type 0} → RemoteIds → Answer Q → Type 0
 IsNextAnswer ids (Retire None) = (n : ℕ) → ids.active < n → ids.held n ≡ None
 IsNextAnswer ids (Retire (Some told)) =
     (told.0.start ≡ ids.active) × IsLeastHeld ids.held (ids.active + 1) told.0.end × HasToken ids.held told.0.end told.1
 IsNextAnswer ids answer = ⊥
 
--- ---- ids of this end
+-- ---- local IDs
 
--- ids are issued in the order of their numbers, which go on from the count issued and end below 2^62; only where there
--- are ids is memory taken
+-- IDs are issued in the order of their numbers, which continue from the count issued and end below 2^62; only a
+-- non-empty list allocates
 abbrev pub IssueReply : {Q : Type 0} → LocalIds → List IssuedCid → Reply Q → Type 0
 IssueReply ids more = RejectsWhen NumberTooLarge (number_limit < ids.issued + length more)
     (RejectsWhen BadRange (map (λ id. id.sequence) more ≢ range_with_len ids.issued (length more))
     (AnswersOrNoMemory (more ≢ []) (λ answer. answer ≡ Done)))
 
--- why a retirement is refused; it is told whether the limit leaves room for one more id (19.16)
+-- the errors of a retirement; the answer states whether the limit leaves room for one more ID (19.16)
 abbrev pub RetirementReply : {Q : Type 0} → LocalIds → ℕ → ℕ → Reply Q → Type 0
 RetirementReply ids sequence limit = RejectsWhen CidsNotInUse (ids.cid_len ≡ 0)
     (RejectsWhen UnissuedCid (ids.issued ≤ sequence)

@@ -1,6 +1,6 @@
--- Promises of events and answers, a file each, some over the words of others. Seven name the table on one side: what
--- is held of contents (Contents, Pending), when an ACK is required (Duty, Starts, Sendable), what is to be acknowledged
--- (Acknowledged), and the MTU in use (Mtu).
+-- Promises about events and answers, a file each; some share definitions. Seven use, on one side, what `Table.antt`
+-- determines: the contents held (Contents, Pending), when an ACK is required (AckDuty, AckTimer, Sendable), the pending
+-- ACKs (Acknowledged), and the MTU in use (Mtu).
 pub mod Acknowledged
 pub mod Blocked
 pub mod Bursts

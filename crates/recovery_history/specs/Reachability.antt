@@ -1,4 +1,4 @@
--- The past of a live recovery: the events by which it came to be what it is, and what one event more keeps.
+-- The past of a live recovery: the events that led to its state, and what one more event guarantees.
 use Rattle.std.specs.Prelude.{ℕ, ◌∷◌, ◌<◌, None, if◌then◌else◌}
 use Rattle.std.specs.Option.{ForSome}
 use Rattle.rand_core.specs.Stream.{Stream}
@@ -47,8 +47,8 @@ use Rattle.recovery_history.specs.StateAfter.{LoggedStateAfter}
 use Rattle.recovery_history.specs.RepliesAfter.{RepliesAfter}
 
 module _ {F K Q S M P : Type 0} (beginning : Beginning F K Q S M P) where
-  -- by these events a recovery came here, from that beginning: each was told what the history before it says, and the
-  -- recovery is what the whole history leaves, but for loss times and marks that the layer above set
+  -- these events led from that beginning to this state. Each reply follows from the history before it. The state
+  -- follows from the whole history, except for loss times and marks, which the caller sets
   pub record ReachedBy (past : History Q S M P) (recovery : RecoveryState K P M) : Type 0 where
     pub replies : AtEach (RepliesAfter beginning) past
     pub state_after : LoggedStateAfter beginning past recovery
@@ -56,144 +56,153 @@ module _ {F K Q S M P : Type 0} (beginning : Beginning F K Q S M P) where
     pub small : ForSome (if beginning.config.allow_mtud then beginning.config.transport.mtu_discovery_config else None)
         (λ settings. settings.upper_bound < u16_limit)
 
-  -- all that is promised of an event and its reply, by the history before it
+  -- all promises of an event and its reply, by the history before it
   pub record StepGuarantees (before : History Q S M P) (event : Event Q S M P) (reply : Reply Q) : Type 0 where
-    -- The reply is what the history before the event says.
+    -- The reply follows from the history before the event: each error by its cause and in its order, and each answer.
     pub reply_after : RepliesAfter beginning before event reply
-    -- A packet is new exactly where its number exceeds all that came in its space, or is none of them and at most 128
-    -- below each (RFC 9000, 12.3).
+    -- A packet is new exactly if its number exceeds all received in its space, or is none of them and at most 128 below
+    -- each (RFC 9000, 12.3).
     pub new : DetectsDuplicates before event reply
-    -- The next timeout is the least of the moments that timers were last set to and not stopped since (RFC 9002, 6.2).
+    -- The next timeout is the earliest running timer: timers run from when they are set until they are stopped (RFC
+    -- 9002, 6.2).
     pub timers : ReportsNextTimeout before event reply
-    -- Ids of the peer are accepted, retired and refused as the frames and moves before say (RFC 9000, 5.1 and 19.15).
+    -- The peer's IDs are accepted, rejected and retired exactly as the frames and moves before determine (RFC 9000, 5.1
+    -- and 19.15).
     pub peer_ids : AcceptsIds beginning.config.initial_cid before event reply
-    -- Ids of this end are issued in the order of their numbers, and retired where they were issued (RFC 9000, 5.1 and
-    -- 19.16).
+    -- Local IDs are issued in the order of their numbers, and only issued ones are retired (RFC 9000, 5.1 and 19.16).
     pub own_ids : IssuesIdsInOrder beginning.config.issued beginning.config.cid_len before event reply
-    -- A discarded space, a packet that is not tracked, a path that does not live and a late initial id are refused,
-    -- each exactly (RFC 9000, 7.2 and 9.3; RFC 9002, 6.4 and A.7).
+    -- Four errors occur exactly if they have cause. `SpaceDiscarded`: the space was discarded. `NotTracked`: the packet
+    -- is not tracked. `NoSuchPath`: the path does not exist. `NotInitialId`: the initial ID is not active (RFC 9000,
+    -- 7.2 and 9.3; RFC 9002, 6.4 and A.7).
     pub rejections : RejectsExactly before event reply
-    -- Bytes in flight on a path are the sum over the packets that went out on it and were not acknowledged, lost,
-    -- forgotten or discarded since (RFC 9002, B.2).
+    -- Bytes in flight on a path are the sum over the packets that were sent on it and not acknowledged, lost, forgotten
+    -- or discarded since (RFC 9002, B.2).
     pub counted : CountsInFlight before event reply
-    -- Until a path is validated, and while all its transmissions are checked, at most three times the bytes that came
-    -- in on it go out (RFC 9000, 8.1).
+    -- Until a path is validated, if all transmissions on it were checked, at most three times the bytes received on it
+    -- are sent (RFC 9000, 8.1).
     pub amplification_limit : LimitsAmplification beginning.config.validated before event reply
-    -- A checked datagram is blocked exactly where the path in use is not validated and these bytes more would pass
-    -- three times what came in on it; an unchecked one never is (RFC 9000, 8.1).
+    -- A checked datagram is blocked exactly if the path in use is not validated and with these bytes more than three
+    -- times those received on it would be sent. An unchecked one never is (RFC 9000, 8.1).
     pub blocked : BlocksExactly beginning.config.validated before event reply
-    -- As long as all transmissions since a pacer was made were checked, with windows within 32 bits and RTTs above
-    -- zero, a call is delayed exactly where the balance after its own refill is below the bytes asked (RFC 9002, 7.7).
+    -- A call of the pacer is delayed exactly if the balance, after its own refill, is below the bytes asked (RFC 9002,
+    -- 7.7). Premise: all transmissions since the pacer was made were checked, with windows below 2^32 bytes and RTTs
+    -- above zero.
     pub delayed : DelaysByBalance beginning before event reply
-    -- As long as that holds, what goes out from each point on at which a pacer was made, refilled or given another
-    -- capacity is at most the capacity there and five fourths of a window for each RTT since (RFC 9002, 7.7).
+    -- Under the premise of `delayed`, take a point at which the pacer was made, refilled or given another capacity. The
+    -- bytes sent from there on are at most the capacity there and five fourths of a window for each RTT since (RFC
+    -- 9002, 7.7).
     pub rate : BoundsPacingRate beginning before event reply
-    -- What was delayed until a moment, as the pacer was asked last, passes from 4 ns past it on, for the same bytes,
-    -- RTT, window and MTU (RFC 9002, 7.7).
+    -- A call that was delayed until a time, if it was the pacer's last, passes from 4 ns after that time on, with the
+    -- same bytes, RTT, window and MTU. Premise: the window is above zero, a full bucket has the bytes, and RTT times
+    -- capacity is at most the longest span (RFC 9002, 7.7).
     pub passes_after_delay : PassesAfterDelay beginning before event reply
-    -- It passes at that moment too, though others ask in between and nothing goes out, where the bucket has room for a
-    -- byte for each question and for what comes in four nanoseconds (RFC 9002, 7.7).
+    -- The call of `passes_after_delay` passes at that time too, however often the pacer is asked in between, if nothing
+    -- is sent. Premise: the bucket has room for a byte for each question and for the tokens of four nanoseconds (RFC
+    -- 9002, 7.7).
     pub passes_at_reported_time : PassesAtReportedTime beginning before event reply
-    -- Whatever went out unchecked, a call is delayed exactly where it is paced (a window within 32 bits, an RTT above
-    -- zero) and the balance of what was paid for, after its own refill, is below the bytes asked (RFC 9002, 7.7).
+    -- Whatever is sent unchecked, a call is delayed exactly if it is paced and the balance of paid bytes, after its own
+    -- refill, is below the bytes asked. It is paced at a window below 2^32 bytes and an RTT above zero (RFC 9002, 7.7).
     pub delayed_when_uncovered : DelaysExactly beginning before event reply
-    -- What passes where it is paced is paid for in full, and what is paid for from each point on beyond the balance
-    -- there is at most five fourths of a window for each RTT since (RFC 9002, 7.7).
+    -- A paced call that passes is paid for in full. From each point on, the bytes paid for beyond the balance there are
+    -- at most five fourths of a window for each RTT since (RFC 9002, 7.7).
     pub paid_rate : BoundsPaidRate beginning before event reply
-    -- The MTU in use is the size of the probe that was acknowledged last, where neither a limit of the peer nor a
-    -- report of a black hole nor a reset lowered it since (RFC 9000, 14.3).
+    -- The MTU of the path in use is the size of the probe acknowledged last, unless something else set it since. That
+    -- is a limit of the peer, a black hole, a reset, a fresh path, or a return to the previous one. The previous path
+    -- has the MTU with which it was left (RFC 9000, 14.3).
     pub mtu : UsesAckedMtu beginning before event reply
-    -- A probe goes out where paths are searched, in a search alone, while none is in flight; a packet that leaves is
-    -- told to be a probe exactly where it is the one in flight; a limit above zero is taken exactly while no search
-    -- runs (RFC 8899, 5; RFC 9000, 14.4).
+    -- A probe is sent only if MTU discovery is enabled, in a search that runs or is due, while none is in flight. A
+    -- packet acknowledged or lost is reported as a probe exactly if it is the one in flight. A limit of the peer is
+    -- accepted exactly if it is above zero and no search runs (RFC 8899, 5; RFC 9000, 14.4).
     pub one_probe : OneProbeAtATime beginning before event reply
-    -- A probe is at most the size that the peer takes, and at most the configured upper bound, or the MTU in use as
-    -- the search began, where that is larger; with a least change of at least 3 it is above the MTU in use, and at
-    -- most that bound (RFC 8899, 5.1.2 and 5.3; RFC 9000, 14.3 and 18.2).
+    -- A probe is at most the size that the peer accepts, and at most the larger of the configured upper bound and the
+    -- MTU in use as the search began. With a minimum change of 3 or more it is above the MTU in use, and at most the
+    -- configured bound (RFC 8899, 5.1.2 and 5.3; RFC 9000, 14.3 and 18.2).
     pub sizes : BoundsProbeSize beginning before event reply
-    -- Where paths are searched with a least change of at least 3, a search takes at most 48 probes, of at most 16
+    -- If MTU discovery is enabled with a minimum change of 3 or more, a search sends at most 48 probes, of at most 16
     -- sizes (RFC 8899, 5).
     pub probe_count : BoundsProbeCount beginning before event reply
-    -- A search that ends by a poll ends near the best size of an honest link: the MTU in use gets through, and lies
-    -- less than two least changes below that size (RFC 8899, 5.3).
+    -- A search that ends by a poll leaves an MTU that the link carries, less than two minimum changes below the best
+    -- size. Premise: the minimum change is 3 or more. The link carries the MTU with which the search began and each
+    -- acknowledged probe, but no lost one (RFC 8899, 5.3).
     pub convergence : ConvergesNearBest beginning before event reply
-    -- A report of a black hole needs four bursts of losses, all their packets above the least MTU, that nothing
-    -- refuted; it comes at four that no larger packet answered, the first of which ends above every such packet
-    -- acknowledged (RFC 8899, 4.3).
+    -- A report of a black hole needs four bursts of losses, all their packets above the minimum MTU, that no
+    -- acknowledgement refuted. It is made at four such bursts if the first ended above every probe, and every packet
+    -- above the minimum MTU, acknowledged before, and none of these was acknowledged since (RFC 8899, 4.3).
     pub black_holes : ReportsBlackHoleAtFour beginning.config.transport.min_mtu before event reply
-    -- In each space a number is given out once at most, and one that was is exactly one of these: tracked,
-    -- acknowledged, lost, forgotten, discarded (RFC 9002, A.1, A.7, A.10 and 6.4).
+    -- In each space a number is assigned at most once. An assigned one is exactly one of these: tracked, acknowledged,
+    -- lost, forgotten, discarded (RFC 9002, A.1, A.7, A.10 and 6.4).
     pub one_outcome : HaveOneOutcome ((event, reply) ∷ before)
-    -- In each space a packet goes out under a number below 2^62, above all that were given out there before (RFC 9000,
-    -- 12.3).
+    -- In each space a packet is sent under a number below 2^62, above all assigned there before (RFC 9000, 12.3).
     pub numbers_increase : NumbersIncrease before event reply
-    -- In each space a number is acknowledged or lost once at most: none is both (RFC 9002, A.7 and A.10).
+    -- In each space a number is acknowledged or lost at most once, and not both (RFC 9002, A.7 and A.10).
     pub resolved_once : ResolvedOnce ((event, reply) ∷ before)
-    -- Nothing is lost or doubled: by every measure of contents that adds up, what was sent in a space is what its
-    -- packets carry and what waits to be sent again, with what was acknowledged, forgotten, handed out and discarded
-    -- (RFC 9000, 13.3).
+    -- Contents are neither lost nor duplicated. By every measure of contents that adds up, what was sent in a space is
+    -- what its packets carry and what waits for retransmission, plus what was acknowledged, forgotten, returned and
+    -- discarded (RFC 9000, 13.3).
     pub conserved_data : ConservesData beginning ((event, reply) ∷ before)
-    -- While an ack-eliciting packet waits, an ACK is required at once, or the timer for a late one runs (RFC 9000,
-    -- 13.2.1).
+    -- While an ack-eliciting packet waits for its ACK, an ACK is required at once, or the ACK delay timer runs (RFC
+    -- 9000, 13.2.1).
     pub ack_scheduled : AckIsScheduled beginning before event reply
-    -- To be acknowledged are the new numbers, but those up to the largest number in the ACK of a packet that was
-    -- acknowledged since they came, and those that came to lie below the 64 highest ranges (RFC 9000, 13.2.3 and
-    -- 13.2.4).
+    -- The pending ACKs are the new numbers, except those dropped since they were received. A number is dropped if a
+    -- packet is acknowledged that carried an ACK whose largest number is not below it, or if it falls below the 64
+    -- highest ranges (RFC 9000, 13.2.3 and 13.2.4).
     pub to_acknowledge : TracksPendingAcks beginning ((event, reply) ∷ before)
-    -- A packet goes out under the first number above all that were given out in its space, or, of 1-RTT packets, under
-    -- the one behind that (RFC 9000, 12.3 and 21.4).
+    -- A packet is sent under the first number above all assigned in its space, or, of 1-RTT packets, under that one or
+    -- the next (RFC 9000, 12.3 and 21.4).
     pub next_number : AssignsNextNumber before event reply
-    -- The ACK of a range is refused exactly where it holds the last number that was skipped, or is no range of numbers
-    -- below 2^62 (RFC 9000, 12.3 and 21.4).
+    -- Unless the space is discarded, the ACK of a range is rejected exactly if the range contains the number skipped
+    -- last, or is no range of numbers below 2^62 (RFC 9000, 12.3 and 21.4).
     pub skipped_acks : RejectsSkippedAcks before event reply
-    -- A packet is refused exactly where it carries an ACK of a number that is none, where no number is left for it,
-    -- and where what is in flight would pass its counters (RFC 9000, 12.3; RFC 9002, B.2).
+    -- Three causes reject a packet exactly: an ACK of a number of 2^62 or more, no number left for it, or a counter of
+    -- what is in flight that would overflow. The only others are a discarded space and a failed allocation (RFC 9000,
+    -- 12.3; RFC 9002, B.2).
     pub send_result : SendsOrRejects before event reply
-    -- A silent packet, with 1001 others tracked since the last that elicits an ACK, makes the oldest of them be
-    -- forgotten, and no other packet does (RFC 9002, 2 and A.1).
+    -- A non-ack-eliciting packet that is sent while 1001 others are tracked since the last ack-eliciting one makes the
+    -- oldest of them be forgotten. No other packet does (RFC 9002, 2 and A.1).
     pub forgotten : ForgetsOldestNonEliciting before event reply
-    -- The timer for a late ACK starts exactly at a new ack-eliciting packet, where it does not run and no ACK is
-    -- required at once (RFC 9000, 13.2.1 and 13.2.2).
+    -- The ACK delay timer starts exactly at a new ack-eliciting packet, if it does not run and no ACK is required at
+    -- once (RFC 9000, 13.2.1 and 13.2.2).
     pub ack_timer : StartsAckDelayTimer beginning before event reply
-    -- A probe finds something to send that elicits an ACK; and an ACK exactly where one is required and some number is
-    -- to be acknowledged (RFC 9002, 6.2.4).
+    -- A probe finds something ack-eliciting to send, if a queue joined with non-empty contents is never empty. It finds
+    -- an ACK exactly if one is required and some number is to be acknowledged (RFC 9002, 6.2.4).
     pub sendable : ReportsSendable beginning before event reply
-    -- Counts of ECN are refused exactly where they fail the check against the last ones of their space that were taken
+    -- ECN counts are rejected exactly if they fail the check against the last counts of their space that were accepted
     -- (RFC 9000, 13.4.2.1).
     pub ecn : ChecksEcn before event reply
-    -- A request for fewer ACKs is taken exactly where it is the newest and asks for a millisecond or more
-    -- (draft-ietf-quic-ack-frequency-04, section 4).
+    -- Unless the 1-RTT space is discarded, an ACK_FREQUENCY frame is accepted exactly if it is the newest and asks for
+    -- a millisecond or more (draft-ietf-quic-ack-frequency-04, section 4).
     pub frequency : AppliesNewestFrequency before event reply
-    -- A datagram that comes in, and a path that is made, overflow exactly where their counter would come to 2^64 (RFC
-    -- 9000, 8.1 and 9.3).
+    -- `Overflow` rejects a received datagram, and a new path, exactly if its counter would reach 2^64 (RFC 9000, 8.1
+    -- and 9.3).
     pub overflow : OverflowsExactly before event reply
-    -- Where paths are searched with a least change of at least 3, a search probes each size three times at most (RFC
-    -- 8899, 5.1.2).
+    -- If MTU discovery is enabled with a minimum change of 3 or more, a search probes each size at most three times
+    -- (RFC 8899, 5.1.2).
     pub probes_per_size : ProbesSizeAtMostThrice beginning before event reply
-    -- Where they are searched so, a probe has the size of the last one, if that did not get through and was lost less
-    -- than three times; else the middle of what gets through and of what may, or the most that may, whichever first
-    -- lies a least change from the last size; and a search ends where there is none (RFC 8899, 5.3).
+    -- If MTU discovery is enabled with a minimum change of 3 or more, a probe repeats the last size until it got
+    -- through or was lost three times. Then its size is halfway between the size that passes and the largest that may,
+    -- or is that largest, whichever first differs from the last size by the minimum change. A search ends if there is
+    -- no such size (RFC 8899, 5.3).
     pub bisection : HalvesSizes beginning before event reply
-    -- As the oldest lifetime of ids of this end is over, the peer is to be asked to retire all up to these exactly
-    -- where it retired all that it was asked to before, and not yet all of these (RFC 9000, 5.1.2 and 19.15).
+    -- When the oldest lifetime of local IDs ends, the peer is asked to retire these exactly if it retired all that it
+    -- was asked before, and not yet all up to these (RFC 9000, 5.1.2 and 19.15).
     pub retirement_requests : AsksToRetire beginning before event reply
-    -- What is to be sent again is handed out in the order in which its packets were lost, or found by probes (RFC 9000,
+    -- The retransmission queue is returned in the order in which its packets were lost, or found by probes (RFC 9000,
     -- 13.3).
     pub pending : HandsOutInOrder beginning before event reply
-    -- Where no numbers are to be skipped, a packet goes out under the first number above all that were given out in
-    -- its space (RFC 9000, 12.3).
+    -- If skipping is disabled, a packet is sent under the first number above all assigned in its space (RFC 9000,
+    -- 12.3).
     pub no_skips : SkipsNoNumbers beginning before event reply
-    -- Memory is refused to an event only where something may grow by it.
+    -- An event fails with `NoMemory` only if it can allocate.
     pub allocates_to_grow : AllocatesOnlyToGrow event reply
 
-  -- from a past to that past with one event more
+  -- one event extends a past
   pub record StepFromPast (past : History Q S M P) (event : Event Q S M P) (reply : Reply Q)
       (new : RecoveryState K P M) : Type 0
     where
       pub keeps : StepGuarantees past event reply
       pub came : ReachedBy ((event, reply) ∷ past) new
 
--- whatever the beginning and the past by which the recovery came here
+-- for every beginning and past that led to this state
 module _ {F K Q S M P : Type 0} (built : F → ℕ → ℕ → K) (words : ControllerSemantics K)
     (queue : QueueModel Q S M P) where
   abbrev pub StepFromAnyPast : RecoveryState K P M → Event Q S M P → Reply Q → RecoveryState K P M → Type 0
@@ -202,7 +211,7 @@ module _ {F K Q S M P : Type 0} (built : F → ℕ → ℕ → K) (words : Contr
       let beginning = begins built words queue config start random in
       ReachedBy beginning past old → StepFromPast beginning past event reply new
 
-  -- from some beginning and by some past it came here
+  -- some beginning and some past led to this state
   pub record IsReachableState (recovery : RecoveryState K P M) : Type 0 where
     pub config : RecoveryConfig F
     pub start : ℕ
@@ -210,14 +219,14 @@ module _ {F K Q S M P : Type 0} (built : F → ℕ → ℕ → K) (words : Contr
     pub past : History Q S M P
     pub came : ReachedBy (begins built words queue config start random) past recovery
 
-  -- from there it went on
+  -- from that past it continued
   pub record StepFromSomePast (old : RecoveryState K P M) (event : Event Q S M P) (reply : Reply Q)
       (new : RecoveryState K P M) : Type 0 where
     pub origin : IsReachableState old
     pub goes : StepFromPast (begins built words queue origin.config origin.start origin.random) origin.past event reply
         new
 
-  -- it is all the same for its past
+  -- the same pasts lead to the new state
   abbrev pub PreservesPastsOf : RecoveryState K P M → RecoveryState K P M → Type 0
   PreservesPastsOf old new = (config : RecoveryConfig F) (start : ℕ) (random : Stream) (past : History Q S M P) →
       let beginning = begins built words queue config start random in

@@ -1,4 +1,4 @@
--- What a recovery is to those who call it: its parts.
+-- The state of a recovery: its parts.
 use Rattle.std.specs.Prelude.{ℕ, Option}
 use Rattle.recovery_base.specs.declared.timer.TimerTable.{TimerTable}
 use Rattle.recovery_acks.specs.declared.frequency.AckFrequencyState.{AckFrequencyState}
@@ -11,7 +11,7 @@ use Rattle.recovery_spaces.specs.Spaces.{Spaces}
 use Rattle.recovery_paths.specs.PathMaking.{PathSettings}
 use Rattle.recovery_packet_numbers.specs.Filters.{SkipState}
 
--- K is what contracts see of a controller, P of a queue of what is sent again, and M is what a packet says besides
+-- K is the value of a controller in contracts, P the contents of a queue, M what the caller stores about a packet
 pub record RecoveryState (K P M : Type 0) : Type 0 where
   -- how its paths are made
   pub settings : PathSettings K
@@ -19,7 +19,7 @@ pub record RecoveryState (K P M : Type 0) : Type 0 where
   pub discarded : DiscardedSpaces
   pub paths : PerPath (Path K)
   pub peer_limit : Option ℕ
-  -- which numbers are skipped, and the words of the generator from now on
+  -- which numbers are skipped, and the remaining random words of the generator
   pub skipping : SkipState
   pub frequency : AckFrequencyState
   pub timers : TimerTable

@@ -1,4 +1,4 @@
--- What an event may be replied: the causes of refusal in their order, each exactly, and else the answer.
+-- The replies that an event may have: errors in their order, each exactly, and else the answer.
 use denote.Enum.Bare.{sameb}
 use Rattle.recovery_events.specs.contracts.event.Refusal.{the_type}
 use Rattle.std.specs.Prelude.{Bool, MatchBool, IsTrue, ◌↔◌, Result, Ok, Err}
@@ -14,32 +14,32 @@ use Rattle.recovery_spaces.specs.declared.spaces.Receipt.{Receipt}
 use Rattle.recovery_spaces.specs.declared.spaces.Receipt.TheVariants.{New, Duplicate}
 use Rattle.recovery_history.specs.History.{Reply}
 
--- the same refusal, but for its text
+-- the same error, whatever its text
 abbrev pub same_refusal : Refusal → Refusal → Bool
 same_refusal = sameb the_type
 
--- where the cause holds the event is refused so, and else its reply is one of the others
+-- if the cause holds the event fails with this error, and else its reply is one of the others
 abbrev pub RejectsWhen : {Q : Type 0} → Refusal → Type 0 → (Reply Q → Type 0) → Reply Q → Type 0
 RejectsWhen refusal Cause Otherwise (Ok answer) = (¬ Cause) × Otherwise (Ok answer)
 RejectsWhen refusal Cause Otherwise (Err given) =
     MatchBool (same_refusal given refusal) Cause ((¬ Cause) × Otherwise (Err given))
 
--- the answer is one of these, or memory is refused to an event that grows something
+-- the answer is one of these, or an event that grows something fails for lack of memory
 abbrev pub AnswersOrNoMemory : {Q : Type 0} → Type 0 → (Answer Q → Type 0) → Reply Q → Type 0
 AnswersOrNoMemory Grows IsAnswer (Ok answer) = IsAnswer answer
 AnswersOrNoMemory Grows IsAnswer (Err NoMemory) = Grows
 AnswersOrNoMemory Grows IsAnswer (Err refusal) = ⊥
 
--- the answer is one of these, and no memory is taken
+-- the answer is one of these; nothing is allocated
 abbrev pub AlwaysAnswers : {Q : Type 0} → (Answer Q → Type 0) → Reply Q → Type 0
 AlwaysAnswers = AnswersOrNoMemory ⊥
 
--- the answer says whether it holds
+-- the answer is a flag that states whether this holds
 abbrev pub IsFlag : {Q : Type 0} → Type 0 → Answer Q → Type 0
 IsFlag Holds (answers.Flag flag) = IsTrue flag ↔ Holds
 IsFlag Holds answer = ⊥
 
--- ---- what a packet that came in is answered
+-- ---- the answer to a received packet
 
 abbrev pub answer_to : {Q : Type 0} → Receipt → Answer Q
 answer_to (New arm) = answers.New arm
@@ -50,7 +50,7 @@ reply_to (Ok receipt) = Ok (answer_to receipt)
 reply_to (Err error.NumberTooLarge) = Err NumberTooLarge
 reply_to (Err error.NoMemory) = Err NoMemory
 
--- ---- what a packet that cannot be tracked is refused
+-- ---- the error of a packet that cannot be tracked
 
 abbrev pub refusal_of : LedgerError → Refusal
 refusal_of ledger.NoMemory = NoMemory

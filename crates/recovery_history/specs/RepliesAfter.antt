@@ -1,4 +1,4 @@
--- What is known after a history, and what an event is told by it.
+-- The inputs that a history gives, and the reply to an event by them.
 use Rattle.std.specs.Prelude.{None, List, ◌∷◌, ◌++◌, []}
 use Rattle.recovery_base.specs.declared.below.SpaceId.{SpaceId}
 use Rattle.recovery_base.specs.declared.below.SpaceId.TheVariants.{Data}
@@ -30,7 +30,7 @@ pub record Logs (P M : Type 0) : Type 0 where
 abbrev pub no_logs : {P M : Type 0} → Logs P M
 no_logs = record { spaces = λ space. []; paths = [] }
 
--- the ids of this end at first, in a run that begins so
+-- the local IDs at the start
 abbrev pub first_ids : {F K Q S M P : Type 0} → Beginning F K Q S M P → LocalIds
 first_ids beginning =
     let config = beginning.config in
@@ -46,7 +46,7 @@ abbrev pub first_path : {F K Q S M P : Type 0} → Beginning F K Q S M P → Pat
 first_path beginning =
     state_fresh (settings_of beginning) beginning.config.remote beginning.config.validated None beginning.start
 
--- what is known after a history, whose logs are these
+-- the inputs after a history with these logs
 abbrev pub inputs_with_logs : {F K Q S M P : Type 0} → Beginning F K Q S M P → History Q S M P → Logs P M
     → ReplyInputs K P M
 inputs_with_logs beginning history logs =
@@ -72,22 +72,22 @@ abbrev pub logs_with : {P M : Type 0} → Entries P M → Logs P M → Logs P M
 logs_with entries logs =
     record { spaces = λ space. onto (entries.spaces space) (logs.spaces space); paths = entries.paths ++ logs.paths }
 
--- the logs of a history: what each event was, by what the logs before it know
+-- the logs of a history: the entries of each event, by the inputs from the logs before it
 abbrev pub logs_of : {F K Q S M P : Type 0} → Beginning F K Q S M P → History Q S M P → Logs P M
 logs_of beginning [] = no_logs
 logs_of beginning (happened ∷ earlier) =
     let logs = logs_of beginning earlier in
     logs_with (entries_of beginning.queue (inputs_with_logs beginning earlier logs) happened.0 happened.1) logs
 
--- what is known after a history
+-- the inputs after a history
 abbrev pub inputs_after : {F K Q S M P : Type 0} → Beginning F K Q S M P → History Q S M P → ReplyInputs K P M
 inputs_after beginning history = inputs_with_logs beginning history (logs_of beginning history)
 
--- all that happened on each path that lives
+-- the history of each existing path
 abbrev pub pasts_of : {F K Q S M P : Type 0} → Beginning F K Q S M P → History Q S M P → PerPath (PathHistory K)
 pasts_of beginning history = pasts_by (settings_of beginning) (first_path beginning) (logs_of beginning history).paths
 
--- what an event is told, by the history before it
+-- the reply to an event, by the history before it
 abbrev pub RepliesAfter : {F K Q S M P : Type 0} → Beginning F K Q S M P → History Q S M P → Event Q S M P → Reply Q
     → Type 0
 RepliesAfter beginning history = ReplyTable beginning.queue beginning.words

@@ -1,4 +1,4 @@
--- What is known of the past: values, which the state and the history fill alike.
+-- The inputs of replies: values, which the state and the history give alike.
 use Rattle.std.specs.Prelude.{ℕ, Bool, Option}
 use Rattle.recovery_base.specs.declared.below.SpaceId.{SpaceId}
 use Rattle.recovery_base.specs.declared.below.SpaceId.TheVariants.{Initial, Handshake, Data}
@@ -13,35 +13,34 @@ use Rattle.recovery_spaces.specs.Queued.{QueuedState}
 use Rattle.recovery_paths.specs.PathLog.{PathReplyInputs, PerPath}
 use Rattle.recovery_spaces.specs.Tracked.{SentState, packet_sent}
 
--- what replies and entries depend on, but for the sets of numbers: values, which are the same by the state and by
--- the history
+-- what replies and entries depend on, except for the sets of numbers: values, equal by the state and by the history
 pub record SpaceReplyInputs (P M : Type 0) : Type 0 where
   -- the space was discarded
   pub discarded : Bool
-  -- what decides of its next ACK
+  -- the counts that decide about its next ACK
   pub counts : AckCounts
   -- its packets
   pub sent : SentState P M
-  -- what is to be sent again, what probes ask for, and the counts of ECN
+  -- the retransmission queue, what probes ask for, and the ECN counts
   pub queued : QueuedState P
 
 pub record ReplyInputs (K P M : Type 0) : Type 0 where
   pub spaces : SpaceId → SpaceReplyInputs P M
-  -- of 1-RTT packets, some of which are skipped: the next number that is given out, and the greatest skip below the
-  -- last one
+  -- of 1-RTT packets, some of which are skipped: the next number that is assigned, and the largest skip below the last
+  -- one
   pub next_number : ℕ
   pub skipped : Option ℕ
   -- the number of the last ACK_FREQUENCY frame that was newer than those before it
   pub last_asked : Option ℕ
-  -- the ids of the peer
+  -- the peer's IDs
   pub remote_ids : RemoteIds
-  -- the ids that this end issued
+  -- the IDs that the local endpoint issued
   pub local_ids : LocalIds
-  -- the moment that a timer is set to
+  -- the time for which a timer is set
   pub timer_value : Timer → Option ℕ
-  -- what is kept for the paths
+  -- the paths' values
   pub paths : PerPath (PathReplyInputs K)
-  -- the largest size that the peer takes, where it said so
+  -- the largest datagram that the peer accepts, if it stated one
   pub peer_limit : Option ℕ
 
 -- the packets that each space tracks
@@ -52,7 +51,7 @@ tracked_known known space = (known.spaces space).sent.tracked
 abbrev pub packet_now : {K P M : Type 0} → ReplyInputs K P M → ℕ → ℕ → Bool → Option ℕ → P → M → Packet P M
 packet_now known = packet_sent known.paths.current.generation
 
--- the number that is given out next in a space
+-- the number that a space assigns next
 abbrev pub number_in : {K P M : Type 0} → ReplyInputs K P M → SpaceId → ℕ
 number_in known Initial = (known.spaces Initial).sent.next
 number_in known Handshake = (known.spaces Handshake).sent.next

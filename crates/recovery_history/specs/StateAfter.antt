@@ -1,4 +1,4 @@
--- What a history leaves in each part of a recovery.
+-- The state of each part of a recovery after a history.
 use Rattle.std.specs.Prelude.{◌≡◌}
 use Rattle.std.specs.Option.{ForSome}
 use Rattle.recovery_base.specs.declared.below.SpaceId.{SpaceId}
@@ -22,21 +22,21 @@ use Rattle.recovery_history.specs.Promises.GivenIds.{AreHeld}
 use Rattle.recovery_history.specs.Promises.NewNumbers.{is_discarded as was_discarded}
 use Rattle.recovery_history.specs.Promises.Timeouts.{timer_value}
 
--- what each path has in flight: the sums over the packets tracked on it
+-- the bytes in flight on each path: the sums over the packets tracked on it
 pub record InFlightAfter {K P M : Type 0} (known : ReplyInputs K P M) (paths : PerPath (Path K)) : Type 0 where
   pub current : paths.current.ledger.in_flight ≡ in_flight_on known (path_known paths.current)
   pub previous : ForSome paths.previous (λ path. path.ledger.in_flight ≡ in_flight_on known (path_known path))
 
 module _ {F K Q S M P : Type 0} (beginning : Beginning F K Q S M P) where
-  -- what a history leaves of all that events touch, in a run that begins so
+  -- what a history determines of all that events change, in a run that begins so
   pub record LoggedStateAfter (history : History Q S M P) (recovery : RecoveryState K P M) : Type 0 where
     pub settings : recovery.settings ≡ settings_of beginning
     pub spaces : (space : SpaceId) → SpaceAfter beginning.queue.words beginning.start
         ((logs_of beginning history).spaces space) (space_of space recovery.spaces)
-    -- what nothing touches
+    -- what nothing changes
     pub beside : (space : SpaceId) → unset_fields_of (space_of space recovery.spaces) ≡ (no_ecn, 0)
     pub discarded : (space : SpaceId) → is_discarded space recovery.discarded ≡ was_discarded space history
-    -- the filter, and the words of the generator, are those of the skips below the next number
+    -- the filter, and the remaining words of the generator, are those of the skips below the next number
     pub skipping : recovery.skipping
         ≡ skipping_at beginning.config.skips beginning.random ((inputs_after beginning history).spaces Data).sent.next
     pub paths : paths_known recovery.paths ≡ (inputs_after beginning history).paths
@@ -47,7 +47,7 @@ module _ {F K Q S M P : Type 0} (beginning : Beginning F K Q S M P) where
     pub remote_ids : AreHeld beginning.config.initial_cid history (remote_ids recovery.remote_cids)
     pub local_ids : recovery.local_ids ≡ own_ids (first_ids beginning) history
 
-  -- what it leaves of a recovery in which the layer above set no loss time
+  -- the state of a recovery in which the caller set no loss time
   pub record StateAfter (history : History Q S M P) (recovery : RecoveryState K P M) : Type 0 where
     pub parts : LoggedStateAfter history recovery
     pub loss_times : HasNoLossTime recovery.spaces

@@ -1,5 +1,5 @@
--- All that an event is: what it is told in reply, what it is to each part, and what it does to the parts without a log.
--- The tables have one line an event, or few; they are over what is known of the past.
+-- All that an event does: its reply, its entries in each part, and the changes of the parts without a log. The tables
+-- have one line for each event, or a few, over the inputs from the past.
 use Rattle.std.specs.Prelude.{◌≡◌, ◌≢◌, ℕ, ◌+◌, ◌<◌, ◌≤◌, true, false, not, map, IsTrue, IsSome, IsSomeAnd, Option, None, Some, Ok, Err, ◌∷◌, ◌++◌, length, []}
 use Rattle.recovery_base.specs.declared.below.SpaceId.{SpaceId}
 use Rattle.recovery_base.specs.declared.below.SpaceId.TheVariants.{Data}
@@ -36,26 +36,26 @@ use Rattle.recovery_paths.specs.PathMaking.{marks_made}
 use Rattle.recovery_history.specs.PartReplies.{EqualsAnswer, AnswersDone, UnlessSpaceDiscarded, ReceivedReply, SendReply, RemovalReply, EcnAnswer, IsQueueProbeAnswer, IsPendingQueue, skipped_in, UnlessPathMissing, delayed_or, transmit_answer, MtuProbeReply}
 use Rattle.recovery_history.specs.Unlogged.{UnloggedState}
 
--- ---- what the history says of the parts of which no log is kept: the ACKs that the peer asked for
--- (draft-ietf-quic-ack-frequency-04, section 4), the size that it takes (RFC 9000, 18.2) and the ids of this end;
--- timers, discarded spaces and ids of the peer stand with their promises
+-- ---- the parts without a log, by the history: the ACKs that the peer asked for (draft-ietf-quic-ack-frequency-04,
+-- section 4), the size that it accepts (RFC 9000, 18.2) and the local IDs; timers, discarded spaces and the peer's IDs
+-- are in the files of their promises
 
 module _ {Q S M P : Type 0} where
-  -- the number of the last ACK_FREQUENCY frame that was newer than those before it, whether it was taken or asked for
-  -- too small a delay
+  -- the number of the last ACK_FREQUENCY frame that was newer than those before it, whether it was accepted or asked
+  -- for too small a delay
   abbrev pub last_asked : History Q S M P → Option ℕ
   last_asked [] = None
   last_asked ((AckFrequencyIn frame, Ok (Flag true)) ∷ earlier) = Some frame.sequence
   last_asked ((AckFrequencyIn frame, Err DelayTooSmall) ∷ earlier) = Some frame.sequence
   last_asked (happened ∷ earlier) = last_asked earlier
 
-  -- the max_ack_delay of this end, at first that of the beginning
+  -- the local max_ack_delay, at first that of the configuration
   abbrev pub own_delay : ℕ → History Q S M P → ℕ
   own_delay first [] = first
   own_delay first ((AckFrequencyIn frame, Ok (Flag true)) ∷ earlier) = delay_of frame
   own_delay first (happened ∷ earlier) = own_delay first earlier
 
-  -- no frame went out, and the peer's delay is the one of the beginning
+  -- no frame was sent, and the peer's delay is that of the configuration
   abbrev pub frequency_by : ℕ → History Q S M P → AckFrequencyState
   frequency_by first history =
       record {
@@ -66,14 +66,14 @@ module _ {Q S M P : Type 0} where
         max_ack_delay = own_delay first history;
       }
 
-  -- the largest size that the peer takes, as it told last
+  -- the largest datagram that the peer accepts, as it stated last
   abbrev pub limit : History Q S M P → Option ℕ
   limit [] = None
   limit ((PeerLimit size, Ok answer) ∷ earlier) = Some size
   limit (happened ∷ earlier) = limit earlier
 
-  -- the ids of this end, where these were the first: issued, asked back as lifetimes end, and retired by the peer
-  -- (RFC 9000, 5.1.1 and 19.16)
+  -- the local IDs after these first ones: issued, asked to be retired as lifetimes end, and retired by the peer (RFC
+  -- 9000, 5.1.1 and 19.16)
   abbrev pub own_ids : LocalIds → History Q S M P → LocalIds
   own_ids first [] = first
   own_ids first ((IssueIds now ids, Ok answer) ∷ earlier) = with_issued (length ids.items) now (own_ids first earlier)
@@ -81,7 +81,7 @@ module _ {Q S M P : Type 0} where
   own_ids first ((PeerRetired sequence limit, Ok answer) ∷ earlier) = without_number sequence (own_ids first earlier)
   own_ids first (happened ∷ earlier) = own_ids first earlier
 
--- ---- what each is told in reply
+-- ---- the reply to each event
 
 module _ {K Q S M P : Type 0} (q : QueueModel Q S M P) (words : ControllerSemantics K) (heard : SpaceId → AckState)
     (known : ReplyInputs K P M) where
@@ -96,15 +96,16 @@ module _ {K Q S M P : Type 0} (q : QueueModel Q S M P) (words : ControllerSemant
       (answers.Lost (is_path_probe space number known.paths.current.state))
   ReplyTable (NewId frame) = FrameReply known.remote_ids frame
   ReplyTable NextId = AlwaysAnswers (IsNextAnswer known.remote_ids)
-  -- the initial id is replaced while it is the active one
+  -- the initial ID is replaced while it is active
   ReplyTable (InitialId id) = RejectsWhen refusals.NotInitialId (known.remote_ids.active ≢ 0) AnswersDone
   ReplyTable (IssueIds now ids) = IssueReply known.local_ids ids.items
-  -- the answer says whether a number is not retired that the mark passes
+  -- the answer states whether a number below the new retire-prior-to is not retired
   ReplyTable IdTimeout =
       let ids = known.local_ids in let later = timed_out ids in
       AlwaysAnswers (EqualsAnswer (answers.Flag (holds_unretired ids.retire_prior_to later.retire_prior_to later)))
   ReplyTable (PeerRetired sequence limit) = RetirementReply known.local_ids sequence limit
-  -- a frame is taken where it is newer than the last one; one for less than a millisecond is refused then
+  -- a frame that is not newer than the last one is ignored; a newer one is rejected if it asks for less than a
+  -- millisecond
   ReplyTable (AckFrequencyIn frame) =
       let is_newer = ¬ IsStale known.last_asked frame.sequence in
       UnlessSpaceDiscarded (known.spaces Data)
@@ -135,14 +136,14 @@ module _ {K Q S M P : Type 0} (q : QueueModel Q S M P) (words : ControllerSemant
   ReplyTable (PollMtu now) = UnlessSpaceDiscarded (known.spaces Data)
       (RejectsWhen refusals.NumbersExhausted (number_limit ≤ known.next_number)
       (MtuProbeReply q known now (poll_of now known.paths.current.state.discovery)))
-  -- a limit is taken while no search runs
+  -- a limit is accepted while no search runs
   ReplyTable (PeerLimit size) = RejectsWhen refusals.ZeroMtu (size ≡ 0)
       (RejectsWhen refusals.Searching (IsTrue (is_searching_of known.paths.current.state.discovery)) AnswersDone)
   ReplyTable (LossesDone now) = AlwaysAnswers (EqualsAnswer (answers.BlackHole
       (reports known.paths.current.state.discovery)))
   ReplyTable (Ecn space newly counts) = UnlessSpaceDiscarded (known.spaces space)
       (EcnAnswer (known.spaces space) newly counts)
-  -- no acknowledged range holds the last number that was skipped
+  -- no acknowledged range contains the number that was skipped last
   ReplyTable (CheckAck space low high) = UnlessSpaceDiscarded (known.spaces space)
       (RejectsWhen refusals.NumberTooLarge (number_limit ≤ high)
       (RejectsWhen refusals.BadRange (high < low)
@@ -154,17 +155,17 @@ module _ {K Q S M P : Type 0} (q : QueueModel Q S M P) (words : ControllerSemant
       (IsQueueProbeAnswer q here streams (heard space) immediate found))
   ReplyTable (TakePending space) = UnlessSpaceDiscarded (known.spaces space)
       (AlwaysAnswers (IsPendingQueue q (known.spaces space)))
-  -- a path that goes on from the current one needs a second controller
+  -- a path that continues from the current one needs a second controller
   ReplyTable (NewPath now remote is_fresh) = RejectsWhen refusals.Overflow (u64_limit ≤ known.paths.made + 1)
       (AnswersOrNoMemory (IsTrue (not is_fresh)) (EqualsAnswer answers.Done))
   ReplyTable (ResetPath now) = AnswersDone
   ReplyTable DropPrevious = UnlessPathMissing known.paths.previous (λ there. AnswersDone)
   ReplyTable RevertPath = UnlessPathMissing known.paths.previous (λ there. AnswersDone)
 
--- ---- what each is to the spaces and to the paths: a line, or two where its answer says what it was
+-- ---- the entries of each event in the spaces and paths: one line, or two if its answer decides
 
 module _ {K Q S M P : Type 0} (q : QueueModel Q S M P) (known : ReplyInputs K P M) where
-  -- what an event is by its answer, and by what was known before it
+  -- the entries of an event, by its answer and the inputs before it
   abbrev pub answered : Event Q S M P → Answer Q → Entries P M
   answered (Received space now number eliciting) (New arm) = in_space space (hears now number eliciting)
   answered (Received space now number eliciting) answer = in_space space (heard_again number)
@@ -214,7 +215,7 @@ module _ {K Q S M P : Type 0} (q : QueueModel Q S M P) (known : ReplyInputs K P 
   entries_of event (Ok answer) = answered event answer
   entries_of event (Err refusal) = nothing
 
--- ---- what each does to the parts of which no log is kept
+-- ---- what each event does to the parts without a log
 
 -- what an event does to them
 abbrev pub UnloggedStep : {Q S M P : Type 0} → Event Q S M P → Reply Q → UnloggedState → UnloggedState → Type 0
@@ -242,10 +243,10 @@ UnloggedStep (PeerRetired sequence limit) (Ok answer) old new =
 UnloggedStep (PeerLimit size) (Ok answer) old new = new ≡ record old { peer_limit = Some size }
 UnloggedStep event reply old new = new ≡ old
 
--- ---- what each does to what the layer above keeps with the paths
+-- ---- what each event does to the caller's marks of the paths
 
--- a path that is made has fresh marks, but that one that goes on keeps the first packet after a sample of the RTT; the
--- marks of a path go with it, and no event changes them
+-- a new path has fresh marks, except that one that is not fresh inherits the first packet after an RTT sample; marks
+-- move with their path, and no event changes them
 abbrev pub marks_after : {Q S M P : Type 0} → Event Q S M P → Reply Q → PerPath PathMarks → PerPath PathMarks
 marks_after (NewPath now remote true) (Ok answer) old = moved_to (marks_made None) old
 marks_after (NewPath now remote false) (Ok answer) old = moved_to (marks_made old.current.first_after_sample) old

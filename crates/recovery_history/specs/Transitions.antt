@@ -1,4 +1,4 @@
--- What an event changes: each part of a recovery by its step, and what is told by what the parts know.
+-- What an event changes: each part of a recovery by its step; and its reply, by what the parts know.
 use Rattle.std.specs.Prelude.{◌≡◌, ℕ, Option, Some, OnErr}
 use Rattle.recovery_base.specs.declared.below.SpaceId.{SpaceId}
 use Rattle.recovery_base.specs.declared.below.SpaceId.TheVariants.{Data}
@@ -20,9 +20,9 @@ use Rattle.recovery_history.specs.Logs.{OptionalStep}
 use Rattle.recovery_history.specs.RecoveryState.{RecoveryState}
 use Rattle.recovery_history.specs.Unlogged.{plain_of}
 
--- ---- what is known
+-- ---- the inputs
 
--- what the parts know of the past
+-- the inputs of replies, as the parts hold them
 abbrev pub inputs_of : {K P M : Type 0} → RecoveryState K P M → ReplyInputs K P M
 inputs_of recovery = record {
   spaces = λ space. let there = space_of space recovery.spaces in record {
@@ -46,14 +46,13 @@ acks_to recovery space = heard_of (space_of space recovery.spaces)
 
 -- ---- one event
 
--- where the next number of 1-RTT packets was n: the number of a packet that is sent is the one that the filter gives
--- out
+-- the next number of 1-RTT packets was n: a packet that is sent gets the number that the filter assigns
 abbrev pub SkippingStep : {P M : Type 0} → Option (SpaceEntry P M) → ℕ → SkipState → SkipState → Type 0
 SkippingStep (Some (sends number packet)) n old new = (number ≡ number_by old.filter n) × (new ≡ passed n old)
 SkippingStep other n old new = new ≡ old
 
 module _ {K P M S : Type 0} (words : QueueSemantics P S) where
-  -- each part with a log changes by the step of what an event is to it
+  -- each part with a log changes by the step of the event's entry
   pub record ComponentSteps (entries : Entries P M) (old new : RecoveryState K P M) : Type 0 where
     pub settings : new.settings ≡ old.settings
     pub spaces : (space : SpaceId) →
@@ -63,8 +62,8 @@ module _ {K P M S : Type 0} (words : QueueSemantics P S) where
     pub paths : PathsStep old.settings entries.paths (paths_known old.paths) (paths_known new.paths)
 
 module _ {K Q S M P : Type 0} (q : QueueModel Q S M P) where
-  -- an event is told what is known, and changes each part by what it is to the part; what the layer above keeps with a
-  -- path goes with the path; refused, it changes nothing but the number of a request of ACKs that is kept
+  -- the reply follows from the inputs, and each part changes by the event's entries. A path's marks move with the path.
+  -- An error changes nothing, except for the frame's number that `DelayTooSmall` stores
   pub record StateTransitionBy (known : ReplyInputs K P M) (old : RecoveryState K P M) (event : Event Q S M P)
       (reply : Reply Q)
       (new : RecoveryState K P M) : Type 0 where
@@ -74,6 +73,6 @@ module _ {K Q S M P : Type 0} (q : QueueModel Q S M P) where
     pub marks : paths_marks new.paths ≡ marks_after event reply (paths_marks old.paths)
     pub refused : OnErr reply (new ≡ record old { frequency = new.frequency })
 
-  -- what is known is known to the parts
+  -- the inputs are those that the parts hold
   abbrev pub StateTransition : RecoveryState K P M → Event Q S M P → Reply Q → RecoveryState K P M → Type 0
   StateTransition old = StateTransitionBy (inputs_of old) old

@@ -1,4 +1,4 @@
--- The parts of which no log is kept, since the history says in a few lines what they hold.
+-- The parts of which no log is kept, since a few lines over the history define them.
 use Rattle.std.specs.Prelude.{ℕ, Option}
 use Rattle.recovery_base.specs.declared.timer.TimerTable.{TimerTable}
 use Rattle.recovery_acks.specs.declared.frequency.AckFrequencyState.{AckFrequencyState}
@@ -8,7 +8,7 @@ use Rattle.recovery_ids.specs.RemoteIds.{RemoteIds}
 use Rattle.recovery_spaces.specs.declared.discarded.DiscardedSpaces.{DiscardedSpaces}
 use Rattle.recovery_history.specs.RecoveryState.{RecoveryState}
 
--- the parts of which no log is kept
+-- the parts without a log
 pub record UnloggedState : Type 0 where
   pub discarded : DiscardedSpaces
   pub frequency : AckFrequencyState

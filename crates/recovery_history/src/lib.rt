@@ -1,7 +1,6 @@
-//! The history of a connection: what each event is told by those before it (`specs/Table.antt`), what a history leaves
-//! (`specs/StateAfter.antt`), what is promised of every event (`specs/Reachability.antt`), and the laws of all that,
-//! which know no
-//! driver. Beside them what a connection begins with. Begin at `specs/Reachability.antt`.
+//! The history of a connection, and its settings. The reply to each event follows from the history
+//! (`specs/Table.antt`), and so does the state (`specs/StateAfter.antt`). `specs/Reachability.antt`, where to begin,
+//! states the promises of every event. Their proofs depend on no driver.
 #![tactic(auto)]
 
 pub mod config;

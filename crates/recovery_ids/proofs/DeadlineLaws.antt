@@ -1,4 +1,4 @@
--- Deadlines with equal moments. `StateLaws` rest on it.
+-- Deadlines with equal times. `StateLaws` rest on it.
 use Rattle.std.proofs.Common.{◌≡◌, ℕ, zero, suc, ◌+◌, nat_eq, cond, List, [], ◌∷◌, length, map, take, get_or, Option, None, Some, refl, arith}
 use Rattle.std.proofs.lemmas.Bool.Decides.{nat_tests}
 use Rattle.recovery_ids.specs.LocalIds.{without_last_at, with_deadline, deadlines_with, AreIncreasingWithin}
@@ -8,7 +8,7 @@ use Rattle.recovery_ids.proofs.RiseLaws.{Rise-wider}
 abbrev made : ℕ → ℕ → CidTimestamp
 made number moment = record { sequence = number; timestamp = moment }
 
--- ---- the numbers of the deadlines rise
+-- ---- the numbers of the deadlines increase
 
 abbrev numbers_of : List CidTimestamp → List ℕ
 numbers_of deadlines = map (λ deadline. deadline.sequence) deadlines
@@ -21,7 +21,7 @@ with_deadline-rise _ _ _ (_ ∷ []) rise = grind arith
 with_deadline-rise _ number moment (first ∷ next ∷ later) rise =
     (rise.0, with_deadline-rise (first.sequence + 1) number moment (next ∷ later) rise.1)
 
--- a number above all others keeps the numbers rising
+-- a number above all others keeps them increasing
 pub deadlines_with-rise : (lifetime : Option ℕ) (now low number : ℕ) (deadlines : List CidTimestamp)
     → AreIncreasingWithin low number (numbers_of deadlines)
     → AreIncreasingWithin low (number + 1) (numbers_of (deadlines_with lifetime now number deadlines))
@@ -34,7 +34,7 @@ deadlines_with-rise (Some lifetime) now low number deadlines rise = grind (
   with_deadline-rise low _ (now + lifetime) deadlines rise,
 )
 
--- ---- the last deadline by its place
+-- ---- the last deadline by its position
 
 pub last_at : (moment : ℕ) (deadlines : List CidTimestamp) (place : ℕ) (last : CidTimestamp)
     → place + 1 ≡ length deadlines → last ≡ get_or deadlines place last →

@@ -1,4 +1,4 @@
--- The ids from a step on are the one there, if any, and those from the next step on: `iter` rests on it.
+-- The IDs from a step on are the one there, if any, and those from the next step on: `iter` rests on it.
 use Rattle.std.proofs.Common.{◌≡◌, ℕ, ◌+◌, ◌-◌, ◌<◌, ◌≤◌, List, [], ◌∷◌, Option, Some, None, length, refl, ◌∙◌, suc, arith}
 use Rattle.std.specs.List.{filter_map, cons_option, range_with_len}
 use Rattle.std.proofs.lemmas.List.FromFn.{length-range_with_len}
@@ -24,7 +24,7 @@ length-filter_map : {X Y : Type 0} (h : X → Option Y) (xs : List X) → length
 length-filter_map h [] = omega arith
 length-filter_map h (x ∷ xs) = grind (arith, length-filter_map h xs)
 
--- at most as many ids are held as are stored
+-- at most as many IDs are held as are stored
 pub length-items_from : (ids : RemoteIds) → length (items_from 0 ids) ≤ active_connection_id_limit
 length-items_from ids = omega (
   arith,

@@ -1,8 +1,8 @@
--- Worked rows: what issues, timeouts and retirements come to, computed. Nothing rests on them.
+-- Worked rows: the results of issues, timeouts and retirements, computed. Nothing rests on them.
 use Rattle.std.proofs.Common.{◌≡◌, ℕ, [], ◌∷◌, Some, refl}
 use Rattle.recovery_ids.specs.LocalIds.{LocalIds, no_ids, timed_out, with_issued, without_number}
 
--- two ids at first, of eight bytes, each for ten seconds
+-- two IDs at first, of eight bytes, each for ten seconds
 abbrev first : LocalIds
 first = with_issued 2 0 (no_ids 8 (Some 10_000_000_000))
 
@@ -44,6 +44,6 @@ mark_moves = refl
 mark_waits : marks waiting ≡ (0, 2)
 mark_waits = refl
 
--- once number 1 is retired too, a timeout moves the first mark
+-- after number 1 is retired too, a timeout moves the first mark
 mark_follows : marks (timed_out (without_number 1 retired)) ≡ (2, 4)
 mark_follows = refl

@@ -1,4 +1,4 @@
--- What the ids of the peer become when the active number moves. `insert` rests on it.
+-- The peer's IDs after the active number moves. `insert` rests on it.
 use Rattle.std.proofs.Common.{◌≡◌, ℕ, ◌+◌, ◌-◌, ◌<◌, ◌≤◌, ◌≢◌, max, min, List, Some, None, IsSome, arith, ◌∙◌}
 use Rattle.std.specs.declared.ops.Range.{Range}
 use Rattle.std.proofs.lemmas.Bool.Decides.{nat_tests}
@@ -9,7 +9,7 @@ use Rattle.recovery_ids.specs.RemoteIds.{IdTable, IsLeastHeld, with_id, without_
 use Rattle.recovery_ids.specs.Window.{held_at, Advances}
 use Rattle.recovery_ids.specs.CidQueue.{remote_ids}
 
--- a table to which a frame's number is added, and whose numbers below the least are dropped
+-- a table to which a frame's number is added, and whose numbers below the smallest are dropped
 frame_table : (frame : NewConnectionId) (low least : ℕ) (old lower mid new : IdTable) → low ≡ frame.retire_prior_to
     → low ≤ frame.sequence → ((n : ℕ) → lower n ≡ without_below low old n)
     → ((n : ℕ) → mid n ≡ with_id frame.sequence (frame.id, Some frame.reset_token) lower n) → IsLeastHeld mid low least
@@ -21,11 +21,11 @@ frame_table frame _ _ _ _ _ _ is_low ordered drops adds is_least moves n =
     let bound = is_least.bound in
     grind (arith, nat_tests, drops n, adds n, adds frame.sequence, moves n, at_most, none, bound)
 
--- what the window holds lies in it
+-- what the window holds is in it
 entry_within : (window : Window) (n : ℕ) → IsSome (held_at window n) → (window.start ≤ n) × (n < window.start + LEN)
 entry_within _ n here = grind arith
 
--- the code's steps: numbers below low are dropped, the frame's id is added, and the start moves to the least number
+-- the code's steps: numbers below low are dropped, the frame's ID is added, and the start moves to the smallest number
 -- held
 module _ (old lower mid new : Window) (frame : NewConnectionId) (token : List ℕ) (low : ℕ)
     (ordered : frame.retire_prior_to ≤ frame.sequence)
@@ -65,7 +65,7 @@ module _ (old lower mid new : Window) (frame : NewConnectionId) (token : List �
     };
   }
 
--- a move that a frame is answered with retires numbers
+-- a move that answers a frame retires numbers
 pub retires : (old new : Window) (frame : NewConnectionId) (range : Range ℕ) (token : List ℕ)
     → AcceptsFrame (remote_ids old) frame (Some (range, token)) (remote_ids new) → old.start < frame.retire_prior_to
     → frame.retire_prior_to ≤ frame.sequence → IsRetirement (remote_ids old) range (remote_ids new)

@@ -1,5 +1,4 @@
--- What the calls of a queue make of the ids of the peer is what happens to them. These calls and the driver's
--- `PeerIdsLaws` rest on it.
+-- The calls of a queue change the peer's IDs as the entries do. These calls and the driver's `PeerIdsLaws` rest on it.
 use Rattle.std.proofs.Common.{◌≡◌, ℕ, zero, suc, ◌+◌, ◌<◌, ◌≤◌, max, List, Option, None, Some, IsSome, refl, sym, ap, ◌∙◌, arith}
 use Rattle.std.specs.declared.ops.Range.{Range}
 use Rattle.std.proofs.lemmas.Bool.Decides.{nat_tests}
@@ -8,9 +7,9 @@ use Rattle.recovery_base.specs.declared.below.ids.NewConnectionId.{NewConnection
 use Rattle.recovery_ids.specs.RemoteIds.{IdTable, RemoteIds, AcceptsFrame, MovesToNext, AreInWindow, active_connection_id_limit, with_id, with_frame, without_id}
 use Rattle.recovery_ids.specs.RemoteStep.{given, used, replaced, first_held, remote_ids_with}
 
--- ---- the least number held
+-- ---- the smallest number held
 
--- the search finds the least number held, where it goes far enough
+-- the search finds the smallest number held, if it goes far enough
 first_held_is : (held : IdTable) (least low more : ℕ) → IsSome (held least) → low ≤ least → least < low + more
     → ((n : ℕ) → low ≤ n → n < least → held n ≡ None) → first_held held low more ≡ Some least
 unfolding first_held
@@ -23,14 +22,14 @@ first_held_is held least low (suc more) there from far none = grind (
       (λ n above below. none n (omega arith) below),
 )
 
--- where nothing is held from a number on, it finds none
+-- if nothing is held from a number on, it finds none
 none_held : (held : IdTable) (low more : ℕ) → ((n : ℕ) → low ≤ n → held n ≡ None) → first_held held low more ≡ None
 unfolding first_held
 none_held _ _ zero _ = refl
 none_held held low (suc more) none =
     grind (arith, none_held held (low + 1) more (λ n above. none n (omega arith)))
 
--- ---- what a call is to them
+-- ---- the entry of a call
 
 same_ids : (active : ℕ) (held : IdTable) (ids : RemoteIds) → ids.active ≡ active → ((n : ℕ) → ids.held n ≡ held n) →
     ids ≡ record { active = active; held = held }

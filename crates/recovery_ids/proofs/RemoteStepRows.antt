@@ -1,20 +1,20 @@
--- Worked rows: what some things that happen make of the ids of the peer, computed. Nothing rests on them.
+-- Worked rows: the peer's IDs after some entries, computed. Nothing rests on them.
 use Rattle.std.proofs.Common.{◌≡◌, ℕ, List, [], ◌∷◌, None, Some, refl}
 use Rattle.recovery_base.specs.declared.below.ids.NewConnectionId.{NewConnectionId}
 use Rattle.recovery_ids.specs.RemoteIds.{RemoteIds}
 use Rattle.recovery_ids.specs.RemoteStep.{RemoteEntry, given, used, replaced, first_held, remote_ids_with, initial_ids}
 
--- a frame whose id and token are one byte
+-- a frame whose ID and token are one byte
 abbrev frame : ℕ → ℕ → ℕ → NewConnectionId
 frame sequence retire_prior_to byte =
     record { sequence = sequence; retire_prior_to = retire_prior_to; id = byte ∷ []; reset_token = byte ∷ [] }
 
--- the initial id, and then all that happened, the newest first
+-- the initial ID, and then all that happened, the newest first
 abbrev ids_by : List RemoteEntry → RemoteIds
 ids_by [] = initial_ids (255 ∷ [])
 ids_by (entry ∷ earlier) = remote_ids_with entry (ids_by earlier)
 
--- number 2 comes, and 3 with a retirement of 0
+-- number 2 is received, and 3 with a retirement of 0
 abbrev log : List RemoteEntry
 log = given (frame 3 1 8) ∷ given (frame 2 0 7) ∷ []
 
@@ -43,7 +43,7 @@ last_stays : (ids_by (used ∷ used ∷ log)).active ≡ 3
 unfolding remote_ids_with first_held
 last_stays = refl
 
--- a gap of numbers that came for none
+-- a gap of numbers that were not received
 gap_is_passed : (ids_by (given (frame 1_000_000 1_000_000 9) ∷ log)).active ≡ 1_000_000
 unfolding remote_ids_with first_held
 gap_is_passed = refl
@@ -52,12 +52,12 @@ initial_is_replaced : (ids_by (replaced (254 ∷ []) ∷ [])).held 0 ≡ Some (2
 unfolding remote_ids_with
 initial_is_replaced = refl
 
--- a frame that repeats the initial id brings its token
+-- a frame that repeats the initial ID brings its token
 token_is_kept : (ids_by (given (frame 0 0 255) ∷ [])).held 0 ≡ Some (255 ∷ [], Some (255 ∷ []))
 unfolding remote_ids_with first_held
 token_is_kept = refl
 
--- eight numbers are looked at: the last of them is found
+-- eight numbers are examined: the last of them is found
 eighth_is_found : (ids_by (used ∷ given (frame 7 0 7) ∷ [])).active ≡ 7
 unfolding remote_ids_with first_held
 eighth_is_found = refl

@@ -1,4 +1,4 @@
--- Two ids are the same where their lengths are, and their bytes with the zeros behind them: `is_same_id` rests on it.
+-- Two IDs are equal if their lengths are, and their bytes with the zeros after them: `is_same_id` rests on it.
 use Rattle.std.proofs.Common.{◌≡◌, ℕ, ◌-◌, ◌==◌, Bool, ◌&&◌, nat_eq, List, ◌++◌, length, take, replicate, sym, ap, ◌∙◌}
 use Rattle.std.specs.Bool.{Decides}
 use Rattle.std.specs.Cmp.Lexicographic.{pointwise}
@@ -6,7 +6,7 @@ use Rattle.std.proofs.lemmas.Bool.Decides.{Decides-and, Decides-at, Decides-eqb,
 use Rattle.std.proofs.lemmas.Slice.Eq.{bytes_eq-Decides}
 use Rattle.std.proofs.Math.Seq.{take-append_seam}
 
--- the bytes of an id with the zeros behind them
+-- the bytes of an ID with the zeros after them
 abbrev with_zeros : List ℕ → List ℕ
 with_zeros bytes = bytes ++ replicate (20 - length bytes) 0
 

@@ -1,4 +1,4 @@
--- Lists of numbers that rise. All that is said of the ids of this end rests on it.
+-- Lists of increasing numbers. All laws of the local IDs rest on it.
 use Rattle.std.proofs.Common.{◌≡◌, ℕ, zero, suc, ◌+◌, ◌<◌, ◌≤◌, ◌==◌, ◌&&◌, nat_lt, nat_le, not, Bool, false, List, [], ◌∷◌, ◌++◌, filter, refl, arith}
 use Rattle.std.specs.List.{list_any, range_with_len}
 use Rattle.recovery_ids.specs.LocalIds.{AreIncreasingWithin}
@@ -18,7 +18,7 @@ Rise-wider low high lower higher (n ∷ ns) rise below above = grind (
       ns,
 )
 
--- a run with one number more at its end
+-- a run with one more number at its end
 pub range_more : (first count next : ℕ) → first + count ≡ next
     → range_with_len first (suc count) ≡ range_with_len first count ++ next ∷ []
 range_more _ zero _ ends = grind (arith, ends)
@@ -45,38 +45,38 @@ Rise-filter test low high (n ∷ ns) rise = grind (
   Rise-wider (n + 1) high low high (filter test ns),
 )
 
--- ---- which numbers lie below another
+-- ---- which numbers are below another
 
 none_below : (low high end : ℕ) (ns : List ℕ) → AreIncreasingWithin low high ns → end ≤ low → list_any
     (λ n. nat_lt n end) ns ≡ false
 none_below _ _ _ [] _ _ = refl
 none_below _ high end (n ∷ ns) rise past = grind (arith, rise, none_below (n + 1) high end ns)
 
--- the least number decides whether one lies below
+-- the smallest number decides whether one is below
 pub list_any-front : (low high n end : ℕ) (ns : List ℕ) → AreIncreasingWithin low high (n ∷ ns)
     → list_any (λ m. nat_lt m end) (n ∷ ns) ≡ nat_lt n end
 list_any-front _ high n end ns rise = grind (arith, none_below (n + 1) high end ns rise.1)
 
--- all numbers lie at or above the low end
+-- no number is below the low end
 pub list_any-between : (low high from end : ℕ) (ns : List ℕ) → AreIncreasingWithin low high ns → from ≤ low →
     list_any (λ n. nat_le from n && nat_lt n end) ns ≡ list_any (λ n. nat_lt n end) ns
 list_any-between _ _ _ _ [] _ _ = refl
 list_any-between _ high from end (n ∷ ns) rise below =
     grind (arith, rise, list_any-between (n + 1) high from end ns)
 
--- no number lies between a number and itself
+-- no number is between a number and itself
 pub list_any-nowhere : (at : ℕ) (ns : List ℕ) → list_any (λ n. nat_le at n && nat_lt n at) ns ≡ false
 list_any-nowhere at [] = refl
 list_any-nowhere at (n ∷ ns) = grind (arith, list_any-nowhere at ns)
 
--- where none lies below another number, all rise from that one
+-- if none is below another number, all increase from that one
 pub Rise-from : (low high from : ℕ) (ns : List ℕ) → AreIncreasingWithin low high ns → list_any (λ n. nat_lt n from) ns
     ≡ false
     → from ≤ high → AreIncreasingWithin from high ns
 Rise-from _ _ _ [] _ _ below = below
 Rise-from _ _ _ (n ∷ ns) rise none _ = grind arith
 
--- ---- taking a number out
+-- ---- removing a number
 
 pub absent_below : (low high x : ℕ) (ns : List ℕ) → AreIncreasingWithin low high ns → x < low → filter
     (λ n. not (n == x)) ns ≡ ns

@@ -1,4 +1,4 @@
--- What becomes of the ids that this end issued. The calls of `CidState` rest on it.
+-- The local IDs after each call. The calls of `CidState` rest on it.
 use Rattle.std.proofs.Common.{◌≡◌, ℕ, zero, suc, ◌+◌, ◌-◌, ◌^◌, ◌≤◌, ◌==◌, nat_lt, not, Bool, false, List, [], ◌∷◌, map, drop, Option, refl, sym, arith}
 use Rattle.std.specs.List.{list_any, range_with_len}
 use Rattle.recovery_ids.specs.declared.state.CidTimestamp.{CidTimestamp}
@@ -11,7 +11,7 @@ any_below end ids = list_any (λ n. nat_lt n end) ids.unretired
 
 -- ---- timeouts
 
--- the oldest deadline goes, and the mark may move behind its number
+-- the oldest deadline is removed, and the mark may move after its number
 mark_rises : (mark issued : ℕ) (deadlines : List CidTimestamp)
     → AreIncreasingWithin mark issued (map (λ deadline. deadline.sequence) deadlines) →
     (mark ≤ next_mark mark deadlines)
@@ -28,7 +28,7 @@ module _ {ids : LocalIds} (sound : AreSoundIds ids) where
   pub asked : holds_unretired ids.retired_below ids.retire_prior_to ids ≡ any_below ids.retire_prior_to ids
   asked = list_any-between _ _ _ _ ids.unretired sound.unretired (omega arith)
 
-  -- where no number below the mark is unretired, all rise from there
+  -- if no number below the mark is unretired, all increase from there
   rises : any_below ids.retire_prior_to ids ≡ false → AreIncreasingWithin ids.retire_prior_to ids.issued ids.unretired
   rises none = Rise-from _ _ _ ids.unretired sound.unretired none (Rise-bound _ _ _ sound.deadlines)
 
@@ -64,7 +64,7 @@ module _ {ids : LocalIds} (sound : AreSoundIds ids) where
 pub none_sound : (cid_len : ℕ) (lifetime : Option ℕ) → AreSoundIds (no_ids cid_len lifetime)
 none_sound _ _ = grind arith
 
--- the first ids, from number 0 on, with a deadline for the last of them
+-- the first IDs, from number 0 on, with a deadline for the last of them
 module _ (now cid_len : ℕ) (lifetime : Option ℕ) where
   abbrev pub first_ids : ℕ → List ℕ → List CidTimestamp → LocalIds
   first_ids issued numbers deadlines = record {

@@ -1,4 +1,4 @@
--- What a `CidState` holds.
+-- The value of a `CidState` in contracts.
 use Rattle.std.specs.Prelude.{ℕ, List}
 use Rattle.std.specs.Map.{keys_of}
 use Rattle.recovery_queue.specs.declared.slots.Slot.{Slot}
@@ -6,7 +6,7 @@ use Rattle.recovery_queue.specs.Slots.{entries_in}
 use Rattle.recovery_ids.specs.LocalIds.{LocalIds}
 use Rattle.recovery_ids.specs.declared.state.CidState.TheInside.{Inside}
 
--- the numbers that stand in a queue of slots, in their order
+-- the numbers in a queue of slots, in their order
 abbrev pub numbers_in : List (Slot (Unit {0})) → List ℕ
 numbers_in slots = keys_of (entries_in slots)
 

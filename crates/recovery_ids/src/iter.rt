@@ -1,4 +1,4 @@
-//! The ids that a queue holds, one by one.
+//! An iterator over the IDs that a queue holds.
 ghost use Rattle.std.specs.Prelude.{◌≡◌, ◌<◌};
 ghost use Rattle.std.specs.Iterator.{YieldsFirst, item_count};
 ghost use Rattle.recovery_base.specs.Units.{number_limit};
@@ -8,10 +8,10 @@ ghost use Rattle.recovery_ids.specs.Window.{ids_in};
 use crate::window::{CidData, LEN, Window};
 use std::marker::Model;
 
-/// The ids that a `CidQueue` holds, the active one first, each with its steps from the active number. It gives at most
-/// `CidQueue::LEN` of them.
+/// The IDs that a `CidQueue` holds, the active one first, each with its distance from the active number: at most
+/// `CidQueue::LEN`.
 ///
-/// Contracts see the list of those that are left.
+/// In contracts its value is the list of those that are left.
 #[derive(Drop)]
 pub struct CidIter<'a> {
     window: &'a Window,
@@ -31,7 +31,7 @@ impl<'a> Model for CidIter<'a> {
     ghost invariant = { λ it. it.window.now.start < number_limit };
 }
 
-/// What a window holds, from its start on.
+/// Returns the IDs that a window holds, from its start on.
 pub fn items(window: &Window) -> CidIter<'_>
     requires { window.now.start < number_limit }
     ensures { result ≡ items_from 0 (ids_in window.now) }

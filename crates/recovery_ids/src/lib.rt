@@ -1,4 +1,4 @@
-//! Connection ids (RFC 9000, 5.1): those that the peer issued (`queue.rt`), and those that this end issued
+//! Connection IDs (RFC 9000, 5.1): those that the peer issued (`queue.rt`), and those that the local endpoint issued
 //! (`state.rt`).
 #![tactic(auto)]
 

@@ -1,4 +1,4 @@
-//! The ids of the peer that packets may be sent to.
+//! The peer's IDs, to which packets may be sent.
 ghost use Rattle.std.specs.Prelude.{◌≡◌, ℕ, ◌+◌, ◌<◌, ◌≤◌, ◌==◌, Some, None, IsSome, IfSome, IfOk, OnOk, OnErr, IfNone, IsSomeAnd, MatchOption, MatchResult, Decides, length, if◌then◌else◌};
 ghost use Rattle.recovery_base.specs.Units.{number_limit};
 ghost use Rattle.recovery_ids.specs.CidQueue.{held, active_of, remote_ids};
@@ -13,10 +13,10 @@ use std::marker::Model;
 use std::ops::Range;
 use thiserror::Error;
 
-/// The ids that the peer issued and that are held, at most `LEN`, of which the one with the least number is active
-/// (RFC 9000, 5.1.1). The initial id has number 0 and no token.
+/// The IDs that the peer issued and that are held, at most `LEN`. The one with the smallest number is active (RFC 9000,
+/// 5.1.1). The initial ID has number 0 and no token.
 ///
-/// Contracts see what is held for each number, and the active number.
+/// In contracts its value is the entry of each number, and the active number.
 #[derive(Drop)]
 pub struct CidQueue {
     window: Window,
@@ -35,25 +35,25 @@ impl Model for CidQueue {
     ghost inverse = { λ window. record { window = window } };
 }
 
-/// Why an id of the peer is refused.
+/// Why an ID of the peer is rejected.
 #[derive(Clone, Copy, Debug, PartialEq, Eq, Error)]
 pub enum InsertError {
-    /// The number lies below the active one.
+    /// The number is below the active one.
     #[error("the connection id was already retired")]
     Retired,
-    /// The number lies past the window.
+    /// The number is above the window.
     #[error("the connection id exceeds the limit")]
     ExceedsLimit,
-    /// The number is held with another id, or with a token that is not the frame's.
+    /// The number is held with another ID, or with another token.
     #[error("the connection id conflicts with the one that is held")]
     Conflict,
 }
 
 impl CidQueue {
-    /// The most ids that are held.
+    /// The most IDs that are held.
     pub const LEN: usize = window::LEN;
 
-    /// Holds the initial id alone, as number 0 and without a token.
+    /// Returns a queue that holds only the initial ID, as number 0 and without a token.
     pub fn new(cid: ConnectionId) -> Self
         ensures active { active_of result ≡ 0 }
         ensures ids { (n : ℕ) → held result n ≡ (if n == 0 then Some (cid, None) else None) }
@@ -66,15 +66,15 @@ impl CidQueue {
         }
     }
 
-    /// Takes the id of a NEW_CONNECTION_ID frame (RFC 9000, 19.15). It is accepted where its number lies in the window
-    /// of `LEN` numbers that begins at the active number or, where that is greater, at the frame's retire-prior-to,
-    /// and where the frame repeats what is held for its number, if anything is: the id, and the token where one is
-    /// held. The initial id has none, so a frame for it brings one, which is kept. Where the frame retires the active
-    /// id, the least number held is the new active one, and the answer is the range of numbers to be retired, at most
-    /// `LEN` of them, with the new active id's token.
+    /// Adds the ID of a NEW_CONNECTION_ID frame (RFC 9000, 19.15). It is accepted if its number is in the window, and
+    /// if the frame repeats what is held for its number, if anything. The window has the `LEN` numbers that begin at
+    /// the active number, or at the frame's retire-prior-to if that is larger. The frame must repeat the ID, and the
+    /// token if one is held. The initial ID has none, so a frame for it brings one, which is stored. If the frame
+    /// retires the active ID, the smallest number held becomes active. The answer then is the range of numbers to
+    /// retire, at most `LEN` of them, with the new active ID's token.
     ///
-    /// A refusal changes nothing: `Retired` below the active number, `ExceedsLimit` past the window, `Conflict` where
-    /// the number is held with another id or another token.
+    /// An error changes nothing: `Retired` below the active number, `ExceedsLimit` above the window, `Conflict` if the
+    /// number is held with another ID or another token.
     #[inline(always)]
     pub fn insert(
         &mut self,
@@ -110,8 +110,8 @@ impl CidQueue {
             return Ok(None);
         }
         match advance(&mut self.window, low) {
-            // Numbers past the old window were never held. A frame that brings one later is refused, and its number
-            // retired then, so that no frame makes this end retire more than a window at once.
+            // Numbers above the old window were never held. A frame that brings one later is rejected, and its number
+            // retired then, so that no frame makes the local endpoint retire more than a window at once.
             Some(token) => {
                 let end = self.window.start().min(active + Self::LEN as u64);
                 Ok(Some((active..end, token)))
@@ -120,8 +120,8 @@ impl CidQueue {
         }
     }
 
-    /// Drops the active id and moves to the next one that is held: answers its token, and the numbers to be retired.
-    /// `None`, where nothing else is held, changes nothing.
+    /// Drops the active ID and moves to the next one that is held. Returns its token, and the numbers to retire.
+    /// Returns `None` and changes nothing if no other ID is held.
     #[inline(always)]
     pub fn next(&mut self) -> Option<(ResetToken, Range<u64>)>
         ensures moves { MatchOption result
@@ -138,7 +138,7 @@ impl CidQueue {
         Some((token, retired..self.window.start()))
     }
 
-    /// Replaces the initial id while it is the active one, as a server may do (RFC 9000, 7.2). It has no token.
+    /// Replaces the initial ID while it is active, as a server may (RFC 9000, 7.2). It has no token.
     pub fn update_initial_cid(&mut self, cid: ConnectionId)
         requires { active_of self.old ≡ 0 }
         ensures active { active_of self.new ≡ 0 }
@@ -149,7 +149,7 @@ impl CidQueue {
         self.window.set(0, (cid, None));
     }
 
-    /// The ids held, each with its steps from the active number: the active one first, at most `LEN`.
+    /// Returns the IDs held, each with its distance from the active number: the active one first, at most `LEN`.
     pub fn iter(&self) -> CidIter<'_>
         ensures items { result ≡ items_from 0 (remote_ids self.now) }
         ensures few { length result ≤ Self.LEN }
@@ -157,7 +157,7 @@ impl CidQueue {
         iter::items(&self.window)
     }
 
-    /// The active id.
+    /// Returns the active ID.
     pub fn active(&self) -> ConnectionId
         ensures id { IsSomeAnd (held self.now (active_of self.now)) (λ entry. entry.0 ≡ result) }
     {
@@ -167,7 +167,7 @@ impl CidQueue {
         }
     }
 
-    /// The number of the active id.
+    /// Returns the number of the active ID.
     pub fn active_seq(&self) -> u64
         ensures number { result ≡ active_of self.now }
         ensures bound { result < number_limit }
@@ -177,7 +177,7 @@ impl CidQueue {
     }
 }
 
-/// Whether a frame says of its number what is held for it, if anything is: the id, and the token where one is held.
+/// Returns whether a frame repeats what is held for its number, if anything: the ID, and the token if one is held.
 fn repeats(frame: &NewConnectionId, held: Option<CidData>) -> bool
     ensures { Decides result (RepeatsFrame frame.now (λ n. held)) }
 {
@@ -187,21 +187,21 @@ fn repeats(frame: &NewConnectionId, held: Option<CidData>) -> bool
     }
 }
 
-/// Whether two ids have the same bytes.
+/// Returns whether two IDs have the same bytes.
 fn is_same_id(one: &ConnectionId, other: &ConnectionId) -> bool
     ensures { Decides result (one.now ≡ other.now) }
 {
     one == other
 }
 
-/// Whether a token is the one held, where one is held.
+/// Returns whether a token is the one held, if one is held.
 fn is_same_token(given: &ResetToken, held: Option<ResetToken>) -> bool
     ensures { Decides result (IfSome held (λ token. given.now ≡ token)) }
 {
     held.is_none_or(|token| *given == token)
 }
 
-/// Moves to the least number held at or above another, where there is one, and answers its token.
+/// Moves to the smallest number held, not below another, if there is one, and returns its token.
 fn advance(window: &mut Window, low: u64) -> Option<ResetToken>
     requires ahead { window.old.start ≤ low }
     requires small { window.old.start < number_limit }

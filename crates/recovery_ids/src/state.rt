@@ -1,4 +1,4 @@
-//! The ids that this end issued.
+//! The IDs that the local endpoint issued.
 ghost use Rattle.std.specs.Prelude.{◌≡◌, ℕ, List, ◌+◌, ◌-◌, ◌<◌, ◌≤◌, ◌==◌, nat_lt, [], ◌++◌, length, map, filter, drop, not, IsOk, IfOk, OnOk, OnErr, MatchResult};
 ghost use Rattle.std.specs.List.{list_any, range_with_len};
 ghost use Rattle.std.specs.VecDeque.{deque_len, deque_capacity};
@@ -14,24 +14,24 @@ use std::collections::VecDeque;
 use std::marker::Model;
 use thiserror::Error;
 
-/// When the numbers up to one are to be retired.
+/// A deadline at which the numbers up to one are to be retired.
 #[derive(Clone, Copy)]
 struct CidTimestamp {
     sequence: u64,
     timestamp: Instant,
 }
 
-/// The ids that this end issued: which of them the peer did not retire, and when it is to be asked to (RFC 9000,
-/// 5.1.2). The numbers begin at 0 and go on without gaps.
+/// The IDs that the local endpoint issued: which of them the peer did not retire, and when to ask it to (RFC 9000,
+/// 5.1.2). The numbers begin at 0 and have no gaps.
 ///
-/// What is kept grows with the numbers that are not retired, and not with how far they lie apart, and with the
-/// deadlines, of which each batch of equal moments has one. A number has a slot of 16 bytes; beside two slots for each
-/// number at most 64 are kept.
+/// The memory grows with the numbers that are not retired, however far they are apart, and with the deadlines, of which
+/// each batch with the same time has one. A number has a slot of 16 bytes; there are at most two slots for each number
+/// and 64 more.
 #[derive(Drop)]
 pub struct CidState {
     /// Deadlines, the oldest first.
     retire_timestamp: VecDeque<CidTimestamp>,
-    /// How many ids were issued.
+    /// How many IDs were issued.
     issued: u64,
     /// The numbers that the peer did not retire.
     active_seq: SlotQueue<()>,
@@ -55,10 +55,10 @@ impl Model for CidState {
     ghost invariant = { λ state. AreSoundIds (local_ids state) };
 }
 
-/// Why a retirement by the peer is refused (RFC 9000, 19.16).
+/// Why a retirement by the peer is rejected (RFC 9000, 19.16).
 #[derive(Clone, Copy, Debug, Error)]
 pub enum RetireError {
-    /// This end uses ids of no bytes, of which none can be retired.
+    /// The local endpoint uses zero-length IDs, which cannot be retired.
     #[error("RETIRE_CONNECTION_ID when CIDs aren't in use")]
     CidsNotInUse,
     /// The number was not issued.
@@ -71,7 +71,7 @@ impl From<RetireError> for TransportError {
     ghost use Rattle.recovery_base.specs.Errors.{protocol_violation};
     ghost use Rattle.recovery_ids.specs.LocalIds.{retire_text};
 
-    // It is a violation of the protocol, with the refusal's text.
+    // It is a protocol violation, with the error's text.
     ghost from_gives = { λ error transport. (transport.code ≡ protocol_violation)
         × (transport.reason.now ≡ retire_text error) };
 
@@ -88,11 +88,12 @@ impl From<RetireError> for TransportError {
 }
 
 impl CidState {
-    /// Counts the numbers 0 to `issued - 1` as issued, none of them retired, each with a deadline one lifetime from
-    /// `now`. Without a lifetime, or where the deadline would pass the clock's end, none is stored.
+    /// Returns a state in which the numbers 0 to `issued - 1` are issued and not retired, with a deadline one lifetime
+    /// from `now`. Without a lifetime, or if the deadline would exceed the clock's range, no deadline is stored.
     ///
-    /// `NoMemory` where there is no room for them, which is asked for at once: 16 bytes a number, so that of a count
-    /// past all memory none is taken. Where none is issued, no memory is taken. The time is linear in the count.
+    /// Fails with `NoMemory` if there is no room, which is requested at once: 16 bytes a number, so nothing is
+    /// allocated for a count that exceeds the memory. If none is issued, nothing is allocated. Cost: linear in the
+    /// count.
     pub fn new(
         alloc: Global,
         cid_len: usize,
@@ -122,17 +123,16 @@ impl CidState {
         })
     }
 
-    /// The moment of the oldest deadline, even where a later one has an earlier moment.
+    /// Returns the time of the oldest deadline, even if a later one has an earlier time.
     pub fn next_timeout(&self) -> Option<Instant>
         ensures { result ≡ first_moment self.now.deadlines }
     {
         self.retire_timestamp.front().map(|oldest| oldest.timestamp)
     }
 
-    /// Takes the oldest deadline. Where the peer retired all numbers below the last retire-prior-to, that becomes the
-    /// deadline's number and one: the answer is whether it asks for the retirement of a number that is not retired
-    /// yet, so that a NEW_CONNECTION_ID frame should tell the peer (RFC 9000, 5.1.2). It takes no memory, and constant
-    /// time.
+    /// Removes the oldest deadline. If the peer retired all numbers below the last retire-prior-to, that becomes the
+    /// deadline's number plus one. Returns whether the new one covers a number that is not retired yet, so that a
+    /// NEW_CONNECTION_ID frame should be sent (RFC 9000, 5.1.2). Does not allocate. Constant cost.
     pub fn on_cid_timeout(&mut self) -> bool
         ensures after { self.new ≡ timed_out self.old }
         ensures answer { result
@@ -149,10 +149,10 @@ impl CidState {
         is_any_below(&self.active_seq, next)
     }
 
-    /// Counts these ids as issued, and stores a deadline for the last of them, one lifetime from `now`. An empty list
-    /// changes nothing, and takes no memory.
+    /// Records that these IDs are issued, and stores a deadline for the last of them, one lifetime from `now`. An empty
+    /// list changes and allocates nothing.
     ///
-    /// `NoMemory` changes nothing. The time is linear in the ids.
+    /// `NoMemory` changes nothing. Cost: linear in the IDs.
     pub fn new_cids(&mut self, ids: &[IssuedCid], now: Instant) -> Result<(), NoMemory>
         requires numbers { map (λ id. id.sequence) ids.now
             ≡ range_with_len self.old.issued (length ids.now) }
@@ -173,15 +173,15 @@ impl CidState {
         Ok(())
     }
 
-    /// Retires a number, as a RETIRE_CONNECTION_ID frame of the peer asks (RFC 9000, 19.16), and says whether one more
-    /// id may be issued: whether `limit` exceeds the count of unretired numbers. A number that was retired before
+    /// Retires a number, as a RETIRE_CONNECTION_ID frame of the peer asks (RFC 9000, 19.16). Returns whether one more
+    /// ID may be issued: whether `limit` exceeds the count of unretired numbers. A number that was retired before
     /// changes nothing.
     ///
-    /// A refusal changes nothing: `CidsNotInUse` where the ids have no bytes, else `UnissuedCid` where the number was
-    /// not issued.
+    /// An error changes nothing: `CidsNotInUse` if the IDs have zero length, else `UnissuedCid` if the number was not
+    /// issued.
     ///
-    /// It takes no memory, and logarithmic time in the unretired numbers, on the mean of many calls: slots are closed
-    /// up where more of them are empty than filled.
+    /// Does not allocate. Cost: logarithmic in the unretired numbers, amortized: slots are closed up once over 64 more
+    /// of them are empty than filled.
     pub fn on_cid_retirement(&mut self, sequence: u64, limit: u64) -> Result<bool, RetireError>
         ensures reply { MatchResult result
             (λ more. AcceptsRetirement self.old sequence limit more self.new)
@@ -199,14 +199,15 @@ impl CidState {
         Ok(limit > self.active_seq.filled() as u64)
     }
 
-    /// The bytes of this end's ids.
+    /// Returns the length of the local IDs in bytes.
     pub fn cid_len(&self) -> usize
         ensures { result ≡ self.now.cid_len }
     {
         self.cid_len
     }
 
-    /// The number below which the peer is asked to retire all ids: the retire-prior-to of NEW_CONNECTION_ID frames.
+    /// Returns the number below which the peer is asked to retire all IDs: the retire-prior-to of NEW_CONNECTION_ID
+    /// frames.
     pub fn retire_prior_to(&self) -> u64
         ensures value { result ≡ self.now.retire_prior_to }
         ensures bound { result ≤ self.now.issued }
@@ -214,7 +215,7 @@ impl CidState {
         self.retire_seq
     }
 
-    /// How many ids were issued.
+    /// Returns how many IDs were issued.
     pub fn issued(&self) -> u64
         ensures value { result ≡ self.now.issued }
         ensures bound { result ≤ number_limit }
@@ -224,8 +225,8 @@ impl CidState {
     }
 }
 
-/// Adds the numbers from one up to another, above all that are there. Room for all is asked for at once, so that a
-/// count past all memory is refused before any is taken. `NoMemory` changes nothing.
+/// Adds the numbers from `first` up to `end`, above all that are there. Room for all is requested at once, so that
+/// nothing is allocated for a count that exceeds the memory. `NoMemory` changes nothing.
 fn issue(numbers: &mut SlotQueue<()>, first: u64, end: u64) -> Result<(), NoMemory>
     requires ahead { first ≤ end }
     requires above { AreIncreasingWithin 0 first (numbers_in numbers.old) }
@@ -247,7 +248,7 @@ fn issue(numbers: &mut SlotQueue<()>, first: u64, end: u64) -> Result<(), NoMemo
     Ok(())
 }
 
-/// Takes out the numbers from one up to another, which stand behind all others.
+/// Removes the numbers from `first` up to `end`, which are the last.
 fn take_back(numbers: &mut SlotQueue<()>, first: u64, end: u64)
     requires { first ≤ end }
     ensures { (before : List ℕ) → AreIncreasingWithin 0 first before
@@ -259,7 +260,8 @@ fn take_back(numbers: &mut SlotQueue<()>, first: u64, end: u64)
     }
 }
 
-/// Stores a deadline for the last number issued, if there is one and a lifetime, and the clock goes so far.
+/// Stores a deadline for the last number issued, if there is one and a lifetime, and the deadline is in the clock's
+/// range.
 fn track_lifetime(
     deadlines: &mut VecDeque<CidTimestamp>,
     cid_lifetime: Option<Duration>,
@@ -288,7 +290,7 @@ fn track_lifetime(
     );
 }
 
-/// Stores a deadline. It replaces the last one where the moments are equal.
+/// Stores a deadline. It replaces the last one if their times are equal.
 fn store(deadlines: &mut VecDeque<CidTimestamp>, deadline: CidTimestamp)
     requires room { deque_len deadlines.old < deque_capacity deadlines.old }
     ensures { deadlines.new.items ≡ with_deadline deadline deadlines.old.items }
@@ -297,7 +299,7 @@ fn store(deadlines: &mut VecDeque<CidTimestamp>, deadline: CidTimestamp)
     deadlines.push_back_reserved(deadline);
 }
 
-/// Drops the last deadline where it has this moment.
+/// Drops the last deadline if it has this time.
 fn drop_last_at(deadlines: &mut VecDeque<CidTimestamp>, timestamp: Instant)
     ensures items { deadlines.new.items ≡ without_last_at timestamp deadlines.old.items }
     ensures len { deque_len deadlines.new ≤ deque_len deadlines.old }
@@ -311,7 +313,7 @@ fn drop_last_at(deadlines: &mut VecDeque<CidTimestamp>, timestamp: Instant)
     }
 }
 
-/// Takes the oldest deadline, and answers the mark behind its number. Without one the mark stays.
+/// Removes the oldest deadline, and returns the mark after its number. Without a deadline the mark is unchanged.
 fn pop_mark(deadlines: &mut VecDeque<CidTimestamp>, mark: u64) -> u64
     requires { AreIncreasingWithin 0 number_limit
         (map (λ deadline. deadline.sequence) deadlines.old.items) }
@@ -324,7 +326,7 @@ fn pop_mark(deadlines: &mut VecDeque<CidTimestamp>, mark: u64) -> u64
     }
 }
 
-/// Whether one of the numbers lies below another.
+/// Returns whether one of the numbers is below another.
 fn is_any_below(numbers: &SlotQueue<()>, end: u64) -> bool
     requires { AreIncreasingWithin 0 number_limit (numbers_in numbers.now) }
     ensures { result ≡ list_any (λ n. nat_lt n end) (numbers_in numbers.now) }
@@ -335,7 +337,7 @@ fn is_any_below(numbers: &SlotQueue<()>, end: u64) -> bool
     }
 }
 
-/// Takes a number out, if it is there.
+/// Removes a number, if it is there.
 fn remove(numbers: &mut SlotQueue<()>, number: u64)
     requires { AreIncreasingWithin 0 number_limit (numbers_in numbers.old) }
     ensures { numbers_in numbers.new ≡ filter (λ n. not (n == number)) (numbers_in numbers.old) }

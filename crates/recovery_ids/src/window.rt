@@ -1,4 +1,4 @@
-//! What is held for the numbers of a window.
+//! The IDs held for the numbers of a window.
 ghost use Rattle.std.specs.Prelude.{◌≡◌, ℕ, ◌+◌, ◌<◌, ◌≤◌, ◌%◌, ◌==◌, Some, None, MatchOption, set, if◌then◌else◌};
 ghost use Rattle.recovery_base.specs.Units.{number_limit};
 ghost use Rattle.recovery_ids.specs.RemoteIds.{IsLeastHeld, with_id, without_below};
@@ -6,20 +6,20 @@ ghost use Rattle.recovery_ids.specs.Window.{held_at, FitsInWindow};
 
 use recovery_base::below::{ConnectionId, ResetToken};
 
-/// An id, with its token where there is one.
+/// An ID, with its token if it has one.
 pub type CidData = (ConnectionId, Option<ResetToken>);
 
-/// The most ids of the peer that are held. A power of two, so that no division finds a number's place.
+/// The most IDs of the peer that are held. A power of two, so that finding a number's position needs no division.
 pub const LEN: usize = 8;
 
-/// What is held for each of `LEN` numbers from `start` on. The entry of a number stands at its rest by `LEN`.
+/// The entries of `LEN` numbers from `start` on. The entry of a number is at its remainder modulo `LEN`.
 #[derive(Drop)]
 pub struct Window {
     entries: [Option<CidData>; LEN],
     start: u64,
 }
 
-/// Where a number's entry stands.
+/// Returns the position of a number's entry.
 fn slot(number: u64) -> usize
     ensures { result ≡ number % LEN }
 {
@@ -35,7 +35,7 @@ fn clear(entries: &mut [Option<CidData>; LEN], start: u64, number: u64)
 }
 
 impl Window {
-    /// A window from number 0 on, which holds this alone for it.
+    /// Returns a window from number 0 on, which holds only this entry for it.
     pub fn new(entry: CidData) -> Self
         ensures start { result.start ≡ 0 }
         ensures entries { (n : ℕ) → held_at result n ≡ (if n == 0 then Some entry else None) }
@@ -45,14 +45,14 @@ impl Window {
         Window { entries, start: 0 }
     }
 
-    /// The first number of the window.
+    /// Returns the first number of the window.
     pub fn start(&self) -> u64
         ensures { result ≡ self.now.start }
     {
         self.start
     }
 
-    /// What is held for a number: nothing outside the window.
+    /// Returns the entry of a number: none outside the window.
     pub fn get(&self, number: u64) -> Option<CidData>
         ensures { result ≡ held_at self.now number }
     {
@@ -62,7 +62,7 @@ impl Window {
         self.entry(number)
     }
 
-    /// What is held for a number of the window.
+    /// Returns the entry of a number of the window.
     fn entry(&self, number: u64) -> Option<CidData>
         requires { FitsInWindow self.now number }
         ensures { result ≡ held_at self.now number }
@@ -70,7 +70,7 @@ impl Window {
         self.entries[slot(number)]
     }
 
-    /// Holds this for a number of the window.
+    /// Sets the entry of a number of the window.
     pub fn set(&mut self, number: u64, entry: CidData)
         requires { FitsInWindow self.old number }
         ensures start { self.new.start ≡ self.old.start }
@@ -79,15 +79,15 @@ impl Window {
         self.entries[slot(number)] = Some(entry);
     }
 
-    /// Moves the start up to a number, and drops what was held below. However far it moves, it empties the entries of
-    /// numbers in the new window alone, at most `LEN`.
+    /// Moves the start up to a number, and drops the entries below. However far it moves, it empties at most `LEN`
+    /// entries: those of numbers in the new window.
     pub fn drop_below(&mut self, low: u64)
         requires ahead { self.old.start ≤ low }
         requires small { low < number_limit }
         ensures start { self.new.start ≡ low }
         ensures entries { (n : ℕ) → held_at self.new n ≡ without_below low (held_at self.old) n }
     {
-        // What is held below is past reach once the start has moved. Numbers that come into the window find no entry.
+        // Entries below are out of reach once the start has moved. Numbers new in the window have no entry.
         let end = self.start + LEN as u64;
         for number in end.max(low)..low + LEN as u64 {
             clear(&mut self.entries, low, number);
@@ -95,7 +95,7 @@ impl Window {
         self.start = low;
     }
 
-    /// The least number at or above another for which something is held. It looks at no number past the window.
+    /// Returns the smallest number, not below another, that has an entry. It examines no number after the window.
     pub fn least_from(&self, low: u64) -> Option<u64>
         requires ahead { self.now.start ≤ low }
         requires small { self.now.start < number_limit }

@@ -1,32 +1,32 @@
-//! The queue before a simulated link: packets go out at a rate, one behind another, and one that finds no room is
-//! dropped. It knows nothing of QUIC.
+//! The queue before a simulated link: packets are sent at a rate, one after another, and one without room is dropped.
+//! It knows nothing of QUIC.
 ghost use Rattle.std.specs.Prelude.{◌≤◌, ◌<◌, ◌≡◌, IfOk, IfSome};
 
 use std::alloc::{AllocError, Global};
 use std::collections::VecDeque;
 
-/// In nanoseconds.
+/// A second in nanoseconds.
 const SECOND: u64 = 1_000_000_000;
 
 /// A packet in the queue.
 #[derive(Clone, Copy)]
 struct Waiting {
-    /// When its last bit has gone out, in nanoseconds.
+    /// When its last bit was sent, in nanoseconds.
     leaves: u64,
     size: u64,
 }
 
-/// The queue before a link. Moments are nanoseconds.
+/// The queue before a link. Times are in nanoseconds.
 #[derive(Drop)]
 pub struct Bottleneck {
     rate: u64,
     room: u64,
     waiting: VecDeque<Waiting>,
-    /// How many bytes wait, with those of the packet that goes out.
+    /// How many bytes are queued, including the packet that is being sent.
     bytes: u64,
-    /// When all that came has gone out.
+    /// When all queued packets were sent.
     free: u64,
-    /// The most bytes that waited.
+    /// The most bytes that were queued.
     most: u64,
     ghost flows: { 0 < rate },
     ghost fits: { bytes ≤ room },
@@ -34,8 +34,8 @@ pub struct Bottleneck {
 }
 
 impl Bottleneck {
-    /// An empty queue of so many bytes, those of the packet that goes out among them, before a link of so many bits a
-    /// second, at least one.
+    /// Returns an empty queue with room for this many bytes, including the packet that is being sent, before a link of
+    /// this many bits per second, one or more.
     pub fn new(alloc: Global, rate: u64, room: u64) -> Self
         ensures { result.room ≡ room }
     {
@@ -49,24 +49,24 @@ impl Bottleneck {
         }
     }
 
-    /// The most bytes that waited.
+    /// Returns the most bytes that were queued.
     pub fn most(&self) -> u64
         ensures { result ≤ self.now.room }
     {
         self.most
     }
 
-    /// How long a packet of so many bytes takes to go out, rounded up to whole nanoseconds.
+    /// Returns how long a packet of this size takes to be sent, rounded up to whole nanoseconds.
     fn service(&self, size: u16) -> u64 {
         (u64::from(size) * 8 * SECOND).div_ceil(self.rate)
     }
 
-    /// A packet comes to the queue: when its last bit has gone out, or nothing where it is dropped. It costs what left
-    /// since the last one came.
+    /// Queues a packet. Returns when its last bit is sent, or `None` if it is dropped. Cost: linear in the packets that
+    /// left since the last one.
     pub fn enter(&mut self, now: u64, size: u16) -> Result<Option<u64>, AllocError>
         ensures room { self.new.room ≡ self.old.room }
 
-        // It goes out behind all that came before, and not before it came.
+        // It is sent after all packets before, and not before it was queued.
         ensures later { IfOk result (λ leaves. IfSome leaves
             (λ at. (now ≤ at) × (self.old.free ≤ at))) }
     {
@@ -87,7 +87,7 @@ impl Bottleneck {
     }
 }
 
-/// Time goes on to this moment: how many bytes leave the queue.
+/// Advances the time. Returns how many bytes leave the queue.
 fn leave(waiting: &mut VecDeque<Waiting>, now: u64) -> u64 {
     let mut bytes: u64 = 0;
     for _ in 0..waiting.len() {

@@ -7,23 +7,22 @@ use std::alloc::{AllocError, AllocFailed};
 /// How the program ends.
 #[derive(Clone, Copy)]
 pub enum Ending {
-    /// All went well.
+    /// Success.
     Ended,
     /// A write failed.
     WriteFailed,
-    /// Nobody reads what is written any more: it went into a pipe whose other end is closed.
+    /// The reader closed the pipe.
     Closed,
-    /// Memory was refused.
+    /// An allocation failed.
     OutOfMemory,
-    /// A call of the sender was refused, which no transfer comes to.
+    /// A call of the sender failed, which no transfer causes.
     SenderError,
     /// The arguments are wrong; nothing was written.
     WrongArguments,
 }
 
 impl Ending {
-    /// The exit status: 0 where all went well, 2 where the arguments are wrong, else 1. That nobody reads on is no
-    /// failure.
+    /// Returns the exit status: 0 on success, 2 if the arguments are wrong, else 1. A closed pipe is no failure.
     pub fn status(self) -> u8 {
         match self {
             Ending::Ended | Ending::Closed => 0,
@@ -32,7 +31,7 @@ impl Ending {
         }
     }
 
-    /// What is wrong, with a line feed behind; empty where nothing is.
+    /// Returns what is wrong, with a line feed at the end; empty on success.
     pub fn text(self) -> &'static str {
         match self {
             Ending::Ended | Ending::Closed => "",

@@ -1,35 +1,36 @@
-//! What a transfer came to, in a line.
+//! The results of a transfer, in a line.
 use crate::settings::SIZE;
 use std::alloc::{AllocError, Global};
 
-/// In nanoseconds.
+/// A second in nanoseconds.
 const SECOND: u128 = 1_000_000_000;
 
-/// What a transfer came to.
+/// The results of a transfer.
 #[derive(Clone, Copy)]
 pub struct Figures {
-    /// When the last byte was acknowledged, or the last thing happened before it was given up, in nanoseconds.
+    /// When the last byte was acknowledged, or, if the transfer was aborted, when the last thing happened, in
+    /// nanoseconds.
     pub time: u64,
     /// How many bytes were to be transferred.
     pub bytes: u64,
-    /// How many packets went out.
+    /// How many packets were sent.
     pub sent: u64,
     /// How many were acknowledged.
     pub acked: u64,
     /// How many were declared lost.
     pub lost: u64,
-    /// How many found no room in the queue.
+    /// How many had no room in the queue.
     pub dropped: u64,
-    /// How many probes a timeout asked for (RFC 9002, 6.2.4).
+    /// How many probes timeouts caused (RFC 9002, 6.2.4).
     pub probes: u64,
     /// How often congestion was persistent (RFC 9002, 7.6).
     pub persistent: u64,
-    /// The most bytes that waited in the queue.
+    /// The most bytes that were queued.
     pub queue: u64,
 }
 
 impl Figures {
-    /// Nothing was sent yet.
+    /// Returns the figures before anything was sent.
     pub fn new(bytes: u64) -> Self {
         Figures {
             time: 0,
@@ -44,14 +45,14 @@ impl Figures {
         }
     }
 
-    /// How many bits a second of what was to be transferred were acknowledged, rounded down.
+    /// Returns how many bits per second of the payload were acknowledged, rounded down.
     fn goodput(&self) -> u128 {
         let bytes = self.acked.saturating_mul(u64::from(SIZE)).min(self.bytes);
         let time = u128::from(self.time).max(1);
         u128::from(bytes) * 8 * SECOND / time
     }
 
-    /// The line.
+    /// Returns the line.
     pub fn line(&self, alloc: Global) -> Result<String, AllocError> {
         let goodput = self.goodput();
         let Figures {

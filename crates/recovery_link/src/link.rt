@@ -1,4 +1,4 @@
-//! The link: a queue, a way there on which packets are lost and late, the peer, and a way back.
+//! The link: a queue, a forward path with losses and late packets, the peer, and a return path.
 use crate::bottleneck::Bottleneck;
 use crate::peer::{Frame, Peer};
 use crate::settings::{SIZE, Settings};
@@ -7,7 +7,7 @@ use crate::weather::Weather;
 use recovery_base::below::NoMemory;
 use std::alloc::Global;
 
-/// The link. Moments are nanoseconds.
+/// The link. Times are in nanoseconds.
 #[derive(Drop)]
 pub struct Link {
     queue: Bottleneck,
@@ -17,12 +17,12 @@ pub struct Link {
     back: Way<Frame>,
     delay: u64,
     late: u64,
-    /// How many packets found no room in the queue.
+    /// How many packets had no room in the queue.
     pub dropped: u64,
 }
 
 impl Link {
-    /// Nothing is on it.
+    /// Returns a link with nothing on it.
     pub fn new(alloc: Global, settings: &Settings) -> Self {
         let shape = settings.link;
         Link {
@@ -37,12 +37,12 @@ impl Link {
         }
     }
 
-    /// The most bytes that waited in the queue.
+    /// Returns the most bytes that were queued.
     pub fn most(&self) -> u64 {
         self.queue.most()
     }
 
-    /// A packet goes out.
+    /// Sends a packet.
     pub fn enter(&mut self, now: u64, number: u64) -> Result<(), NoMemory> {
         let Some(leaves) = self.queue.enter(now, SIZE)? else {
             self.dropped = self.dropped.saturating_add(1);
@@ -56,12 +56,12 @@ impl Link {
         self.there.send(arrives, number)
     }
 
-    /// When something happens next: a packet comes to the peer, an ACK is due there, or one comes back.
+    /// Returns when something happens next: a packet arrives at the peer, an ACK is due there, or one arrives back.
     pub fn next(&self) -> Option<u64> {
         sooner(sooner(self.there.next(), self.peer.due()), self.back.next())
     }
 
-    /// What happens at the peer by now.
+    /// Does what happens at the peer by now.
     pub fn go_on(&mut self, now: u64) -> Result<(), NoMemory> {
         if let Some(number) = self.there.take(now) {
             self.peer.receive(now, number)?;
@@ -75,13 +75,13 @@ impl Link {
         }
     }
 
-    /// The ACK that is back by now.
+    /// Removes and returns the ACK that is back by now.
     pub fn take_ack(&mut self, now: u64) -> Option<Frame> {
         self.back.take(now)
     }
 }
 
-/// The sooner of two moments, if there is one.
+/// Returns the earlier of two times, if there is one.
 pub fn sooner(one: Option<u64>, other: Option<u64>) -> Option<u64> {
     match (one, other) {
         (Some(one), Some(other)) => Some(one.min(other)),

@@ -26,7 +26,7 @@ use std::io::ErrorKind;
 use std::process::ExitCode;
 use transfer::transferred;
 
-/// What a text that was asked for comes to.
+/// Returns the ending after a requested text was written.
 fn written(text: io::Result<()>) -> Ending {
     match text {
         Ok(()) => Ending::Ended,
@@ -35,7 +35,7 @@ fn written(text: io::Result<()>) -> Ending {
     }
 }
 
-/// The line of figures: on standard error, where standard output has the run itself.
+/// Writes the line of figures, to standard error if standard output has the run itself.
 fn shown(rt: &HostRuntime, form: Form, figures: &Figures) -> Ending {
     match figures.line(rt.alloc()) {
         Ok(line) if form == Form::Figures => written(print!(rt; "{line}")),
@@ -44,7 +44,7 @@ fn shown(rt: &HostRuntime, form: Form, figures: &Figures) -> Ending {
     }
 }
 
-/// A transfer over a link.
+/// Runs a transfer over a link.
 fn run(rt: &HostRuntime, settings: &Settings) -> Ending {
     match transferred(rt.alloc(), settings, &mut rt.stdout()) {
         Ok(figures) => shown(rt, settings.form, &figures),
@@ -52,7 +52,7 @@ fn run(rt: &HostRuntime, settings: &Settings) -> Ending {
     }
 }
 
-/// What the words behind the program's name ask for is done.
+/// Does what the arguments ask for.
 fn asked(rt: &HostRuntime, words: &[String]) -> Ending {
     match words {
         [word] if word.as_str() == "--help" => written(print!(rt; "{HELP}")),

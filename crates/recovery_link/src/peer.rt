@@ -1,39 +1,39 @@
-//! The peer: what came to it, and when it acknowledges that (RFC 9000, 13.2).
+//! The peer: what it received, and when it acknowledges that (RFC 9000, 13.2).
 use recovery_base::below::{ArrayRangeSet, NoMemory};
 use std::alloc::Global;
 
-/// How many ranges an ACK has at most, the highest; numbers below them are forgotten.
+/// The most ranges of an ACK: the highest. Numbers below them are forgotten.
 const RANGES: usize = 32;
 
-/// Numbers from here on are none.
+/// Packet numbers are below this.
 const NUMBERS: u64 = 1 << 62;
 
 /// An ACK frame.
 #[derive(Drop)]
 pub struct Frame {
-    /// How long it waited for the largest number that it acknowledges, in nanoseconds.
+    /// The ACK delay, in nanoseconds.
     pub delay: u64,
     /// The first and last number of each of its ranges, the highest range first.
     pub ranges: Vec<(u64, u64)>,
 }
 
-/// The peer. Moments are nanoseconds.
+/// The peer. Times are in nanoseconds.
 #[derive(Drop)]
 pub struct Peer {
     alloc: Global,
     came: ArrayRangeSet,
-    /// The largest number that came, and when.
+    /// The largest number received, and when.
     largest: Option<(u64, u64)>,
-    /// Whether a packet came that is not acknowledged yet.
+    /// Whether a packet was received that is not acknowledged yet.
     owes: bool,
     /// When an ACK is due.
     due: Option<u64>,
-    /// How long an ACK may be delayed.
+    /// The longest ACK delay.
     delay: u64,
 }
 
 impl Peer {
-    /// Nothing came yet.
+    /// Returns a peer that received nothing.
     pub fn new(alloc: Global, delay: u64) -> Self {
         Peer {
             alloc,
@@ -45,13 +45,13 @@ impl Peer {
         }
     }
 
-    /// When an ACK is due.
+    /// Returns when an ACK is due.
     pub fn due(&self) -> Option<u64> {
         self.due
     }
 
-    /// A packet came: an ACK is due at once for every second one, and for one behind which numbers are missing, or that
-    /// is not the largest (RFC 9000, 13.2.1, 13.2.2).
+    /// Records a received packet. An ACK is due at once for every second one, for one after a gap, and for one that is
+    /// not the largest (RFC 9000, 13.2.1, 13.2.2).
     pub fn receive(&mut self, now: u64, number: u64) -> Result<(), NoMemory> {
         if number >= NUMBERS {
             return Ok(());
@@ -87,7 +87,7 @@ impl Peer {
         }
     }
 
-    /// The ACK that is due.
+    /// Returns the ACK that is due.
     pub fn acknowledge(&mut self, now: u64) -> Result<Frame, NoMemory> {
         self.due = None;
         self.owes = false;

@@ -1,4 +1,4 @@
-//! The sender, with what is told of each of its calls.
+//! The sender, with records of its calls.
 ghost use Rattle.std.specs.Prelude.{◌≡◌};
 
 use crate::ending::Ending;
@@ -21,7 +21,7 @@ use std::alloc::Global;
 use std::collections::VecDeque;
 use std::io::Write;
 
-/// The sender, with what is told of each of its calls. Moments are nanoseconds.
+/// The sender, with records of its calls. Times are in nanoseconds.
 #[derive(Drop)]
 pub struct Sending<'a, F: ControllerFactory, W> {
     alloc: Global,
@@ -34,7 +34,7 @@ pub struct Sending<'a, F: ControllerFactory, W> {
     pub figures: Figures,
 }
 
-/// A number is taken out of a list: whether it was there.
+/// Removes a number from a list. Returns whether it was there.
 fn take_out(numbers: &mut Vec<u64>, number: u64) -> bool {
     if !numbers.contains(&number) {
         return false;
@@ -43,12 +43,12 @@ fn take_out(numbers: &mut Vec<u64>, number: u64) -> bool {
     true
 }
 
-/// A span in whole nanoseconds.
+/// Returns a span in whole nanoseconds.
 fn nanos(span: Duration) -> u64 {
     u64::try_from(span.as_nanos()).unwrap_or(u64::MAX)
 }
 
-/// When a datagram is to be asked for again: at no moment where the window has no room, which was looked at before.
+/// Returns when to ask for a datagram again: never if the window has no room, which was tested before.
 fn again_at(sent: &Transmission) -> Option<u64> {
     match sent {
         Transmission::Transmitted => None,
@@ -62,7 +62,7 @@ where
     F: ControllerFactory,
     W: Write,
 {
-    /// A sender as `recovery-sender client` has it, with nothing sent.
+    /// Returns a sender as in `recovery-sender client`, which has sent nothing.
     pub fn new(
         alloc: Global,
         factory: F,
@@ -83,7 +83,7 @@ where
         })
     }
 
-    /// The handshake is over, with a peer that delays its ACKs at most so long.
+    /// Ends the handshake, with a peer that delays its ACKs by at most this much.
     pub fn begin(&mut self, max_ack_delay: u64) -> Result<(), Ending> {
         self.sender
             .set_peer_max_ack_delay(Duration::from_nanos(max_ack_delay));
@@ -91,17 +91,17 @@ where
         self.teller.begins(max_ack_delay)
     }
 
-    /// All that was told goes out.
+    /// Writes all records.
     pub fn finish(&mut self) -> Result<(), Ending> {
         self.teller.finish()
     }
 
-    /// Whether something that is in flight carries an item.
+    /// Returns whether some packet in flight carries an item.
     pub fn is_carrying(&self) -> bool {
         self.carrying > 0
     }
 
-    /// These packets are no longer in flight.
+    /// Records that these packets are no longer in flight.
     fn settle(&mut self, numbers: &[u64]) {
         for number in numbers {
             if !take_out(&mut self.silent, *number) {
@@ -110,30 +110,30 @@ where
         }
     }
 
-    /// How many bytes are in flight (RFC 9002, B.2).
+    /// Returns how many bytes are in flight (RFC 9002, B.2).
     fn in_flight(&self) -> u64 {
         self.sender.recovery().current().in_flight().bytes
     }
 
-    /// Whether the window has room for a packet (RFC 9002, 7), or a probe is due, which goes out beyond it (7.5).
+    /// Returns whether the window has room for a packet (RFC 9002, 7), or a probe is due, which may exceed it (7.5).
     pub fn may_send(&self) -> bool {
         let window = self.sender.recovery().current().congestion.window();
         let with = self.in_flight().saturating_add(u64::from(SIZE));
         with <= window || self.is_probing()
     }
 
-    /// Whether a probe is due.
+    /// Returns whether a probe is due.
     pub fn is_probing(&self) -> bool {
         self.sender.variables().is_probe_due(SpaceId::Data)
     }
 
-    /// When the timer for losses expires, if at all.
+    /// Returns when the loss detection timer expires, if it runs.
     pub fn timer(&self) -> Option<u64> {
         let moment = self.sender.loss_detection_timer()?;
         Some(moment.as_nanos())
     }
 
-    /// Asks for a datagram: the moment at which to ask again, where it does not go now.
+    /// Asks for a datagram. Returns the time at which to ask again, if it may not be sent now.
     pub fn transmit(&mut self, now: u64) -> Result<Option<u64>, Ending> {
         self.teller.asks(now, self.is_paced)?;
         let again = self.ask(now)?;
@@ -151,7 +151,7 @@ where
         }
     }
 
-    /// A packet with this item goes out: its number.
+    /// Sends a packet with this item. Returns its number.
     pub fn send(&mut self, now: u64, item: Option<u64>) -> Result<u64, Ending> {
         self.teller.sends(now, item)?;
         let number = self.track(now, item)?;
@@ -182,7 +182,7 @@ where
         }
     }
 
-    /// An ACK comes back: whether something is to be sent again.
+    /// Processes an ACK. Returns whether something is to be retransmitted.
     pub fn acknowledged(
         &mut self,
         now: u64,
@@ -207,7 +207,7 @@ where
         }
     }
 
-    /// The timer expires: whether something is to be sent again.
+    /// Processes the timer. Returns whether something is to be retransmitted.
     pub fn expire(&mut self, now: u64) -> Result<bool, Ending> {
         self.teller.expires(now)?;
         let at = Instant::from_nanos(now);
@@ -223,7 +223,7 @@ where
         }
     }
 
-    /// What was found lost is counted and told: whether there is something. If allocation failed for a packet, the
+    /// Counts and records the losses of a pass. Returns whether there are any. If allocation failed for a packet, the
     /// transfer ends.
     fn look(&mut self, now: u64, losses: &Losses) -> Result<bool, Ending> {
         if losses.is_cut {
@@ -241,7 +241,7 @@ where
         Ok(count > 0)
     }
 
-    /// What a probe carries is handed out, behind the items that are to be sent again already.
+    /// Appends the contents of a probe to the items to retransmit.
     pub fn probe(&mut self, now: u64, again: &mut VecDeque<u64>) -> Result<(), Ending> {
         self.teller.probes()?;
         let items = match self.sender.probe(SpaceId::Data, false, ()) {
@@ -254,7 +254,7 @@ where
         self.teller.taken(now, items.items())
     }
 
-    /// What waits to be sent again is handed out, behind the items that are to be sent again already.
+    /// Appends the retransmission queue to the items to retransmit.
     pub fn take_pending(&mut self, now: u64, again: &mut VecDeque<u64>) -> Result<(), Ending> {
         self.teller.takes()?;
         let taken = Event::TakePending {
@@ -304,7 +304,7 @@ where
         }
     }
 
-    /// What is in flight, and the timer.
+    /// Records what is in flight, and the timer.
     fn tell_flight(&mut self, now: u64) -> Result<(), Ending> {
         if !self.teller.is_qlog() {
             return Ok(());
@@ -314,7 +314,7 @@ where
         self.tell_timer(now)
     }
 
-    /// The state of the path, and the timer.
+    /// Records the state of the path, and the timer.
     fn tell_state(&mut self, now: u64) -> Result<(), Ending> {
         if !self.teller.is_qlog() {
             return Ok(());

@@ -1,16 +1,16 @@
-//! What the words behind the program's name choose.
+//! The settings that the arguments choose.
 use recovery_script_syntax::words::number_in;
 
-/// The bytes of each packet, all of them what is transferred.
+/// The bytes of each packet, all of which are payload.
 pub const SIZE: u16 = 1200;
 
-/// The greatest rate, size and span that can be chosen.
+/// The largest rate, size and span that can be chosen.
 const MOST: u64 = 1_000_000_000_000;
 
-/// The greatest length of a burst of losses, in packets.
+/// The longest burst of losses, in packets.
 const LONGEST_BURST: u64 = 1_000_000;
 
-/// A whole, of which chances are parts.
+/// The whole of which chances are parts.
 pub const MILLION: u64 = 1_000_000;
 
 /// What is written on standard output.
@@ -24,37 +24,37 @@ pub enum Form {
     Qlog,
 }
 
-/// Which congestion window limits what is in flight.
+/// The congestion window that limits what is in flight.
 #[derive(Clone, Copy)]
 pub enum Window {
     /// NewReno's (RFC 9002, 7).
     NewReno,
     /// CUBIC's (RFC 9438).
     Cubic,
-    /// So many bytes, above zero.
+    /// This many bytes, above zero.
     Fixed(u64),
 }
 
-/// What a link is like.
+/// The properties of a link.
 #[derive(Clone, Copy)]
 pub struct Shape {
-    /// In bits a second, above zero.
+    /// In bits per second, above zero.
     pub rate: u64,
-    /// How long a packet takes there, and an ACK back, in nanoseconds.
+    /// How long a packet takes to the peer, and an ACK back, in nanoseconds.
     pub delay: u64,
-    /// How many bytes the queue holds, with those of the packet that goes out.
+    /// How many bytes the queue has room for, including the packet that is being sent.
     pub queue: u64,
-    /// Of a million packets so many are lost behind the queue.
+    /// Of a million packets this many are lost after the queue.
     pub loss: u64,
-    /// How many are lost at once, on the average; 0: each by itself.
+    /// How many are lost in a row, on average; 0: each independently.
     pub burst: u64,
-    /// Of a million packets so many come late.
+    /// Of a million packets this many are late.
     pub reorder: u64,
     /// How late, in nanoseconds.
     pub late: u64,
 }
 
-/// A transfer.
+/// The settings of a transfer.
 #[derive(Clone, Copy)]
 pub struct Settings {
     pub form: Form,
@@ -64,15 +64,15 @@ pub struct Settings {
     /// How many bytes are transferred, above zero.
     pub bytes: u64,
     pub link: Shape,
-    /// How long the peer delays an ACK at most, in nanoseconds.
+    /// The peer's longest ACK delay, in nanoseconds.
     pub ack_delay: u64,
-    /// What losses and late packets are drawn by.
+    /// The seed of the random losses and late packets.
     pub seed: u64,
-    /// When it is given up, in nanoseconds.
+    /// When the transfer is aborted, in nanoseconds.
     pub until: u64,
 }
 
-/// 10 Mbit/s, 25 ms there and 25 ms back, a queue of 62,500 bytes (what such a link holds), and a megabyte.
+/// 10 Mbit/s, 25 ms in each direction, a queue of 62,500 bytes (one bandwidth-delay product), and a megabyte.
 const USUAL: Settings = Settings {
     form: Form::Figures,
     window: Window::NewReno,
@@ -92,7 +92,7 @@ const USUAL: Settings = Settings {
     until: MOST,
 };
 
-/// What the words behind the program's name choose.
+/// Parses the arguments after the program's name as settings.
 pub fn settings_of(words: &[String]) -> Option<Settings> {
     let mut settings = USUAL;
     for word in words {
@@ -201,7 +201,7 @@ fn choice_in(word: &str) -> Option<bool> {
     }
 }
 
-/// A number, where it is not below the first and not above the last.
+/// Returns a number if it is within these bounds.
 fn within(least: u64, number: u64, most: u64) -> Option<u64> {
     if least <= number && number <= most {
         Some(number)
@@ -210,7 +210,7 @@ fn within(least: u64, number: u64, most: u64) -> Option<u64> {
     }
 }
 
-/// A number of nanoseconds, or of `us`, `ms` or `s`.
+/// Parses a number of nanoseconds, or of `us`, `ms` or `s`.
 fn span_in(word: &str) -> Option<u64> {
     if let Some(number) = word.strip_suffix("us") {
         return times(number, 1_000);
@@ -224,7 +224,7 @@ fn span_in(word: &str) -> Option<u64> {
     }
 }
 
-/// A number, or so many `k`, `M` or `G`.
+/// Parses a number, or one of `k`, `M` or `G`.
 fn count_in(word: &str) -> Option<u64> {
     if let Some(number) = word.strip_suffix("k") {
         return times(number, 1_000);
@@ -238,7 +238,7 @@ fn count_in(word: &str) -> Option<u64> {
     }
 }
 
-/// Parts of a million, or `%`.
+/// Parses parts of a million, or `%`.
 fn share_in(word: &str) -> Option<u64> {
     let share = match word.strip_suffix("%") {
         Some(number) => times(number, 10_000)?,

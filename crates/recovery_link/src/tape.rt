@@ -1,11 +1,11 @@
-//! Text that goes out in large pieces.
+//! Output that is written in large pieces.
 use crate::ending::Ending;
 use itoa::Buffer;
 use recovery_replay::writing::deliver;
 use std::alloc::{AllocError, Global};
 use std::io::{ErrorKind, Write};
 
-/// How many bytes go out at once, at least.
+/// The smallest piece that is written, in bytes, except for the last.
 const ROOM: usize = 32_768;
 
 /// A piece of text.
@@ -15,7 +15,7 @@ pub enum Piece {
     Number(u64),
 }
 
-/// Text that goes out in large pieces.
+/// Output that is written in large pieces.
 #[derive(Drop)]
 pub struct Tape<'a, W> {
     text: String,
@@ -33,7 +33,7 @@ fn push(text: &mut String, pieces: &[Piece]) -> Result<(), AllocError> {
 }
 
 impl<'a, W: Write> Tape<'a, W> {
-    /// Nothing was written yet.
+    /// Returns an empty output.
     pub fn new(alloc: Global, output: &'a mut W) -> Self {
         Tape {
             text: String::new(alloc),
@@ -41,7 +41,7 @@ impl<'a, W: Write> Tape<'a, W> {
         }
     }
 
-    /// Writes pieces, one behind another.
+    /// Appends pieces.
     pub fn write(&mut self, pieces: &[Piece]) -> Result<(), Ending> {
         push(&mut self.text, pieces)?;
         if self.text.len() < ROOM {
@@ -50,7 +50,7 @@ impl<'a, W: Write> Tape<'a, W> {
         self.finish()
     }
 
-    /// What was written so far goes out.
+    /// Writes what was appended so far.
     pub fn finish(&mut self) -> Result<(), Ending> {
         match deliver(self.output, self.text.as_bytes()) {
             Ok(()) => {

@@ -1,5 +1,5 @@
-//! What is told of a run: the calls of the sender, as lines of `recovery-sender`, or what happened, as qlog in JSON
-//! text sequences (RFC 7464; draft-ietf-quic-qlog-main-schema, draft-ietf-quic-qlog-quic-events).
+//! The records of a run: the calls of the sender, as lines of `recovery-sender`, or what happened, as qlog in JSON text
+//! sequences (RFC 7464; draft-ietf-quic-qlog-main-schema, draft-ietf-quic-qlog-quic-events).
 use crate::ending::Ending;
 use crate::peer::Frame;
 use crate::settings::{Form, SIZE};
@@ -9,33 +9,33 @@ use recovery_sender::Losses;
 use std::alloc::Global;
 use std::io::Write;
 
-/// What is told of the state of the path in use.
+/// The recorded state of the path in use.
 #[derive(Clone, Copy)]
 pub struct Metrics {
-    /// The bytes in flight, and the packets of them that elicit an ACK.
+    /// The bytes and the ack-eliciting packets in flight.
     pub flight: (u64, u64),
-    /// The congestion window in bytes, and the slow start threshold; the greatest number while there is none.
+    /// The congestion window in bytes, and the slow start threshold; `u64::MAX` while there is none.
     pub window: u64,
     pub ssthresh: u64,
-    /// Round-trip times in nanoseconds: smoothed, variance, least and latest.
+    /// The RTT in nanoseconds: smoothed, variation, smallest and latest.
     pub rtt: [u64; 4],
     pub pto_count: u64,
 }
 
-/// What is told of a run, on an output.
+/// Writes the records of a run to an output.
 #[derive(Drop)]
 pub struct Teller<'a, W> {
     form: Form,
     tape: Tape<'a, W>,
-    /// The timer and the window that were told last.
+    /// The timer and the window in the last record.
     timer: Option<u64>,
     window: u64,
-    /// The state of the controller that was told last.
+    /// The state of the controller in the last record.
     state: &'static str,
 }
 
 impl<'a, W: Write> Teller<'a, W> {
-    /// Nothing was told yet.
+    /// Returns a writer without any record.
     pub fn new(alloc: Global, form: Form, output: &'a mut W) -> Self {
         Teller {
             form,
@@ -46,12 +46,12 @@ impl<'a, W: Write> Teller<'a, W> {
         }
     }
 
-    /// Whether what happens is told as qlog.
+    /// Returns whether the records are qlog.
     pub fn is_qlog(&self) -> bool {
         self.form == Form::Qlog
     }
 
-    /// All that was told goes out.
+    /// Writes all records.
     pub fn finish(&mut self) -> Result<(), Ending> {
         self.tape.finish()
     }
@@ -60,7 +60,7 @@ impl<'a, W: Write> Teller<'a, W> {
         self.form == Form::Script
     }
 
-    /// An event begins.
+    /// Begins an event.
     fn begin(&mut self, now: u64, name: &'static str) -> Result<(), Ending> {
         self.tape.write(&[
             Text("\u{1e}{\"time\":"),
@@ -71,14 +71,14 @@ impl<'a, W: Write> Teller<'a, W> {
         ])
     }
 
-    /// An event with these data happens.
+    /// Records an event with these data.
     fn event(&mut self, now: u64, name: &'static str, pieces: &[Piece]) -> Result<(), Ending> {
         self.begin(now, name)?;
         self.tape.write(pieces)?;
         self.tape.write(&[Text("}}\n")])
     }
 
-    /// The connection is up, to a peer that delays its ACKs at most so long.
+    /// Records that the connection is established, to a peer that delays its ACKs by at most this much.
     pub fn begins(&mut self, max_ack_delay: u64) -> Result<(), Ending> {
         if self.is_script() {
             let delay = Number(max_ack_delay);
@@ -106,7 +106,7 @@ impl<'a, W: Write> Teller<'a, W> {
         )
     }
 
-    /// A datagram is to go out, asked for with window and pacer or without.
+    /// Records that a datagram is asked for, with window and pacer or without.
     pub fn asks(&mut self, now: u64, is_paced: bool) -> Result<(), Ending> {
         if !self.is_script() {
             return Ok(());
@@ -120,7 +120,7 @@ impl<'a, W: Write> Teller<'a, W> {
         ])
     }
 
-    /// The pacer wants it later.
+    /// Records that the pacer delays it.
     pub fn delayed(&mut self, now: u64, until: u64) -> Result<(), Ending> {
         if !self.is_qlog() {
             return Ok(());
@@ -136,7 +136,7 @@ impl<'a, W: Write> Teller<'a, W> {
         )
     }
 
-    /// A packet with an item, or with none, is to be sent.
+    /// Records that a packet is to be sent, with an item or without.
     pub fn sends(&mut self, now: u64, item: Option<u64>) -> Result<(), Ending> {
         if !self.is_script() {
             return Ok(());
@@ -154,7 +154,7 @@ impl<'a, W: Write> Teller<'a, W> {
         self.tape.write(&[Text("\n")])
     }
 
-    /// A packet was sent.
+    /// Records that a packet was sent.
     pub fn sent(
         &mut self,
         now: u64,
@@ -194,7 +194,7 @@ impl<'a, W: Write> Teller<'a, W> {
         }
     }
 
-    /// An ACK came.
+    /// Records that an ACK was received.
     pub fn received(&mut self, now: u64, frame: &Frame, app_limited: bool) -> Result<(), Ending> {
         match self.form {
             Form::Figures => Ok(()),
@@ -245,7 +245,7 @@ impl<'a, W: Write> Teller<'a, W> {
         })])
     }
 
-    /// The timer for losses is looked at.
+    /// Records that the loss detection timer is processed.
     pub fn expires(&mut self, now: u64) -> Result<(), Ending> {
         match self.form {
             Form::Figures => Ok(()),
@@ -263,7 +263,7 @@ impl<'a, W: Write> Teller<'a, W> {
         }
     }
 
-    /// What a look for losses found, below this largest number acknowledged.
+    /// Records the losses of a pass, below this largest acknowledged number.
     pub fn lost(&mut self, now: u64, losses: &Losses, largest: u64) -> Result<(), Ending> {
         if !self.is_qlog() {
             return Ok(());
@@ -294,7 +294,7 @@ impl<'a, W: Write> Teller<'a, W> {
         }
     }
 
-    /// The controller is in another state.
+    /// Records that the controller is in another state.
     fn turns(&mut self, now: u64, state: &'static str, why: &'static str) -> Result<(), Ending> {
         let old = self.state;
         self.state = state;
@@ -312,7 +312,7 @@ impl<'a, W: Write> Teller<'a, W> {
         )
     }
 
-    /// What is lost waits to be sent again, and is taken.
+    /// Records that the retransmission queue is taken.
     pub fn takes(&mut self) -> Result<(), Ending> {
         if !self.is_script() {
             return Ok(());
@@ -320,7 +320,7 @@ impl<'a, W: Write> Teller<'a, W> {
         self.tape.write(&[Text("take-pending data\n")])
     }
 
-    /// What a probe carries is asked for.
+    /// Records that a probe's contents are requested.
     pub fn probes(&mut self) -> Result<(), Ending> {
         if !self.is_script() {
             return Ok(());
@@ -328,7 +328,7 @@ impl<'a, W: Write> Teller<'a, W> {
         self.tape.write(&[Text("probe data\n")])
     }
 
-    /// These items were taken.
+    /// Records that these items were taken.
     pub fn taken(&mut self, now: u64, items: &[u64]) -> Result<(), Ending> {
         if !self.is_qlog() {
             return Ok(());
@@ -346,7 +346,7 @@ impl<'a, W: Write> Teller<'a, W> {
         self.tape.write(&[Text("]}}\n")])
     }
 
-    /// What is in flight, behind a packet that was sent.
+    /// Records what is in flight, after a packet was sent.
     pub fn flies(&mut self, now: u64, metrics: &Metrics) -> Result<(), Ending> {
         self.event(
             now,
@@ -360,7 +360,7 @@ impl<'a, W: Write> Teller<'a, W> {
         )
     }
 
-    /// The state of the path, behind an ACK or a timeout.
+    /// Records the state of the path, after an ACK or a timeout.
     pub fn stands(&mut self, now: u64, metrics: &Metrics) -> Result<(), Ending> {
         let [smoothed, variance, least, latest] = metrics.rtt;
         self.begin(now, "recovery:metrics_updated")?;
@@ -391,7 +391,7 @@ impl<'a, W: Write> Teller<'a, W> {
         self.goes_on(now, metrics)
     }
 
-    /// The controller's state, where the window moved.
+    /// Records the controller's state, if the window changed.
     fn goes_on(&mut self, now: u64, metrics: &Metrics) -> Result<(), Ending> {
         let grows = metrics.window > self.window;
         self.window = metrics.window;
@@ -406,7 +406,7 @@ impl<'a, W: Write> Teller<'a, W> {
         Ok(())
     }
 
-    /// The timer for losses, where it changed.
+    /// Records the loss detection timer, if it changed.
     pub fn timed(&mut self, now: u64, timer: Option<u64>, is_loss: bool) -> Result<(), Ending> {
         if timer == self.timer {
             return Ok(());
@@ -435,7 +435,7 @@ impl<'a, W: Write> Teller<'a, W> {
     }
 }
 
-/// The record before all events.
+/// The header record.
 const HEADER: &str =
     "\u{1e}{\"qlog_version\":\"0.3\",\"qlog_format\":\"JSON-SEQ\",\"title\":\"recovery-link\",\
 \"trace\":{\"vantage_point\":{\"type\":\"client\"},\"common_fields\":{\"time_format\":\"relative\",\

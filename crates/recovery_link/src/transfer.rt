@@ -12,7 +12,7 @@ use std::alloc::Global;
 use std::collections::VecDeque;
 use std::io::Write;
 
-/// A transfer: bytes by packets, each with an item of so many of them.
+/// A transfer: bytes in packets, each with an item of the same size.
 #[derive(Drop)]
 struct Transfer<'a, F: ControllerFactory, W> {
     sending: Sending<'a, F, W>,
@@ -20,9 +20,9 @@ struct Transfer<'a, F: ControllerFactory, W> {
     /// How many items there are, and how many were sent for the first time.
     items: u64,
     begun: u64,
-    /// Items that are sent again.
+    /// Items to retransmit.
     again: VecDeque<u64>,
-    /// The moment until which the sender waits for the pacer, if it does.
+    /// Until when the sender waits for the pacer, if it does.
     wake: Option<u64>,
 }
 
@@ -31,12 +31,12 @@ where
     F: ControllerFactory,
     W: Write,
 {
-    /// Whether nothing waits to be sent.
+    /// Returns whether nothing waits to be sent.
     fn has_nothing(&self) -> bool {
         self.begun >= self.items && self.again.is_empty()
     }
 
-    /// The item that goes next, if there is one.
+    /// Removes and returns the item to send next, if any.
     fn take_item(&mut self) -> Option<u64> {
         if let Some(item) = self.again.pop_front() {
             return Some(item);
@@ -49,12 +49,12 @@ where
         Some(item)
     }
 
-    /// All that happens, up to the last ACK or to a moment.
+    /// Runs the transfer, up to the last ACK or to the given time.
     fn run(&mut self, settings: &Settings) -> Result<(), Ending> {
         self.sending.begin(settings.ack_delay)?;
         self.send(0)?;
         let mut now = 0;
-        // Bounded, here and in `send`, as `MAX_CALLS` of recovery_replay has it: no measure shows that the loop ends.
+        // Bounded, here and in `send`, as `MAX_CALLS` of recovery_replay: no measure shows that the loop ends.
         for _ in 0..u64::MAX {
             now = match self.next(now) {
                 Some(next) if next <= settings.until => next,
@@ -66,7 +66,7 @@ where
         self.sending.finish()
     }
 
-    /// When something happens next, unless all items are acknowledged.
+    /// Returns when something happens next, unless all items are acknowledged.
     fn next(&self, now: u64) -> Option<u64> {
         if self.has_nothing() && !self.sending.is_carrying() {
             return None;
@@ -75,7 +75,7 @@ where
         Some(next.max(now))
     }
 
-    /// One thing that happens at a moment: of the link, or of the sender.
+    /// Does one thing that happens at this time, on the link or at the sender.
     fn step(&mut self, now: u64) -> Result<(), Ending> {
         self.link.go_on(now)?;
         let changes = if let Some(frame) = self.link.take_ack(now) {
@@ -94,7 +94,7 @@ where
         self.send(now)
     }
 
-    /// Packets go out, as window and pacer let them.
+    /// Sends packets, as window and pacer allow.
     fn send(&mut self, now: u64) -> Result<(), Ending> {
         self.wake = None;
         for _ in 0..u64::MAX {
@@ -115,7 +115,7 @@ where
         Ok(())
     }
 
-    /// Whether a packet is to go out: something waits, or a probe is due.
+    /// Returns whether a packet is to be sent: something waits, or a probe is due.
     fn goes_on(&self) -> bool {
         self.sending.may_send() && (self.sending.is_probing() || !self.has_nothing())
     }
@@ -136,7 +136,7 @@ fn is_due(moment: Option<u64>, now: u64) -> bool {
     }
 }
 
-/// A transfer over controllers of this factory.
+/// Runs a transfer with controllers of this factory.
 fn transferred_by<F, W>(
     alloc: Global,
     factory: F,
@@ -164,7 +164,7 @@ where
     Ok(figures)
 }
 
-/// A transfer: what it came to. What is told of it goes to an output.
+/// Runs a transfer. Returns its figures, and writes its records to an output.
 pub fn transferred<W: Write>(
     alloc: Global,
     settings: &Settings,

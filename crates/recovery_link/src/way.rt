@@ -1,9 +1,9 @@
-//! What is on its way, there or back: first what arrives first.
+//! What is in transit in one direction, in order of arrival.
 use recovery_base::below::NoMemory;
 use std::alloc::Global;
 use std::collections::VecDeque;
 
-/// Something on its way.
+/// An item in transit.
 #[derive(Drop)]
 struct Carried<T> {
     /// When it arrives, in nanoseconds.
@@ -11,21 +11,21 @@ struct Carried<T> {
     what: T,
 }
 
-/// What is on its way, in the order in which it arrives, and of one moment in that in which it left.
+/// What is in transit, in order of arrival, and at one time in order of departure.
 #[derive(Drop)]
 pub struct Way<T> {
     carried: VecDeque<Carried<T>>,
 }
 
 impl<T: Drop> Way<T> {
-    /// Nothing is on its way.
+    /// Returns a direction without anything in transit.
     pub fn new(alloc: Global) -> Self {
         Way {
             carried: VecDeque::new(alloc),
         }
     }
 
-    /// Something goes, and arrives at this moment.
+    /// Adds an item that arrives at this time.
     pub fn send(&mut self, arrives: u64, what: T) -> Result<(), NoMemory> {
         let place = match self.carried.back() {
             Some(last) if last.arrives > arrives => {
@@ -37,13 +37,13 @@ impl<T: Drop> Way<T> {
         Ok(())
     }
 
-    /// When the next arrives.
+    /// Returns when the next item arrives.
     pub fn next(&self) -> Option<u64> {
         let first = self.carried.front()?;
         Some(first.arrives)
     }
 
-    /// The next, where it arrived by now.
+    /// Removes and returns the next item, if it arrived by now.
     pub fn take(&mut self, now: u64) -> Option<T> {
         match self.next() {
             Some(arrives) if arrives <= now => {

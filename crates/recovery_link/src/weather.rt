@@ -1,10 +1,10 @@
-//! By chance: which packets are lost behind the queue, and which come late.
+//! Random events: which packets are lost after the queue, and which are late.
 use crate::settings::{MILLION, Shape};
 use rand_core::SeedableRng;
 use rand_core::utils::next_u64_via_u32;
 use rand_pcg::Pcg32;
 
-/// What is drawn for each packet.
+/// The random state of the link.
 #[derive(Drop)]
 pub struct Weather {
     rng: Pcg32,
@@ -16,7 +16,7 @@ pub struct Weather {
 }
 
 impl Weather {
-    /// Fair weather at first, with a generator of this seed.
+    /// Returns the initial state, with a generator of this seed.
     pub fn new(seed: u64, shape: Shape) -> Self {
         Weather {
             rng: Pcg32::seed_from_u64(seed),
@@ -27,7 +27,7 @@ impl Weather {
         }
     }
 
-    /// Whether something of this chance happens, `parts` among `all`.
+    /// Returns whether an event with this chance happens, `parts` among `all`.
     fn happens(&mut self, parts: u64, all: u64) -> bool {
         if parts == 0 {
             return false;
@@ -35,8 +35,8 @@ impl Weather {
         next_u64_via_u32(&mut self.rng) % all.max(1) < parts
     }
 
-    /// Whether the next packet is lost: by itself, or as the state of two says that bursts have (Gilbert and Elliott),
-    /// in which a bad one loses all, and ends behind each packet with a chance of one in its average length.
+    /// Returns whether the next packet is lost: independently, or by a two-state model of bursts (Gilbert and Elliott).
+    /// Its bad state loses all packets, and ends after each with a chance of one in its average length.
     pub fn loses(&mut self) -> bool {
         if self.burst == 0 || self.loss == MILLION {
             return self.happens(self.loss, MILLION);
@@ -50,7 +50,7 @@ impl Weather {
         self.is_bad
     }
 
-    /// Whether the next packet comes late.
+    /// Returns whether the next packet is late.
     pub fn delays(&mut self) -> bool {
         self.happens(self.reorder, MILLION)
     }

@@ -1,4 +1,4 @@
--- At most four bursts are kept, whatever is acknowledged and lost. `DiscoveryLaws` rests on it.
+-- At most four bursts are stored, whatever is acknowledged and lost. `DiscoveryLaws` rests on it.
 use Rattle.std.proofs.Common.{ℕ, ◌≤◌, Bool, List, [], ◌∷◌, length, arith, length-append}
 use Rattle.std.specs.Prelude.{filter}
 use Rattle.std.proofs.lemmas.Bool.Decides.{nat_tests}

@@ -1,4 +1,4 @@
--- Counts over the sizes that are kept of bursts, and numbers among others. `BurstTies` rest on it.
+-- Counts over the stored sizes of bursts, and numbers among others. `BurstTies` rest on it.
 use Rattle.std.proofs.Common.{◌≡◌, ℕ, suc, ◌+◌, ◌<◌, ◌≤◌, min, max, Bool, true, false, List, [], ◌∷◌, ◌++◌, length, arith, refl, length-append}
 use Rattle.std.specs.Prelude.{nat_lt, nat_eq, filter}
 use Rattle.std.specs.List.{list_all}

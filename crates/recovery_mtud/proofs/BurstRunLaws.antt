@@ -1,5 +1,5 @@
--- Whole runs of the detection of black holes: a report needs four bursts, and comes at four. The driver's `BurstLaws`
--- rest on it.
+-- The detection of black holes over all calls: a report needs four bursts, and is made at four. The driver's
+-- `BurstLaws` rest on it.
 use Rattle.std.proofs.Common.{◌≡◌, ℕ, Bool, is_some, ◌||◌, nat_lt, filter, if◌then◌else◌, true, false, List, [], ◌∷◌, refl, arith}
 use Rattle.recovery_mtud.specs.Bursts.{LossBursts, bursts_acked, bursts_closed}
 use Rattle.recovery_mtud.specs.Discovery.{Discovery, reports}
@@ -10,9 +10,9 @@ use Rattle.recovery_mtud.proofs.MtuEntryLaws.{polled, Holds, holds_by, size_in_h
 use Rattle.recovery_mtud.proofs.BurstCounts.{has}
 use Rattle.recovery_mtud.proofs.BurstTies.{Needy, Coming, needy_acked, needy_probed, needy_lost, needy_ended, needy_report, needy_made, coming_acked, coming_probed, coming_lost, coming_ended, coming_report, coming_made}
 
--- ---- fates that are apart
+-- ---- outcomes that are disjoint
 
--- they were apart before
+-- they were disjoint before
 apart_before : (entry : MtuEntry) (entries : List MtuEntry) → AreFatesApart (entry ∷ entries) → AreFatesApart entries
 apart_before _ _ apart number good = grind arith
 
@@ -29,13 +29,13 @@ ComingAt made entries =
     Coming least (open_run entries) (unanswered least entries) (larger_acked least entries)
 
 module _ (made : Discovery) (entries : List MtuEntry) (old : Discovery) (holds : Holds made entries old) where
-  -- what holds where a packet is no probe and where it is the one in flight holds after its acknowledgement
+  -- what holds if a packet is no probe and if it is the one in flight holds after its acknowledgement
   at_ack : (number bytes : ℕ) (G : Bool → LossBursts → Type 0) → G false (bursts_acked number bytes old.bursts)
       → G true (record old.bursts { kept = []; acked = bytes; newest = number })
       → G (is_some (size_at number (probe_in_flight entries))) (discovery_after (acks number bytes) old).bursts
   at_ack number bytes G other probe = grind (arith, size_in_held number old.search, holds.probe)
 
-  -- the same of the end of losses, with a report and without one
+  -- the same for the end of losses, with a report and without one
   at_end : (now : ℕ) (G : MtuEntry → LossBursts → Type 0) → G losses_over (bursts_closed old.bursts)
       → G (reported now) (record (bursts_closed old.bursts) { kept = [] })
       → G (entry_of (losses_end now) old) (discovery_after (losses_end now) old).bursts
@@ -97,14 +97,14 @@ coming_by made new [] =
 coming_by made new (call ∷ earlier) =
     coming_after made _ _ (holds_by _ new earlier) call (coming_by _ new earlier)
 
--- where a black hole is reported, four bursts stand
+-- if a black hole is reported, there are four unrefuted bursts
 pub four_stand : (made : Discovery) → IsFreshDiscovery made → (calls : List MtuCall) → AreFatesApart
     (entries_by made calls)
     → reports (discovery_by made calls) ≡ true → AreFourStanding made (entries_by made calls)
 four_stand made new calls apart =
     needy_report _ _ _ _ _ _ (needy_by _ new calls apart) apart
 
--- where four have closed unanswered, the end of losses reports a black hole
+-- if four have closed unanswered, the end of losses reports a black hole
 pub four_report : (made : Discovery) → IsFreshDiscovery made → (calls : List MtuCall)
     → AreFourUnanswered made (entries_by made calls) → reports (discovery_by made calls) ≡ true
 four_report made new calls =
@@ -133,7 +133,7 @@ pub numbers_by : (made : Discovery) (calls : List MtuCall) → HaveNumbers (entr
 numbers_by _ [] = (refl, refl)
 numbers_by made (_ ∷ earlier) = grind (arith, numbers_by made earlier)
 
--- fates that are apart in the calls are apart in the entries
+-- outcomes that are disjoint in the calls are disjoint in the entries
 pub fates_apart_by : (made : Discovery) (calls : List MtuCall)
     → ((number : ℕ) → has number (acked_in_calls calls) ≡ true → has number (lost_in_calls calls) ≡ false)
     → AreFatesApart (entries_by made calls)

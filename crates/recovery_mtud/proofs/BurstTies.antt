@@ -1,4 +1,4 @@
--- What is kept of bursts, against the bursts of the entries. `BurstRunLaws` rest on it.
+-- The stored sizes of bursts, compared with the bursts of the entries. `BurstRunLaws` rest on it.
 use Rattle.std.proofs.Common.{◌≡◌, ◌⊎◌, ℕ, zero, suc, ◌<◌, ◌≤◌, min, max, Option, Some, None, Bool, true, false, List, [], ◌∷◌, ◌++◌, drop, length, arith, refl}
 use Rattle.std.specs.Prelude.{nat_lt, nat_le, ◌&&◌, if◌then◌else◌, filter}
 use Rattle.std.specs.List.{list_any}
@@ -15,20 +15,20 @@ least_size [] = 0
 least_size (loss ∷ []) = loss.bytes
 least_size (loss ∷ other ∷ losses) = min loss.bytes (least_size (other ∷ losses))
 
--- all are larger where the least is
+-- all are larger if the smallest is
 above_least : (size : ℕ) (burst : List Loss) → is_above size burst ≡ nat_lt size (least_size burst)
 above_least _ [] = grind arith
 above_least _ (_ ∷ []) = grind arith
 above_least size (_ ∷ other ∷ losses) = grind (arith, nat_tests, above_least size (other ∷ losses))
 
--- its least size and its last number
+-- its smallest size and its last number
 abbrev pub summary : List Loss → Option Burst
 summary [] = None
 summary (loss ∷ losses) = Some (record { least = least_size (loss ∷ losses); last = loss.number })
 
--- ---- what is kept, by what stands of the entries
+-- ---- what is stored, by the unrefuted bursts of the entries
 
--- the last number was told as lost
+-- the last number was reported as lost
 abbrev IsLast : List ℕ → List Loss → Type 0
 IsLast lost [] = Unit {0}
 IsLast lost (loss ∷ losses) = has loss.number lost ≡ true
@@ -39,7 +39,7 @@ AreApart acked lost = (number : ℕ) → has number acked ≡ true → has numbe
 abbrev pub both : ℕ → ℕ → List Loss → Bool
 both min_mtu low burst = is_above min_mtu burst && is_above low burst
 
--- at each size at most as many are kept as stand above it and above the least MTU
+-- for each size at most as many are stored as there are unrefuted above it and above the minimum MTU
 abbrev Counts : ℕ → List (List Loss) → List ℕ → Type 0
 Counts min_mtu standing kept = (low : ℕ) → tally (λ size. nat_lt low size) kept ≤ tally (both min_mtu low) standing
 
@@ -118,24 +118,24 @@ abbrev from_first : (List Loss → Bool) → List (List Loss) → List (List Los
 from_first test [] = []
 from_first test (burst ∷ earlier) = if list_any test (burst ∷ earlier) then burst ∷ from_first test earlier else []
 
--- how many there are above the least MTU, from the first one past these numbers on
+-- how many there are above the minimum MTU, from the first one above these numbers on
 abbrev pub counted : ℕ → List ℕ → List (List Loss) → ℕ
 counted min_mtu numbers bursts = length (from_first (is_past numbers) (filter (is_above min_mtu) bursts))
 
--- the numbers are those of larger packets; once a burst counts, the least MTU alone is known to get through
+-- the numbers are those of larger packets; once a burst counts, only the minimum MTU is known to get through
 abbrev pub Coming : ℕ → List Loss → List (List Loss) → List ℕ → LossBursts → Type 0
 Coming min_mtu run unanswered numbers s = (s.open_burst ≡ summary run) × (s.min_mtu ≡ min_mtu)
     × AllAbove min_mtu s.kept × ((s.acked ≤ min_mtu) ⊎ (has s.newest numbers ≡ true))
     × (0 < counted min_mtu numbers unanswered → s.acked ≤ min_mtu)
     × (min 4 (counted min_mtu numbers unanswered) ≤ length s.kept)
 
--- some count where one is past the numbers
+-- some count if one is above the numbers
 some_counted : (test : List Loss → Bool) (bursts : List (List Loss)) → list_any test bursts ≡ true
     → 0 < length (from_first test bursts)
 some_counted _ [] any = absurd (cc)
 some_counted _ (_ ∷ _) any = grind arith
 
--- and more, where so many have closed since
+-- and more, if as many have closed since
 behind : (test : List Loss → Bool) (count : ℕ) (bursts : List (List Loss)) → list_any test (drop count bursts) ≡ true
     → (list_any test bursts ≡ true) × (count < length (from_first test bursts))
 behind test zero bursts any = grind (arith, some_counted test bursts any)
@@ -153,7 +153,7 @@ module _ (min_mtu : ℕ) (numbers : List ℕ) (s : LossBursts) where
 
 module _ (min_mtu : ℕ) (run : List Loss) (bursts : List (List Loss)) (numbers : List ℕ) (s : LossBursts)
     (tie : Coming min_mtu run bursts numbers s) where
-  -- a larger packet is acknowledged: none counts; one that is not larger leaves all as it was
+  -- a larger packet is acknowledged: none counts; one that is not larger changes nothing
   pub coming_acked : (number bytes : ℕ) → (let larger = nat_lt min_mtu bytes in
       Coming min_mtu run (if larger then [] else bursts) (if larger then number ∷ numbers else numbers)
       (bursts_acked number bytes s))
@@ -178,7 +178,7 @@ module _ (min_mtu : ℕ) (run : List Loss) (bursts : List (List Loss)) (numbers 
       × Coming min_mtu [] [] numbers (record (bursts_closed s) { kept = [] })
   coming_ended = let closed = close_comes _ _ s run bursts tie in (closed, grind arith)
 
-  -- a report comes at four
+  -- a report is made at four
   pub coming_report : list_any (is_past numbers) (drop 3 (filter (is_above min_mtu) (run ∷ bursts))) ≡ true
       → nat_le 4 (length (bursts_closed s).kept) ≡ true
   coming_report many =

@@ -1,4 +1,4 @@
--- A discovery stays sound, whatever is told to it, and how its MTU changes: the laws `discovery_stays_sound` and
+-- A discovery stays sound, whatever its calls, and how its MTU changes: the laws `discovery_stays_sound` and
 -- `mtu_changes`.
 use Rattle.std.proofs.Common.{◌≡◌, List, [], ◌∷◌, arith}
 use Rattle.std.proofs.lemmas.Bool.Decides.{nat_tests}

@@ -1,4 +1,4 @@
--- Worked rows of whole runs: what the definitions come to, computed. Nothing rests on them.
+-- Worked rows over many calls: the results of the definitions, computed. Nothing rests on them.
 use Rattle.std.proofs.Common.{◌≡◌, ℕ, zero, suc, Option, None, Some, false, List, [], ◌∷◌, length, refl}
 use Rattle.std.specs.Prelude.{nat_le, nat_eq, if◌then◌else◌}
 use Rattle.std.specs.Set.{distinct_count}
@@ -9,7 +9,7 @@ use Rattle.recovery_mtud.specs.MtuEntries.{entries_by, mtu_in_use}
 use Rattle.recovery_mtud.specs.SearchRuns.{search_of, probed_sizes, search_runs}
 use Rattle.recovery_mtud.specs.BurstRuns.{standing, open_run, AreFourUnanswered}
 
--- ---- searches over an honest link, one poll after another
+-- ---- searches over a link that carries the sizes up to one, one poll after another
 
 abbrev fate : ℕ → ℕ → Option ℕ → List MtuCall → List MtuCall
 fate link number None calls = calls
@@ -42,11 +42,11 @@ usual_mtu = refl
 no_larger : sizes_after 1_200 usual 9 ≡ 1_230 ∷ 1_230 ∷ 1_230 ∷ 1_262 ∷ 1_262 ∷ 1_262 ∷ 1_326 ∷ 1_326 ∷ 1_326 ∷ []
 no_larger = refl
 
--- the widest bounds that there are, in steps of three at least
+-- the widest bounds that there are, in steps of three or more
 abbrev widest : Discovery
 widest = discovery_made 1 1 None (Some (record default_settings { upper_bound = 65_527; minimum_change = 3 }))
 
--- where every probe is lost, each of 14 sizes is probed three times
+-- if every probe is lost, each of 14 sizes is probed three times
 most_probes : length (sizes_after 1 widest 42) ≡ 42
 most_probes = refl
 

@@ -1,5 +1,5 @@
--- Whole searches: at most 16 sizes and 48 probes, and an end near the best size of an honest link. The driver's
--- `SearchLaws` rest on it.
+-- Searches over all calls: at most 16 sizes and 48 probes, and an end near the best size. The driver's `SearchLaws`
+-- rest on it.
 use Rattle.std.proofs.Common.{◌≡◌, ℕ, ◌^◌, ◌<◌, ◌≤◌, Option, Some, None, true, false, List, [], ◌∷◌, arith, refl, sym, ap, ap₂, ◌∙◌}
 use Rattle.std.specs.Prelude.{⊤, ◌||◌, nat_le, is_some, IfSome}
 use Rattle.std.specs.Option.{option_map, option_and_then}
@@ -19,7 +19,7 @@ use Rattle.recovery_mtud.proofs.SearchTies.{Narrows, left, narrows_next, Fair, f
 
 -- ---- the entries of a search
 
--- where none runs, there are none
+-- if none runs, there are none
 pub idle_before : (entries : List MtuEntry) → search_runs entries ≡ false → before_search entries ≡ entries
 idle_before [] _ = refl
 idle_before (_ ∷ _) idle = grind arith
@@ -34,14 +34,14 @@ search_probe : (entries : List MtuEntry) → search_runs entries ≡ true
 search_probe [] _ = refl
 search_probe (_ ∷ earlier) runs = grind (arith, search_probe earlier)
 
--- ---- what a phase keeps
+-- ---- the invariant of a phase
 
--- the least change is 3, and the upper bound is a u16
+-- the minimum change is 3, and the upper bound is a u16
 abbrev IsWide : MtuDiscoveryConfig → Type 0
 IsWide settings = (3 ≤ settings.minimum_change) × (settings.upper_bound < 2 ^ 16)
 
 module _ (made : Discovery) (link : ℕ) (settings : MtuDiscoveryConfig) where
-  -- the upper bound of a search that began behind these
+  -- the upper bound of a search that began after these
   abbrev upper_behind : List MtuEntry → ℕ
   upper_behind before =
       upper_from (mtu_in_use made before) (limit_or_greatest (limit_in_use made before)) settings.upper_bound
@@ -104,7 +104,7 @@ module _ (made : Discovery) (link : ℕ) (settings : MtuDiscoveryConfig) (entrie
       let near = fair_end _ _ _ _ further _ p wide.0 empty is tie.0 fair in
       record { carried = omega arith; near = omega arith }
 
-  -- a poll that goes on with one
+  -- a poll that continues one
   extends : (further now next : ℕ) (probing : Option Probing) (p : Probing) → p.in_flight ≡ None
       → Kept made link settings further entries mtu activation (Some p) → mtu ≡ mtu_in_use made entries
       → probe_in_flight entries ≡ None → is_searched settings now entries ≡ true
@@ -215,14 +215,14 @@ near_all : (made : Discovery) (settings : MtuDiscoveryConfig) (entry : MtuEntry)
 near_all _ _ (unprobed _) _ outside near = λ quiet searched link. near link outside quiet searched
 near_all _ _ _ _ _ _ = tt
 
--- ---- limits that are told in turn
+-- ---- limits that are reported outside searches
 
--- a call tells no limit to a discovery that searches
+-- a call reports no limit to a discovery that searches
 abbrev pub IsInTurn : MtuCall → Discovery → Type 0
 IsInTurn (is_limited limit) old = is_searching_of old ≡ false
 IsInTurn call old = ⊤
 
--- where each limit is told in turn, none is told while a search runs
+-- if each limit is reported outside searches, none is while a search runs
 pub limits_outside_after : (made : Discovery) → IsFreshDiscovery made → (call : MtuCall) (earlier : List MtuCall)
     → IsInTurn call (discovery_by made earlier)
     → AreLimitsOutside (entries_by made earlier) → AreLimitsOutside (entries_by made (call ∷ earlier))
@@ -242,28 +242,28 @@ between : (made : Discovery) (settings : MtuDiscoveryConfig) (further : ℕ) (en
     → KeptIn made 0 settings further entries mtu search → IsBetween made settings entries mtu probe.size
 between made settings further entries mtu probe search flies kept = grind arith
 
--- ---- what whole runs promise
+-- ---- the promises over all calls
 
 -- the MTU in use is the one that the entries say
 pub mtu_by : (made : Discovery) → IsFreshDiscovery made → (calls : List MtuCall)
     → (discovery_by made calls).mtu ≡ mtu_in_use made (entries_by made calls)
 mtu_by made new calls = (holds_by _ new calls).mtu
 
--- a search runs exactly where the entries say so
+-- a search runs exactly if the entries say so
 pub search_runs_by : (made : Discovery) → IsFreshDiscovery made → (calls : List MtuCall)
     → is_searching_of (discovery_by made calls) ≡ search_runs (entries_by made calls)
 search_runs_by made new calls = (holds_by _ new calls).runs
 
 module _ (made : Discovery) (settings : MtuDiscoveryConfig) (new : IsFreshDiscovery made)
     (is : search_settings made ≡ Some settings) where
-  -- at every moment the search that runs has taken at most 16 sizes and 48 probes
+  -- at any time the search that runs has probed at most 16 sizes with at most 48 probes
   pub search_takes_few : 3 ≤ settings.minimum_change → settings.upper_bound < 2 ^ 16 → (calls : List MtuCall)
       → UsesFewProbes (entries_by made calls)
   search_takes_few change bound calls =
       let kept = kept_by made 0 settings new is calls in
       few_in made settings (change, bound) kept.0 (entries_by made calls) _ _ (holds_by made new calls).runs kept.1
 
-  -- a search that ends by a poll ends near the best size of an honest link
+  -- a search that ends by a poll ends near the best size
   pub search_ends_near : 3 ≤ settings.minimum_change → settings.upper_bound < 2 ^ 16 → (calls : List MtuCall)
       → AreLimitsOutside (entries_by made calls) → EndsNearBest made settings (entries_by made calls)
   search_ends_near change bound [] outside = tt
@@ -272,13 +272,13 @@ module _ (made : Discovery) (settings : MtuDiscoveryConfig) (new : IsFreshDiscov
       (λ link. (told_by made link settings new is call earlier (kept_by made link settings new is earlier)).1.2
       (change, bound))
 
-  -- a probe comes in a search alone, while none is in flight
+  -- a probe is sent only in a search, while none is in flight
   pub probes_in_search : (calls : List MtuCall) → ProbesInSearch settings (entries_by made calls)
   probes_in_search [] = tt
   probes_in_search (call ∷ earlier) =
       (told_by made 0 settings new is call earlier (kept_by made 0 settings new is earlier)).1.1
 
-  -- the probe in flight lies within the bounds of its search, and above the MTU in use
+  -- the probe in flight is within the bounds of its search, and above the MTU in use
   pub flight_within : (calls : List MtuCall) (probe : MtuProbe) → probe_in_flight (entries_by made calls) ≡ Some probe
       → IsBetween made settings (entries_by made calls) (mtu_in_use made (entries_by made calls)) probe.size
   flight_within calls probe flies =

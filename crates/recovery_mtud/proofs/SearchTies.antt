@@ -1,5 +1,5 @@
--- What a search keeps: how many sizes may still come by its bounds (a size in the middle halves what is left: RFC 8899,
--- 5.3.2), and what an honest link leaves of them. `SearchRunLaws` rest on it.
+-- The invariants of a search: how many sizes may still follow by its bounds (a size in the middle halves what is left:
+-- RFC 8899, 5.3.2), and what the link leaves of them. `SearchRunLaws` rest on it.
 use Rattle.std.proofs.Common.{◌≡◌, ◌⊎◌, inl, inr, ℕ, zero, suc, ◌+◌, ◌-◌, ◌*◌, ◌/◌, ◌^◌, ◌<◌, ◌≤◌, min, max, if◌then◌else◌, Option, Some, None, Bool, true, false, List, ◌∷◌, length, arith, refl}
 use Rattle.std.specs.Prelude.{nat_eq}
 use Rattle.std.specs.Set.{distinct_count, is_member}
@@ -13,8 +13,8 @@ abbrev pub flying : Option ℕ → ℕ
 flying None = 0
 flying (Some number) = 1
 
--- the last size got through, or is tried: in flight, or lost so many times. So many more sizes are enough for the width
--- above it and, where it is tried, for the width below it
+-- the last size got through, or is tried: in flight, or lost this many times. This many more sizes are enough for the
+-- width above it and, if it is tried, for the width below it
 abbrev pub Narrows : ℕ → ℕ → List ℕ → Probing → Type 0
 Narrows further change probed p =
     (distinct_count nat_eq probed + further ≤ 16) × (length probed + 3 * further ≤ 48)
@@ -30,7 +30,7 @@ one_more : (k : ℕ) → (1 ≤ k) ⊎ (2 ^ k ≡ 1)
 one_more zero = inr refl
 one_more (suc k) = inl (omega arith)
 
--- a size that is probed again takes none of them, another one
+-- a size that is probed again takes none of them, another one does
 abbrev pub left : ℕ → Probing → ℕ
 left further p = if repeats p then further else further - 1
 
@@ -50,7 +50,8 @@ pub narrows_next : (further change number size : ℕ) (probed : List ℕ) (p : P
     → Narrows (left further p) change (size ∷ probed) (next number size p)
 narrows_next further change number size probed p = by_test _ _ number size probed p (repeats p) refl
 
--- to a link that carries just the sizes up to this one: the MTU in use gets through, and the best size is within reach
+-- to a link that carries exactly the sizes up to this one: the MTU in use gets through, and the best size is within
+-- reach
 abbrev pub Fair : ℕ → ℕ → ℕ → Probing → Type 0
 Fair link upper mtu p = (mtu ≤ link) × (min link upper ≤ p.upper) × (p.lower ≤ mtu) × (0 < p.losses → link < p.last)
     × (p.losses + flying p.in_flight ≡ 0 → p.last ≤ mtu)

@@ -1,4 +1,4 @@
--- A discovery that is disabled stays so, and its polls give no probe. The driver's `SearchLaws` rest on it.
+-- A discovery that is disabled stays so, and its polls return no probe. The driver's `SearchLaws` rest on it.
 use Rattle.std.proofs.Common.{◌≡◌, ℕ, None, List, [], ◌∷◌, arith}
 use Rattle.recovery_mtud.specs.Discovery.{Discovery, poll_of}
 use Rattle.recovery_mtud.specs.DiscoveryLog.{MtuCall, discovery_by}

@@ -1,5 +1,5 @@
--- Whole runs of the detection of black holes (RFC 8899, 4.3), over what a discovery was told and answered. Every list
--- here has the newest entry first.
+-- The detection of black holes over all calls and answers of a discovery (RFC 8899, 4.3). Every list here has the
+-- newest entry first.
 use Rattle.std.specs.Prelude.{◌≡◌, ℕ, ◌+◌, ◌≤◌, ◌==◌, nat_lt, nat_eq, Bool, true, false, ◌||◌, if◌then◌else◌, Option, is_some, List, [], ◌∷◌, ◌++◌, drop, length, filter, ◌-◌}
 use Rattle.std.specs.List.{list_all, list_any}
 use Rattle.std.specs.Set.{is_member}
@@ -7,7 +7,7 @@ use Rattle.recovery_mtud.specs.Discovery.{Discovery}
 use Rattle.recovery_mtud.specs.MtuEntries.{MtuEntry, acked, lost, losses_over, reported, reset, MtuProbe, probe_in_flight, size_at, min_mtu_in_use}
 use Rattle.recovery_mtud.specs.Bursts.{black_hole_bursts}
 
--- ---- bursts: packets of Data that were lost one after another, none of them the probe in flight
+-- ---- bursts: 1-RTT packets with consecutive numbers that were lost, none of them the probe in flight
 
 pub record Loss : Type 0 where
   pub number : ℕ
@@ -17,8 +17,8 @@ abbrev pub follows : ℕ → List Loss → Bool
 follows number [] = false
 follows number (last ∷ burst) = number == last.number + 1
 
--- the open burst: the longest run of numbers up to the one lost last, since all losses of a moment were told or all
--- began anew
+-- the open burst: the longest run of consecutive numbers up to the one lost last, since the last end of a loss
+-- detection pass or restart
 abbrev pub open_run : List MtuEntry → List Loss
 open_run [] = []
 open_run (lost number bytes ∷ earlier) =
@@ -28,23 +28,23 @@ open_run (reported now ∷ earlier) = []
 open_run (reset mtu min_mtu ∷ earlier) = []
 open_run (entry ∷ earlier) = open_run earlier
 
--- the burst that an entry closes, empty where none was open: a lost number that does not follow closes it, and the end
--- of a moment's losses
+-- the burst that an entry closes, empty if none was open: a lost number that does not follow closes it, and so does the
+-- end of a loss detection pass
 abbrev pub closed_by : MtuEntry → List MtuEntry → List (List Loss)
 closed_by (lost number bytes) earlier = if follows number (open_run earlier) then [] else open_run earlier ∷ []
 closed_by losses_over earlier = open_run earlier ∷ []
 closed_by (reported now) earlier = open_run earlier ∷ []
 closed_by entry earlier = []
 
--- there are packets in it, and all are larger than this
+-- it is not empty, and all its packets are larger than this
 abbrev pub is_above : ℕ → List Loss → Bool
 is_above size [] = false
 is_above size burst = list_all (λ loss. nat_lt size loss.bytes) burst
 
 -- ---- bursts that have closed
 
--- an acknowledged packet refutes the bursts before it whose least packet is at most as large, the probe in flight all
--- of them
+-- an acknowledged packet refutes the bursts before it whose smallest packet is not larger; the probe in flight refutes
+-- all of them
 abbrev pub unrefuted : ℕ → ℕ → Option MtuProbe → List (List Loss) → List (List Loss)
 unrefuted number bytes probe bursts = if is_some (size_at number probe) then [] else filter (is_above bytes) bursts
 
@@ -63,13 +63,13 @@ acked_numbers [] = []
 acked_numbers (acked number bytes ∷ earlier) = number ∷ acked_numbers earlier
 acked_numbers (entry ∷ earlier) = acked_numbers earlier
 
--- the probes apart
+-- without those of probes
 abbrev pub lost_numbers : List MtuEntry → List ℕ
 lost_numbers [] = []
 lost_numbers (lost number bytes ∷ earlier) = number ∷ lost_numbers earlier
 lost_numbers (entry ∷ earlier) = lost_numbers earlier
 
--- no number is told both as acknowledged and as lost
+-- no number is reported both as acknowledged and as lost
 abbrev pub AreFatesApart : List MtuEntry → Type 0
 AreFatesApart entries =
     (number : ℕ) → is_member nat_eq (acked_numbers entries) number ≡ true
@@ -103,16 +103,16 @@ module _ (size : ℕ) where
   unanswered (reset mtu min_mtu ∷ earlier) = []
   unanswered (entry ∷ earlier) = closed_by entry earlier ++ unanswered earlier
 
--- ---- reports: they come as all losses of a moment were told, which closes the open burst
+-- ---- reports: they are made at the end of a loss detection pass, which closes the open burst
 
 module _ (made : Discovery) where
-  -- four bursts stand whose packets are all larger than the least MTU
+  -- there are four unrefuted bursts whose packets are all larger than the minimum MTU
   abbrev pub AreFourStanding : List MtuEntry → Type 0
   AreFourStanding entries =
       black_hole_bursts ≤ length (filter (is_above (min_mtu_in_use made entries)) (open_run entries ∷ standing entries))
 
-  -- behind such a burst that ends past every larger packet that was acknowledged three more have closed, and none was
-  -- acknowledged since it closed
+  -- such a burst ends above every larger packet that was acknowledged; three more have closed after it, and no larger
+  -- packet was acknowledged since it closed
   abbrev pub AreFourUnanswered : List MtuEntry → Type 0
   AreFourUnanswered entries =
       let least = min_mtu_in_use made entries in

@@ -1,4 +1,4 @@
--- What a `Detector` holds.
+-- The value of a `Detector` in contracts.
 use Rattle.recovery_mtud.specs.Bursts.{LossBursts}
 use Rattle.recovery_mtud.specs.declared.detector.Detector.TheInside.{Inside}
 

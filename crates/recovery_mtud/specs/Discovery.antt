@@ -1,4 +1,4 @@
--- MTU discovery of a path: what it holds and answers (RFC 8899, 4.3 and 5; RFC 9000, 14.3). Sizes are in bytes, moments
+-- The state and answers of the MTU discovery of a path (RFC 8899, 4.3 and 5; RFC 9000, 14.3). Sizes are in bytes, times
 -- in nanoseconds.
 use Rattle.std.specs.Prelude.{ℕ, ◌<◌, min, nat_le, Bool, Option, None, is_some, length, unwrap_or}
 use Rattle.std.specs.Option.{option_and, option_map, option_map_or, option_and_then, IfSome}
@@ -9,21 +9,21 @@ use Rattle.recovery_mtud.specs.Bursts.{LossBursts, AreBurstsSound, bursts_made, 
 pub record Discovery : Type 0 where
   -- the MTU in use
   pub mtu : ℕ
-  -- none where discovery is disabled
+  -- none if discovery is disabled
   pub search : Option MtuSearch
   pub bursts : LossBursts
 
 -- ---- how it begins
 
--- the peer takes any size until it tells a limit (RFC 9000, 18.2)
+-- the peer accepts any size until it states a limit (RFC 9000, 18.2)
 abbrev pub limit_or_greatest : Option ℕ → ℕ
 limit_or_greatest limit = unwrap_or limit max_udp_payload
 
 abbrev pub within : ℕ → Option ℕ → ℕ
 within mtu limit = option_map_or (min mtu) limit mtu
 
--- with an MTU, the least one and the peer's limit, as far as it is known; without settings no search comes, and no
--- limit is kept
+-- with an MTU, the minimum MTU and the peer's limit, if it is known; without settings there is no search, and no limit
+-- is stored
 abbrev pub discovery_made : ℕ → ℕ → Option ℕ → Option MtuDiscoveryConfig → Discovery
 discovery_made mtu min_mtu limit searched = record {
   mtu = within mtu (option_and searched limit);
@@ -33,7 +33,7 @@ discovery_made mtu min_mtu limit searched = record {
   bursts = bursts_made min_mtu;
 }
 
--- ---- what it answers
+-- ---- its answers
 
 -- a search runs
 abbrev pub is_searching_of : Discovery → Bool
@@ -44,7 +44,7 @@ abbrev pub probe_of : Discovery → Option ℕ
 probe_of discovery =
     option_and_then (λ search. option_and_then (λ p. p.in_flight) search.probing) discovery.search
 
--- the size of the probe in flight, where this is its number
+-- the size of the probe in flight, if this is its number
 abbrev pub size_of_probe : ℕ → Discovery → Option ℕ
 size_of_probe number discovery = option_and_then (probed_size number) discovery.search
 
@@ -52,15 +52,15 @@ size_of_probe number discovery = option_and_then (probed_size number) discovery.
 abbrev pub is_probe : ℕ → Discovery → Bool
 is_probe number discovery = is_some (size_of_probe number discovery)
 
--- the size that a poll is told to probe, if any
+-- the size that a poll returns, if any
 abbrev pub poll_of : ℕ → Discovery → Option ℕ
 poll_of now discovery = option_and_then (search_poll discovery.mtu now) discovery.search
 
--- the end of losses reports a black hole: four suspicious bursts have closed
+-- the end of a loss detection pass reports a black hole: four suspicious bursts have closed
 abbrev pub reports : Discovery → Bool
 reports discovery = nat_le black_hole_bursts (length (bursts_closed discovery.bursts).kept)
 
--- ---- what holds of every discovery
+-- ---- invariants of every discovery
 
 pub record IsDiscoverySound (discovery : Discovery) : Type 0 where
   pub mtu : 0 < discovery.mtu

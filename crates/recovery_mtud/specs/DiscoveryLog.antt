@@ -1,4 +1,4 @@
--- MTU discovery by what was told to it, call by call (RFC 8899, 4.3 and 5; RFC 9000, 14.3).
+-- MTU discovery by its calls, one after another (RFC 8899, 4.3 and 5; RFC 9000, 14.3).
 use Rattle.std.specs.Prelude.{ℕ, ◌<◌, min, ⊤, if◌then◌else◌, Option, None, List, [], ◌∷◌, unwrap_or}
 use Rattle.std.specs.Option.{option_map, option_map_or}
 use Rattle.recovery_mtud.specs.Search.{MtuSearch, search_polled, search_with, probing_acked, probing_lost, later}
@@ -6,24 +6,23 @@ use Rattle.recovery_mtud.specs.Bursts.{bursts_acked, bursts_closed, bursts_lost}
 use Rattle.recovery_mtud.specs.Discovery.{Discovery, discovery_made, size_of_probe, reports, within}
 
 pub data MtuCall : Type 0 where
-  -- may a probe go out? It would be the packet of that number
+  -- may a probe be sent? It would be the packet of that number
   polls : (now next : ℕ) → MtuCall
-  -- the peer takes no larger packets
+  -- the peer accepts no larger packets
   is_limited : (limit : ℕ) → MtuCall
-  -- a packet of Data is acknowledged
+  -- a 1-RTT packet is acknowledged
   acks : (number bytes : ℕ) → MtuCall
   -- the probe in flight is lost
   loses_probe : MtuCall
-  -- another packet of Data is lost
+  -- another 1-RTT packet is lost
   loses : (number bytes : ℕ) → MtuCall
-  -- all losses of a moment were told
+  -- a loss detection pass ends
   losses_end : (now : ℕ) → MtuCall
-  -- all begins anew
+  -- all starts again
   resets : (mtu min_mtu : ℕ) → MtuCall
 
--- what a call leaves: the size of a probe that is acknowledged is in use from then on, and it is larger than what was
--- lost before it; a report leaves the least MTU in use, and no search before the cooldown is over; a reset keeps the
--- peer's limit
+-- the discovery after a call. The size of an acknowledged probe is the MTU in use, and refutes all losses before it. A
+-- report leaves the minimum MTU, and no search before the cooldown is over. A reset does not change the peer's limit
 abbrev pub discovery_after : MtuCall → Discovery → Discovery
 discovery_after (polls now next) old = record old { search = option_map (search_polled old.mtu now next) old.search }
 discovery_after (is_limited limit) old = record old {
@@ -49,12 +48,12 @@ discovery_after (losses_end now) old =
 discovery_after (resets mtu min_mtu) old =
     discovery_made mtu min_mtu (option_map (λ own. own.limit) old.search) (option_map (λ own. own.settings) old.search)
 
--- what calls leave of the discovery that was made, the newest first
+-- the discovery after calls, the newest first
 abbrev pub discovery_by : Discovery → List MtuCall → Discovery
 discovery_by made [] = made
 discovery_by made (call ∷ earlier) = discovery_after call (discovery_by made earlier)
 
--- sizes that are told are above zero
+-- sizes that are reported are above zero
 abbrev pub IsPositiveMtuCall : MtuCall → Type 0
 IsPositiveMtuCall (is_limited limit) = 0 < limit
 IsPositiveMtuCall (resets mtu min_mtu) = (0 < mtu) × (0 < min_mtu)
@@ -64,12 +63,12 @@ abbrev pub ArePositiveMtuCalls : List MtuCall → Type 0
 ArePositiveMtuCalls [] = ⊤
 ArePositiveMtuCalls (call ∷ earlier) = IsPositiveMtuCall call × ArePositiveMtuCalls earlier
 
--- the peer's limit that a reset keeps; a disabled discovery has none
+-- the peer's limit, which a reset does not change; a disabled discovery has none
 abbrev pub kept_limit : Discovery → Option ℕ
 kept_limit discovery = option_map (λ search. search.limit) discovery.search
 
--- the MTU in use after a call: the size of a probe that was acknowledged, at most a limit that was told, the least MTU
--- after a report, or what a reset begins with, at most the limit; else what it was
+-- the MTU in use after a call. It is the size of an acknowledged probe, at most a reported limit, the minimum MTU after
+-- a report, or that of a reset, at most the limit. Otherwise it is unchanged
 abbrev pub mtu_after : MtuCall → Discovery → ℕ
 mtu_after (is_limited limit) old = min old.mtu limit
 mtu_after (acks number bytes) old = unwrap_or (size_of_probe number old) old.mtu

@@ -1,4 +1,4 @@
--- What an `MtuDiscovery` holds.
+-- The value of an `MtuDiscovery` in contracts.
 use Rattle.recovery_mtud.specs.Discovery.{Discovery}
 use Rattle.recovery_mtud.specs.declared.mtud.MtuDiscovery.TheInside.{Inside}
 

@@ -1,5 +1,5 @@
--- What a discovery was told, with what it answered (RFC 8899, 4.3 and 5; RFC 9000, 14.3). Every list here has the
--- newest entry first.
+-- The calls of a discovery with their answers (RFC 8899, 4.3 and 5; RFC 9000, 14.3). Every list here has the newest
+-- entry first.
 use Rattle.std.specs.Prelude.{◌≡◌, ℕ, ◌==◌, IfSome, min, if◌then◌else◌, Option, Some, None, List, [], ◌∷◌, unwrap_or}
 use Rattle.std.specs.Option.{option_map}
 use Rattle.recovery_mtud.specs.declared.config.MtuDiscoveryConfig.{MtuDiscoveryConfig}
@@ -7,33 +7,33 @@ use Rattle.recovery_mtud.specs.Bursts.{bursts_made}
 use Rattle.recovery_mtud.specs.Discovery.{Discovery, poll_of, reports, within}
 use Rattle.recovery_mtud.specs.DiscoveryLog.{MtuCall, polls, is_limited, acks, loses_probe, loses, losses_end, resets, discovery_by, kept_limit}
 
--- a discovery to which nothing was told yet
+-- a discovery without any call yet
 pub record IsFreshDiscovery (made : Discovery) : Type 0 where
   pub search : IfSome made.search (λ search. (search.probing ≡ None) × (search.activation ≡ 0))
   pub bursts : made.bursts ≡ bursts_made made.bursts.min_mtu
 
--- the settings that it searches by, where it does
+-- the settings of its search, if it has one
 abbrev pub search_settings : Discovery → Option MtuDiscoveryConfig
 search_settings made = option_map (λ search. search.settings) made.search
 
 pub data MtuEntry : Type 0 where
-  -- a poll gives a probe of that size, as the packet of that number
+  -- a poll returns a probe of that size, as the packet of that number
   probed : (now number size : ℕ) → MtuEntry
-  -- a poll gives none
+  -- a poll returns none
   unprobed : (now : ℕ) → MtuEntry
-  -- the peer takes no larger packets
+  -- the peer accepts no larger packets
   limited : (limit : ℕ) → MtuEntry
-  -- a packet of Data is acknowledged
+  -- a 1-RTT packet is acknowledged
   acked : (number bytes : ℕ) → MtuEntry
   -- the probe in flight is lost
   probe_lost : MtuEntry
-  -- another packet of Data is lost
+  -- another 1-RTT packet is lost
   lost : (number bytes : ℕ) → MtuEntry
-  -- all losses of a moment were told, and no black hole is reported
+  -- a loss detection pass ends, and no black hole is reported
   losses_over : MtuEntry
-  -- all losses of a moment were told, and a black hole is reported
+  -- a loss detection pass ends, and a black hole is reported
   reported : (now : ℕ) → MtuEntry
-  -- all begins anew
+  -- all starts again
   reset : (mtu min_mtu : ℕ) → MtuEntry
 
 abbrev pub poll_entry : ℕ → ℕ → Option ℕ → MtuEntry
@@ -50,7 +50,7 @@ entry_of (loses number bytes) old = lost number bytes
 entry_of (losses_end now) old = if reports old then reported now else losses_over
 entry_of (resets mtu min_mtu) old = reset mtu min_mtu
 
--- what all calls were to the discovery that was made
+-- the entries of all calls to the discovery that was made
 abbrev pub entries_by : Discovery → List MtuCall → List MtuEntry
 entries_by made [] = []
 entries_by made (call ∷ earlier) = entry_of call (discovery_by made earlier) ∷ entries_by made earlier
@@ -65,7 +65,7 @@ abbrev pub unless_number : ℕ → Option MtuProbe → Option MtuProbe
 unless_number number None = None
 unless_number number (Some probe) = if number == probe.number then None else Some probe
 
--- from the poll that gives it until it is acknowledged or lost, or until a report or a reset
+-- from the poll that returns it until it is acknowledged or lost, or until a report or a reset
 abbrev pub probe_in_flight : List MtuEntry → Option MtuProbe
 probe_in_flight [] = None
 probe_in_flight (probed now number size ∷ earlier) = Some (record { number = number; size = size })
@@ -75,7 +75,7 @@ probe_in_flight (reported now ∷ earlier) = None
 probe_in_flight (reset mtu min_mtu ∷ earlier) = None
 probe_in_flight (entry ∷ earlier) = probe_in_flight earlier
 
--- its size, where this is its number
+-- its size, if this is its number
 abbrev pub size_at : ℕ → Option MtuProbe → Option ℕ
 size_at number None = None
 size_at number (Some probe) = if number == probe.number then Some probe.size else None
@@ -83,20 +83,19 @@ size_at number (Some probe) = if number == probe.number then Some probe.size els
 -- ---- the sizes in use, from a discovery that was made
 
 module _ (made : Discovery) where
-  -- the largest size that the peer takes, as it told last; where discovery is disabled none is kept
+  -- the largest size that the peer accepts, as it stated last; if discovery is disabled none is stored
   abbrev pub limit_in_use : List MtuEntry → Option ℕ
   limit_in_use [] = kept_limit made
   limit_in_use (limited limit ∷ earlier) = option_map (λ old. limit) (limit_in_use earlier)
   limit_in_use (entry ∷ earlier) = limit_in_use earlier
 
-  -- the least MTU
+  -- the minimum MTU
   abbrev pub min_mtu_in_use : List MtuEntry → ℕ
   min_mtu_in_use [] = made.bursts.min_mtu
   min_mtu_in_use (reset mtu min_mtu ∷ earlier) = min_mtu
   min_mtu_in_use (entry ∷ earlier) = min_mtu_in_use earlier
 
-  -- the MTU: the size of the probe that was acknowledged last, where neither a limit nor a report nor a reset lowered
-  -- it since
+  -- the MTU: the size of the probe acknowledged last, unless a limit, a report or a reset set it since
   abbrev pub mtu_in_use : List MtuEntry → ℕ
   mtu_in_use [] = made.mtu
   mtu_in_use (acked number bytes ∷ earlier) = unwrap_or (size_at number (probe_in_flight earlier)) (mtu_in_use earlier)

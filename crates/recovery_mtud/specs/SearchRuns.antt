@@ -1,5 +1,5 @@
--- Whole searches for a path's MTU (RFC 8899, 5; RFC 9000, 14.3), over what a discovery was told and answered. Every
--- list here has the newest entry first.
+-- MTU searches over all calls and answers of a discovery (RFC 8899, 5; RFC 9000, 14.3). Every list here has the newest
+-- entry first.
 use Rattle.std.specs.Prelude.{◌≡◌, ℕ, ◌+◌, ◌*◌, ◌≤◌, ◌<◌, nat_le, nat_eq, min, ⊤, Bool, true, false, ◌&&◌, ◌||◌, not, if◌then◌else◌, None, is_none, List, [], ◌∷◌, ◌++◌, length, option_to_list, All}
 use Rattle.std.specs.Option.{option_map}
 use Rattle.std.specs.Set.{distinct_count}
@@ -10,7 +10,7 @@ use Rattle.recovery_mtud.specs.MtuEntries.{MtuEntry, probed, unprobed, limited, 
 
 -- ---- when a search runs
 
--- a search ends by a poll that gives no probe while none is in flight, by a report or by a reset
+-- a search ends by a poll that returns no probe while none is in flight, by a report or by a reset
 abbrev pub ends_search : MtuEntry → List MtuEntry → Bool
 ends_search (unprobed now) earlier = is_none (probe_in_flight earlier)
 ends_search (reported now) earlier = true
@@ -36,8 +36,8 @@ before_search (entry ∷ earlier) = if search_runs (entry ∷ earlier) then befo
 -- ---- when a search begins
 
 module _ (settings : MtuDiscoveryConfig) where
-  -- from when on a search may begin: at once at first; then the interval after the poll that ended a search, or the
-  -- cooldown after a report, whichever came last
+  -- when a search may begin: immediately at first; then the interval after the poll that ended a search, or the
+  -- cooldown after a report, whichever was last
   abbrev pub next_activation : List MtuEntry → ℕ
   next_activation [] = 0
   next_activation (unprobed now ∷ earlier) =
@@ -48,11 +48,11 @@ module _ (settings : MtuDiscoveryConfig) where
   next_activation (reset mtu min_mtu ∷ earlier) = 0
   next_activation (entry ∷ earlier) = next_activation earlier
 
-  -- a poll finds a search that runs, or begins one that is due
+  -- a poll continues a search that runs, or begins one that is due
   abbrev pub is_searched : ℕ → List MtuEntry → Bool
   is_searched now earlier = search_runs earlier || nat_le (next_activation earlier) now
 
-  -- a probe comes in a search alone, while none is in flight
+  -- a probe is sent only in a search, while none is in flight
   abbrev pub ProbesInSearch : List MtuEntry → Type 0
   ProbesInSearch [] = ⊤
   ProbesInSearch (probed now number size ∷ earlier) =
@@ -80,14 +80,14 @@ lost_sizes (probe_lost ∷ earlier) =
     option_to_list (option_map (λ probe. probe.size) (probe_in_flight earlier)) ++ lost_sizes earlier
 lost_sizes (entry ∷ earlier) = lost_sizes earlier
 
--- the search that runs has taken at most 16 sizes and 48 probes
+-- the search that runs has probed at most 16 sizes with at most 48 probes
 pub record UsesFewProbes (entries : List MtuEntry) : Type 0 where
   pub sizes : distinct_count nat_eq (probed_sizes (search_of entries)) ≤ size_budget
   pub probes : length (probed_sizes (search_of entries)) ≤ probe_budget
 
--- ---- how near a search comes to what a link carries
+-- ---- how near a search ends to what a link carries
 
--- no limit is told while a search runs
+-- no limit is reported while a search runs
 abbrev pub AreLimitsOutside : List MtuEntry → Type 0
 AreLimitsOutside [] = ⊤
 AreLimitsOutside (limited limit ∷ earlier) = (search_runs earlier ≡ false) × AreLimitsOutside earlier
@@ -98,7 +98,7 @@ module _ (made : Discovery) where
   abbrev pub start_mtu : List MtuEntry → ℕ
   start_mtu entries = mtu_in_use made (before_search entries)
 
-  -- to the search, just the sizes up to this one get through
+  -- to the search, exactly the sizes up to this one get through
   pub record IsHonest (link : ℕ) (entries : List MtuEntry) : Type 0 where
     pub start : start_mtu entries ≤ link
     pub acked : All (λ size. size ≤ link) (acked_sizes (search_of entries))
@@ -110,12 +110,12 @@ module _ (made : Discovery) where
     start_upper entries = upper_from (start_mtu entries) (limit_or_greatest (limit_in_use made (before_search entries)))
         settings.upper_bound
 
-    -- the MTU in use gets through, and lies near the best size
+    -- the MTU in use gets through, and is near the best size
     pub record IsNearBest (link : ℕ) (entries : List MtuEntry) : Type 0 where
       pub carried : mtu_in_use made entries ≤ link
       pub near : min link (start_upper entries) < mtu_in_use made entries + 2 * settings.minimum_change
 
-    -- a search that ends by a poll ends near the best size of an honest link
+    -- a search that ends by a poll ends near the best size of such a link
     abbrev pub EndsNearBest : List MtuEntry → Type 0
     EndsNearBest [] = ⊤
     EndsNearBest (unprobed now ∷ earlier) =

@@ -1,4 +1,4 @@
--- What a `Search` holds.
+-- The value of a `Search` in contracts.
 use Rattle.recovery_mtud.specs.Search.{MtuSearch}
 use Rattle.recovery_mtud.specs.declared.search.Search.TheInside.{Inside}
 

@@ -1,18 +1,19 @@
-//! Sizes of the bursts of losses that are suspicious.
+//! Sizes of suspicious bursts of losses.
 ghost use Rattle.std.specs.Prelude.{◌≡◌, ◌<◌, ◌≤◌, nat_lt, [], ◌∷◌, ◌++◌, filter, length};
 ghost use Rattle.recovery_mtud.specs.Bursts.{with_burst, black_hole_bursts};
 
 use std::marker::Model;
 
-/// So many suspicious bursts are a black hole: one alone is congestion that happened to meet large packets only.
+/// This many suspicious bursts are a black hole: one alone may be congestion that happened to affect only large
+/// packets.
 pub(crate) const BLACK_HOLE_BURSTS: usize = 4;
 
-/// The least sizes of at most four bursts.
+/// The smallest sizes of at most four bursts.
 ///
-/// Contracts see the list of the sizes.
+/// In contracts its value is the list of the sizes.
 #[derive(Clone, Copy)]
 pub(crate) struct Bursts {
-    /// The sizes, and zeros behind them.
+    /// The sizes, followed by zeros.
     sizes: [u16; BLACK_HOLE_BURSTS],
     count: usize,
 }
@@ -58,7 +59,8 @@ impl Bursts {
         self.count += 1;
     }
 
-    /// One more, or in place of the first of the least: that is the one that an acknowledgement would refute first.
+    /// Appends a size, or replaces the first of the smallest: that is the one that an acknowledgement would refute
+    /// first.
     pub(crate) fn add(&mut self, size: u16)
         ensures sizes { self.new ≡ with_burst size self.old }
         ensures few { length self.new ≤ black_hole_bursts }
@@ -83,7 +85,7 @@ impl Bursts {
         }
     }
 
-    /// Keeps those that are above a size.
+    /// Retains the sizes above this one.
     pub(crate) fn retain_above(&mut self, size: u16)
         ensures sizes { self.new ≡ filter (λ least. nat_lt size least) self.old }
         ensures few { length self.new ≤ black_hole_bursts }

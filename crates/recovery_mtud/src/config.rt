@@ -21,8 +21,7 @@ pub struct MtuDiscoveryConfig {
 }
 
 impl MtuDiscoveryConfig {
-    /// How long it takes from the end of a search to the next one. Default 600 s (the PMTU_RAISE_TIMER of RFC 8899,
-    /// 5.1.1).
+    /// Sets the time from the end of a search to the next one. Default 600 s (the PMTU_RAISE_TIMER of RFC 8899, 5.1.1).
     pub fn interval(&mut self, value: Duration) -> &mut Self
         ensures same { result.ghost_name ≡ self.entry.ghost_name }
         ensures value { result.now ≡ record self.old { interval = value } }
@@ -31,8 +30,8 @@ impl MtuDiscoveryConfig {
         self
     }
 
-    /// The largest size that is probed, in bytes: at most 65,527, which is stored for a greater one. Default 1452, what
-    /// IPv6 and UDP leave of an Ethernet frame.
+    /// Sets the largest size that is probed, in bytes. The maximum is 65,527, which is stored for a larger one. Default
+    /// 1452: what IPv6 and UDP leave of an Ethernet frame.
     pub fn upper_bound(&mut self, value: u16) -> &mut Self
         ensures same { result.ghost_name ≡ self.entry.ghost_name }
         ensures value { result.now ≡ record self.old { upper_bound = min value max_udp_payload } }
@@ -41,7 +40,7 @@ impl MtuDiscoveryConfig {
         self
     }
 
-    /// How long it takes from the report of a black hole to the next search. Default 60 s: less than `interval`, as the
+    /// Sets the time from the report of a black hole to the next search. Default 60 s: less than `interval`, since the
     /// route that lost the large packets may be replaced soon.
     pub fn black_hole_cooldown(&mut self, value: Duration) -> &mut Self
         ensures same { result.ghost_name ≡ self.entry.ghost_name }
@@ -51,8 +50,8 @@ impl MtuDiscoveryConfig {
         self
     }
 
-    /// The least step from one size to the next that is worth a probe, in bytes: at least 1, which is stored for 0.
-    /// Default 20.
+    /// Sets the smallest step from one size to the next that is worth a probe, in bytes. The minimum is 1, which is
+    /// stored for 0. Default 20.
     ///
     /// At 1 and 2 a search may probe its lower bound again, and at 1 a size below it.
     pub fn minimum_change(&mut self, value: u16) -> &mut Self
@@ -63,7 +62,7 @@ impl MtuDiscoveryConfig {
         self
     }
 
-    /// A law, for the proofs of callers: the largest size that is probed is below 2^16, as its type says.
+    /// Proves for callers that the largest size that is probed is below 2^16, as its type says.
     pub fn upper_bound_fits(&self)
         ensures { self.now.upper_bound < u16_limit }
     {

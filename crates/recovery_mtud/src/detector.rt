@@ -1,15 +1,15 @@
 //! The detection of black holes by bursts of losses (RFC 8899, 4.3).
 //!
-//! A path whose MTU fell loses every packet above a size, and no smaller one for its size; congestion loses packets of
-//! any size. So losses are held against the MTU only where all packets that were lost together are above the least MTU,
-//! and none as large as the smallest of them arrived after them.
+//! A path whose MTU decreased loses every packet above a size, and no smaller one because of its size. Congestion loses
+//! packets of any size. So a burst of losses counts only if all its packets are above the minimum MTU, and no packet as
+//! large as the smallest of them was acknowledged after them.
 ghost use Rattle.std.specs.Prelude.{◌≡◌, ◌<◌, nat_le, [], length, if◌then◌else◌};
 ghost use Rattle.recovery_mtud.specs.Bursts.{bursts_made, bursts_acked, bursts_closed, bursts_lost, black_hole_bursts};
 
 use crate::bursts::{BLACK_HOLE_BURSTS, Bursts};
 use std::marker::Model;
 
-/// Packets that were sent one after another and lost: most likely for one cause, so that they count once.
+/// Packets with consecutive numbers that were lost: most likely for one cause, so that they count once.
 #[derive(Clone, Copy)]
 pub(crate) struct Burst {
     /// The size of the smallest.
@@ -18,13 +18,13 @@ pub(crate) struct Burst {
     pub(crate) last: u64,
 }
 
-/// What losses and acknowledgements say of the path's MTU.
+/// The evidence of losses and acknowledgements about the path's MTU.
 #[derive(Clone, Copy)]
 pub(crate) struct Detector {
     bursts: Bursts,
     /// The burst that the next lost packet may join.
     current: Option<Burst>,
-    /// The largest size acknowledged since the newest suspicious burst, or the least MTU.
+    /// The largest size acknowledged since the newest suspicious burst, or the minimum MTU.
     acked_mtu: u16,
     /// The number of the newest packet of that size.
     newest: u64,
@@ -59,7 +59,7 @@ impl Detector {
         }
     }
 
-    /// The size that the path is known to carry.
+    /// Returns the size that the path is known to carry.
     pub(crate) fn min_mtu(&self) -> u16
         ensures value { result ≡ self.now.min_mtu }
         ensures positive { 0 < result }
@@ -67,9 +67,9 @@ impl Detector {
         self.min_mtu
     }
 
-    /// The probe in flight was acknowledged. Other packets are of the MTU in use at most, and so smaller (but for a
-    /// least change below 3): none of them was lost for its size. `newest` may fall: what counts is what arrived since
-    /// the last loss.
+    /// Records that the probe in flight was acknowledged. Other packets have at most the MTU in use, and so are smaller
+    /// (unless the minimum change is below 3): none of them was lost because of its size. `newest` may decrease: what
+    /// counts is what arrived since the last loss.
     pub(crate) fn on_probe_acked(&mut self, number: u64, size: u16)
         ensures { self.new ≡ record self.old { kept = []; acked = size; newest = number } }
     {
@@ -78,8 +78,8 @@ impl Detector {
         self.newest = number;
     }
 
-    /// Another packet was acknowledged. A path that carries its size carries all smaller ones: bursts in which a packet
-    /// of at most that size was lost had another cause.
+    /// Records that another packet was acknowledged. A path that carries its size carries all smaller ones: bursts in
+    /// which a packet of at most that size was lost had another cause.
     pub(crate) fn on_non_probe_acked(&mut self, number: u64, size: u16)
         ensures { self.new ≡ bursts_acked number size self.old }
     {
@@ -95,8 +95,8 @@ impl Detector {
         self.bursts.retain_above(size);
     }
 
-    /// The burst is over: it is suspicious, unless a packet that every path carries was lost in it, or one sent later
-    /// and at least as large as its smallest arrived (RFC 8899, 4.3; RFC 9000, 14).
+    /// Closes a burst. It is suspicious, unless one of its packets has a size that every path carries, or a packet sent
+    /// after it and no smaller than its smallest arrived (RFC 8899, 4.3; RFC 9000, 14).
     fn close(&mut self)
         ensures { self.new ≡ bursts_closed self.old }
     {
@@ -108,16 +108,16 @@ impl Detector {
         if burst.least <= self.min_mtu || is_refuted {
             return;
         }
-        // What arrived was sent before the losses, and says nothing of the path since. Sizes of what arrived later are
-        // not kept, so that the least MTU stands for them: a wrong report costs smaller packets, a missed one the
-        // connection.
+        // What arrived was sent before the losses, and is no evidence about the path since. The sizes of what arrived
+        // later are not stored, so the minimum MTU is assumed: a wrong report costs smaller packets, a missed one costs
+        // the connection.
         if burst.last > self.newest {
             self.acked_mtu = self.min_mtu;
         }
         self.bursts.add(burst.least);
     }
 
-    /// A packet that is no probe in flight was lost. (A probe says by its loss what it was sent to find out.)
+    /// Records that a packet was lost that is not the probe in flight. (The loss of a probe answers its own question.)
     pub(crate) fn on_non_probe_lost(&mut self, number: u64, size: u16)
         ensures { self.new ≡ bursts_lost number size self.old }
     {
@@ -137,8 +137,8 @@ impl Detector {
         });
     }
 
-    /// All losses of a moment were told: whether there is a black hole. The open burst closes here, since a black hole
-    /// lets nothing through that would close it.
+    /// Ends a loss detection pass. Returns whether there is a black hole. The open burst closes here, since a black
+    /// hole lets nothing through that would close it.
     pub(crate) fn black_hole_detected(&mut self) -> bool
         ensures answer { result ≡ nat_le black_hole_bursts (length (bursts_closed self.old).kept) }
         ensures after { self.new

@@ -9,23 +9,24 @@ ghost use Rattle.recovery_mtud.specs.SearchRuns.{UsesFewProbes, AreLimitsOutside
 ghost use Rattle.recovery_mtud.specs.declared.config.MtuDiscoveryConfig.{MtuDiscoveryConfig};
 ghost use Rattle.recovery_mtud.specs.Search.{smallest_change};
 
-/// Whatever is told of sizes above zero, the MTU in use stays above zero, and at most four bursts are kept.
+/// Proves that the MTU in use stays above zero, and at most four bursts are stored, if all sizes reported are above
+/// zero.
 #[tactic(auto, using(crate::proofs::DiscoveryLaws::discovery_by_sound))]
 pub fn discovery_stays_sound()
     ensures { (made : Discovery) → IsDiscoverySound made → (calls : List MtuCall)
         → ArePositiveMtuCalls calls → IsDiscoverySound (discovery_by made calls) }
 {}
 
-/// The MTU in use changes to the size of an acknowledged probe, down to the peer's limit, to the least MTU by a report,
-/// or by a reset, and else never.
+/// Proves what changes the MTU in use: an acknowledged probe, the peer's limit, the report of a black hole, or a reset,
+/// and nothing else.
 #[tactic(auto, using(crate::proofs::DiscoveryLaws::discovery_after_mtu))]
 pub fn mtu_changes()
     ensures { (call : MtuCall) (old : Discovery)
         → (discovery_after call old).mtu ≡ mtu_after call old }
 {}
 
-/// What [`MtuDiscovery::new`] and [`MtuDiscovery::disabled`] give was told nothing yet, and searches by the settings
-/// that were handed in: from there the laws below go.
+/// Proves that [`MtuDiscovery::new`] and [`MtuDiscovery::disabled`] return a fresh discovery that searches by the
+/// settings passed. The laws below start from there.
 ///
 /// [`MtuDiscovery::new`]: crate::mtud::MtuDiscovery::new
 /// [`MtuDiscovery::disabled`]: crate::mtud::MtuDiscovery::disabled
@@ -37,8 +38,8 @@ pub fn discoveries_begin_untold()
         → search_settings (discovery_made mtu min_mtu limit searched) ≡ searched }
 {}
 
-/// Whatever a discovery is told, in whatever order: the search that runs has probed at most 16 sizes by at most 48
-/// probes (RFC 8899, 5.3.2 leaves the search to us).
+/// Proves that after any calls in any order, the search that runs has probed at most 16 sizes with at most 48 probes
+/// (RFC 8899, 5.3.2 leaves the search to the implementation).
 pub fn searches_take_few()
     ensures { (made : Discovery) (settings : MtuDiscoveryConfig) → IsFreshDiscovery made
         → search_settings made ≡ Some settings → smallest_change ≤ settings.minimum_change
@@ -46,8 +47,9 @@ pub fn searches_take_few()
         → UsesFewProbes (entries_by made calls) }
 {}
 
-/// Of a link that carries exactly the packets up to some size: a search that a poll ends leaves an MTU that the link
-/// carries, less than twice `minimum_change` below the best size, where the peer tells its limit outside searches.
+/// Proves that a search that a poll ends leaves an MTU that the link carries, less than twice `minimum_change` below
+/// the best size. Premise: the link carries exactly the packets up to some size, and the peer states its limit outside
+/// searches.
 #[tactic(auto, using(crate::proofs::SearchRunLaws::search_ends_near))]
 pub fn searches_end_near_the_best()
     ensures { (made : Discovery) (settings : MtuDiscoveryConfig) → IsFreshDiscovery made
@@ -57,7 +59,7 @@ pub fn searches_end_near_the_best()
         → EndsNearBest made settings (entries_by made calls) }
 {}
 
-/// A probe comes in a search alone, while none is in flight; a disabled discovery gives none.
+/// Proves that a probe is sent only in a search, while none is in flight. A disabled discovery sends none.
 #[tactic(auto, using(crate::proofs::SearchRunLaws::probes_in_search, crate::proofs::UnsearchedLaws::unsearched))]
 pub fn probes_come_in_searches()
     ensures searched { (made : Discovery) (settings : MtuDiscoveryConfig) → IsFreshDiscovery made
@@ -67,8 +69,9 @@ pub fn probes_come_in_searches()
         → (now : ℕ) (calls : List MtuCall) → poll_of now (discovery_by made calls) ≡ None }
 {}
 
-/// A black hole is reported only where four bursts of losses stand, where no number is told as acknowledged and as
-/// lost; and it is reported where four have closed that no larger packet answered (RFC 8899, 4.3).
+/// Proves that a black hole is reported only after four unrefuted bursts of losses, if no number is reported both as
+/// acknowledged and as lost. It is reported if four have closed since which no larger packet was acknowledged (RFC
+/// 8899, 4.3).
 #[tactic(auto, using(crate::proofs::BurstRunLaws::four_stand, crate::proofs::BurstRunLaws::four_report))]
 pub fn four_bursts_are_a_black_hole()
     ensures only { (made : Discovery) → IsFreshDiscovery made → (calls : List MtuCall)

@@ -1,4 +1,4 @@
-//! Discovery of the MTU of a path, and detection of black holes (RFC 8899; RFC 9000, 14.3).
+//! MTU discovery of a path, and detection of black holes (RFC 8899; RFC 9000, 14.3).
 ghost use Rattle.std.specs.Prelude.{◌≡◌, ◌<◌, ◌≤◌, false, ◌&&◌, Some, None, if◌then◌else◌};
 ghost use Rattle.std.specs.Option.{IfSome};
 ghost use Rattle.recovery_base.specs.declared.below.SpaceId.TheVariants.{Data};
@@ -13,17 +13,18 @@ use recovery_base::below::SpaceId;
 use recovery_base::time::Instant;
 use std::marker::Model;
 
-/// What is known of the MTU of one path: the size in use, a search for a larger one, and the losses that may mean that
-/// it fell.
+/// The MTU discovery of one path: the MTU in use, a search for a larger one, and the losses that may mean that the
+/// path's MTU decreased.
 ///
-/// A search probes sizes in the middle of its bounds, each three times at most, and begins again after an interval.
-/// Four suspicious bursts of losses are a black hole: the least MTU is then in use again (RFC 8899, 4.3).
+/// A search probes sizes in the middle of its bounds, each at most three times, and starts again after an interval.
+/// Four suspicious bursts of losses are a black hole: the minimum MTU is then in use again (RFC 8899, 4.3).
 ///
-/// Contracts see a `Discovery`. Its MTU is above zero, and it keeps at most four bursts. Sizes are in bytes.
+/// In contracts its value is a `Discovery`. Its MTU is above zero, and it stores at most four bursts. Sizes are in
+/// bytes.
 #[derive(Clone, Copy)]
 pub struct MtuDiscovery {
     current_mtu: u16,
-    /// None where discovery is disabled.
+    /// None if discovery is disabled.
     search: Option<Search>,
     detector: Detector,
 }
@@ -43,11 +44,11 @@ impl Model for MtuDiscovery {
 }
 
 impl MtuDiscovery {
-    /// A discovery that begins to search at the first poll.
+    /// Returns a discovery that begins to search at the first poll.
     ///
-    /// It begins with `initial_plpmtu`, or with the peer's limit where that is less; no size is probed above the limit,
-    /// which is known from the beginning where a connection moves to another path. The path is known to carry
-    /// `min_mtu`. All are above zero.
+    /// It begins with `initial_plpmtu`, or with the peer's limit if that is smaller. No size above the limit is probed;
+    /// on a new path of a connection the limit is known from the beginning. The path is known to carry `min_mtu`. All
+    /// are above zero.
     pub fn new(
         initial_plpmtu: u16,
         min_mtu: u16,
@@ -71,8 +72,8 @@ impl MtuDiscovery {
         }
     }
 
-    /// A discovery that never probes. Black holes are detected all the same: the MTU then falls from `plpmtu` to
-    /// `min_mtu`. Both are above zero.
+    /// Returns a discovery that never probes. It still detects black holes: the MTU then becomes `min_mtu` instead of
+    /// `plpmtu`. Both are above zero.
     pub fn disabled(plpmtu: u16, min_mtu: u16) -> Self
         requires mtu { 0 < plpmtu }
         requires least { 0 < min_mtu }
@@ -85,8 +86,8 @@ impl MtuDiscovery {
         }
     }
 
-    /// Begins anew with these sizes, both above zero. The peer's limit stays, also of the MTU in use; a disabled
-    /// discovery has none, and stays disabled.
+    /// Starts again with these sizes, both above zero. The peer's limit stays, also for the MTU in use. A disabled
+    /// discovery has no limit, and stays disabled.
     pub fn reset(&mut self, current_mtu: u16, min_mtu: u16)
         requires mtu { 0 < current_mtu }
         requires least { 0 < min_mtu }
@@ -102,7 +103,7 @@ impl MtuDiscovery {
         };
     }
 
-    /// The same with this MTU in use, above zero: that of a path that comes back into use.
+    /// Returns the discovery with this MTU in use, above zero: that of a path that is used again.
     pub fn with_mtu(mut self, current_mtu: u16) -> Self
         requires { 0 < current_mtu }
         ensures { result ≡ record self { mtu = current_mtu } }
@@ -111,7 +112,7 @@ impl MtuDiscovery {
         self
     }
 
-    /// The MTU in use.
+    /// Returns the MTU in use.
     pub fn current_mtu(&self) -> u16
         ensures value { result ≡ self.now.mtu }
         ensures positive { 0 < result }
@@ -119,9 +120,9 @@ impl MtuDiscovery {
         self.current_mtu
     }
 
-    /// The size of the probe to send now, if any, as the packet of number `next_packet_number`.
+    /// Returns the size of the probe to send now, if any, as the packet of number `next_packet_number`.
     ///
-    /// None while a probe is in flight, before the next search is due, and where discovery is disabled.
+    /// `None` while a probe is in flight, before the next search is due, and if discovery is disabled.
     pub fn poll_transmit(&mut self, now: Instant, next_packet_number: u64) -> Option<u16>
         ensures answer { result ≡ poll_of now self.old }
         ensures after { self.new ≡ discovery_after (polls now next_packet_number) self.old }
@@ -132,8 +133,8 @@ impl MtuDiscovery {
         }
     }
 
-    /// The peer takes no packets larger than this, above zero (max_udp_payload_size of RFC 9000, 18.2). No search may
-    /// run: none should begin before the handshake has told this size.
+    /// Sets the largest datagram that the peer accepts, above zero (RFC 9000, 18.2: max_udp_payload_size). No search
+    /// may run: none should begin before the handshake delivered this size.
     pub fn on_peer_max_udp_payload_size_received(&mut self, peer_max_udp_payload_size: u16)
         requires size { 0 < peer_max_udp_payload_size }
         requires no_search { is_searching_of self.old ≡ false }
@@ -145,9 +146,9 @@ impl MtuDiscovery {
         }
     }
 
-    /// A packet of so many bytes was acknowledged: whether it was the probe in flight. The MTU in use is then its size.
-    /// Outside Data nothing changes: probes are packets of 1-RTT keys, and other spaces have the same numbers again
-    /// (RFC 9000, 12.3).
+    /// Records that a packet of this size was acknowledged. Returns whether it was the probe in flight. If so, its size
+    /// is the MTU in use. Outside the Application Data space nothing changes: probes are 1-RTT packets, and other
+    /// spaces reuse the numbers (RFC 9000, 12.3).
     #[tactic(auto, using(crate::proofs::BurstCallLaws::bursts_acked_sound))]
     pub fn on_acked(&mut self, space: SpaceId, packet_number: u64, packet_bytes: u16) -> bool
         ensures answer { result ≡ same_space space Data && is_probe packet_number self.old }
@@ -176,7 +177,7 @@ impl MtuDiscovery {
         }
     }
 
-    /// The number of the probe in flight.
+    /// Returns the number of the probe in flight.
     pub fn in_flight_mtu_probe(&self) -> Option<u64>
         ensures { result ≡ probe_of self.now }
     {
@@ -186,7 +187,7 @@ impl MtuDiscovery {
         }
     }
 
-    /// The probe in flight was lost. With none in flight nothing changes.
+    /// Records that the probe in flight was lost. If none is in flight nothing changes.
     pub fn on_probe_lost(&mut self)
         ensures { self.new ≡ discovery_after loses_probe self.old }
     {
@@ -195,20 +196,19 @@ impl MtuDiscovery {
         }
     }
 
-    /// A packet of Data that is no probe in flight was lost, of so many bytes. It joins the burst whose last number is
-    /// the one before it; else that burst closes and another begins.
+    /// Records that a 1-RTT packet of this size was lost that is not the probe in flight. It joins the burst whose last
+    /// number is the one before it; if there is none, the open burst closes and another begins.
     ///
-    /// `black_hole_detected` is to be called once all losses of a moment were told: only then is the last burst known
-    /// to be whole.
+    /// Call `black_hole_detected` when all losses of a pass were reported: only then is the last burst complete.
     pub fn on_non_probe_lost(&mut self, packet_number: u64, packet_bytes: u16)
         ensures { self.new ≡ discovery_after (loses packet_number packet_bytes) self.old }
     {
         self.detector.on_non_probe_lost(packet_number, packet_bytes);
     }
 
-    /// Closes the open burst: whether four suspicious bursts have closed, which is a black hole. The least MTU is then
-    /// in use, even above the peer's limit, since it alone is sure to get through (RFC 8899, 4.3; RFC 9000, 14); a
-    /// search ends, and none begins before the cooldown is over.
+    /// Closes the open burst. Returns whether four suspicious bursts have closed, which is a black hole. If so, the
+    /// minimum MTU is in use, even above the peer's limit, since it alone is sure to get through (RFC 8899, 4.3; RFC
+    /// 9000, 14). A search ends, and none begins before the cooldown is over.
     pub fn black_hole_detected(&mut self, now: Instant) -> bool
         ensures answer { result ≡ reports self.old }
         ensures after { self.new ≡ discovery_after (losses_end now) self.old }
@@ -223,7 +223,7 @@ impl MtuDiscovery {
         true
     }
 
-    /// Whether a search has begun and not ended.
+    /// Returns whether a search runs.
     pub fn is_searching(&self) -> bool
         ensures { result ≡ is_searching_of self.now }
     {

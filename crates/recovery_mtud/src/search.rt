@@ -1,4 +1,4 @@
-//! The search for a path's MTU (RFC 8899, 5; RFC 9000, 14.3).
+//! The MTU search of a path (RFC 8899, 5; RFC 9000, 14.3).
 ghost use Rattle.std.specs.Prelude.{◌≡◌, ◌<◌, None, is_some, IfSome, if◌then◌else◌};
 ghost use Rattle.std.specs.Option.{option_and_then};
 ghost use Rattle.recovery_mtud.specs.Search.{search_begun, narrowed, next_size, size_to_probe, probing_at, search_poll, search_polled};
@@ -8,7 +8,7 @@ use crate::config::MtuDiscoveryConfig;
 use recovery_base::time::Instant;
 use std::marker::Model;
 
-/// A size that was lost so often is too large: a single loss may be congestion's (RFC 8899, 5.1.2).
+/// A size that was lost this often is too large: a single loss may be due to congestion (RFC 8899, 5.1.2).
 const MAX_PROBES: u8 = 3;
 
 /// A search that runs.
@@ -26,14 +26,14 @@ pub(crate) struct Probing {
     pub(crate) losses: u8,
 }
 
-/// The search of a discovery that is enabled.
+/// The search state of a discovery that is enabled.
 #[derive(Clone, Copy)]
 pub(crate) struct Search {
-    /// The one that runs.
+    /// The search that runs.
     probing: Option<Probing>,
-    /// Where none runs, the next one may begin from this moment on.
+    /// If none runs, the next one may begin from this time on.
     activation: Instant,
-    /// The largest size that the peer takes.
+    /// The largest size that the peer accepts.
     limit: u16,
     config: MtuDiscoveryConfig,
 }
@@ -53,8 +53,8 @@ impl Model for Search {
 }
 
 impl Probing {
-    /// Narrows the bounds by what became of the last size, and gives the size to probe next: the same, while it was
-    /// lost too seldom to be called too large.
+    /// Narrows the bounds by the outcome of the last size. Returns the size to probe next: the same, until it was lost
+    /// often enough to be too large.
     fn advance(&mut self, minimum_change: u16) -> Option<u16>
         ensures size { result ≡ size_to_probe minimum_change self.old }
         ensures bounds { self.new ≡ narrowed self.old }
@@ -70,7 +70,7 @@ impl Probing {
         self.next_size(minimum_change)
     }
 
-    /// The middle of the bounds; at the end the upper bound itself, which no middle reaches.
+    /// Returns the middle of the bounds; at the end the upper bound itself, which no middle reaches.
     fn next_size(&self, minimum_change: u16) -> Option<u16>
         ensures { result ≡ next_size minimum_change self.now }
     {
@@ -105,7 +105,7 @@ impl Search {
         self.probing.is_some()
     }
 
-    /// The number of the probe in flight.
+    /// Returns the number of the probe in flight.
     pub(crate) fn in_flight(&self) -> Option<u64>
         ensures { result ≡ option_and_then (λ p. p.in_flight) self.now.probing }
     {
@@ -115,7 +115,7 @@ impl Search {
         }
     }
 
-    /// The largest size that the peer takes.
+    /// Returns the largest size that the peer accepts.
     pub(crate) fn limit(&self) -> u16
         ensures value { result ≡ self.now.limit }
         ensures positive { 0 < result }
@@ -123,7 +123,7 @@ impl Search {
         self.limit
     }
 
-    /// Begins anew, with the peer's limit kept.
+    /// Starts again; the peer's limit stays.
     pub(crate) fn restart(&mut self)
         ensures { self.new ≡ record self.old { probing = None; activation = 0 } }
     {
@@ -138,7 +138,7 @@ impl Search {
         self.limit = limit;
     }
 
-    /// The MTU in use counts as a probe that arrived: the first one probed is above it.
+    /// Returns a new search. The MTU in use counts as an acknowledged probe: the first probe is above it.
     fn begin(&self, mtu: u16) -> Probing
         requires { 0 < mtu }
         ensures value { result ≡ search_begun mtu self.now }
@@ -154,9 +154,9 @@ impl Search {
         }
     }
 
-    /// The search that a poll goes on with, or begins: none while a probe is in flight, since what becomes of it says
-    /// which size is next, and a lost one costs a whole packet; another search after a while, since a path may come to
-    /// carry more (RFC 8899, 5.1.1).
+    /// Returns the search that a poll continues or begins. There is none while a probe is in flight, since its outcome
+    /// decides the next size, and a lost one costs a whole packet. Another search begins after a while, since a path
+    /// may carry more later (RFC 8899, 5.1.1).
     fn probing_at(&self, mtu: u16, now: Instant) -> Option<Probing>
         requires { 0 < mtu }
         ensures value { result ≡ probing_at mtu now self.now }
@@ -178,7 +178,7 @@ impl Search {
         }
     }
 
-    /// The size to probe now, if any, with a packet of this number.
+    /// Returns the size to probe now, if any, with a packet of this number.
     pub(crate) fn poll(&mut self, mtu: u16, now: Instant, number: u64) -> Option<u16>
         requires { 0 < mtu }
         ensures answer { result ≡ search_poll mtu now self.old }
@@ -200,7 +200,7 @@ impl Search {
         next
     }
 
-    /// Where the packet is the probe in flight, its size.
+    /// Returns the size of the packet if it is the probe in flight, which it no longer is.
     pub(crate) fn on_acked(&mut self, number: u64) -> Option<u16>
         ensures size { result ≡ probed_size number self.old }
         ensures positive { IfSome result (λ size. 0 < size) }
@@ -218,8 +218,8 @@ impl Search {
         Some(probing.last)
     }
 
-    /// The probe in flight was lost, if there is one: a black hole ends a search, and its probe may be called lost
-    /// after that.
+    /// Records that the probe in flight was lost, if there is one: a black hole ends a search, whose probe may be
+    /// declared lost afterwards.
     pub(crate) fn on_probe_lost(&mut self)
         ensures { self.new ≡ search_with probing_lost self.old }
     {
@@ -231,7 +231,8 @@ impl Search {
         }
     }
 
-    /// A black hole was found at this moment. For a while nothing is probed: larger sizes were just seen to fail.
+    /// Records that a black hole was detected at this time. For a while nothing is probed: larger sizes were just seen
+    /// to fail.
     pub(crate) fn on_black_hole(&mut self, now: Instant)
         ensures { self.new
             ≡ record self.old {

@@ -1,4 +1,4 @@
--- A draw lies in its range and leaves words that fit 64 bits, so that each skip lies below a power of two. Laws for
+-- A draw is in its range and leaves random words that fit 64 bits, so that each skip is below a power of two. Laws for
 -- users rest on it.
 use Rattle.std.proofs.Common.{◌≡◌, ℕ, zero, suc, ◌+◌, ◌-◌, ◌*◌, ◌/◌, ◌%◌, ◌<◌, ◌≤◌, ◌^◌, [], ◌∷◌, max, Option, None, Some, Bool, true, false, refl, arith}
 use Rattle.std.specs.Prelude.{nat_le, if◌then◌else◌}
@@ -13,7 +13,7 @@ use Rattle.recovery_packet_numbers.specs.declared.filter.Skips.TheVariants.{Draw
 use Rattle.recovery_packet_numbers.specs.Skips.{IsSkips, AreWords, draw, first_skip, next_skip, skip_at}
 use Rattle.recovery_packet_numbers.proofs.DrawRangeLaws.{range_wide}
 
--- the high word of a product of a word and a range lies below the range, and a carry that stays open leaves room
+-- the high word of a product of a random word and a range is below the range, and a carry that stays open leaves room
 high_below : (m range w hi lo : ℕ) → w < m → 0 < range → range ≤ m → hi * m + lo ≡ w * range
     → (hi < range) × (m - range < lo → hi + 1 < range)
 high_below m range w hi lo fits some within product =
@@ -104,7 +104,7 @@ module _ (skips : Skips) (words : Stream) (is_skips : IsSkips skips) (fit : AreW
             (range_wide exponent s least (below s refl)) (pow_mono small),
       )
 
-  -- of the skips that a filter can have, the one counted k from 0 lies below 2^(6 + k)
+  -- of the skips that a filter can have, the one counted k from 0 is below 2^(6 + k)
   pub skip_below_power : (k t : ℕ) → k ≤ 57 → (skip_at skips words k).0 ≡ Some t → t < 2 ^ (6 + k)
   skip_below_power zero t _ is = first_below _ is_skips t is
   skip_below_power (suc k) t small is =

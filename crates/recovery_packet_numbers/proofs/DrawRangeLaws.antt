@@ -1,5 +1,5 @@
--- The ranges that skips are drawn from are not empty, and their bounds fit 64 bits. `PacketNumberFilter` and `DrawLaws`
--- rest on it.
+-- The ranges from which skips are drawn are not empty, and their bounds fit 64 bits. `PacketNumberFilter` and
+-- `DrawLaws` rest on it.
 use Rattle.std.proofs.Common.{◌≡◌, ℕ, ◌+◌, ◌*◌, ◌%◌, ◌<◌, ◌≤◌, ◌^◌, max, arith, add-one}
 use Rattle.std.proofs.Math.Pow.{pow_mono, pow-lt}
 use Rattle.std.proofs.Math.Nat.{pow-suc}
@@ -9,8 +9,7 @@ use Rattle.recovery_packet_numbers.specs.Filters.{Filter, number_by, IsFilterSou
 twice : (exponent : ℕ) → 2 ^ (exponent + 1) ≡ 2 ^ exponent * 2
 twice _ = rw (add-one, pow-suc)
 
--- a number that is not the next one follows a skip, and where it is no number too many, the skip behind that can be
--- drawn
+-- a number that is not the next one follows a skip, and if it is below the limit, the next skip can be drawn
 pub can_draw : (filter : Filter) → IsFilterSound filter → (n number : ℕ) → number ≡ number_by filter n → number ≢ n
     → number < 2 ^ 62
     → (filter.exponent ≤ 62) × (n < 2 ^ filter.exponent)

@@ -1,4 +1,4 @@
--- Which numbers are skipped: those that stand in the sequence of skips, and no others. A law for users rests on it.
+-- Which numbers are skipped: exactly those in the sequence of skips. A law for users rests on it.
 use Rattle.std.proofs.Common.{◌≡◌, ℕ, zero, suc, ◌<◌, ◌↔◌, Option, None, Some, Bool, true, false, refl, arith, inl, inr}
 use Rattle.std.specs.Prelude.{if◌then◌else◌}
 use Rattle.std.proofs.lemmas.Bool.{cases_lt}
@@ -8,7 +8,7 @@ use Rattle.recovery_packet_numbers.specs.Skips.{skip_at, skips_below, is_skipped
 use Rattle.recovery_packet_numbers.proofs.SkipLaws.{is_at-some, is_at-self, skip_above}
 
 module _ (skips : Skips) (words : Stream) where
-  -- the skips before one are there, and lie below it
+  -- the skips before one exist, and are below it
   lower : (j k t : ℕ) → j < k → (skip_at skips words k).0 ≡ Some t
       → (s : ℕ) × ((skip_at skips words j).0 ≡ Some s) × (s < t)
   lower j zero t less is = absurd (omega arith)
@@ -21,7 +21,7 @@ module _ (skips : Skips) (words : Stream) where
             (before.0, rw same before.1, omega arith)
       ]
 
-  -- just so many skips lie below n
+  -- exactly this many skips are below n
   abbrev Counts : ℕ → ℕ → Type 0
   Counts n count = (k s : ℕ) → (skip_at skips words k).0 ≡ Some s → (s < n) ↔ (k < count)
 
@@ -34,7 +34,7 @@ module _ (skips : Skips) (words : Stream) where
         | inr near ↦ grind (arith, counts k n here)
       ]
 
-  -- a skip lies below n just where its place is below their count
+  -- a skip is below n exactly if its position is below their count
   pub below_counts : (n k s : ℕ) → (skip_at skips words k).0 ≡ Some s
       → (s < n) ↔ (k < skips_below skips words n)
   below_counts zero k s is = grind arith
@@ -48,7 +48,7 @@ module _ (skips : Skips) (words : Stream) where
           let self = is_at-self n (skip_at skips words (skips_below skips words n)).0 in
           grind arith
 
-  -- a number is skipped just where it stands in the sequence
+  -- a number is skipped exactly if it is in the sequence
   pub skipped_in_sequence : (n : ℕ) → (is_skipped skips words n ≡ true)
       ↔ ((k : ℕ) × ((skip_at skips words k).0 ≡ Some n))
   skipped_in_sequence n = (

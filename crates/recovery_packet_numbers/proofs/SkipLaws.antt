@@ -1,4 +1,4 @@
--- Laws of skipped packet numbers: what one step does, how skips ascend, and which numbers they are. The driver's laws
+-- Laws of skipped packet numbers: what one step does, how skips increase, and which numbers they are. The driver's laws
 -- of numbers rest on it, and the laws for users.
 use Rattle.std.proofs.Common.{◌≡◌, ℕ, suc, ◌+◌, ◌≤◌, ◌^◌, Option, None, Some, Bool, true, false, refl, ap, sym, ◌∙◌, arith, add-one}
 use Rattle.std.specs.Prelude.{if◌then◌else◌}
@@ -15,7 +15,7 @@ is_at-some n (Some s) is = grind arith
 pub is_at-self : (n : ℕ) (skip : Option ℕ) → skip ≡ Some n → is_at n skip ≡ true
 is_at-self n _ is = rw is (grind arith)
 
--- ---- skips ascend
+-- ---- skips increase
 
 next_above : (exponent t : ℕ) (skip : Option ℕ) (words : Stream) → (next_skip exponent (skip, words)).0 ≡ Some t
     → (s : ℕ) × (skip ≡ Some s) × (s + 2 ≤ t) × (2 ^ exponent ≤ t)
@@ -24,7 +24,7 @@ next_above _ t (Some s) _ is =
     let drawn = same_Some _ t is in (s, refl, omega arith, omega arith)
 
 module _ (skips : Skips) (words : Stream) where
-  -- each skip but the first comes behind another one, two or more below it, and lies at a power of two or above
+  -- each skip but the first is two or more above the one before, and not below a power of two
   pub skip_above : (k t : ℕ) → (skip_at skips words (suc k)).0 ≡ Some t
       → (s : ℕ) × ((skip_at skips words k).0 ≡ Some s) × (s + 2 ≤ t) × (2 ^ (6 + k) ≤ t)
   skip_above k t is = next_above _ t _ _ is
@@ -39,7 +39,7 @@ module _ (skips : Skips) (words : Stream) where
 
   -- ---- one step
 
-  -- no number behind a skip is one
+  -- no number right after a skip is one
   pub behind_not_skipped : (n : ℕ) → is_skipped skips words n ≡ true → is_skipped skips words (suc n) ≡ false
   behind_not_skipped n here = rw here (go (skip_at skips words (suc (skips_below skips words n))).0 refl)
     where
@@ -52,7 +52,7 @@ module _ (skips : Skips) (words : Stream) where
   behind_it : (n : ℕ) → is_skipped skips words n ≡ true → is_skipped skips words (n + 1) ≡ false
   behind_it n = rw add-one (behind_not_skipped n)
 
-  -- a number that is given out is no skip
+  -- a number that is assigned is no skip
   pub number_not_skipped : (n : ℕ) → is_skipped skips words (number_from skips words n) ≡ false
   number_not_skipped n = go (is_skipped skips words n) refl
     where
@@ -64,7 +64,7 @@ module _ (skips : Skips) (words : Stream) where
   pub number_from_above : (n : ℕ) → n ≤ number_from skips words n
   number_from_above n = grind arith
 
-  -- the filter and the words follow the numbers: whatever comes next, they stay those of the next number
+  -- the filter and the random words follow the numbers: they stay those of the next number
   pub passed_step : (n : ℕ)
       → passed n (skipping_at skips words n) ≡ skipping_at skips words (number_from skips words n + 1)
   passed_step n = go (is_skipped skips words n) refl
@@ -81,7 +81,7 @@ module _ (skips : Skips) (words : Stream) where
           rw next (grind arith)
       go false here = rw add-one (rw here refl)
 
-  -- ---- for a filter that is the one where the next number is n
+  -- ---- for the filter if the next number is n
 
   pub number_at : (n : ℕ) (old : SkipState) → old ≡ skipping_at skips words n
       → number_by old.filter n ≡ number_from skips words n
@@ -91,7 +91,7 @@ module _ (skips : Skips) (words : Stream) where
       ≡ skip_before skips words n
   last_at n _ is = ap (λ (s : SkipState). s.filter.last) is
 
-  -- a number was given out
+  -- a number was assigned
   pub allocated : (n number : ℕ) (old new : SkipState) → old ≡ skipping_at skips words n
       → number ≡ number_by old.filter n → new ≡ passed n old
       → (number ≡ number_from skips words n) × (new ≡ skipping_at skips words (number + 1))

@@ -1,4 +1,4 @@
--- What a `PacketNumberFilter` holds.
+-- The value of a `PacketNumberFilter` in contracts.
 use Rattle.recovery_packet_numbers.specs.Filters.{Filter}
 use Rattle.recovery_packet_numbers.specs.declared.filter.PacketNumberFilter.TheInside.{Inside}
 

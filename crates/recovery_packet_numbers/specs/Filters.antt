@@ -1,5 +1,4 @@
--- What a filter of packet numbers keeps of their skips, and which acknowledgements it refuses
--- (RFC 9000, 13.1 and 21.4).
+-- The state of a filter of packet numbers, and which acknowledgements it rejects (RFC 9000, 13.1 and 21.4).
 use Rattle.std.specs.Prelude.{ℕ, ◌≡◌, ◌+◌, ◌-◌, ◌<◌, ◌≤◌, ◌^◌, nat_lt, nat_le, IsTrue, Bool, ◌&&◌, if◌then◌else◌, Option, Some}
 use Rattle.std.specs.Option.{IsSomeAnd}
 use Rattle.std.specs.declared.ops.RangeInclusive.{RangeInclusive}
@@ -16,17 +15,17 @@ use Rattle.recovery_packet_numbers.specs.Skips.{next_skip, skip_at, is_at, skips
 pub record Filter : Type 0 where
   -- the next number to skip
   pub skip : Option ℕ
-  -- the last one that was passed
+  -- the last one
   pub last : Option ℕ
-  -- the skip behind the next one lies from 2 to this power up to below twice as much
+  -- the skip after the next one is from 2 to this power up to below twice that
   pub exponent : ℕ
 
--- a filter, and the words that its generator gives from now on
+-- a filter, and the remaining random words of its generator
 pub record SkipState : Type 0 where
   pub filter : Filter
   pub words : Stream
 
--- what they are where the next number is n: one above the last one that was given out, or 0
+-- both if the next number is n: one above the last one assigned, or 0
 abbrev pub skipping_at : Skips → Stream → ℕ → SkipState
 skipping_at skips words n =
     let count = skips_below skips words n in
@@ -38,23 +37,23 @@ skipping_at skips words n =
     } in
     record { filter = filter; words = next.1 }
 
--- the number that a filter gives out where the next one is n
+-- the number that a filter assigns if the next one is n
 abbrev pub number_by : Filter → ℕ → ℕ
 number_by filter n = if is_at n filter.skip then n + 1 else n
 
--- the skip n was passed: the one behind it is drawn
+-- n was skipped: the next skip is drawn
 abbrev pub skipped : ℕ → SkipState → SkipState
 skipped n old =
     let next = next_skip old.filter.exponent (Some n, old.words) in
     let filter : Filter = record { skip = next.0; last = Some n; exponent = old.filter.exponent + 1 } in
     record { filter = filter; words = next.1 }
 
--- a number was given out where the next one was n
+-- a number was assigned when the next one was n
 abbrev pub passed : ℕ → SkipState → SkipState
 passed n old = if is_at n old.filter.skip then skipped n old else old
 
--- what holds of every filter: the exponents below 6 and above 63 are never in use, and the next skip
--- lies below 2 to the exponent, and, where it is not the first, not below half of that
+-- invariants of every filter: the exponent is from 6 to 63. The next skip is below 2 to the exponent, and, if it is not
+-- the first, not below half of that
 pub record IsFilterSound (filter : Filter) : Type 0 where
   pub first : first_exponent ≤ filter.exponent
   pub last : filter.exponent ≤ 63
@@ -63,7 +62,7 @@ pub record IsFilterSound (filter : Filter) : Type 0 where
 
 -- ---- acknowledgements
 
--- whether a number is not above the end of a range; one that was gone through has lost its end
+-- whether a number is not above the end of a range; an exhausted range has lost its end
 abbrev pub is_to_end : RangeInclusive ℕ → ℕ → Bool
 is_to_end range n =
     let end = range_inclusive_end range in
@@ -77,7 +76,7 @@ pub record AcksSkippedNumber (space : SpaceId) (range : RangeInclusive ℕ) (las
   pub in_data : space ≡ Data
   pub holds : IsSomeAnd last (λ s. IsTrue (range_holds range s))
 
--- a violation of the protocol, with its text
+-- a protocol violation, with its text
 pub record IsUnsentAcked (error : TransportError) : Type 0 where
   pub code : error.code ≡ protocol_violation
   pub reason : error.reason.now ≡ codes "unsent packet acked"

@@ -1,5 +1,5 @@
--- Packet numbers that are skipped (RFC 9000, 21.4). Which numbers they are follows from how skips
--- begin and from the words of a generator, and from nothing else.
+-- Packet numbers that are skipped (RFC 9000, 21.4). They follow only from how skips begin and from the random words of
+-- a generator.
 use Rattle.std.specs.Prelude.{ℕ, zero, suc, ◌≡◌, ◌+◌, ◌-◌, ◌<◌, ◌^◌, ◌==◌, max, ⊤, Bool, true, false, if◌then◌else◌, Option, None, Some, List}
 use Rattle.std.specs.Option.{option_map_or}
 use Rattle.rand_core.specs.Stream.{Call, Stream, next_u64}
@@ -13,8 +13,7 @@ use Rattle.recovery_packet_numbers.specs.declared.filter.Skips.TheVariants.{Draw
 abbrev pub AreWords : Stream → Type 0
 AreWords words = (calls : List Call) → words.u64_after calls < u64_limit
 
--- a number from low up to below end, as `random_range` gives it on the words that come next, and the
--- words behind it
+-- a number from low up to below end, as `random_range` draws it from the stream, and the rest of the stream
 abbrev pub draw : ℕ → ℕ → Stream → ℕ × Stream
 draw low end words = draw_map (λ above. low + above) (canon u64_limit next_u64 (end - low)) words
 
@@ -28,23 +27,23 @@ first_exponent = 6
 abbrev pub first_skip_limit : ℕ
 first_skip_limit = 2 ^ first_exponent
 
--- `Starting(n)` is for n below 64
+-- `Starting(n)` requires n below 64
 abbrev pub IsSkips : Skips → Type 0
 IsSkips Drawn = ⊤
 IsSkips (Starting n) = n < first_skip_limit
 IsSkips Disabled = ⊤
 
--- a skip that is drawn so
+-- a skip drawn in this way
 abbrev pub drawn : ℕ → ℕ → Stream → Option ℕ × Stream
 drawn low end = draw_map Some (draw low end)
 
--- the first skip, if there is one, and the words behind it
+-- the first skip, if there is one, and the rest of the stream
 abbrev pub first_skip : Skips → Stream → Option ℕ × Stream
 first_skip Drawn words = drawn 0 first_skip_limit words
 first_skip (Starting n) words = (Some n, words)
 first_skip Disabled words = (None, words)
 
--- the skip behind the skip s lies above s + 1, which was sent; there is none behind none
+-- the skip after s is above s + 1, which was sent; without a skip there is no next one
 abbrev pub next_skip : ℕ → Option ℕ × Stream → Option ℕ × Stream
 next_skip exponent (None, words) = (None, words)
 next_skip exponent (Some s, words) = drawn (max (2 ^ exponent) (s + 2)) (2 ^ (exponent + 1)) words
@@ -59,7 +58,7 @@ skip_at skips words (suc k) = next_skip (first_exponent + k) (skip_at skips word
 abbrev pub is_at : ℕ → Option ℕ → Bool
 is_at n skip = option_map_or (λ s. n == s) skip false
 
--- so many skips lie below n
+-- the count of skips below n
 abbrev pub skips_below : Skips → Stream → ℕ → ℕ
 skips_below skips words zero = 0
 skips_below skips words (suc n) =
@@ -69,16 +68,16 @@ skips_below skips words (suc n) =
 abbrev pub is_skipped : Skips → Stream → ℕ → Bool
 is_skipped skips words n = is_at n (skip_at skips words (skips_below skips words n)).0
 
--- the least number from n on that is not skipped
+-- the smallest number from n on that is not skipped
 abbrev pub number_from : Skips → Stream → ℕ → ℕ
 number_from skips words n = if is_skipped skips words n then n + 1 else n
 
--- the greatest skip below n
+-- the largest skip below n
 abbrev pub skip_before : Skips → Stream → ℕ → Option ℕ
 skip_before skips words zero = None
 skip_before skips words (suc n) = if is_skipped skips words n then Some n else skip_before skips words n
 
--- it is the greatest skip below n, or there is none
+-- it is the largest skip below n, or there is none
 abbrev pub IsGreatestBelow : Skips → Stream → ℕ → Option ℕ → Type 0
 IsGreatestBelow skips words n None = (m : ℕ) → m < n → is_skipped skips words m ≡ false
 IsGreatestBelow skips words n (Some s) =

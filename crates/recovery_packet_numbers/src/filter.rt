@@ -1,4 +1,4 @@
-//! The filter of packet numbers: it knows the next one to skip and the last one that was skipped.
+//! The filter of packet numbers: the next one to skip, and the last one that was skipped.
 ghost use Rattle.std.specs.Prelude.{◌≡◌, ◌+◌, ◌<◌, ◌≤◌, ◌^◌, None, Some, MatchResult, IfNone, OnSome};
 ghost use Rattle.std.specs.Option.{SomeIff, ForSome};
 ghost use Rattle.rand_core.specs.Stream.{Stream};
@@ -12,10 +12,10 @@ use recovery_base::below::{SpaceId, TransportError};
 use std::marker::Model;
 use std::ops::RangeInclusive;
 
-/// The first skip lies below 2 to this power, and each further one below twice as much as the one before it.
+/// The first skip is below 2 to this power, and each further one below twice the bound of the one before it.
 const FIRST_EXPONENT: u32 = 6;
 
-/// Packet numbers lie below 2^62 (RFC 9000, 12.3).
+/// Packet numbers are below 2^62 (RFC 9000, 12.3).
 const NUMBER_BOUND: u64 = 1 << 62;
 
 /// How skips begin.
@@ -23,21 +23,21 @@ const NUMBER_BOUND: u64 = 1 << 62;
 pub enum Skips {
     /// The first skip is drawn from 0 to 63.
     Drawn,
-    /// The first skip is this number, which lies below 64.
+    /// The first skip is this number, which is below 64.
     Starting(u64),
     /// No number is skipped.
     Disabled,
 }
 
-/// Tells which packet numbers a sender skips (RFC 9000, 21.4), and whether a peer acknowledges one that was skipped.
+/// Decides which packet numbers a sender skips (RFC 9000, 21.4), and whether a peer acknowledges one that was skipped.
 ///
-/// Contracts see the next skip, the last one that was passed, and the exponent of 2 from which on the skip behind the
-/// next one is drawn.
+/// In contracts its value is the next skip, the last one, and the exponent of 2 from which the skip after the next one
+/// is drawn.
 #[derive(Clone, Copy)]
 pub struct PacketNumberFilter {
     next_skipped_packet_number: Option<u64>,
     prev_skipped_packet_number: Option<u64>,
-    /// The skip behind the next one is drawn from 2 to this power up to below twice as much.
+    /// The skip after the next one is drawn from 2 to this power up to below twice that.
     exponent: u32,
 }
 
@@ -55,7 +55,7 @@ impl Model for PacketNumberFilter {
     ghost inverse = { filter_back };
 }
 
-/// A number from `low` up to below `end`.
+/// Returns a number from `low` up to below `end`.
 fn draw_between<R: Rng>(rng: &mut R, low: u64, end: u64) -> u64
     requires { low < end }
     ensures low { low ≤ result }
@@ -66,7 +66,7 @@ fn draw_between<R: Rng>(rng: &mut R, low: u64, end: u64) -> u64
 }
 
 impl PacketNumberFilter {
-    /// The first skip is drawn from 0 to 63.
+    /// Returns a filter whose first skip is drawn from 0 to 63.
     pub fn new<R: Rng>(rng: &mut R) -> Self
         ensures { record { filter = result; words = R.stream rng.new }
             ≡ skipping_at Skips.Drawn (R.stream rng.old) 0 }
@@ -74,7 +74,7 @@ impl PacketNumberFilter {
         PacketNumberFilter::beginning(Some(draw_between(rng, 0, 1 << FIRST_EXPONENT)))
     }
 
-    /// The first skip is `next`, which lies below 64.
+    /// Returns a filter whose first skip is `next`, which is below 64.
     pub fn starting(next: u64) -> Self
         requires { next < first_skip_limit }
         ensures { (words : Stream) → record { filter = result; words = words }
@@ -83,7 +83,7 @@ impl PacketNumberFilter {
         PacketNumberFilter::beginning(Some(next))
     }
 
-    /// No number is skipped.
+    /// Returns a filter that skips no number.
     pub fn disabled() -> Self
         ensures { (words : Stream) → record { filter = result; words = words }
             ≡ skipping_at Skips.Disabled words 0 }
@@ -91,7 +91,7 @@ impl PacketNumberFilter {
         PacketNumberFilter::beginning(None)
     }
 
-    /// One of the three: a word is drawn where the skips are `Drawn`, and else none.
+    /// Returns the filter for these settings. A random word is drawn only for `Drawn`.
     pub fn with_skips<R: Rng>(skips: Skips, rng: &mut R) -> Self
         requires { IsSkips skips }
         ensures { record { filter = result; words = R.stream rng.new }
@@ -104,7 +104,7 @@ impl PacketNumberFilter {
         }
     }
 
-    /// No skip was passed yet.
+    /// Returns a filter before the first skip.
     fn beginning(skip: Option<u64>) -> Self
         requires { ForSome skip (λ s. s < first_skip_limit) }
         ensures { result ≡ record { skip = skip; last = None; exponent = first_exponent } }
@@ -116,8 +116,8 @@ impl PacketNumberFilter {
         }
     }
 
-    /// The number that comes next, where `next` is one above the last one given out, or 0 before the first: `next`, or
-    /// one more where `next` is the next skip. Where numbers have run out it is 2^62 or more.
+    /// Returns the number that is assigned next. `next` is one above the last one assigned, or 0 before the first. The
+    /// result is `next`, or one more if `next` is to be skipped. If numbers have run out it is 2^62 or more.
     pub fn peek(&self, next: u64) -> u64
         ensures number { result ≡ number_by self.now next }
         ensures sound { IsFilterSound self.now }
@@ -128,14 +128,14 @@ impl PacketNumberFilter {
         }
     }
 
-    /// The number that was skipped last, if any.
+    /// Returns the number that was skipped last, if any.
     pub fn skipped(&self) -> Option<u64>
         ensures { result ≡ self.now.last }
     {
         self.prev_skipped_packet_number
     }
 
-    /// The skip is passed, and the one behind it drawn.
+    /// Records that the number was skipped, and draws the next skip.
     #[tactic(auto, using(crate::proofs::DrawRangeLaws::powers))]
     fn pass<R: Rng>(&mut self, rng: &mut R, skip: u64)
         requires first { first_exponent ≤ self.old.exponent }
@@ -154,11 +154,12 @@ impl PacketNumberFilter {
         };
     }
 
-    /// Gives out the number that `peek` tells, where `next` is one above the last one, or 0 before the first. Where a
-    /// skip was passed, the skip behind it is drawn from `max(2^e, number + 1)..2^(e + 1)`, `e` being 6 and one more
-    /// each time, so that the number just given out is never skipped.
+    /// Assigns the number that `peek` returns. `next` is one above the last one assigned, or 0 before the first. If a
+    /// number was skipped, the next skip is drawn from `max(2^e, number + 1)..2^(e + 1)`. The exponent `e` is 6 at
+    /// first and increases by one each time. So the number just assigned is never skipped.
     ///
-    /// `None` where `peek` tells 2^62 or more (RFC 9000, 12.3): nothing has changed then, and no word is drawn.
+    /// Returns `None` and changes nothing if `peek` returns 2^62 or more (RFC 9000, 12.3); no random word is drawn
+    /// then.
     pub fn allocate<R: Rng>(&mut self, rng: &mut R, next: u64) -> Option<u64>
         ensures answer { SomeIff result (number_by self.old next < number_limit)
             (number_by self.old next) }
@@ -178,8 +179,8 @@ impl PacketNumberFilter {
         Some(number)
     }
 
-    /// Refuses an acknowledgement of the last number that was skipped: `PROTOCOL_VIOLATION` where the space is Data and
-    /// the range holds that number (RFC 9000, 13.1 and 21.4). Numbers skipped before it are not remembered.
+    /// Rejects an acknowledgement of the last number that was skipped: `PROTOCOL_VIOLATION` if the space is Application
+    /// Data and the range has that number (RFC 9000, 13.1 and 21.4). Numbers skipped before it are not remembered.
     pub fn check_ack(
         &self,
         space: SpaceId,

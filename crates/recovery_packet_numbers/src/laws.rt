@@ -5,7 +5,7 @@ ghost use Rattle.recovery_packet_numbers.specs.Skips.{IsSkips, AreWords, skip_at
 ghost use Rattle.recovery_packet_numbers.specs.Filters.{skipping_at, passed};
 ghost use Rattle.recovery_packet_numbers.specs.declared.filter.Skips.{Skips};
 
-/// Once a number was given out, the filter and its words are those of the next number.
+/// Proves that after a number was assigned, the filter and its random words are those of the next number.
 #[tactic(auto, using(crate::proofs::SkipLaws::passed_step))]
 pub fn filters_follow_numbers()
     ensures { (skips : Skips) (words : Stream) (n : ℕ) →
@@ -13,7 +13,7 @@ pub fn filters_follow_numbers()
         ≡ skipping_at skips words (number_from skips words n + 1) }
 {}
 
-/// No number that is given out is a skip, and each is above those before it.
+/// Proves that no number that is assigned is a skip, and each is above those before it.
 #[tactic(auto, using(crate::proofs::SkipLaws::number_not_skipped, crate::proofs::SkipLaws::number_from_above))]
 pub fn numbers_are_not_skipped()
     ensures not_skipped { (skips : Skips) (words : Stream) (n : ℕ) →
@@ -22,7 +22,7 @@ pub fn numbers_are_not_skipped()
         n ≤ number_from skips words n }
 {}
 
-/// Skips ascend by two at least.
+/// Proves that consecutive skips are two or more apart.
 #[tactic(auto, using(crate::proofs::SkipLaws::skips_ascend))]
 pub fn skips_ascend()
     ensures { (skips : Skips) (words : Stream) (k s t : ℕ) →
@@ -30,8 +30,8 @@ pub fn skips_ascend()
         (skip_at skips words (suc k)).0 ≡ Some t → s + 2 ≤ t }
 {}
 
-/// The first skip lies below 64, and the one behind so many others as k from `2^(5 + k)` up to below `2^(6 + k)`. A
-/// filter comes to 58 skips at most.
+/// Proves that the first skip is below 64, and the one after k others is from `2^(5 + k)` up to below `2^(6 + k)`. A
+/// filter has at most 58 skips.
 #[tactic(auto, using(crate::proofs::DrawLaws::skip_below_power, crate::proofs::SkipLaws::skip_from_power))]
 pub fn skips_lie_between_powers()
     ensures below { (skips : Skips) (words : Stream) → IsSkips skips → AreWords words →
@@ -41,7 +41,8 @@ pub fn skips_lie_between_powers()
         (skip_at skips words (suc k)).0 ≡ Some s → 2 ^ (first_exponent + k) ≤ s }
 {}
 
-/// A number is skipped just where it stands in the sequence of skips, and those below a number are counted.
+/// Proves that a number is skipped exactly if it is in the sequence of skips, and that those below a number are
+/// counted.
 #[tactic(auto, using(crate::proofs::SkipCountLaws::skipped_in_sequence, crate::proofs::SkipCountLaws::below_counts))]
 pub fn sequence_is_skipped()
     ensures skipped { (skips : Skips) (words : Stream) (n : ℕ) →
@@ -52,7 +53,7 @@ pub fn sequence_is_skipped()
         (s < n) ↔ (k < skips_below skips words n) }
 {}
 
-/// What a filter remembers is the greatest skip below the next number.
+/// Proves that a filter remembers the largest skip below the next number.
 #[tactic(auto, using(crate::proofs::SkipCountLaws::skip_before_greatest))]
 pub fn greatest_skip_is_remembered()
     ensures { (skips : Skips) (words : Stream) (n : ℕ) →

@@ -1,4 +1,4 @@
-//! Packet numbers that a sender skips, so that an optimistic ACK is found out (RFC 9000, 21.4). Begin at `filter.rt`.
+//! Packet numbers that a sender skips, to detect an optimistic ACK attack (RFC 9000, 21.4). Begin at `filter.rt`.
 #![tactic(auto)]
 
 mod filter;

@@ -1,4 +1,4 @@
--- A window that congestion events halve, to two MTUs at least, and that nothing else changes (RFC 9002, 7.2 and 7.3.2).
+-- A window that congestion events halve, down to two MTUs, and that nothing else changes (RFC 9002, 7.2 and 7.3.2).
 -- Persistent congestion leaves two MTUs (RFC 9002, 7.6.2). There are no recoveries.
 use Rattle.std.specs.Prelude.{ℕ, ◌*◌, ◌/◌, ◌<◌, max, None, Bool, true, false, if◌then◌else◌}
 use Rattle.std.proofs.Common.{arith, refl, zero-le}

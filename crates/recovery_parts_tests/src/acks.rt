@@ -1,4 +1,4 @@
-//! Acknowledgements. Rows are what happens, and what is seen after it.
+//! ACKs. Rows are events, and what is read after each.
 ghost use Rattle.std.specs.Prelude.{◌≡◌, ◌<◌, ◌≤◌, None, unwrap_or};
 ghost use Rattle.recovery_base.specs.Units.{number_limit};
 
@@ -10,7 +10,7 @@ use recovery_base::dedup::Dedup;
 use recovery_base::time::{Duration, Instant};
 use std::process::Abort;
 
-/// An ACK_FREQUENCY frame with thresholds 3 and 2.
+/// Returns an ACK_FREQUENCY frame with thresholds 3 and 2.
 fn frame(sequence: u32, micros: u32) -> AckFrequency {
     AckFrequency {
         sequence: VarInt::from_u32(sequence),
@@ -20,12 +20,12 @@ fn frame(sequence: u32, micros: u32) -> AckFrequency {
     }
 }
 
-/// What happens to the ACKs of a space.
+/// An event of the ACKs of a space.
 #[derive(Clone, Copy)]
 enum Call {
-    /// An ack-eliciting packet comes.
+    /// An ack-eliciting packet is received.
     Eliciting,
-    /// Another packet comes.
+    /// Another packet is received.
     Silent,
     /// The peer asks for thresholds 3 and 2.
     Asked,
@@ -39,7 +39,7 @@ enum Call {
     AtOnce,
 }
 
-/// A packet of a new number, at least as great as those before, comes at the moment of its number.
+/// Receives a packet with a new number, not below those before, at the time of its number.
 fn receive(
     acks: &mut PendingAcks,
     dedup: &mut Dedup,
@@ -58,7 +58,7 @@ fn receive(
     Some(acks.packet_received(now, number, ack_eliciting, dedup))
 }
 
-/// What happens, to the packet of a number where it is one that comes: whether it starts the timer.
+/// Applies an event; a received packet has this number. Returns whether it starts the timer.
 fn apply(acks: &mut PendingAcks, dedup: &mut Dedup, call: Call, number: u64) -> Option<bool>
     requires small { number < number_limit }
     requires above { unwrap_or acks.old.counts.greatest 0 ≤ number }
@@ -76,11 +76,11 @@ fn apply(acks: &mut PendingAcks, dedup: &mut Dedup, call: Call, number: u64) -> 
     Some(false)
 }
 
-/// A call and its packet's number; then whether the timer starts and an ACK may be sent, and where a delay of 1 us
-/// would end.
+/// An event and its packet's number; then whether the timer starts, whether an ACK may be sent, and when a delay of 1
+/// us would end.
 type Row = (Call, u64, bool, bool, Option<u64>);
 
-/// Asserts that in each row all is seen as it says. Numbers rise.
+/// Asserts that each row has the expected values. Numbers increase.
 fn play(rt: &impl Abort, acks: &mut PendingAcks, rows: &[Row])
     requires { acks.old.counts.greatest ≡ None }
 {
@@ -147,7 +147,7 @@ fn arms_the_timer_unless_out_of_order(rt: HostRuntime) {
     }
 }
 
-/// The numbers 0, 2, .. 128.
+/// Inserts the numbers 0, 2, .. 128.
 fn insert_even(acks: &mut PendingAcks) -> Result<(), NoMemory> {
     for half in 0..65 {
         acks.insert_one(2 * half, Instant::from_nanos(0))?;

@@ -1,4 +1,4 @@
-//! Moments, timers, sets of numbers, items of the wire and settings. Rows are pairs: what is found, and what is wanted.
+//! Times, timers, sets of numbers, wire items and settings. Rows are pairs: the value found, and the expected one.
 use crate::rows::{holds, same};
 use recovery_base::below::{ArrayRangeSet, TransportError, VarInt, VarIntBoundsExceeded};
 use recovery_base::config::AckFrequencyConfig;
@@ -147,7 +147,7 @@ fn sets_each_field(rt: HostRuntime) {
     );
 }
 
-/// Asserts that each number is new to the set, and puts it in.
+/// Asserts that each number is new to the set, and inserts it.
 fn insert(rt: &impl Abort, set: &mut ArrayRangeSet, numbers: &[u32]) {
     for number in numbers {
         let is_new = set.insert_one(u64::from(*number));
@@ -155,7 +155,7 @@ fn insert(rt: &impl Abort, set: &mut ArrayRangeSet, numbers: &[u32]) {
     }
 }
 
-/// Asserts what the ranges are.
+/// Asserts the ranges.
 fn ranges_are(rt: &impl Abort, set: &ArrayRangeSet, wanted: &[(u64, u64)]) {
     let mut row = 0u64;
     holds(rt, set.len() == wanted.len(), row);
@@ -165,7 +165,7 @@ fn ranges_are(rt: &impl Abort, set: &ArrayRangeSet, wanted: &[(u64, u64)]) {
     }
 }
 
-/// Asserts whether a number of the range leaves.
+/// Asserts whether a number of the range is removed.
 fn removes(rt: &impl Abort, set: &mut ArrayRangeSet, range: Range<u64>, some: bool) {
     holds(rt, set.remove(range) == Ok(some), 0);
 }

@@ -14,7 +14,7 @@ fn settings() -> TransportConfig<NewRenoConfig> {
     TransportConfig::default()
 }
 
-/// The defaults of streams and of what they may send, setting by setting.
+/// The defaults of streams and of their limits, setting by setting.
 #[test]
 fn defaults_of_streams(rt: HostRuntime) {
     let config = settings();
@@ -35,7 +35,7 @@ fn defaults_of_streams(rt: HostRuntime) {
     all_hold(&rt, &are_right);
 }
 
-/// Those of loss recovery and paths.
+/// The defaults of loss recovery and paths.
 #[test]
 fn defaults_of_loss_recovery(rt: HostRuntime) {
     let config = settings();
@@ -126,7 +126,7 @@ fn setters_of_loss_recovery(rt: HostRuntime) {
     all_hold(&rt, &are_right);
 }
 
-/// Whether the RTT at first is so long, and the MTUs are these: the one that a path begins with, and the least.
+/// Returns whether the initial RTT and both MTUs are these: the initial one of a path, and the minimum.
 fn has<F>(config: &TransportConfig<F>, millis: u64, mtus: (u16, u16)) -> bool {
     config.initial_rtt == Duration::from_millis(millis)
         && (config.get_initial_mtu(), config.get_min_mtu()) == mtus
@@ -159,7 +159,7 @@ fn first_mtu_is_the_greater_of_two(rt: HostRuntime) {
     assert!(rt; config.get_initial_mtu() == 1400);
 }
 
-/// The idle timeout of a span of this many nanoseconds.
+/// Returns the idle timeout of a span of this many nanoseconds.
 fn idle_of(nanos: u128) -> Result<IdleTimeout, VarIntBoundsExceeded> {
     match Duration::checked_from_nanos(nanos) {
         Some(span) => IdleTimeout::try_from(span),
@@ -167,7 +167,7 @@ fn idle_of(nanos: u128) -> Result<IdleTimeout, VarIntBoundsExceeded> {
     }
 }
 
-/// Asserts in each row which milliseconds a span of nanoseconds gives, or none where it is refused.
+/// Asserts for each row how many milliseconds a span of nanoseconds gives, or that it is rejected.
 fn idle_rows(rt: &impl Abort, rows: &[(u128, Option<VarInt>)]) {
     let mut row = 0u64;
     for (nanos, millis) in rows {

@@ -1,16 +1,16 @@
-//! Frames for a number of the peer's ids that is held, with ids and tokens that lines cannot spell.
+//! Frames for a number of the peer's IDs that is held, with IDs and tokens that script lines cannot encode.
 use crate::rows::holds;
 use recovery_base::below::{ConnectionId, NewConnectionId, ResetToken};
 use recovery_ids::{CidQueue, InsertError};
 use std::process::Abort;
 
-/// An id: how many bytes it has, and which all of them are.
+/// An ID: its length, and the value of all its bytes.
 type Id = (usize, u8);
 
-/// A token: which byte all of its bytes are, but for the one at this place, which is another one.
+/// A token: the value of all its bytes except the one at this position, which has another value.
 type Token = (u8, usize);
 
-/// No byte of a token stands there.
+/// A position without a byte of a token.
 const NOWHERE: usize = 16;
 
 fn id_of(id: Id) -> ConnectionId {
@@ -27,7 +27,7 @@ fn token_of(token: Token) -> ResetToken {
     ResetToken::from(bytes)
 }
 
-/// What happens: a frame comes for the number 0 or 1, and is taken or conflicts; or the initial id is replaced.
+/// A frame is received for number 0 or 1, and is accepted or conflicts; or the initial ID is replaced.
 #[derive(Clone, Copy)]
 enum Call {
     Taken(u64, Id, Token),
@@ -35,7 +35,7 @@ enum Call {
     Replaced(Id),
 }
 
-/// Whether the queue takes a frame, or says that it conflicts.
+/// Returns whether the queue accepts a frame, or rejects it as a conflict.
 fn is_told(
     queue: &mut CidQueue,
     sequence: u64,
@@ -59,7 +59,7 @@ fn is_told(
     }
 }
 
-/// Whether a call is told what its row says.
+/// Returns whether a call has the expected result.
 fn is_right(queue: &mut CidQueue, call: Call) -> bool {
     match call {
         Call::Taken(sequence, id, token) => is_told(queue, sequence, id, token, false),
@@ -74,7 +74,7 @@ fn is_right(queue: &mut CidQueue, call: Call) -> bool {
     }
 }
 
-/// Asserts that each call is told what its row says, where the initial id has eight bytes 255.
+/// Asserts that each call has the expected result; the initial ID has eight bytes 255.
 fn play(rt: &impl Abort, calls: &[Call]) {
     let mut queue = CidQueue::new(id_of((8, 255)));
     let mut row = 0u64;
@@ -91,7 +91,7 @@ fn ids_that_differ_in_length_conflict(rt: HostRuntime) {
         Call::Conflicts(0, (9, 255), (1, NOWHERE)),
         Call::Conflicts(0, (0, 255), (1, NOWHERE)),
         Call::Taken(0, (8, 255), (1, NOWHERE)),
-        // Bytes 0 are not what stands behind an id.
+        // Bytes 0 are not those after the end of an ID.
         Call::Taken(1, (4, 0), (1, NOWHERE)),
         Call::Conflicts(1, (5, 0), (1, NOWHERE)),
         Call::Conflicts(1, (20, 0), (1, NOWHERE)),
@@ -131,7 +131,7 @@ fn the_initial_id_gets_its_token_from_a_frame(rt: HostRuntime) {
     play(&rt, &ROWS);
 }
 
-/// A token gives back the bytes that it was made of.
+/// A token returns the bytes of which it was made.
 #[test]
 fn a_token_gives_its_bytes_back(rt: HostRuntime) {
     let bytes = [0, 1, 2, 3, 4, 5, 6, 7, 8, 9, 10, 11, 12, 13, 254, 255];

@@ -1,4 +1,4 @@
-//! Congestion controllers, whatever they are. Rows are calls, and the window after each.
+//! Congestion controllers of any kind. Rows are calls, and the window after each.
 ghost use Rattle.std.specs.Prelude.{◌<◌};
 
 use crate::halving::HalvingConfig;
@@ -11,18 +11,18 @@ use recovery_congestion::congestion::{
 use recovery_congestion::rtt::RttEstimator;
 use std::process::Abort;
 
-/// What a controller is told.
+/// A call of a controller.
 #[derive(Clone, Copy)]
 enum Call {
-    /// 1200 bytes went out.
+    /// 1200 bytes were sent.
     Sent,
-    /// So many bytes were acknowledged, sent at this moment.
+    /// This many bytes were acknowledged, sent at this time.
     Acked(u64, u64),
-    /// The same, while the application limited.
+    /// The same, application-limited.
     AckedLimited(u64, u64),
-    /// An ACK was told whole.
+    /// All packets of an ACK were reported.
     EndAcks,
-    /// Packets sent at the second moment were lost at the first.
+    /// Packets sent at the second time were lost at the first.
     Lost(u64, u64),
     /// The same, and the congestion is persistent.
     LostForLong(u64, u64),
@@ -34,7 +34,7 @@ fn at(nanos: u64) -> Instant {
     Instant::from_nanos(nanos)
 }
 
-/// Tells a controller.
+/// Makes a call of a controller.
 fn tell<C: Controller>(controller: &mut C, call: Call) {
     let rtt = RttEstimator::new(Duration::from_millis(333));
     match call {
@@ -50,7 +50,7 @@ fn tell<C: Controller>(controller: &mut C, call: Call) {
     }
 }
 
-/// Whether a clone has the window of the controller that it is of.
+/// Returns whether a clone has the window of its original.
 fn is_cloned<C: Controller + Drop>(controller: &C) -> bool {
     match controller.try_clone() {
         Ok(clone) => {
@@ -62,7 +62,7 @@ fn is_cloned<C: Controller + Drop>(controller: &C) -> bool {
 }
 
 /// Asserts that the window of a controller that is made at 0 with an MTU of 1200 is the initial one, and after each row
-/// as it says, where rows count from 1; that of a clone is the same in the end.
+/// as expected; rows count from 1. At the end that of a clone is the same.
 fn play<F: ControllerFactory>(rt: &impl Abort, factory: F, initial: u64, rows: &[(Call, u64)])
 where
     F: Drop,
@@ -79,7 +79,7 @@ where
     holds(rt, is_cloned(&controller), row);
 }
 
-/// The window after a loss, which no controller lets fall to zero.
+/// Returns the window after a loss, which no controller reduces to zero.
 fn lose<C: Controller>(controller: &mut C) -> u64
     requires { C.is_sound (C.content controller.old) }
     ensures above { 0 < result }
@@ -89,7 +89,7 @@ fn lose<C: Controller>(controller: &mut C) -> u64
     controller.window()
 }
 
-/// The window of a fresh controller after two losses.
+/// Returns the window of a fresh controller after two losses.
 fn lose_twice<F: ControllerFactory>(factory: &F) -> u64
 where
     ensures { 0 < result }
@@ -99,7 +99,7 @@ where
     lose(&mut controller)
 }
 
-/// A NewReno of this window at first, which a loss multiplies by a fraction.
+/// Returns a NewReno with this initial window and loss reduction factor.
 fn reno(initial: u64, numerator: u64, denominator: u64) -> NewRenoConfig
     requires window { 0 < initial }
     requires fraction { 0 < denominator }
@@ -149,7 +149,7 @@ fn reno_takes_one_window_off_the_count(rt: HostRuntime) {
         (Call::Acked(0, 2), 7200),
         (Call::Acked(0, 3), 8400),
         (Call::Acked(0, 3), 8400),
-        // 6800 bytes are still counted.
+        // 6800 bytes still count.
         (Call::Lost(4, 3), 4200),
         (Call::Acked(0, 5), 5400),
     ];

@@ -9,23 +9,22 @@ use recovery_congestion::rtt::RttEstimator;
 use recovery_cubic::{Cubic, CubicConfig};
 use std::process::Abort;
 
-/// What a controller is told. What was sent at the same moment as it was told counts, what was sent at 0 does not once
-/// there was a loss.
+/// A call of a controller. Packets sent at the time of the call count; packets sent at 0 do not once there was a loss.
 #[derive(Clone, Copy)]
 enum Call {
-    /// So many bytes were sent.
+    /// This many bytes were sent.
     Sent(u64, u64),
-    /// An ACK left so many bytes in flight.
+    /// An ACK left this many bytes in flight.
     EndAcks(u64, u64),
-    /// So many bytes were acknowledged.
+    /// This many bytes were acknowledged.
     Acked(u64, u64),
-    /// The same, while the application limited.
+    /// The same, application-limited.
     AckedLimited(u64, u64),
-    /// The same of what was sent at 0.
+    /// The same for packets sent at 0.
     AckedOld(u64, u64),
     /// Packets were lost.
     Lost(u64),
-    /// The same of what was sent at 0.
+    /// The same for packets sent at 0.
     LostOld(u64),
     /// The same, and the congestion is persistent.
     LostForLong(u64),
@@ -37,7 +36,7 @@ fn at(millis: u64) -> Instant {
     Instant::from_nanos(millis.saturating_mul(1_000_000))
 }
 
-/// Tells a controller.
+/// Makes a call of a controller.
 fn tell(cubic: &mut Cubic, call: Call) {
     let rtt = RttEstimator::new(Duration::from_millis(333));
     match call {
@@ -53,7 +52,7 @@ fn tell(cubic: &mut Cubic, call: Call) {
     }
 }
 
-/// Asserts the windows of one that is made at 0 with an MTU of 1200, where rows count from 1.
+/// Asserts the windows of a controller that is made at 0 with an MTU of 1200; rows count from 1.
 fn play(rt: &impl Abort, initial: u64, rows: &[(Call, u64)])
     requires { 0 < initial }
 {
@@ -75,7 +74,7 @@ fn play(rt: &impl Abort, initial: u64, rows: &[(Call, u64)])
     holds(rt, is_cloned, row);
 }
 
-/// W_max is 100 datagrams, 30 of them to go: K is the cube root of 75, which is 4.217163 seconds.
+/// W_max is 100 datagrams, of which 30 are missing: K is the cube root of 75, which is 4.217163 seconds.
 #[test]
 fn cubic_goes_by_the_curve(rt: HostRuntime) {
     static ROWS: [(Call, u64); 13] = [
@@ -155,7 +154,7 @@ fn cubic_is_not_below_reno(rt: HostRuntime) {
     play(&rt, 12_000, &ROWS);
 }
 
-/// W_max is 17/20 of 104,017 behind the second loss, and K 3.191456 seconds.
+/// W_max is 17/20 of 104,017 after the second loss, and K 3.191456 seconds.
 #[test]
 fn cubic_converges(rt: HostRuntime) {
     static ROWS: [(Call, u64); 5] = [

@@ -1,4 +1,4 @@
-//! Counts of ECN. A row is how many packets an ACK frame newly acknowledges, its counts, and what is answered.
+//! ECN counts. A row is how many packets an ACK frame newly acknowledges, its counts, and the answer.
 use crate::rows::holds;
 use recovery_base::below::EcnCounts;
 use std::process::Abort;
@@ -7,7 +7,7 @@ use std::process::Abort;
 enum Answer {
     /// Nothing was marked.
     Clear,
-    /// CE rose.
+    /// CE increased.
     Marked,
     Fails(&'static str),
 }
@@ -43,7 +43,7 @@ fn is_wanted(found: Result<bool, &'static str>, wanted: Answer) -> bool {
     }
 }
 
-/// Asserts that each row answers what it says, and that a refusal leaves the counts as they were.
+/// Asserts that each row has the expected answer, and that an error leaves the counts unchanged.
 fn play(rt: &impl Abort, mut last: EcnCounts, rows: &[Row]) {
     let mut place = 0u64;
     for (newly_acked, new, wanted) in rows {

@@ -1,4 +1,4 @@
-//! A congestion controller that is not NewReno: what is generic in the controller is seen at work on it.
+//! A congestion controller that is not NewReno: tests of code that is generic in the controller use it.
 
 ghost use Rattle.std.specs.Prelude.{◌≡◌, ◌<◌, Ok, refl};
 ghost use Rattle.std.proofs.Common.{zero-le};
@@ -9,7 +9,7 @@ use recovery_base::time::Instant;
 use recovery_congestion::congestion::{Controller, ControllerFactory, ControllerMetrics};
 use recovery_congestion::rtt::RttEstimator;
 
-/// The window of a [`Halving`] at first.
+/// The initial window of a [`Halving`].
 #[derive(Clone, Copy)]
 pub struct HalvingConfig {
     initial_window: u64,
@@ -17,7 +17,7 @@ pub struct HalvingConfig {
 }
 
 impl HalvingConfig {
-    /// A window at first, in bytes, above zero.
+    /// Returns an initial window, in bytes, above zero.
     pub fn new(initial_window: u64) -> Self
         requires { 0 < initial_window }
         ensures { result.initial_window ≡ initial_window }
@@ -44,8 +44,8 @@ impl ControllerFactory for HalvingConfig {
     ghost starts_by_now = { λ factory now mtu. zero-le };
 }
 
-/// A window that each congestion event halves, to two MTUs at least, and that nothing else changes. Persistent
-/// congestion leaves two MTUs.
+/// A window that each congestion event halves, down to two MTUs, and that nothing else changes. Persistent congestion
+/// leaves two MTUs.
 #[derive(Drop)]
 pub struct Halving {
     initial: u64,

@@ -1,4 +1,4 @@
-//! Connection ids. Rows are calls, and what is seen after each.
+//! Connection IDs. Rows are calls, and what is read after each.
 ghost use Rattle.std.specs.Prelude.{◌≡◌};
 
 use crate::rows::holds;
@@ -10,19 +10,19 @@ use recovery_ids::{CidQueue, CidState, InsertError, RetireError};
 use std::alloc::Global;
 use std::process::Abort;
 
-/// An id of eight bytes, all the same.
+/// Returns an ID of eight equal bytes.
 fn cid(byte: u8) -> ConnectionId {
     ConnectionId::new(&[byte; 8])
 }
 
-/// A token whose bytes are not those of the id.
+/// Returns a token whose bytes are not those of the ID.
 fn token(byte: u8) -> ResetToken {
     ResetToken::from([255 - byte; 16])
 }
 
-// ---- the ids of the peer
+// ---- the peer's IDs
 
-/// A frame of this number, retire-prior-to and byte, and the other calls.
+/// A frame with this number, retire-prior-to and byte, and the other calls.
 #[derive(Clone, Copy)]
 enum Call {
     Insert(u64, u64, u8),
@@ -30,7 +30,7 @@ enum Call {
     Replace(u8),
 }
 
-/// What the queue answers: the numbers to be retired, and the byte of the new active id.
+/// An answer of the queue: the numbers to retire, and the byte of the new active ID.
 #[derive(Clone, Copy, PartialEq)]
 enum Answer {
     Stays,
@@ -40,7 +40,7 @@ enum Answer {
     Conflict,
 }
 
-/// A range that is to be retired, with the token of this byte.
+/// Returns a range to retire, with the token of this byte.
 fn retires(start: u64, end: u64, given: &ResetToken, byte: u8) -> Option<Answer> {
     if *given == token(byte) {
         Some(Answer::Retires(start, end, byte))
@@ -74,7 +74,7 @@ fn insert(
     }
 }
 
-/// What a call is told; the byte is that of the id which is active then.
+/// Returns the answer to a call; the byte is that of the ID which is then active.
 fn apply(queue: &mut CidQueue, call: Call, active: u8) -> Option<Answer> {
     match call {
         Call::Insert(sequence, retire_prior_to, byte) => {
@@ -94,10 +94,10 @@ fn apply(queue: &mut CidQueue, call: Call, active: u8) -> Option<Answer> {
     }
 }
 
-/// A call; what it is told, and then the number and the byte of the active id.
+/// A call, its answer, and then the number and the byte of the active ID.
 type Row = (Call, Answer, u64, u8);
 
-/// Asserts that in each row the queue answers and stands as it says.
+/// Asserts that each row has the expected answer and leaves the expected state.
 fn play(rt: &impl Abort, queue: &mut CidQueue, rows: &[Row]) {
     let mut place = 0u64;
     for (call, wanted, number, byte) in rows {
@@ -194,11 +194,11 @@ fn the_ids_held_come_in_order(rt: HostRuntime) {
     }
 }
 
-// ---- the ids that this end issued
+// ---- the local IDs
 
 const LIFETIME: u64 = 10_000_000_000;
 
-/// The calls: one id more or two at a moment, a deadline passes, a number is retired under a limit.
+/// The calls: one or two more IDs at a time, a deadline passes, a number is retired under a limit.
 #[derive(Clone, Copy)]
 enum LocalCall {
     IssueOne(u64),
@@ -254,10 +254,10 @@ fn apply_local(state: &mut CidState, call: LocalCall) -> LocalAnswer {
     }
 }
 
-/// A call; what it is told, and then the retire-prior-to and the oldest deadline.
+/// A call, its answer, and then the retire-prior-to and the oldest deadline.
 type LocalRow = (LocalCall, LocalAnswer, u64, Option<u64>);
 
-/// Asserts that in each row the ids answer and stand as it says.
+/// Asserts that each row has the expected answer and leaves the expected state.
 fn play_local(rt: &impl Abort, state: &mut CidState, rows: &[LocalRow]) {
     let mut place = 0u64;
     for (call, wanted, mark, timeout) in rows {
@@ -269,7 +269,7 @@ fn play_local(rt: &impl Abort, state: &mut CidState, rows: &[LocalRow]) {
     }
 }
 
-/// Plays rows on ids that were just made; how many are issued at the end.
+/// Plays rows on IDs that were just made. Returns how many are issued at the end.
 fn play_from(rt: &impl Abort, made: Result<CidState, NoMemory>, rows: &[LocalRow]) -> u64 {
     let Ok(mut state) = made else {
         panic!(rt; "NoMemory")
@@ -356,7 +356,7 @@ fn too_many_ids_are_answered_at_once(rt: HostRuntime) {
     holds(&rt, made.is_err(), 0);
 }
 
-/// Whether a refusal closes the connection, with its text as the reason.
+/// Returns whether an error closes the connection, with its text as the reason.
 fn is_closing(alloc: Global, error: RetireError) -> bool {
     let closed = TransportError::from(error);
     match format!(in alloc; "{error}") {

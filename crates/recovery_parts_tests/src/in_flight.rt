@@ -1,4 +1,4 @@
-//! What a packet adds to what is in flight on its path, and what is left when it is counted no more.
+//! What a packet adds to what is in flight on its path, and what is left without it.
 use crate::rows::holds;
 use crate::slots::packet;
 use recovery_spaces::paths::InFlight;

@@ -1,11 +1,11 @@
-//! Queues of item numbers. A row is two queues, and what the first one holds when the second was joined to it.
+//! Queues of item numbers. A row is two queues, and the first one after the second was joined to it.
 use crate::rows::holds;
 use recovery_queue::items::ItemQueue;
 use recovery_queue::queue::RetransmitQueue;
 use std::alloc::{AllocError, Global};
 use std::process::Abort;
 
-/// A queue of these items, which has no vector where there is no list.
+/// Returns a queue of these items, without a vector if there is no list.
 fn queue(alloc: Global, items: Option<&[u64]>) -> Result<ItemQueue, AllocError> {
     match items {
         None => Ok(ItemQueue::empty(alloc)),
@@ -17,7 +17,7 @@ fn queue(alloc: Global, items: Option<&[u64]>) -> Result<ItemQueue, AllocError> 
     }
 }
 
-/// Joins one queue to another by the trait's call alone.
+/// Joins one queue to another by the trait's call only.
 fn joined<Q: RetransmitQueue>(rt: &impl Abort, mut queue: Q, other: Q) -> Q {
     assert!(rt; queue.append(other).is_ok(), "NoMemory");
     queue
@@ -25,7 +25,7 @@ fn joined<Q: RetransmitQueue>(rt: &impl Abort, mut queue: Q, other: Q) -> Q {
 
 type Row<'a> = (Option<&'a [u64]>, Option<&'a [u64]>, &'a [u64]);
 
-/// Whether the first queue of a row holds what it says when the second was joined to it.
+/// Returns whether the first queue of a row has the expected items after the second was joined to it.
 fn is_right(rt: &impl Abort, alloc: Global, row: &Row<'_>) -> Result<bool, AllocError> {
     let (items, others, wanted) = *row;
     let found = joined(rt, queue(alloc, items)?, queue(alloc, others)?);

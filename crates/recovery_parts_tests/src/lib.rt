@@ -1,7 +1,7 @@
-//! Tests of the parts, over their public calls: of ids, ACKs, skipped numbers and what is below them; of what controls
-//! the sending, from RTT to settings; of tracked packets in their slots and in flight, a queue of item numbers, and
-//! responses to path challenges; and of the spans of losses and probes. They stand here so that no part is proved a
-//! second time for its tests. Beside them stands a congestion controller that is not NewReno (`halving.rt`).
+//! Tests of the parts, over their public calls. They cover IDs, ACKs, skipped numbers and what is below them. They
+//! cover what controls the sending, from RTT to settings. They also cover tracked packets, a queue of item numbers,
+//! responses to path challenges, and the spans of losses and probes. They are in a crate of their own so that no part
+//! is proved a second time for its tests. It also has a congestion controller that is not NewReno (`halving.rt`).
 #![tactic(auto)]
 
 #[cfg(test)]

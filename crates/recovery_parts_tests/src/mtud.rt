@@ -1,4 +1,4 @@
-//! MTU discovery. Rows are what a discovery is told, what it answers, and the MTU that is then in use.
+//! MTU discovery. Rows are calls, their answers, and the MTU in use after each.
 use crate::rows::holds;
 use recovery_base::below::SpaceId;
 use recovery_base::time::{Duration, Instant};
@@ -8,20 +8,20 @@ use std::process::Abort;
 
 const SECOND: u64 = 1_000_000_000;
 
-/// What a discovery is told, with numbers of Data.
+/// A call of a discovery, with numbers of 1-RTT packets.
 #[derive(Clone, Copy)]
 enum Call {
-    /// At this moment, with the next packet number.
+    /// At this time, with the next packet number.
     Polls(u64, u64),
     Limit(u16),
     /// The number and size of a packet.
     Acked(u64, u16),
-    /// The same outside Data.
+    /// The same in another space.
     AckedIn(SpaceId, u64, u16),
     ProbeLost,
     Lost(u64, u16),
     LossesEnd(u64),
-    /// The MTU and the least one.
+    /// The MTU and the minimum MTU.
     Reset(u16, u16),
 }
 
@@ -81,7 +81,7 @@ fn apply(rt: &impl Abort, discovery: &mut MtuDiscovery, call: Call) -> Answer {
     }
 }
 
-/// Asserts that each row answers what it says, and leaves the MTU that it says.
+/// Asserts that each row has the expected answer, and leaves the expected MTU.
 fn play(rt: &impl Abort, discovery: &mut MtuDiscovery, rows: &[Row]) {
     let mut place = 0u64;
     for (call, answer, mtu) in rows {
@@ -95,7 +95,7 @@ fn play(rt: &impl Abort, discovery: &mut MtuDiscovery, rows: &[Row]) {
     }
 }
 
-/// The MTU at the start, the least one, the peer's limit, the upper bound and the minimum change.
+/// The initial MTU, the minimum, the peer's limit, the upper bound and the minimum change.
 type Setting = (u16, u16, Option<u16>, u16, u16);
 
 const DEFAULT: Setting = (1200, 1200, None, 1452, 20);
@@ -121,16 +121,16 @@ fn play_default(rt: &impl Abort, rows: &[Row]) {
     play(rt, &mut discovery, rows);
 }
 
-/// A search over a link that carries so many bytes: the sizes that it probes, and the MTU at its end. A size that the
+/// A search over a link that carries this many bytes: the sizes that it probes, and the MTU at its end. A size that the
 /// link carries is acknowledged, and any other is lost three times.
 type Search = (Setting, u16, &'static [u16], u16);
 
-/// How often a size is probed over a link.
+/// Returns how often a size is probed over a link.
 fn times(size: u16, link: u16) -> u64 {
     if size <= link { 1 } else { 3 }
 }
 
-/// Asserts that a probe of this size goes out under this number, and has it acknowledged, or lost.
+/// Asserts that a probe of this size is sent under this number, and reports it acknowledged, or lost.
 fn probe(rt: &impl Abort, discovery: &mut MtuDiscovery, number: u64, size: u16, link: u16) {
     let probed = discovery.poll_transmit(Instant::from_nanos(0), number);
     let is_out = probed == Some(size) && discovery.in_flight_mtu_probe() == Some(number);
@@ -143,7 +143,7 @@ fn probe(rt: &impl Abort, discovery: &mut MtuDiscovery, number: u64, size: u16, 
     }
 }
 
-/// Probes so often as the link takes for this size; answers the next packet number.
+/// Probes this size as often as the link requires. Returns the next packet number.
 fn probe_size(
     rt: &impl Abort,
     discovery: &mut MtuDiscovery,
@@ -159,7 +159,7 @@ fn probe_size(
     number
 }
 
-/// Probes these sizes over a link: the number behind them.
+/// Probes these sizes over a link. Returns the next packet number.
 fn probe_all(rt: &impl Abort, discovery: &mut MtuDiscovery, sizes: &[u16], link: u16) -> u64 {
     let mut number = 0u64;
     for size in sizes {
@@ -168,7 +168,7 @@ fn probe_all(rt: &impl Abort, discovery: &mut MtuDiscovery, sizes: &[u16], link:
     number
 }
 
-/// Asserts of each search that it takes the probes of its row, and ends with its MTU.
+/// Asserts that each search sends the probes of its row, and ends with its MTU.
 fn play_searches(rt: &impl Abort, searches: &[Search]) {
     let mut place = 0u64;
     for (setting, link, sizes, end) in searches {
@@ -203,7 +203,7 @@ fn a_search_halves_its_bounds(rt: HostRuntime) {
     play_searches(&rt, &SEARCHES);
 }
 
-/// From 1 byte to the greatest size, by steps of 3.
+/// From 1 byte to the largest size, in steps of 3.
 const WIDEST: Setting = (1, 1, None, 65_527, 3);
 
 #[test]

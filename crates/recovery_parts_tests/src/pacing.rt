@@ -1,4 +1,4 @@
-//! The pacer. Rows are what a path has and what is asked or sent at a moment, and the moment that is told, if one is.
+//! The pacer. Rows are the state of a path, a call at a time, and the reported time, if there is one.
 use crate::rows::{finds, holds};
 use recovery_base::time::{Duration, Instant};
 use recovery_congestion::pacing::Pacer;
@@ -15,13 +15,13 @@ const LONGEST_RTT: u128 = 18_446_744_073_709_551_615_999_999_999;
 /// What happens.
 #[derive(Clone, Copy)]
 enum Call {
-    /// May so many bytes be sent?
+    /// May this many bytes be sent?
     Asks(u64),
-    /// So many packets of so many bytes are to be sent, and are sent where they are not delayed.
+    /// Packets of this count and size are to be sent, and are sent if they are not delayed.
     Packets(u16, u16),
 }
 
-/// A path, a moment, what happens, and the moment that is told.
+/// A path, a time, a call, and the reported time.
 type Row = (Path, u64, Call, Option<u64>);
 
 fn made(rt: &impl Abort, path: &Path, now: u64) -> Pacer {
@@ -38,7 +38,7 @@ fn ask(rt: &impl Abort, pacer: &mut Pacer, path: &Path, now: u64, bytes: u64) ->
     pacer.delay(rtt, bytes, mtu, window, Instant::from_nanos(now))
 }
 
-/// The moment that is told to the first packet that is delayed.
+/// Returns the time reported to the first packet that is delayed.
 fn send(
     rt: &impl Abort,
     pacer: &mut Pacer,
@@ -64,7 +64,7 @@ fn apply(rt: &impl Abort, pacer: &mut Pacer, path: &Path, now: u64, call: Call) 
     }
 }
 
-/// Asserts that a pacer made for a path at a moment tells in each row what it says.
+/// Asserts that a pacer made for a path at a time reports in each row the expected time.
 fn play(rt: &impl Abort, path: &Path, start: u64, rows: &[Row]) {
     let mut pacer = made(rt, path, start);
     let mut place = 0u64;
@@ -75,7 +75,7 @@ fn play(rt: &impl Abort, path: &Path, start: u64, rows: &[Row]) {
     }
 }
 
-/// Ten packets of the MTU at this rate, and what was sent is no longer among them.
+/// Ten packets of the MTU at this rate, minus what was sent.
 #[test]
 fn the_bucket_is_told(rt: HostRuntime) {
     let mut pacer = made(&rt, &FRESH, 0);
@@ -145,8 +145,7 @@ fn an_rtt_alone_changes_no_capacity(rt: HostRuntime) {
     play(&rt, &FRESH, 0, &ROWS);
 }
 
-/// The path that a pacer is made for, what the path has when so many bytes are asked for at 0, and the moment that is
-/// told.
+/// The path for which a pacer is made, the path when this many bytes are asked for at 0, and the reported time.
 type Single = (Path, Path, u64, Option<u64>);
 
 fn play_each(rt: &impl Abort, rows: &[Single]) {

@@ -1,21 +1,21 @@
-//! Responses to path challenges. A row is what happens, and what comes out.
+//! Responses to path challenges. A row is a call and its result.
 use recovery_paths::responses::PathResponses;
 use std::net::{IpAddr, Ipv4Addr, SocketAddr};
 use std::process::Abort;
 
 #[derive(Clone, Copy)]
 enum Call {
-    /// A challenge came: its packet, its token, and the last octet of its address.
+    /// A challenge was received: its packet, its token, and the last octet of its address.
     Pushes(u64, u64, u8),
-    /// A response is to go to another address than this.
+    /// A response is to be sent to another address than this.
     OffPath(u8),
-    /// One is to go to this address.
+    /// One is to be sent to this address.
     OnPath(u8),
 }
 
 use Call::{OffPath, OnPath, Pushes};
 
-/// The token that comes out, and the address that it is said to go to.
+/// The token that is returned, and its address.
 type Sent = Option<(u64, u8)>;
 
 fn address(octet: u8) -> SocketAddr {
@@ -43,7 +43,7 @@ fn apply(responses: &mut PathResponses, call: Call) -> Sent {
     }
 }
 
-/// Asserts that each row sends what it says.
+/// Asserts that each row returns the expected response.
 fn play(rt: &impl Abort, responses: &mut PathResponses, rows: &[(Call, Sent)]) {
     let mut place = 0u64;
     for (call, wanted) in rows {

@@ -3,7 +3,7 @@ use recovery_base::below::{VarInt, VarIntBoundsExceeded};
 use recovery_base::time::{Duration, Instant};
 use std::process::Abort;
 
-/// What a row that fails tells of a value: a number of it, if it has one.
+/// The number by which a failed row shows a value, if it has one.
 pub(crate) trait Told {
     fn told(&self) -> Option<u128>;
 }
@@ -62,7 +62,7 @@ impl Told for Result<VarInt, VarIntBoundsExceeded> {
     }
 }
 
-/// Asserts that what a row says holds.
+/// Asserts that a row holds.
 pub(crate) fn holds(rt: &impl Abort, is_right: bool, row: u64) {
     assert!(rt; is_right, "row {row}");
 }
@@ -76,7 +76,7 @@ pub(crate) fn all_hold(rt: &impl Abort, are_right: &[bool]) {
     }
 }
 
-/// Asserts that a row finds what it wants.
+/// Asserts that a row finds the expected value.
 pub(crate) fn finds<T: PartialEq + Told>(rt: &impl Abort, row: u64, found: &T, wanted: &T) {
     if found != wanted {
         let (found, wanted) = (found.told(), wanted.told());
@@ -84,7 +84,7 @@ pub(crate) fn finds<T: PartialEq + Told>(rt: &impl Abort, row: u64, found: &T, w
     }
 }
 
-/// Asserts that each row finds what it wants.
+/// Asserts that each row finds the expected value.
 pub(crate) fn same<T: PartialEq + Told>(rt: &impl Abort, rows: &[(T, T)]) {
     let mut row = 0u64;
     for (found, wanted) in rows {

@@ -1,10 +1,10 @@
-//! The RTT. Rows are samples, and what is seen after each.
+//! The RTT. Rows are samples, and what is read after each.
 use crate::rows::holds;
 use recovery_base::time::Duration;
 use recovery_congestion::rtt::RttEstimator;
 use std::process::Abort;
 
-/// A delay and a sample, and then the best estimate, the conservative one, the least, and the probe timeout; all in
+/// A delay and a sample, and then the estimate, the conservative one, the minimum, and the probe timeout; all in
 /// nanoseconds.
 type Row = (u128, u128, [u128; 4]);
 
@@ -19,7 +19,7 @@ fn seen(rtt: &RttEstimator) -> [u128; 4] {
     [rtt.get(), rtt.conservative(), rtt.min(), rtt.pto_base()].map(|span| span.as_nanos())
 }
 
-/// Asserts that all is seen as it says, before the first sample and after each row, where rows count from 1.
+/// Asserts the expected values before the first sample and after each row; rows count from 1.
 fn play(rt: &impl Abort, initial: u128, first: [u128; 4], rows: &[Row]) {
     let mut rtt = RttEstimator::new(span(initial));
     holds(rt, seen(&rtt) == first, 0);
@@ -80,7 +80,7 @@ fn first_sample_replaces_a_lesser_initial_rtt(rt: HostRuntime) {
             400_000_000,
             [400_000_000, 400_000_000, 400_000_000, 1_200_000_000],
         ),
-        // 440 - 50 ms would be less than the least: the whole sample counts.
+        // 440 - 50 ms would be below the minimum: the whole sample counts.
         (
             50_000_000,
             440_000_000,

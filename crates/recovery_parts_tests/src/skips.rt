@@ -1,4 +1,4 @@
-//! Which numbers a filter leaves out, and which acknowledgements it refuses.
+//! Which numbers a filter skips, and which acknowledgements it rejects.
 use crate::rows::holds;
 use rand_core::{Rng, SeedableRng};
 use rand_pcg::{Pcg32, Pcg64};
@@ -6,10 +6,10 @@ use recovery_base::below::{SpaceId, TransportError};
 use recovery_packet_numbers::{PacketNumberFilter, Skips};
 use std::process::Abort;
 
-/// From a number on up to below another, the numbers that are left out.
+/// The numbers that are skipped, from a number on up to below another.
 type LeftOut = (u64, u64, &'static [u64]);
 
-/// Asserts that from number 0 on just these numbers of a row's span are left out.
+/// Asserts that from number 0 on exactly these numbers of a row's span are skipped.
 fn play<R: Rng>(rt: &impl Abort, filter: &mut PacketNumberFilter, rng: &mut R, row: &LeftOut) {
     let (from, end, skips) = *row;
     let mut next = 0u64;
@@ -39,7 +39,7 @@ fn play_seeds(rt: &impl Abort, rows: &[(u64, LeftOut)]) {
     }
 }
 
-/// Seeds, and what is left out.
+/// Seeds, and what is skipped.
 static SEEDS: [(u64, LeftOut); 17] = [
     (0, (0, 9000, &[63, 80, 176, 426, 793, 1051, 2992, 5116])),
     (1, (0, 9000, &[31, 68, 148, 282, 538, 1327, 2065, 7540])),
@@ -68,7 +68,7 @@ fn skips_drawn_from_a_seed(rt: HostRuntime) {
     play_seeds(&rt, &SEEDS);
 }
 
-/// Asserts that with a generator skips begin as they are to, and are those of a row.
+/// Asserts that with a generator skips begin as expected, and are those of a row.
 fn play_begun<R: Rng>(rt: &impl Abort, skips: Skips, rng: &mut R, row: &LeftOut) {
     if let Skips::Starting(next) = skips {
         assert!(rt; next < 64);
@@ -77,7 +77,7 @@ fn play_begun<R: Rng>(rt: &impl Abort, skips: Skips, rng: &mut R, row: &LeftOut)
     play(rt, &mut filter, rng, row);
 }
 
-/// Seeds of another generator, and what is left out.
+/// Seeds of another generator, and what is skipped.
 static OTHER_SEEDS: [(u64, LeftOut); 4] = [
     (0, (0, 9000, &[8, 86, 218, 265, 950, 1190, 2455, 6168])),
     (1, (0, 9000, &[53, 65, 142, 507, 966, 1511, 2432, 5686])),
@@ -101,7 +101,7 @@ fn skips_drawn_by_other_generators(rt: HostRuntime) {
     );
 }
 
-/// How skips begin, and what is left out.
+/// How skips begin, and what is skipped.
 static BEGINNINGS: [(Skips, LeftOut); 5] = [
     (Skips::Drawn, (0, 128, &[63, 80])),
     (Skips::Starting(0), (0, 64, &[0])),
@@ -117,7 +117,7 @@ fn skips_begin_as_they_are_to(rt: HostRuntime) {
     }
 }
 
-/// The first number from one on up to below another that a filter would leave out.
+/// Returns the first number from one on up to below another that a filter would skip.
 fn next_skip(filter: &PacketNumberFilter, from: u64, end: u64) -> Option<u64> {
     for number in from..end {
         if filter.peek(number) != number {
@@ -127,10 +127,10 @@ fn next_skip(filter: &PacketNumberFilter, from: u64, end: u64) -> Option<u64> {
     None
 }
 
-/// A space and the ends of a range in it, and whether its acknowledgement is refused.
+/// A space and the ends of a range in it, and whether its acknowledgement is rejected.
 type Ack = (SpaceId, u64, u64, bool);
 
-/// Asserts of each acknowledgement that it is refused, or that it is not.
+/// Asserts for each acknowledgement whether it is rejected.
 fn check(rt: &impl Abort, filter: &PacketNumberFilter, acks: &[Ack]) {
     for (space, low, high, is_refused) in acks {
         let answer = filter.check_ack(*space, *low..=*high);
@@ -143,7 +143,7 @@ fn check(rt: &impl Abort, filter: &PacketNumberFilter, acks: &[Ack]) {
     }
 }
 
-/// Where skips start, the number then, the bounds of the next skip, and acknowledgements.
+/// The start of skips, the number then, the bounds of the next skip, and acknowledgements.
 type Start = (u64, u64, u64, u64, &'static [Ack]);
 
 fn play_start<R: Rng>(rt: &impl Abort, rng: &mut R, row: &Start) {
@@ -157,7 +157,7 @@ fn play_start<R: Rng>(rt: &impl Abort, rng: &mut R, row: &Start) {
     check(rt, &filter, acks);
 }
 
-/// Starts at either end.
+/// The smallest and the largest start.
 static STARTS: [Start; 2] = [
     (
         63,
@@ -196,8 +196,8 @@ fn skips_start_at_either_end(rt: HostRuntime) {
     }
 }
 
-/// How many numbers are given out; a skip, and the first number behind which its acknowledgement is refused,
-/// and the first behind which it is not any more.
+/// How many numbers are assigned; a skip, the first number after which its acknowledgement is rejected, and the first
+/// after which it no longer is.
 type Remembered = (u64, u64, u64, u64);
 
 fn play_remembered<R: Rng>(rt: &impl Abort, rng: &mut R, row: &Remembered) {

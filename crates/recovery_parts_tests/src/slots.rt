@@ -1,5 +1,5 @@
-//! Packets are acknowledged in some order, all but the first: that one is found, and few slots are left. The limit of
-//! the slots, and that few are looked at, is proved. Then packets are looked up by number and by range of numbers.
+//! Packets are acknowledged in some order, all but the first: that one is found, and few slots are left. The limit on
+//! slots, and on slots read, is proved. Then packets are looked up by number and by range of numbers.
 use crate::rows::holds;
 use recovery_base::below::NoMemory;
 use recovery_base::time::Instant;
@@ -11,7 +11,7 @@ use recovery_spaces::spaces::{PacketSpace, SentPacket};
 use std::alloc::{AllocError, Global};
 use std::process::Abort;
 
-/// In which order the packets from 1 on are acknowledged.
+/// The order in which the packets from 1 on are acknowledged.
 #[derive(Clone, Copy)]
 enum Order {
     Ascending,
@@ -20,7 +20,7 @@ enum Order {
 }
 
 impl Order {
-    /// The number that is acknowledged at a step, of `count` packets.
+    /// Returns the number that is acknowledged at a step, of `count` packets.
     fn number(self, step: u64, count: u64) -> u64 {
         let low = step.saturating_add(1);
         let high = count.saturating_sub(low);
@@ -45,7 +45,7 @@ pub(crate) fn packet(alloc: Global) -> SentPacket<ItemQueue> {
     }
 }
 
-/// This many packets, tracked from number 0 on.
+/// Returns this many packets, tracked from number 0 on.
 fn tracked(rt: &impl Abort, alloc: Global, count: u64) -> SentPackets<ItemQueue> {
     let mut packets = SentPackets::new(alloc);
     for number in 0..count {
@@ -57,14 +57,14 @@ fn tracked(rt: &impl Abort, alloc: Global, count: u64) -> SentPackets<ItemQueue>
     packets
 }
 
-/// A space in which this many packets were sent.
+/// Returns a space in which this many packets were sent.
 fn sent(rt: &impl Abort, alloc: Global, count: u64) -> PacketSpace<ItemQueue> {
     let mut space = PacketSpace::new(alloc, Instant::from_nanos(0));
     space.sent_packets = tracked(rt, alloc, count);
     space
 }
 
-/// Takes a packet out: whether it was tracked.
+/// Removes a packet. Returns whether it was tracked.
 fn takes(space: &mut PacketSpace<ItemQueue>, number: u64) -> bool {
     space.take(number).is_some()
 }
@@ -99,7 +99,7 @@ fn acknowledged_from_both_ends_in_turn(rt: HostRuntime) {
     assert_closed_up(&rt, rt.alloc(), Order::Alternating, 100_000);
 }
 
-/// The number of the first packet at or above another.
+/// Returns the number of the first packet at or above another.
 fn first_from(packets: &SentPackets<ItemQueue>, number: u64) -> Option<u64> {
     match packets.tracked_from(number) {
         Some((found, _)) => Some(found),
@@ -107,7 +107,8 @@ fn first_from(packets: &SentPackets<ItemQueue>, number: u64) -> Option<u64> {
     }
 }
 
-/// Of packets 0 to 4, three are taken out: the others are gone over by number, and elicit ACKs until they are gone.
+/// Of packets 0 to 4, three are removed: the others are iterated over by number, and are ack-eliciting until they are
+/// removed.
 #[test]
 fn packets_are_gone_over_upward(rt: HostRuntime) {
     static FROM: [(u64, Option<u64>); 6] = [
@@ -145,7 +146,7 @@ static RANGES: [(u64, u64, Option<u64>); 10] = [
     (5, u64::MAX, None),
 ];
 
-/// Of the same packets: whether a number is one of them, and how many have lower numbers.
+/// For the same packets: whether a number is one of them, and how many have lower numbers.
 static NUMBERS: [(u64, bool, usize); 6] = [
     (0, false, 0),
     (1, true, 0),
@@ -155,12 +156,12 @@ static NUMBERS: [(u64, bool, usize); 6] = [
     (u64::MAX, false, 2),
 ];
 
-/// Whether a count covers the packets with lower numbers, and is no more than the count of all packets.
+/// Returns whether a count covers the packets with lower numbers, and is at most the count of all packets.
 fn covers(count: usize, below: usize) -> bool {
     below <= count && count <= 2
 }
 
-/// The number of the first packet at or above a number and below an end.
+/// Returns the number of the first packet at or above a number and below an end.
 fn first_between(packets: &SentPackets<ItemQueue>, from: u64, end: u64) -> Option<u64> {
     match packets.tracked_between(from, end) {
         Some((found, _)) => Some(found),
@@ -186,7 +187,7 @@ fn packets_are_looked_up(rt: HostRuntime) {
 
 type Slots = SlotQueue<SentPacket<ItemQueue>>;
 
-/// This many packets in slots, from number 0 on.
+/// Returns this many packets in slots, from number 0 on.
 fn queued(rt: &impl Abort, alloc: Global, count: u64) -> Slots {
     let mut slots = SlotQueue::new(alloc);
     for number in 0..count {
@@ -198,7 +199,7 @@ fn queued(rt: &impl Abort, alloc: Global, count: u64) -> Slots {
     slots
 }
 
-/// The number of the first packet of a range, and how many slots were looked at.
+/// Returns the number of the first packet of a range, and how many slots were read.
 fn first_looked_at(slots: &Slots, from: u64, end: u64) -> (Option<u64>, usize) {
     match slots.entry_between(from, end) {
         (Some((found, _)), looks) => (Some(found), looks),
@@ -220,9 +221,9 @@ fn slots_are_looked_up(rt: HostRuntime) {
     }
 }
 
-/// Of packets 0 to 999, those from 1 to 500 are taken out, and their slots stay. A search takes at most 10 looks, as
-/// 1000 slots are fewer than 2^10. A range takes one look more for each slot from its start up to the packet that is
-/// found, or up to its end, and one for the slot there.
+/// Of packets 0 to 999, those from 1 to 500 are removed, and their slots stay. A search reads at most 10 slots, as 1000
+/// slots are fewer than 2^10. A range reads one slot more for each from its start up to the packet that is found, or up
+/// to its end, inclusive.
 #[test]
 fn an_emptied_range_takes_few_looks(rt: HostRuntime) {
     static LOOKS: [(u64, u64, Option<u64>, usize); 6] = [

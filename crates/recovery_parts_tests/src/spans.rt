@@ -1,4 +1,4 @@
-//! Rows of spans, worked out by hand from RFC 9002, 6.1.2 and 6.2.1.
+//! Rows of spans, computed by hand from RFC 9002, 6.1.2 and 6.2.1.
 use crate::rows::same;
 use recovery_base::time::Duration;
 use recovery_losses::{loss_delay, probe_timeout};

@@ -1,4 +1,4 @@
--- What checked transmissions keep on one path holds of each path that lives, whatever happens. `PassedLaws` and
+-- What checked transmissions preserve on one path holds for each existing path, whatever happens. `PassedLaws` and
 -- `SearchedLaws` rest on it.
 use Rattle.std.proofs.Common.{arith, ◌≡◌, List, [], ◌∷◌, ◌++◌, Option, None, Some, refl}
 use Rattle.std.specs.Option.{ForSome}
@@ -11,20 +11,20 @@ use Rattle.recovery_paths.specs.PathStates.{PathState, path_delay}
 use Rattle.recovery_paths.specs.PathLog.{PerPath, OnEachPath, PathsEntry, PathEntry, PathHistory, PathReplyInputs, PathOrigin, paths_with, paths_after, pasts_by, each_path, path_state_of, known_of, path_known_with, known_following, past_with, past_following, reverted, on, moves, drops_previous, reverts, returns, searches, passes}
 use Rattle.recovery_paths.proofs.PathLogLaws.{some_same, for_changed, each-after}
 
--- what passes was not delayed, and a limit is told while no search runs
+-- what passes was not delayed, and a limit is reported while no search runs
 abbrev pub IsAllowed : {K : Type 0} → ControllerSemantics K → PathState K → PathEntry → Type 0
 IsAllowed words state (passes now bytes) = path_delay words now bytes state ≡ None
 IsAllowed words state (searches call) = IsInTurn call state.discovery
 IsAllowed words state entry = Unit {0}
 
--- nothing passes, and the search sees nothing
+-- nothing passes, and nothing is reported to the search
 abbrev pub PassesNothing : PathEntry → Type 0
 PassesNothing (passes now bytes) = ⊥
 PassesNothing (searches call) = ⊥
 PassesNothing entry = Unit {0}
 
 module _ {K : Type 0} (settings : PathSettings K) where
-  -- it goes on to hold of a path as long as what happens is allowed, and of a path that follows on it
+  -- it continues to hold for a path as long as what happens is allowed, and for a path that follows it
   pub record IsKept (Holds : PathHistory K → Type 0) : Type 0 where
     pub by_entry : (entry : PathEntry) (past : PathHistory K) → IsAllowed settings.words (path_state_of past) entry
         → Holds past → Holds (past_with settings entry past)
@@ -47,13 +47,13 @@ module _ {K : Type 0} (settings : PathSettings K) where
       IsAllowedOn (paths_after (path_known_with settings) (known_following settings) earlier paths) entry
       × AreAllowed paths earlier
 
-  -- where nothing passes and no search sees anything, all is allowed
+  -- if nothing passes and nothing is reported to a search, all is allowed
   allowed_anywhere : (entry : PathEntry) (state : PathState K) → PassesNothing entry
       → IsAllowed settings.words state entry
   allowed_anywhere entry state nothing = grind arith
 
   module _ (Holds : PathHistory K → Type 0) (kept : IsKept Holds) where
-    -- an entry keeps it
+    -- an entry preserves it
     entry_kept : (entry : PathsEntry) (pasts : PerPath (PathHistory K))
         → IsAllowedOn (each_path known_of pasts) entry → OnEachPath Holds pasts
         → OnEachPath Holds (paths_with (past_with settings) (past_following settings) entry pasts)
@@ -75,7 +75,7 @@ module _ {K : Type 0} (settings : PathSettings K) where
         returned (Some past) was =
             (kept.following (returns limit) past (was past refl), λ past is. absurd (none-some _ is))
 
-    -- an event's entries keep it
+    -- an event's entries preserve it
     pub kept_after : (first : PathState K) (entries log : List PathsEntry) → let pasts = pasts_by settings first log in
         AreAllowed (each_path known_of pasts) entries → OnEachPath Holds pasts
         → OnEachPath Holds (pasts_by settings first (entries ++ log))

@@ -1,5 +1,5 @@
--- The paths stay tied to what the spaces track, whatever comes to a packet, a space or a path. The invariant of
--- `Recovery`, and so each of its calls, rests on it.
+-- The paths stay consistent with what the spaces track, whatever happens to a packet, a space or a path. The invariant
+-- of `Recovery`, and so each of its calls, rests on it.
 use Rattle.std.proofs.Common.{◌≡◌, ℕ, ◌+◌, ◌<◌, ◌≤◌, Bool, [], ◌∷◌, Option, None, Some, option_map, refl, ap, subst, arith}
 use Rattle.std.proofs.lemmas.Iterator.Adapters.{option_map_id}
 use Rattle.std.proofs.lemmas.Option.{none-some}
@@ -38,7 +38,7 @@ module _ {K P M : Type 0} (spaces : Spaces P M) (paths : PerPath (Path K)) (bala
   abbrev ledger : PathLedger
   ledger = paths.current.ledger
 
-  -- what is kept beside a path's ledger changes
+  -- anything but a path's ledger changes
   pub on_state_kept : (name : PathName) (change : PathState K → PathState K)
       → AreBalanced spaces (on_path_of name (on_state change) paths)
   on_state_kept Current change = grind (arith, balanced)
@@ -48,7 +48,7 @@ module _ {K P M : Type 0} (spaces : Spaces P M) (paths : PerPath (Path K)) (bala
       (λ path is. (balanced.previous path is, balanced.older path is)) in
       grind (arith, balanced, each)
 
-  -- another path is used, of a new generation
+  -- another path is used, with a new generation
   pub moved : (path : Path K) → path.ledger ≡ fresh_ledger (paths.made + 1) → AreBalanced spaces (moved_to path paths)
   moved path fresh =
       let next : generation_of path.ledger ≡ paths.made + 1 =
@@ -165,7 +165,7 @@ module _ {K P M : Type 0} (spaces : Spaces P M) (paths : PerPath (Path K)) (bala
 
     -- ---- a packet is acknowledged or lost
 
-    -- one that is lost is among those counted on its path, where that lives, as it is handed back
+    -- one that is lost is counted on its path, if that exists, as it is returned
     pub lost_counted_on : (number : ℕ) (contents : P) (packet : Packet P M)
         → option_map (with_contents contents) (packet_at all number) ≡ Some packet → IsCountedOnEach paths packet
     lost_counted_on number contents packet handed = (
@@ -196,7 +196,7 @@ module _ {K P M : Type 0} (spaces : Spaces P M) (paths : PerPath (Path K)) (bala
       paths_balanced_acked found packets coherent words now app_limited =
           grind (arith, paths_balanced_lost packet.retransmits (rw found refl) packets coherent)
 
-    -- ---- a probe is asked for, or a space is emptied
+    -- ---- a probe is requested, or a space is emptied
 
     pub emptied : (here : Space P M) → packets_of here ≡ [] → IsCoherent here
         → AreBalanced (with_space spaces space here) (paths_without all paths)

@@ -14,7 +14,7 @@ HavePassedOn past =
     (past.kept.pacer.tokens ≡ past.kept.pacer.capacity) × HavePassed past.kept.pacer past.pacing
 
 module _ {K : Type 0} (settings : PathSettings K) where
-  -- an entry keeps that
+  -- an entry preserves that
   passed_law : (entry : PathEntry) (past : PathHistory K) → IsAllowed settings.words (path_state_of past) entry
       → HavePassedOn past → HavePassedOn (past_with settings entry past)
   passed_law (transmits bytes) past allowed passed = (passed.0, (λ checked. absurd (false≢true checked), passed.1))
@@ -27,7 +27,7 @@ module _ {K : Type 0} (settings : PathSettings K) where
       → HavePassedOn (past_following settings following past)
   follows_passed following past passed = grind arith
 
-  -- an event's entries keep it
+  -- an event's entries preserve it
   pub passed_after : (first : PathState K) (entries log : List PathsEntry) → let pasts = pasts_by settings first log in
       AreAllowed settings (each_path known_of pasts) entries → OnEachPath HavePassedOn pasts
       → OnEachPath HavePassedOn (pasts_by settings first (entries ++ log))

@@ -1,4 +1,4 @@
--- What is known of the paths, one entry at a time, and what holds of a path that changed. `AllowedLaws`, `BalanceLaws`
+-- The inputs from the paths, one entry at a time, and properties of a path that changed. `AllowedLaws`, `BalanceLaws`
 -- and the driver's `StateAfterLaws` rest on it.
 use Rattle.std.proofs.Common.{◌≡◌, List, [], ◌∷◌, ◌++◌, Option, None, Some, option_map, refl, ap, ◌∙◌}
 use Rattle.std.specs.Option.{ForSome}
@@ -10,20 +10,20 @@ use Rattle.recovery_paths.specs.PathStates.{PathState}
 pub some_same : {A : Type 0} {a b : A} → Some a ≡ Some b → a ≡ b
 some_same e = cc
 
--- what holds of a changed value holds where that is
+-- what holds for a changed value holds for the option that has it
 pub for_changed : {A : Type 0} (Holds : A → Type 0) (change : A → A) (old : Option A)
     → ((a : A) → old ≡ Some a → Holds (change a)) → ForSome (option_map change old) Holds
 for_changed Holds change None holds = λ other is. absurd (cc (is))
 for_changed Holds change (Some a) holds = λ other is. rw (← some_same is) (holds a refl)
 
--- what is mapped after a change is the change of what is mapped
+-- mapping after a change is the change of the mapped value
 option-each : {P Q : Type 0} (f : P → Q) (change : P → P) (changed : Q → Q) → ((p : P) → changed (f p) ≡ f (change p))
     → (path : Option P) → option_map changed (option_map f path) ≡ option_map f (option_map change path)
 option-each f change changed same None = refl
 option-each f change changed same (Some path) = ap (λ q. Some q) (same path)
 
 module _ {K : Type 0} (settings : PathSettings K) where
-  -- what is known after an entry is what the past with the entry gives
+  -- the inputs after an entry are those of the history with the entry
   pub known_of-with : (entry : PathEntry) (past : PathHistory K)
       → path_known_with settings entry (known_of past) ≡ known_of (past_with settings entry past)
   known_of-with (receives bytes) past = refl

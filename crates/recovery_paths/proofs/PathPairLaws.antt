@@ -1,4 +1,4 @@
--- Packets leave the paths that live, one after another: `forget_all` rests on it.
+-- Packets leave the existing paths, one after another: `forget_all` rests on it.
 use Rattle.std.proofs.Common.{◌≡◌, ℕ, ◌∷◌, Option, None, Some, option_map, refl}
 use Rattle.recovery_spaces.specs.InFlight.{IsCountedIn}
 use Rattle.recovery_spaces.specs.Packets.{Packet, Packets}
@@ -24,7 +24,7 @@ module _ {K P M : Type 0} (entry : ℕ × Packet P M) (rest : Packets P M) where
   abbrev AreCountedBy : Packets P M → Path K → Type 0
   AreCountedBy packets path = IsCountedIn (counters_of path.ledger) (generation_of path.ledger) packets
 
-  -- the first is among those counted, and so are the others then
+  -- the first is counted, and so are the others then
   pub counted_first : (paths : PerPath (Path K)) → AreCountedOnEach paths (entry ∷ rest)
       → IsCountedOnEach paths entry.1 × AreCountedOnEach (each_path (path_left_by entry.1) paths) rest
   counted_first paths counted =

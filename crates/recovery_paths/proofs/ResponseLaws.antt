@@ -1,4 +1,4 @@
--- The responses stay sound: `push` rests on it, and that they are a model.
+-- The responses stay sound, and are a model. `push` rests on it.
 use Rattle.std.proofs.Common.{◌≡◌, ℕ, zero, suc, Bool, false, List, [], ◌∷◌, ◌++◌, map, take, refl, arith, rules}
 use Rattle.std.specs.List.{IsDistinct, AllByRecursion, list_any}
 use Rattle.std.proofs.lemmas.List.{take-map, length-map, length-append, length-take, map-append}
@@ -38,7 +38,7 @@ all_push : {X : Type 0} (P : X → Type 0) (xs : List X) (x : X) → AllByRecurs
 all_push P [] x all last = search rules
 all_push P (y ∷ xs) x all last = (all.0, all_push P xs x all.1 last)
 
--- one more key, which none is equal to
+-- one more key, which equals none of the others
 distinct_push : {K : Type 0} (e : K → K → Bool) (ks : List K) (k : K) → IsDistinct e ks
     → list_any (λ x. e x k) ks ≡ false → IsDistinct e (ks ++ k ∷ [])
 unfolding IsDistinct
@@ -52,7 +52,7 @@ any_remote : (remote : SocketAddr) (responses : List PathResponse)
 any_remote remote [] = refl
 any_remote remote (response ∷ others) = grind (arith, any_remote remote others)
 
--- responses keep their addresses
+-- responses have the same addresses
 remotes_renewed : (new : PathResponse) (responses : List PathResponse)
     → remotes (map (renewed new) responses) ≡ remotes responses
 remotes_renewed new [] = refl

@@ -1,5 +1,5 @@
--- How each path is searched: all of them by the same settings, each from a discovery to which nothing was told, and
--- with each limit in turn. The driver's `SearchLaws` rest on it.
+-- How each path is searched: all with the same settings, each from a discovery without any call, and with each limit
+-- outside a search. The driver's `SearchLaws` rest on it.
 use Rattle.std.proofs.Common.{arith, ℕ, ◌≡◌, Bool, List, [], ◌∷◌, ◌++◌, Option, None, if◌then◌else◌}
 use Rattle.std.proofs.lemmas.Option.{none-some}
 use Rattle.recovery_config.specs.declared.config.TransportConfig.{TransportConfig}
@@ -16,7 +16,7 @@ use Rattle.recovery_paths.specs.PathLog.{OnEachPath, PathsEntry, PathEntry, Path
 use Rattle.recovery_paths.specs.PathStates.{PathState}
 use Rattle.recovery_paths.proofs.AllowedLaws.{IsAllowed, AreAllowed, kept_after}
 
--- a discovery that was made so and called so is searched by these settings, if any
+-- a discovery that was made and called so is searched by these settings, if any
 pub record IsSearchedBy (settings : Option MtuDiscoveryConfig) (made : Discovery) (calls : List MtuCall) : Type 0 where
   pub untold : IsFreshDiscovery made
   pub settings_are : search_settings made ≡ settings
@@ -25,13 +25,13 @@ pub record IsSearchedBy (settings : Option MtuDiscoveryConfig) (made : Discovery
 abbrev pub IsPathSearchedBy : {K : Type 0} → Option MtuDiscoveryConfig → PathHistory K → Type 0
 IsPathSearchedBy by past = IsSearchedBy by past.kept.discovery past.searched
 
--- one more call that is in turn
+-- one more call that is allowed
 searched_after : (by : Option MtuDiscoveryConfig) (made : Discovery) (call : MtuCall) (earlier : List MtuCall)
     → IsInTurn call (discovery_by made earlier) → IsSearchedBy by made earlier → IsSearchedBy by made (call ∷ earlier)
 searched_after by made call earlier turn searched =
     grind (arith, searched, limits_outside_after made searched.untold call earlier turn searched.outside)
 
--- the discovery of a path that is made is searched where that is allowed, as the settings of paths say
+-- the discovery of a new path is searched if that is allowed, as the settings of paths say
 pub first_searched : {F : Type 0} (allowed : Bool) (limit : Option ℕ) (config : TransportConfig F)
     → IsSearchedBy (if allowed then config.mtu_discovery_config else None) (first_discovery allowed limit config) []
 first_searched allowed limit config =
@@ -44,7 +44,7 @@ first_searched allowed limit config =
 
 module _ {K : Type 0} (settings : PathSettings K) (by : Option MtuDiscoveryConfig)
     (fresh_is : (limit : Option ℕ) → IsSearchedBy by (settings.discovery limit) []) where
-  -- an entry that is allowed keeps that
+  -- an entry that is allowed preserves that
   searched_law : (entry : PathEntry) (past : PathHistory K) → IsAllowed settings.words (path_state_of past) entry
       → IsPathSearchedBy by past → IsPathSearchedBy by (past_with settings entry past)
   searched_law (searches call) past allowed searched =
@@ -53,12 +53,12 @@ module _ {K : Type 0} (settings : PathSettings K) (by : Option MtuDiscoveryConfi
       searched_after by past.kept.discovery (resets settings.mtu settings.min_mtu) past.searched tt searched
   searched_law entry past allowed searched = searched
 
-  -- a fresh path is searched from its making on, and one that goes on as the path before it
+  -- a fresh path is searched from its making on, and one that is not as the path before it
   follows_searched : (following : PathOrigin) (past : PathHistory K) → IsPathSearchedBy by past
       → IsPathSearchedBy by (past_following settings following past)
   follows_searched following past searched = grind (arith, fresh_is, searched)
 
-  -- an event's entries keep that
+  -- an event's entries preserve that
   pub searched_over : (first : PathState K) (entries log : List PathsEntry) → let pasts =
       pasts_by settings first log in
       AreAllowed settings (each_path known_of pasts) entries → OnEachPath (IsPathSearchedBy by) pasts

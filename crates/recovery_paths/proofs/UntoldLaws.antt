@@ -1,4 +1,4 @@
--- The search for the MTU of the path in use began with nothing told to it. The driver's `BurstLaws` rest on it.
+-- The MTU search of the path in use began without any call. The driver's `BurstLaws` rest on it.
 use Rattle.std.proofs.Common.{arith, ℕ, List, [], ◌∷◌, Option}
 use Rattle.recovery_mtud.specs.MtuEntries.{IsFreshDiscovery}
 use Rattle.recovery_paths.specs.declared.path_pair.PathName.TheVariants.{Current}
@@ -6,14 +6,14 @@ use Rattle.recovery_paths.specs.PathLog.{PathsEntry, PathEntry, PathHistory, pas
 use Rattle.recovery_paths.specs.PathMaking.{PathSettings}
 use Rattle.recovery_paths.specs.PathStates.{PathState}
 
--- of one path
+-- for one path
 abbrev pub WasUntold : {K : Type 0} → PathHistory K → Type 0
 WasUntold past = IsFreshDiscovery past.kept.discovery
 
 module _ {K : Type 0} (settings : PathSettings K) (made : (limit : Option ℕ) → IsFreshDiscovery
     (settings.discovery limit))
   where
-    -- an entry leaves the search as it was made
+    -- an entry does not change how the search was made
     untold_law : (entry : PathEntry) (past : PathHistory K) → WasUntold past → WasUntold (past_with settings entry past)
     untold_law (receives bytes) past untold = untold
     untold_law entry past untold = untold

@@ -1,4 +1,4 @@
--- What happened on the paths. A path's own part knows of no other path.
+-- The log of the paths. A path's own part knows no other path.
 use Rattle.std.specs.Prelude.{ℕ, ◌≡◌, ◌+◌, Bool, true, false, List, [], ◌∷◌, Option, None, Some, option_map}
 use Rattle.std.specs.Option.{ForSome, option_map_or}
 use Rattle.std.specs.declared.net.socket_addr.SocketAddr.{SocketAddr}
@@ -10,16 +10,16 @@ use Rattle.recovery_paths.specs.declared.path_pair.PathName.TheVariants.{Current
 use Rattle.recovery_paths.specs.PathMaking.{PathSettings, begun_anew, discovery_resumed, state_fresh, state_going_on, state_reset, state_resumed}
 use Rattle.recovery_paths.specs.PathStates.{PathState, PathMarks, Path, pacer_call, after_asking, after_transmitting, after_receiving, after_sample, after_searching, after_telling, after_validation}
 
--- ---- the paths, whatever is kept for each
+-- ---- the paths, whatever is stored for each
 
--- at most two live: the one in use, and the one that was in use before it, until that is dropped (RFC 9000, 9.3)
+-- at most two: the one in use, and the one that was in use before it, until that is dropped (RFC 9000, 9.3)
 pub record PerPath (P : Type 0) : Type 0 where
   pub current : P
   pub previous : Option P
-  -- how many were made behind the first one, those that were dropped among them
+  -- how many were made after the first one, including those that were dropped
   pub made : ℕ
 
--- what is kept for the path of a name, where it lives
+-- what is stored for a path, if it exists
 abbrev pub path_of : {P : Type 0} → PathName → PerPath P → Option P
 path_of Current paths = Some paths.current
 path_of Previous paths = paths.previous
@@ -32,12 +32,12 @@ on_path_of Previous change paths = record paths { previous = option_map change p
 abbrev pub moved_to : {P : Type 0} → P → PerPath P → PerPath P
 moved_to path paths = record { current = path; previous = Some paths.current; made = paths.made + 1 }
 
--- the previous path, where it lives, is in use again, changed so, and the one that was in use is dropped (9.3.2)
+-- the previous path, if it exists, is in use again, changed so, and the one that was in use is dropped (9.3.2)
 abbrev pub reverted : {P : Type 0} → (P → P) → PerPath P → PerPath P
 reverted change paths =
     option_map_or (λ path. record paths { current = change path; previous = None }) paths.previous paths
 
--- it holds of each path that lives
+-- it holds for each existing path
 abbrev pub OnEachPath : {P : Type 0} → (P → Type 0) → PerPath P → Type 0
 OnEachPath Holds paths = Holds paths.current × ForSome paths.previous Holds
 
@@ -47,15 +47,15 @@ each_path f paths = record { current = f paths.current; previous = option_map f 
 -- ---- what happens on one path
 
 pub data PathEntry : Type 0 where
-  -- a datagram came in
+  -- a datagram was received
   receives : (bytes : ℕ) → PathEntry
-  -- the peer was seen to receive there
+  -- the peer's address was validated
   is_validated : PathEntry
-  -- an ACK gave a sample of the RTT
+  -- an ACK gave an RTT sample
   samples : (delay rtt : ℕ) → PathEntry
-  -- the controller is told of something
+  -- the controller gets a report
   tells : (call : ControllerCall) → PathEntry
-  -- the search for the MTU sees something
+  -- the MTU search gets a report
   searches : (call : MtuCall) → PathEntry
   -- the pacer is asked for bytes, and nothing is transmitted
   asks : (now bytes : ℕ) → PathEntry
@@ -63,31 +63,31 @@ pub data PathEntry : Type 0 where
   transmits : (bytes : ℕ) → PathEntry
   -- a datagram is transmitted that was checked: the pacer was asked for it first
   passes : (now bytes : ℕ) → PathEntry
-  -- RTT, controller, search and pacer begin anew
+  -- RTT, controller, search and pacer start again
   is_reset : (now : ℕ) → PathEntry
 
--- how a path of a generation follows on another one: fresh, where the peer takes datagrams of at most so many bytes, or
--- going on with RTT, controller and search
+-- how a new path follows another one: fresh, within the peer's limit for datagrams, or inheriting RTT, controller and
+-- search
 pub data PathOrigin : Type 0 where
   fresh : (generation : ℕ) (remote : SocketAddr) (limit : Option ℕ) (now : ℕ) → PathOrigin
   extends : (generation : ℕ) (remote : SocketAddr) (now : ℕ) → PathOrigin
-  -- or how one comes back into use, where the peer takes datagrams of at most so many bytes: as it was left
+  -- or how a path is used again: as it was left, within the peer's limit
   returns : (limit : Option ℕ) → PathOrigin
 
 pub data PathsEntry : Type 0 where
-  -- something happens on a path that lives
+  -- something happens on an existing path
   on : (name : PathName) (entry : PathEntry) → PathsEntry
   -- another path is used
   moves : (following : PathOrigin) → PathsEntry
   -- the previous path is dropped
   drops_previous : PathsEntry
-  -- the previous path is used again, where the peer takes datagrams of at most so many bytes
+  -- the previous path is used again, within the peer's limit
   reverts : (limit : Option ℕ) → PathsEntry
 
 abbrev pub on_current : PathEntry → PathsEntry
 on_current entry = on Current entry
 
--- the paths after an entry, by what is kept for one after what happens on it, and for one that follows on it
+-- the paths after an entry, given how an entry changes a path, and how a path follows another
 abbrev pub paths_with : {P : Type 0} → (PathEntry → P → P) → (PathOrigin → P → P) → PathsEntry → PerPath P → PerPath P
 paths_with change follow (on name entry) old = on_path_of name (change entry) old
 paths_with change follow (moves following) old = moved_to (follow following old.current) old
@@ -100,22 +100,22 @@ abbrev pub paths_after : {P : Type 0} → (PathEntry → P → P) → (PathOrigi
 paths_after change follow [] old = old
 paths_after change follow (entry ∷ earlier) old = paths_with change follow entry (paths_after change follow earlier old)
 
--- ---- all that happened on one path since it was made; a path that goes on from another one has what was seen there
+-- ---- the history of one path since it was made; a path that is not fresh inherits that of the other
 
 pub record PathHistory (K : Type 0) : Type 0 where
   -- how many paths were made before it
   pub generation : ℕ
-  -- what is kept for it, with search and pacer as they were made; a path that comes back has a search of its own
+  -- its state, with search and pacer as they were made; a path that is used again has a new search
   pub kept : PathState K
-  -- what the search for the MTU saw since, the newest first (RFC 8899, 5)
+  -- the calls of the MTU search since, the newest first (RFC 8899, 5)
   pub searched : List MtuCall
-  -- what the pacer was asked since, and what was taken off, the newest first (RFC 9002, 7.7)
+  -- the calls of the pacer since, and the tokens removed, the newest first (RFC 9002, 7.7)
   pub pacing : List PacerEntry
 
 abbrev pub past_made : {K : Type 0} → ℕ → PathState K → PathHistory K
 past_made generation kept = record { generation = generation; kept = kept; searched = []; pacing = [] }
 
--- what is kept after all that
+-- the state after all that
 abbrev pub path_state_of : {K : Type 0} → PathHistory K → PathState K
 path_state_of past = record past.kept {
   discovery = discovery_by past.kept.discovery past.searched;
@@ -129,7 +129,7 @@ past_transmitting bytes checked past = record past {
 }
 
 module _ {K : Type 0} (settings : PathSettings K) where
-  -- the pacer is asked with the RTT, MTU and window that all this gives
+  -- the pacer is asked with the RTT, MTU and window of that state
   abbrev pub past_asking : ℕ → ℕ → PathHistory K → PathHistory K
   past_asking now bytes past =
       record past { pacing = asked (pacer_call settings.words (path_state_of past) now bytes) ∷ past.pacing }
@@ -148,7 +148,7 @@ module _ {K : Type 0} (settings : PathSettings K) where
   past_with (samples delay rtt) past = record past { kept = after_sample delay rtt past.kept }
   past_with (tells call) past = record past { kept = after_telling settings.words call past.kept }
 
-  -- the past of a path that follows on another one
+  -- the history of a path that follows another one
   abbrev pub past_following : PathOrigin → PathHistory K → PathHistory K
   past_following (fresh generation remote limit now) past =
       past_made generation (state_fresh settings remote false limit now)
@@ -161,7 +161,7 @@ module _ {K : Type 0} (settings : PathSettings K) where
       let discovery = discovery_resumed settings limit (path_state_of past).discovery.mtu in
       record past { kept = record past.kept { discovery = discovery }; searched = [] }
 
-  -- ---- what an entry changes of what is kept
+  -- ---- what an entry changes in the state
 
   abbrev pub state_with : PathEntry → PathState K → PathState K
   state_with (receives bytes) old = after_receiving bytes old
@@ -179,13 +179,13 @@ module _ {K : Type 0} (settings : PathSettings K) where
   state_following (extends generation remote now) old = state_going_on settings.words remote now old
   state_following (returns limit) old = state_resumed settings limit old
 
--- the generation of a path that follows on one
+-- the generation of a path that follows another one
 abbrev pub generation_following : PathOrigin → ℕ → ℕ
 generation_following (fresh generation remote limit now) old = generation
 generation_following (extends generation remote now) old = generation
 generation_following (returns limit) old = old
 
--- ---- what is known of the paths
+-- ---- the inputs from the paths
 
 pub record PathReplyInputs (K : Type 0) : Type 0 where
   -- how many paths were made before it
@@ -205,7 +205,7 @@ module _ {K : Type 0} (settings : PathSettings K) where
     state = state_following settings following old.state;
   }
 
-  -- the past of each path, where the first is made so
+  -- the history of each path, if the first is made so
   abbrev pub pasts_by : PathState K → List PathsEntry → PerPath (PathHistory K)
   pasts_by first log = paths_after (past_with settings) (past_following settings) log
       (record { current = past_made 0 first; previous = None; made = 0 })
@@ -220,7 +220,7 @@ module _ {K : Type 0} (settings : PathSettings K) where
   abbrev pub PathsAfter : PathState K → List PathsEntry → PerPath (PathReplyInputs K) → Type 0
   PathsAfter first log paths = paths ≡ paths_known_by first log
 
--- ---- what the paths hold, and what is known of them
+-- ---- the state of the paths, and the inputs from them
 
 abbrev pub path_known : {K : Type 0} → Path K → PathReplyInputs K
 path_known path = record { generation = path.ledger.generation; state = path.state }
@@ -228,6 +228,6 @@ path_known path = record { generation = path.ledger.generation; state = path.sta
 abbrev pub paths_known : {K : Type 0} → PerPath (Path K) → PerPath (PathReplyInputs K)
 paths_known paths = each_path path_known paths
 
--- what the layer above keeps with them
+-- the caller's marks
 abbrev pub paths_marks : {K : Type 0} → PerPath (Path K) → PerPath PathMarks
 paths_marks paths = each_path (λ path. path.marks) paths

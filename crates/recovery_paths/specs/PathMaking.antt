@@ -1,4 +1,4 @@
--- How a network path is made: fresh, from the one before it, or anew (RFC 9000, 9; RFC 9002, 5 to 7).
+-- How a network path is made: fresh, from the one before it, or reset (RFC 9000, 9; RFC 9002, 5 to 7).
 use Rattle.std.specs.Prelude.{ℕ, Bool, true, false, Option, None, [], if◌then◌else◌}
 use Rattle.std.specs.declared.net.socket_addr.SocketAddr.{SocketAddr}
 use Rattle.recovery_base.specs.declared.below.SpaceId.{SpaceId}
@@ -11,7 +11,7 @@ use Rattle.recovery_congestion.specs.Pacing.{Bucket, bucket_made}
 use Rattle.recovery_paths.specs.PathStates.{PathState, PathMarks}
 use Rattle.recovery_congestion.specs.Rtt.{rtt_made, rtt_get}
 
--- nothing was challenged yet, and packets are marked
+-- no challenge was sent, and packets are marked
 abbrev pub marks_made : Option (SpaceId × ℕ) → PathMarks
 marks_made first = record {
   challenge = None;
@@ -24,17 +24,17 @@ marks_made first = record {
 -- the settings of all paths, and what their controllers do
 pub record PathSettings (K : Type 0) : Type 0 where
   pub words : ControllerSemantics K
-  -- the controller that is built at a moment, for the MTU at first
+  -- the controller that is built at a time, for the initial MTU
   pub built : ℕ → K
-  -- the MTU at first, and the least one
+  -- the initial MTU, and the minimum
   pub mtu : ℕ
   pub min_mtu : ℕ
   -- the RTT before the first sample
   pub rtt : ℕ
-  -- the MTU in use at first and the search for it, where the peer takes datagrams of at most so many bytes
+  -- the initial MTU and its search, within the peer's limit for datagrams
   pub discovery : Option ℕ → Discovery
 
--- the MTU of a path that is made, and the search for it, where it is allowed and the settings say how
+-- the MTU of a new path, and its search, if it is allowed and configured
 abbrev pub first_discovery : {F : Type 0} → Bool → Option ℕ → TransportConfig F → Discovery
 first_discovery allowed limit config =
     discovery_made (initial_mtu_of config) config.min_mtu limit (if allowed then config.mtu_discovery_config else None)
@@ -50,10 +50,10 @@ path_settings built words allowed config = record {
   discovery = λ limit. first_discovery allowed limit config;
 }
 
--- ---- a path that goes on from another one
+-- ---- a path that follows another one
 
 module _ {K : Type 0} (words : ControllerSemantics K) where
-  -- a path to another address goes on with RTT, controller and search (RFC 9000, 9.4); its pacer is full, for the RTT,
+  -- a path to another address inherits RTT, controller and search (RFC 9000, 9.4); its pacer is full, for the RTT,
   -- window and MTU of that one
   abbrev pub state_going_on : SocketAddr → ℕ → PathState K → PathState K
   state_going_on remote now old = record old {
@@ -67,11 +67,11 @@ module _ {K : Type 0} (words : ControllerSemantics K) where
 -- ---- by the settings
 
 module _ {K : Type 0} (settings : PathSettings K) where
-  -- the pacer is made full, for the RTT at first and the initial window
+  -- the pacer is made full, for the initial RTT and window
   abbrev pub pacer_at_first : ℕ → ℕ → Bucket
   pacer_at_first mtu now = bucket_made settings.rtt (settings.words.initial (settings.built now)) mtu now
 
-  -- a fresh path, where the peer takes datagrams of at most so many bytes
+  -- a fresh path, within the peer's limit for datagrams
   abbrev pub state_fresh : SocketAddr → Bool → Option ℕ → ℕ → PathState K
   state_fresh remote validated limit now = record {
     remote = remote;
@@ -84,20 +84,20 @@ module _ {K : Type 0} (settings : PathSettings K) where
     pacer = pacer_at_first settings.mtu now;
   }
 
-  -- a path that comes back into use keeps its MTU, within the size that the peer takes, and is searched anew from
-  -- there: nobody told its search what became of its probe, nor of that size
+  -- a path that is used again has its MTU, within the peer's limit. Its search starts again from there, since the
+  -- outcome of its probe, and that limit, were not reported to it
   abbrev pub discovery_resumed : Option ℕ → ℕ → Discovery
   discovery_resumed limit mtu = record (settings.discovery limit) { mtu = within mtu limit }
 
   abbrev pub state_resumed : Option ℕ → PathState K → PathState K
   state_resumed limit old = record old { discovery = discovery_resumed limit old.discovery.mtu }
 
-  -- RTT, controller and pacer begin anew, the pacer for this MTU
+  -- RTT, controller and pacer start again, the pacer for this MTU
   abbrev pub begun_anew : ℕ → ℕ → PathState K → PathState K
   begun_anew mtu now old =
       record old { rtt = rtt_made settings.rtt; controller = settings.built now; pacer = pacer_at_first mtu now }
 
-  -- and the search too, with the peer's limit kept, where the MTU then in use is the pacer's
+  -- and so does the search, within the peer's limit; the resulting MTU is the pacer's
   abbrev pub state_reset : ℕ → PathState K → PathState K
   state_reset now old =
       let discovery = discovery_after (resets settings.mtu settings.min_mtu) old.discovery in

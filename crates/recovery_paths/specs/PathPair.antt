@@ -1,4 +1,4 @@
--- What the paths that live have in flight, when packets come and go (RFC 9002, B.2).
+-- What is in flight on the existing paths, when packets are sent and leave (RFC 9002, B.2).
 use Rattle.std.specs.Prelude.{ℕ, Bool, [], ◌∷◌, Option, option_map}
 use Rattle.std.specs.Option.{ForSome}
 use Rattle.recovery_base.specs.declared.below.SpaceId.{SpaceId}
@@ -20,9 +20,9 @@ ledger_without [] ledger = ledger
 ledger_without (entry ∷ packets) ledger = ledger_without packets (after_leaving ledger entry.1)
 
 module _ {K P M : Type 0} where
-  -- ---- what is asked of callers
+  -- ---- what callers must guarantee
 
-  -- the packet is among those counted on its path, where that lives
+  -- the packet is counted on its path, if that exists
   abbrev pub IsCountedOnEach : PerPath (Path K) → Packet P M → Type 0
   IsCountedOnEach paths packet = OnEachPath (λ path. IsCountedOn path.ledger packet) paths
 
@@ -31,15 +31,15 @@ module _ {K P M : Type 0} where
   AreCountedOnEach paths packets =
       OnEachPath (λ path. IsCountedIn (counters_of path.ledger) (generation_of path.ledger) packets) paths
 
-  -- a packet may be tracked for the path in use, and one that is forgotten for it is among those counted on its path
+  -- a packet may be tracked for the path in use, and one that is forgotten for it is counted on its path
   pub record CanTrackOn (paths : PerPath (Path K)) (number : ℕ) (packet : Packet P M) (space : Space P M) : Type 0 where
     pub current : CanTrack paths.current.ledger number packet space
     pub previous : ForSome paths.previous (λ path.
         ForSome (forgotten_entry packet (tracking_of space)) (λ entry. IsCountedOn path.ledger entry.1))
 
-  -- ---- what is in flight then
+  -- ---- what is in flight afterwards
 
-  -- a packet is sent on the path in use, and another is perhaps forgotten
+  -- a packet is sent on the path in use, and perhaps another is forgotten
   abbrev pub paths_after_sending : Packet P M → Option (ℕ × Packet P M) → PerPath (Path K) → PerPath (Path K)
   paths_after_sending packet forgotten paths = record paths {
     current = on_ledger (λ ledger. path_after_sending ledger packet forgotten) paths.current;

@@ -1,4 +1,4 @@
--- The responses to path challenges that are to be sent, and what the calls do to them (RFC 9000, 8.2.2).
+-- The responses to path challenges to send, and what the calls do to them (RFC 9000, 8.2.2).
 use Rattle.std.specs.Prelude.{ℕ, ◌-◌, ◌≤◌, Bool, false, ◌&&◌, ◌==◌, bytes_eq, nat_lt, nat_le, if◌then◌else◌, List, [], ◌∷◌, ◌++◌, length, map, take, slice_get, Option, None, Some}
 use Rattle.std.specs.List.{IsDistinct, list_any}
 use Rattle.std.specs.Net.Addr.{ipv4_octets, ipv6_segments}
@@ -27,21 +27,21 @@ remotes responses = map (λ response. response.remote) responses
 abbrev pub most_responses : ℕ
 most_responses = 16
 
--- at most 16 wait, and no two go to the same address
+-- at most 16 wait, and no two are for the same address
 pub record AreSoundResponses (responses : List PathResponse) : Type 0 where
   pub few : length responses ≤ most_responses
   pub apart : IsDistinct same_address (remotes responses)
 
--- a response once a new one came: the new one takes its place if both go to one address, unless the challenge of the
--- old one came in a newer packet
+-- a response after a new one: the new one replaces it if both are for one address, unless the challenge of the old one
+-- was received in a newer packet
 abbrev pub renewed : PathResponse → PathResponse → PathResponse
 renewed new kept =
     if goes_to new.remote kept && nat_le kept.packet new.packet
     then record kept { packet = new.packet; token = new.token }
     else kept
 
--- a challenge came: its response takes the place of the one to its address, or is the last where there is none and
--- fewer than 16 wait
+-- a challenge was received: its response replaces the one to its address, or is appended if there is none and fewer
+-- than 16 wait
 abbrev pub with_response : PathResponse → List PathResponse → List PathResponse
 with_response new responses =
     if list_any (goes_to new.remote) responses then map (renewed new) responses
@@ -51,17 +51,17 @@ with_response new responses =
 abbrev pub last_of : List PathResponse → Option PathResponse
 last_of responses = slice_get responses (length responses - 1)
 
--- what the last response sends to another address than this one: its token, and where
+-- the last response if it is for another address than this one: its token and its address
 abbrev pub sent_off_path : SocketAddr → Option PathResponse → Option (ℕ × SocketAddr)
 sent_off_path remote None = None
 sent_off_path remote (Some last) = if goes_to remote last then None else Some (last.token, last.remote)
 
--- what the last response sends to this address: its token
+-- the last response if it is for this address: its token
 abbrev pub sent_on_path : SocketAddr → Option PathResponse → Option ℕ
 sent_on_path remote None = None
 sent_on_path remote (Some last) = if goes_to remote last then Some last.token else None
 
--- the last response goes where something was sent
+-- the last response is removed if something was sent
 abbrev pub responses_left : {Sent : Type 0} → Option Sent → List PathResponse → List PathResponse
 responses_left None responses = responses
 responses_left (Some sent) responses = take (length responses - 1) responses

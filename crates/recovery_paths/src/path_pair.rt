@@ -1,4 +1,4 @@
-//! The paths of a connection that live: the one in use, and the one that was in use before it (RFC 9000, 9).
+//! The paths of a connection: the one in use, and the one that was in use before it (RFC 9000, 9).
 ghost use Rattle.std.specs.Prelude.{◌≡◌, ◌↔◌, ◌<◌, ◌≤◌, ◌+◌, ◌^◌, None, OnOk, OnErr, IfOk, IsErrOf, IsSomeAnd, is_some, option_map, option_copied};
 ghost use Rattle.std.specs.Option.{ForSome, IfSome, SomeIff};
 ghost use Rattle.recovery_base.specs.Units.{u64_limit};
@@ -25,7 +25,7 @@ use std::marker::Model;
 use std::mem;
 use thiserror::Error;
 
-/// A path that lives, by its name.
+/// The name of a path.
 #[derive(Clone, Copy)]
 pub enum PathName {
     /// The path in use.
@@ -34,18 +34,18 @@ pub enum PathName {
     Previous,
 }
 
-/// Why a datagram does not count. The paths are as they were.
+/// Why a received datagram is not counted. The paths are unchanged.
 #[derive(Clone, Copy, Debug, PartialEq, Eq, Error)]
 pub enum DatagramError {
-    /// No path of the name lives.
+    /// The path does not exist.
     #[error("there is no such path")]
     NoSuchPath,
-    /// The bytes that came in on the path would pass `u64::MAX`.
+    /// The bytes received on the path would exceed `u64::MAX`.
     #[error("the total passes 2^64 - 1 bytes")]
     Overflow,
 }
 
-/// At most two paths. A packet is counted on the path that it went by, as long as that lives.
+/// At most two paths. A packet is counted on the path on which it was sent, as long as that exists.
 #[derive(Drop)]
 pub struct PathPair<C: Controller> {
     /// The path in use.
@@ -68,7 +68,7 @@ impl<C: Controller> Model for PathPair<C> {
 }
 
 impl<C: Controller + Drop> PathPair<C> {
-    /// The first path alone.
+    /// Returns a pair with the first path only.
     pub fn new(current: PathData<C>) -> Self
         ensures { result
             ≡ record { current = current; previous = None; made = generation_of current.ledger } }
@@ -81,29 +81,29 @@ impl<C: Controller + Drop> PathPair<C> {
         }
     }
 
-    /// The path in use before the current one, unless it was dropped.
+    /// Returns the path in use before the current one, unless it was dropped.
     pub fn previous(&self) -> Option<&PathData<C>>
         ensures { option_copied result ≡ self.now.previous }
     {
         self.previous.as_ref()
     }
 
-    /// The generation of the next path that is made: past those of all that were, also of the dropped ones, whose
-    /// packets may still be tracked. `None` where 2^64 paths were made.
+    /// Returns the generation of the next path, above those of all paths made so far. Packets of dropped paths may
+    /// still be tracked, so their generations are not reused. `None` if 2^64 paths were made.
     pub fn next_generation(&self) -> Option<u64>
         ensures { SomeIff result (self.now.made + 1 < u64_limit) (self.now.made + 1) }
     {
         self.made.checked_add(1)
     }
 
-    /// How many paths were made before the one in use: the packets that are sent have this number.
+    /// Returns how many paths were made before the one in use: the generation of packets that are sent.
     pub fn generation(&self) -> u64
         ensures { result ≡ generation_of self.now.current.ledger }
     {
         self.current.generation()
     }
 
-    /// What is in flight on a path (RFC 9002, B.2), where it lives.
+    /// Returns what is in flight on a path (RFC 9002, B.2), if it exists.
     pub fn in_flight(&self, name: PathName) -> Option<InFlight>
         ensures { result ≡ option_map (λ path. counters_of path.ledger) (path_of name self.now) }
     {
@@ -113,8 +113,8 @@ impl<C: Controller + Drop> PathPair<C> {
         }
     }
 
-    /// A datagram came in on a path, of so many bytes (RFC 9000, 8.1). Refused by `NoSuchPath`, then by `Overflow`; a
-    /// refusal changes nothing.
+    /// Counts a datagram of this many bytes received on a path (RFC 9000, 8.1). Rejected with `NoSuchPath`, then with
+    /// `Overflow`; an error changes nothing.
     pub fn receive_datagram(&mut self, name: PathName, bytes: u64) -> Result<(), DatagramError>
         ensures ok { OnOk result
             (self.new ≡ on_path_of name (on_state (after_receiving bytes)) self.old) }
@@ -133,7 +133,8 @@ impl<C: Controller + Drop> PathPair<C> {
         }
     }
 
-    /// The peer was seen to receive at a path's address (RFC 9000, 8.2): false, and nothing, where no such path lives.
+    /// Marks a path's address as validated (RFC 9000, 8.2). Returns false and changes nothing if the path does not
+    /// exist.
     pub fn validate(&mut self, name: PathName) -> bool
         ensures lives { result ≡ is_some (path_of name self.old) }
         ensures after { self.new ≡ on_path_of name (on_state after_validation) self.old }
@@ -153,8 +154,8 @@ impl<C: Controller + Drop> PathPair<C> {
         }
     }
 
-    /// The layer above keeps this with a path from now on; what it kept before is handed back. `None`, and nothing,
-    /// where no path of the name lives.
+    /// Stores the caller's marks of a path and returns the previous ones. Returns `None` and changes nothing if the
+    /// path does not exist.
     pub fn set_marks(&mut self, name: PathName, marks: PathMarks) -> Option<PathMarks>
         ensures before { result ≡ option_map (λ path. path.marks) (path_of name self.old) }
         ensures after { self.new ≡ on_path_of name (with_marks marks) self.old }
@@ -166,9 +167,9 @@ impl<C: Controller + Drop> PathPair<C> {
     }
 
     /// Tracks a packet of the path in use in a space, and counts it there (RFC 9002, B.2). A packet that the space
-    /// forgets for it is handed back with its number, and is no longer counted on its path. `Overflow` is tested before
-    /// anything is forgotten; a refusal drops the packet and leaves all else. Cost: constant over all calls, but for a
-    /// packet that is forgotten, which costs what `take` does.
+    /// forgets for it is returned with its number, and is no longer counted on its path. `Overflow` is tested before
+    /// anything is forgotten. An error drops the packet and changes nothing else. Cost: amortized constant, plus that
+    /// of `take` for a forgotten packet.
     pub fn sent<Q>(
         &mut self,
         number: u64,
@@ -195,7 +196,7 @@ impl<C: Controller + Drop> PathPair<C> {
         Ok(forgotten)
     }
 
-    /// The controller of the path in use is told of a packet of so many bytes that goes out there (RFC 9002, B.4).
+    /// Reports to the controller of the path in use that a packet of this size is sent (RFC 9002, B.4).
     pub fn on_sent(&mut self, now: Instant, bytes: u64, number: u64)
         ensures { self.new
             ≡ on_path_of Current
@@ -204,8 +205,8 @@ impl<C: Controller + Drop> PathPair<C> {
         self.current.on_sent(now, bytes, number);
     }
 
-    /// A packet of a space was acknowledged: whether it was the probe of the MTU in flight. It is counted on its path
-    /// no more, and the path in use is told of it, as [`PathData::on_packet_acked`] says.
+    /// Records that a packet of a space was acknowledged. Returns whether it was the MTU probe in flight. The packet is
+    /// no longer counted on its path, and is reported to the path in use, as [`PathData::on_packet_acked`].
     pub fn on_packet_acked<Q: RetransmitQueue>(
         &mut self,
         space: SpaceId,
@@ -224,8 +225,8 @@ impl<C: Controller + Drop> PathPair<C> {
             .on_packet_acked(space, number, now, packet, app_limited)
     }
 
-    /// A packet of a space was lost: whether it was the probe of the MTU in flight. It is counted on its path no more,
-    /// and the path in use is told of it, as [`PathData::on_packet_lost`] says.
+    /// Records that a packet of a space was lost. Returns whether it was the MTU probe in flight. The packet is no
+    /// longer counted on its path, and is reported to the path in use, as [`PathData::on_packet_lost`].
     pub fn on_packet_lost<Q: RetransmitQueue>(
         &mut self,
         space: SpaceId,
@@ -240,8 +241,8 @@ impl<C: Controller + Drop> PathPair<C> {
         self.current.on_packet_lost(space, number, packet)
     }
 
-    /// Takes every packet of a space out, and counts each on its path no more (RFC 9002, 6.4). Cost: linear in the
-    /// packets that the space tracks.
+    /// Removes every packet of a space; none of them is counted on its path any more (RFC 9002, 6.4). Cost: linear in
+    /// the packets that the space tracks.
     pub fn forget_all<Q>(&mut self, space: &mut PacketSpace<Q>)
     where
         Q: RetransmitQueue,
@@ -254,8 +255,8 @@ impl<C: Controller + Drop> PathPair<C> {
         }
     }
 
-    /// A path to another address is used from now on (RFC 9000, 9.3), and the one in use becomes the previous one; an
-    /// older previous one is dropped. Its generation is the next one.
+    /// Uses another path from now on (RFC 9000, 9.3). The path in use becomes the previous one, and an older previous
+    /// one is dropped. The new path has the next generation.
     pub fn move_to(&mut self, path: PathData<C>)
         requires { generation_of path.ledger ≡ self.old.made + 1 }
         ensures { self.new ≡ moved_to path self.old }
@@ -265,10 +266,10 @@ impl<C: Controller + Drop> PathPair<C> {
         self.previous = Some(left);
     }
 
-    /// The previous path is used again as it was left, and the one in use is dropped, since its address was not
-    /// validated (RFC 9000, 9.3.2): false, and nothing, where no previous one lives. Its MTU stays, within the peer's
-    /// limit (bytes, above zero) where there is one, and is searched for anew as [`PathData::resume`] says. The packets
-    /// of the path that is dropped stay tracked.
+    /// Uses the previous path again as it was left, and drops the one in use, since its address was not validated (RFC
+    /// 9000, 9.3.2). Returns false and changes nothing if there is no previous path. The MTU stays, within the peer's
+    /// limit (bytes, above zero) if there is one. Its search starts again, as [`PathData::resume`]. The packets of the
+    /// dropped path stay tracked.
     pub fn revert<F: ControllerFactory<Controller = C>>(
         &mut self,
         allow_mtud: bool,
@@ -289,7 +290,8 @@ impl<C: Controller + Drop> PathPair<C> {
         true
     }
 
-    /// The previous path is dropped (RFC 9000, 9.3.3): false, and nothing, where none lives. Its packets stay tracked.
+    /// Drops the previous path (RFC 9000, 9.3.3). Returns false and changes nothing if there is none. Its packets stay
+    /// tracked.
     pub fn drop_previous(&mut self) -> bool
         ensures lived { result ≡ is_some self.old.previous }
         ensures after { self.new ≡ record self.old { previous = None } }
@@ -299,7 +301,7 @@ impl<C: Controller + Drop> PathPair<C> {
         lived
     }
 
-    /// Counts a packet on its path no more.
+    /// Stops counting a packet on its path.
     fn remove_in_flight<Q: RetransmitQueue>(&mut self, packet: &SentPacket<Q>)
         requires { IsCountedOnEach self.old packet.now }
         ensures { self.new ≡ each_path (path_left_by packet.now) self.old }
@@ -308,7 +310,7 @@ impl<C: Controller + Drop> PathPair<C> {
         self.remove_from_previous(packet);
     }
 
-    /// Counts a packet on the previous path no more, where it went by that.
+    /// Stops counting a packet on the previous path, if it was sent there.
     fn remove_from_previous<Q: RetransmitQueue>(&mut self, packet: &SentPacket<Q>)
         requires { ForSome self.old.previous (λ path. IsCountedOn path.ledger packet.now) }
         ensures { self.new ≡ record self.old
@@ -320,7 +322,7 @@ impl<C: Controller + Drop> PathPair<C> {
     }
 }
 
-/// The total of a path has no room for a datagram.
+/// Returns the error for a total without room for a datagram.
 fn overflow(_: TotalOverflow) -> DatagramError
     ensures { result ≡ DatagramError.Overflow }
 {

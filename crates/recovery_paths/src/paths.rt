@@ -1,5 +1,5 @@
-//! What is kept for each network path: its round-trip time, its controller and its pacer, what came in and went out,
-//! and what is in flight on it (RFC 9000, 8 and 9; RFC 9002).
+//! The state of each network path: its RTT, controller and pacer, the bytes sent and received, and what is in flight on
+//! it (RFC 9000, 8 and 9; RFC 9002).
 ghost use Rattle.std.specs.Prelude.{◌≡◌, Decides, ◌↔◌, ◌<◌, ◌+◌, ◌^◌, ◌≤◌, Bool, None, false, OnOk, OnErr, IfOk, IsErrOf};
 ghost use Rattle.std.specs.Option.{IfSome};
 ghost use Rattle.recovery_base.specs.Units.{u64_limit};
@@ -30,23 +30,23 @@ use std::mem;
 use std::net::SocketAddr;
 use thiserror::Error;
 
-/// A total would pass `u64::MAX` bytes. It stays as it was.
+/// A total would exceed `u64::MAX` bytes. It is unchanged.
 #[derive(Clone, Copy, Debug, PartialEq, Eq, Error)]
 #[error("the total passes 2^64 - 1 bytes")]
 pub struct TotalOverflow;
 
-/// What the layer above keeps with a path: no event changes it.
+/// The caller's marks of a path: no event changes them.
 #[derive(Drop)]
 pub struct PathMarks {
-    /// Whether packets are marked on the path (RFC 9000, 13.4).
+    /// Whether packets on the path are marked with an ECT codepoint (RFC 9000, 13.4).
     pub sending_ecn: bool,
-    /// What its PATH_CHALLENGE frame says, where one was sent (RFC 9000, 8.2.1).
+    /// The data of its PATH_CHALLENGE frame, if one was sent (RFC 9000, 8.2.1).
     pub challenge: Option<u64>,
-    /// Whether a PATH_CHALLENGE frame is to be sent.
+    /// Whether to send a PATH_CHALLENGE frame.
     pub challenge_pending: bool,
-    /// The PATH_RESPONSE frames that are to be sent (RFC 9000, 8.2.2).
+    /// The PATH_RESPONSE frames to send (RFC 9000, 8.2.2).
     pub path_responses: PathResponses,
-    /// Space and number of the first packet that was sent after a sample of the round-trip time (RFC 9002, 7.6.2).
+    /// Space and number of the first packet that was sent after an RTT sample (RFC 9002, 7.6.2).
     pub first_packet_after_rtt_sample: Option<(SpaceId, u64)>,
 }
 
@@ -64,37 +64,37 @@ impl Model for PathMarks {
     } };
 }
 
-/// What is kept for one path, with a congestion controller `C`.
+/// The state of one path, with a congestion controller `C`.
 ///
-/// Contracts see it as its ledger, its state and its marks; the MTU and the controller's window are above zero.
+/// In contracts its value is its ledger, its state and its marks. The MTU and the controller's window are above zero.
 #[derive(Drop)]
 pub struct PathData<C: Controller> {
     /// The address of the peer.
     pub remote: SocketAddr,
-    /// The estimate of the round-trip time (RFC 9002, 5).
+    /// The RTT estimate (RFC 9002, 5).
     pub rtt: RttEstimator,
     /// The congestion controller (RFC 9002, 7).
     pub congestion: C,
     /// The pacer (RFC 9002, 7.7).
     pub pacing: Pacer,
-    /// Whether the peer was seen to receive at this address (RFC 9000, 8).
+    /// Whether the peer's address was validated (RFC 9000, 8).
     pub validated: bool,
     /// The bytes of all datagrams transmitted on the path.
     pub total_sent: u64,
-    /// The bytes of all datagrams that came in on the path.
+    /// The bytes of all datagrams received on the path.
     pub total_recvd: u64,
-    /// The MTU in use, and the search for it (RFC 9000, 14.3).
+    /// The MTU in use, and the search for a larger one (RFC 9000, 14.3).
     pub mtud: MtuDiscovery,
-    /// Whether packets are marked on the path (RFC 9000, 13.4). This and the four fields below are the layer's above
-    /// ([`PathMarks`]).
+    /// Whether packets on the path are marked with an ECT codepoint (RFC 9000, 13.4). This and the four fields below
+    /// are the caller's ([`PathMarks`]).
     pub sending_ecn: bool,
-    /// What its PATH_CHALLENGE frame says, where one was sent (RFC 9000, 8.2.1).
+    /// The data of its PATH_CHALLENGE frame, if one was sent (RFC 9000, 8.2.1).
     pub challenge: Option<u64>,
-    /// Whether a PATH_CHALLENGE frame is to be sent.
+    /// Whether to send a PATH_CHALLENGE frame.
     pub challenge_pending: bool,
-    /// The PATH_RESPONSE frames that are to be sent (RFC 9000, 8.2.2).
+    /// The PATH_RESPONSE frames to send (RFC 9000, 8.2.2).
     pub path_responses: PathResponses,
-    /// Space and number of the first packet that was sent after a sample of the round-trip time (RFC 9002, 7.6.2).
+    /// Space and number of the first packet that was sent after an RTT sample (RFC 9002, 7.6.2).
     pub first_packet_after_rtt_sample: Option<(SpaceId, u64)>,
     generation: u64,
     in_flight: InFlight,
@@ -130,9 +130,9 @@ impl<C: Controller> Model for PathData<C> {
 }
 
 impl<C: Controller + Drop> PathData<C> {
-    /// A path on which nothing was sent yet, to an address that is not validated. Its controller is built and its pacer
-    /// is full, for the initial MTU and RTT of the settings. Its MTU is searched for where that is allowed and the
-    /// settings say how, up to the peer's limit (bytes, above zero) where there is one.
+    /// Returns a path on which nothing was sent, to an address that is not validated. Its controller is built and its
+    /// pacer is full, for the initial MTU and RTT of the settings. If allowed and configured, it searches for a larger
+    /// MTU, up to the peer's limit (bytes, above zero) if there is one.
     pub fn new<F: ControllerFactory<Controller = C>>(
         remote: SocketAddr,
         allow_mtud: bool,
@@ -168,10 +168,10 @@ impl<C: Controller + Drop> PathData<C> {
         }
     }
 
-    /// A path to another address that goes on with another path's round-trip times, controller and search for the MTU:
-    /// for a peer whose port alone changed, most likely behind a NAT, so that the way is the same (RFC 9000, 9.4). The
-    /// address itself is to be validated anew (RFC 9000, 9.3), as all else is that of a new path; its pacer is full,
-    /// for the RTT, window and MTU of the other one. `NoMemory` where the controller finds no memory for a second one.
+    /// Returns a path to another address that inherits RTT, controller and MTU search from another path. It is for a
+    /// peer of which only the port changed, most likely because of a NAT, so that the network path is the same (RFC
+    /// 9000, 9.4). The address must be validated again (RFC 9000, 9.3). All else is as on a new path; its pacer is
+    /// full, for the RTT, window and MTU of the other path. `NoMemory` if the second controller cannot be allocated.
     pub fn from_previous(
         remote: SocketAddr,
         previous: &Self,
@@ -205,9 +205,9 @@ impl<C: Controller + Drop> PathData<C> {
         })
     }
 
-    /// Round-trip times, controller, search for the MTU and pacer begin anew by the settings, the search with the
-    /// peer's limit kept, and the pacer for the MTU then in use. All else stays: the way beneath changed, of which
-    /// these tell, and not the address (RFC 9000, 9.4).
+    /// Resets RTT, controller, MTU search and pacer to the settings, within the peer's limit; the pacer is made for the
+    /// resulting MTU. All else stays: these describe the network path, which changed, and not the address (RFC 9000,
+    /// 9.4).
     pub fn reset<F: ControllerFactory<Controller = C>>(
         &mut self,
         now: Instant,
@@ -229,9 +229,9 @@ impl<C: Controller + Drop> PathData<C> {
         );
     }
 
-    /// The path comes back into use. Its MTU stays, within the peer's limit (bytes, above zero) where there is one, and
-    /// is searched for anew from there, where that is allowed and the settings say how (RFC 8899, 5): nobody told its
-    /// search what became of its probe while another path was in use, nor a limit. All else stays as it was left.
+    /// Prepares the path for being used again. Its MTU stays, within the peer's limit (bytes, above zero) if there is
+    /// one. If allowed and configured, its search starts again from there (RFC 8899, 5): the outcome of its probe, and
+    /// limits, were not reported to it while another path was in use. All else stays as it was left.
     pub fn resume<F: ControllerFactory<Controller = C>>(
         &mut self,
         allow_mtud: bool,
@@ -249,21 +249,21 @@ impl<C: Controller + Drop> PathData<C> {
         self.mtud = discovery_for(allow_mtud, peer_max_udp_payload_size, config).with_mtu(mtu);
     }
 
-    /// Which of the connection's paths this is, counted from 0.
+    /// Returns the generation of the path, counted from 0.
     pub fn generation(&self) -> u64
         ensures { result ≡ generation_of self.now.ledger }
     {
         self.generation
     }
 
-    /// What is in flight on the path (RFC 9002, B.2).
+    /// Returns what is in flight on the path (RFC 9002, B.2).
     pub fn in_flight(&self) -> InFlight
         ensures { result ≡ counters_of self.now.ledger }
     {
         self.in_flight
     }
 
-    /// The bytes of a datagram that the path carries, above zero.
+    /// Returns the MTU in use: the bytes of a datagram, above zero.
     pub fn current_mtu(&self) -> u16
         ensures value { result ≡ self.now.state.discovery.mtu }
         ensures positive { 0 < result }
@@ -271,9 +271,9 @@ impl<C: Controller + Drop> PathData<C> {
         self.mtud.current_mtu()
     }
 
-    /// Whether so many bytes may not be sent, since the address is not validated and they would come to more than three
-    /// times the bytes that came from it (RFC 9000, 8.1): who writes another's address on its packets shall not turn
-    /// much more than it sends on that one. Exact whatever the totals are.
+    /// Returns whether this many bytes may not be sent, since the address is not validated and with them more than
+    /// three times the bytes received from it would be sent (RFC 9000, 8.1). An attacker that spoofs an address must
+    /// not direct much more traffic to it than it sends itself. Exact for all totals.
     pub fn anti_amplification_blocked(&self, bytes_to_send: u64) -> bool
         ensures { result ≡ is_blocked self.now.state bytes_to_send }
     {
@@ -282,9 +282,9 @@ impl<C: Controller + Drop> PathData<C> {
     }
 
     /// Tracks a packet of this path in a space, and counts it (RFC 9002, B.2). A packet that the space forgets for it
-    /// is handed back with its number, and is no longer counted where it is one of this path's. `Overflow` is tested
-    /// before anything is forgotten; a refusal drops the packet and leaves all else. Cost: constant over all calls, but
-    /// for a packet that is forgotten, which costs what `take` does.
+    /// is returned with its number, and is no longer counted if it is of this path. `Overflow` is tested before
+    /// anything is forgotten. An error drops the packet and changes nothing else. Cost: amortized constant, plus that
+    /// of `take` for a forgotten packet.
     pub fn sent<Q>(
         &mut self,
         number: u64,
@@ -319,7 +319,7 @@ impl<C: Controller + Drop> PathData<C> {
         Ok(forgotten)
     }
 
-    /// Counts a packet no more (RFC 9002, B.2): false, and nothing, for a packet of another path.
+    /// Stops counting a packet (RFC 9002, B.2). Returns false and changes nothing for a packet of another path.
     pub fn remove_in_flight<Q: RetransmitQueue>(&mut self, packet: &SentPacket<Q>) -> bool
         requires { IsCountedOn self.old.ledger packet.now }
         ensures own { Decides result (packet.now.path_generation ≡ generation_of self.old.ledger) }
@@ -333,8 +333,8 @@ impl<C: Controller + Drop> PathData<C> {
         true
     }
 
-    /// A datagram came in on the path, of so many bytes (RFC 9000, 8.1): the total has them. `TotalOverflow`, where it
-    /// would pass `u64::MAX`, changes nothing.
+    /// Counts a datagram of this many bytes received on the path (RFC 9000, 8.1). `TotalOverflow`, if the total would
+    /// exceed `u64::MAX`, changes nothing.
     pub fn receive_datagram(&mut self, bytes: u64) -> Result<(), TotalOverflow>
         ensures ok { OnOk result (self.new ≡ on_state (after_receiving bytes) self.old) }
         ensures overflow { OnErr result (u64_limit ≤ self.old.state.total_recvd + bytes) }
@@ -348,31 +348,31 @@ impl<C: Controller + Drop> PathData<C> {
         Ok(())
     }
 
-    /// The peer was seen to receive at this address (RFC 9000, 8.2).
+    /// Marks the path's address as validated (RFC 9000, 8.2).
     pub fn validate(&mut self)
         ensures { self.new ≡ on_state after_validation self.old }
     {
         self.validated = true;
     }
 
-    /// An ACK gave a sample of the round-trip time, and how long the peer says that it delayed it (RFC 9002, 5).
+    /// Updates the RTT by a sample and the ACK delay that the peer reported (RFC 9002, 5).
     pub fn sample(&mut self, ack_delay: Duration, rtt: Duration)
         ensures { self.new ≡ on_state (after_sample ack_delay rtt) self.old }
     {
         self.rtt.update(ack_delay, rtt);
     }
 
-    /// The controller is told that a packet of so many bytes went out, under this number (RFC 9002, B.4).
+    /// Reports to the controller that a packet of this size was sent under this number (RFC 9002, B.4).
     pub fn on_sent(&mut self, now: Instant, bytes: u64, number: u64)
         ensures { self.new ≡ on_state (after_telling C.words (sends now bytes number)) self.old }
     {
         self.congestion.on_sent(now, bytes, number);
     }
 
-    /// A packet of a space was acknowledged: whether it was the probe of the MTU in flight, whose size is the MTU in
-    /// use then (RFC 8899, 5). It is counted no more, where it is one of this path's, and the controller is told of it,
-    /// where it elicits an ACK too, last of all: of a new MTU before. The search is asked first, as the one that knows
-    /// a probe by its number, whatever path the packet went by.
+    /// Records that a packet of a space was acknowledged. Returns whether it was the MTU probe in flight, whose size
+    /// then is the MTU in use (RFC 8899, 5). If the packet is of this path it is no longer counted, and if it is also
+    /// ack-eliciting, it is reported to the controller, after a new MTU. The search comes first, since it identifies a
+    /// probe by its number, on whatever path the packet was sent.
     pub fn on_packet_acked<Q: RetransmitQueue>(
         &mut self,
         space: SpaceId,
@@ -398,9 +398,9 @@ impl<C: Controller + Drop> PathData<C> {
         is_probe
     }
 
-    /// A packet of a space was lost: whether it was the probe of the MTU in flight, whose loss says only that its size
-    /// may be too large (RFC 8899, 3; RFC 9000, 14.4). Any other packet of 1-RTT keys counts as the sign of a black
-    /// hole (RFC 8899, 4.3). It is counted no more, where it is one of this path's.
+    /// Records that a packet of a space was lost. Returns whether it was the MTU probe in flight, whose loss says only
+    /// that its size may be too large (RFC 8899, 3; RFC 9000, 14.4). Any other 1-RTT packet counts as a sign of a black
+    /// hole (RFC 8899, 4.3). If the packet is of this path it is no longer counted.
     pub fn on_packet_lost<Q: RetransmitQueue>(
         &mut self,
         space: SpaceId,
@@ -415,8 +415,9 @@ impl<C: Controller + Drop> PathData<C> {
         space == SpaceId::Data && self.on_data_lost(number, packet.size)
     }
 
-    /// The controller is told that an ACK ends: the bytes still in flight on the path, whether the sender had too
-    /// little to send to fill its window (RFC 9002, 7.8), and the largest number that was acknowledged, if any.
+    /// Reports the end of an ACK to the controller, with the bytes still in flight on the path and the largest
+    /// acknowledged number, if any. `app_limited` states that the sender had too little to send to fill its window (RFC
+    /// 9002, 7.8).
     pub fn on_end_acks(&mut self, now: Instant, app_limited: bool, largest: Option<u64>)
         ensures { let bytes = (counters_of self.old.ledger).bytes in
             self.new
@@ -426,7 +427,7 @@ impl<C: Controller + Drop> PathData<C> {
             .on_end_acks(now, self.in_flight.bytes, app_limited, largest);
     }
 
-    /// The controller is told of packets that were lost or marked (RFC 9002, 7.3), the last of them sent at `sent`:
+    /// Reports to the controller that packets were lost or marked (RFC 9002, 7.3), the last of them sent at `sent`:
     /// whether the congestion is persistent (RFC 9002, 7.6), and how many bytes were lost.
     pub fn on_congestion_event(
         &mut self,
@@ -442,8 +443,8 @@ impl<C: Controller + Drop> PathData<C> {
             .on_congestion_event(now, sent, is_persistent, lost_bytes);
     }
 
-    /// When to ask the pacer again for so many bytes, or `None` where they may be sent now: it is asked with the path's
-    /// RTT, MTU and window (RFC 9002, 7.7).
+    /// Returns when to ask the pacer again for this many bytes, or `None` if they may be sent now. The pacer is asked
+    /// with the path's RTT, MTU and window (RFC 9002, 7.7).
     pub fn delay(&mut self, now: Instant, bytes_to_send: u64) -> Option<Instant>
         ensures answer { result ≡ path_delay C.words now bytes_to_send self.old.state }
         ensures asked { self.new ≡ on_state (after_asking C.words now bytes_to_send) self.old }
@@ -454,15 +455,14 @@ impl<C: Controller + Drop> PathData<C> {
             .delay(self.rtt.get(), bytes_to_send, mtu, window, now)
     }
 
-    /// Whether the total sent has room for so many bytes more: it stays at most `u64::MAX`.
+    /// Returns whether the total sent has room for this many bytes more, up to `u64::MAX`.
     pub fn has_room(&self, bytes: u16) -> bool
         ensures { Decides result (self.now.state.total_sent + bytes < u64_limit) }
     {
         self.total_sent.checked_add(u64::from(bytes)).is_some()
     }
 
-    /// A datagram of so many bytes is transmitted: the total has them (RFC 9000, 8.1), and the pacer takes its tokens
-    /// off (RFC 9002, 7.7).
+    /// Counts a datagram that is transmitted (RFC 9000, 8.1), and removes its tokens from the pacer (RFC 9002, 7.7).
     pub fn transmit(&mut self, bytes: u16)
         requires { self.old.state.total_sent + bytes < u64_limit }
         ensures { self.new ≡ on_state (after_transmitting bytes) self.old }
@@ -471,8 +471,8 @@ impl<C: Controller + Drop> PathData<C> {
         self.pacing.on_transmit(bytes);
     }
 
-    /// A packet of 1-RTT keys was lost, of so many bytes: whether it was the probe of the MTU in flight. Any other
-    /// counts as the sign of a black hole (RFC 8899, 4.3).
+    /// Records that a 1-RTT packet of this size was lost. Returns whether it was the MTU probe in flight. Any other
+    /// counts as a sign of a black hole (RFC 8899, 4.3).
     fn on_data_lost(&mut self, number: u64, bytes: u16) -> bool
         ensures probe { result ≡ is_probe number self.old.state.discovery }
         ensures state { let call = loss_call number bytes self.old.state.discovery in
@@ -487,8 +487,8 @@ impl<C: Controller + Drop> PathData<C> {
         is_probe
     }
 
-    /// All losses of a moment were told: whether there was a black hole. Then the least MTU is in use, and the
-    /// controller is told of it (RFC 8899, 4.3).
+    /// Ends a loss detection pass. Returns whether there was a black hole. If so, the minimum MTU is in use, and the
+    /// controller is notified (RFC 8899, 4.3).
     pub fn on_losses_done(&mut self, now: Instant) -> bool
         ensures report { result ≡ reports self.old.state.discovery }
         ensures state { let changes = reports self.old.state.discovery in
@@ -501,8 +501,8 @@ impl<C: Controller + Drop> PathData<C> {
         is_black_hole
     }
 
-    /// The peer takes datagrams of at most so many bytes, above zero (RFC 9000, 18.2), while no search runs. The MTU in
-    /// use falls to it; the controller is told nothing.
+    /// Sets the largest datagram that the peer accepts: in bytes, above zero (RFC 9000, 18.2). No search may run. The
+    /// MTU in use is at most this from now on; the controller is not notified.
     pub fn limit_by_peer(&mut self, size: u16)
         requires size { 0 < size }
         requires no_search { is_searching_of self.old.state.discovery ≡ false }
@@ -511,7 +511,7 @@ impl<C: Controller + Drop> PathData<C> {
         self.mtud.on_peer_max_udp_payload_size_received(size);
     }
 
-    /// The layer above keeps this with the path from now on; what it kept before is handed back. Nothing else changes.
+    /// Stores the caller's marks of the path and returns the previous ones. Nothing else changes.
     pub fn set_marks(&mut self, marks: PathMarks) -> PathMarks
         ensures before { result ≡ self.old.marks }
         ensures after { self.new ≡ with_marks marks self.old }
@@ -528,7 +528,7 @@ impl<C: Controller + Drop> PathData<C> {
         }
     }
 
-    /// The search for the MTU goes on from here (RFC 9000, 14.3). Nothing else changes.
+    /// Replaces the state of the MTU search (RFC 9000, 14.3). Nothing else changes.
     pub fn search_on(&mut self, mtud: MtuDiscovery)
         ensures { self.new ≡ on_state (with_discovery mtud) self.old }
     {
@@ -536,7 +536,7 @@ impl<C: Controller + Drop> PathData<C> {
     }
 }
 
-/// The search for the MTU of a path that is made.
+/// Returns the MTU search of a new path.
 fn discovery_for<F>(
     allow_mtud: bool,
     limit: Option<u16>,

@@ -1,4 +1,4 @@
-//! PATH_RESPONSE frames that are to be sent (RFC 9000, 8.2.2).
+//! PATH_RESPONSE frames to send (RFC 9000, 8.2.2).
 ghost use Rattle.std.specs.Prelude.{◌≡◌, ⊤, length, map, [], ◌==◌};
 ghost use Rattle.std.specs.List.{list_any};
 ghost use Rattle.recovery_paths.specs.Responses.{goes_to, renewed, with_response, last_of, sent_off_path, sent_on_path, responses_left, AreSoundResponses};
@@ -10,15 +10,15 @@ use std::net::{IpAddr, Ipv4Addr, SocketAddr};
 /// The response to a PATH_CHALLENGE frame.
 #[derive(Clone, Copy)]
 struct PathResponse {
-    /// Number of the packet that the challenge came in.
+    /// Number of the packet that had the challenge.
     packet: u64,
-    /// The challenge's data, which goes back.
+    /// The challenge's data, which is sent back.
     token: u64,
-    /// The address that the challenge came from.
+    /// The address from which the challenge was received.
     remote: SocketAddr,
 }
 
-/// What stands in places that are not used.
+/// The value of unused positions.
 impl Default for PathResponse {
     ghost is_default = { λ _. ⊤ };
 
@@ -31,9 +31,10 @@ impl Default for PathResponse {
     }
 }
 
-/// The PATH_RESPONSE frames that are to be sent (RFC 9000, 8.2.2): at most 16, one an address. They take no memory.
+/// The PATH_RESPONSE frames to send (RFC 9000, 8.2.2): at most 16, one for each address. They allocate nothing.
 ///
-/// Contracts see the list of the packets, tokens and addresses, in the order in which the addresses came.
+/// In contracts its value is the list of the packets, tokens and addresses, in the order in which the addresses were
+/// first received.
 #[derive(Drop)]
 pub struct PathResponses {
     pending: ArrayVec<PathResponse, 16>,
@@ -60,7 +61,7 @@ impl Default for PathResponses {
 }
 
 impl PathResponses {
-    /// None is to be sent.
+    /// Returns an empty list.
     #[tactic(auto, using(crate::proofs::ResponseLaws::none_sound))]
     pub fn new() -> Self
         ensures none { result ≡ [] }
@@ -71,11 +72,11 @@ impl PathResponses {
         }
     }
 
-    /// A challenge came, in the packet of this number, with this data, from this address.
+    /// Adds the response to a challenge that was received in this packet, with this data, from this address.
     ///
-    /// Its response takes the place of the one to the same address, unless that one's challenge came in a newer
-    /// packet. A response to a new address is the last; where 16 wait already it is left out, since no well-behaved
-    /// peer probes from so many.
+    /// The response replaces the one to the same address, unless the challenge of that one was received in a newer
+    /// packet. A response to a new address is the last. If 16 already wait it is dropped, since no well-behaved peer
+    /// probes from that many addresses.
     pub fn push(&mut self, packet: u64, token: u64, remote: SocketAddr)
         ensures kept { self.new
             ≡ with_response (record { packet = packet; token = token; remote = remote }) self.old }
@@ -89,10 +90,10 @@ impl PathResponses {
         put(&mut self.pending, response);
     }
 
-    /// Takes the last response out, where it goes to another address than `remote`: its token and its address. `None`,
-    /// and nothing changed, where none is to be sent or the last one goes to `remote`.
+    /// Removes the last response, if it is for another address than `remote`, and returns its token and address.
+    /// Returns `None` and changes nothing if there is none, or the last one is for `remote`.
     ///
-    /// It looks at the last one alone, since one to `remote` is soon sent on the path.
+    /// Only the last one is examined, since one for `remote` is soon sent on the path.
     #[tactic(auto, using(crate::proofs::ResponseLaws::take_sound))]
     pub fn pop_off_path(&mut self, remote: SocketAddr) -> Option<(u64, SocketAddr)>
         ensures answer { result ≡ sent_off_path remote (last_of self.old) }
@@ -107,10 +108,10 @@ impl PathResponses {
         Some((response.token, response.remote))
     }
 
-    /// Takes the last response out, where it goes to `remote`: its token. `None`, and nothing changed, where none is to
-    /// be sent or the last one goes to another address.
+    /// Removes the last response, if it is for `remote`, and returns its token. Returns `None` and changes nothing if
+    /// there is none, or the last one is for another address.
     ///
-    /// It looks at the last one alone, since one to another address is soon sent off the path.
+    /// Only the last one is examined, since one for another address is soon sent off the path.
     #[tactic(auto, using(crate::proofs::ResponseLaws::take_sound))]
     pub fn pop_on_path(&mut self, remote: SocketAddr) -> Option<u64>
         ensures answer { result ≡ sent_on_path remote (last_of self.old) }
@@ -125,7 +126,7 @@ impl PathResponses {
         Some(response.token)
     }
 
-    /// Whether none is to be sent.
+    /// Returns whether there is none to send.
     pub fn is_empty(&self) -> bool
         ensures { result ≡ (length self.now == 0) }
     {
@@ -133,7 +134,7 @@ impl PathResponses {
     }
 }
 
-/// Puts a response in the place of the one to its address, or behind the others where there is room.
+/// Replaces the response to the same address, or appends a response if there is room.
 fn put(pending: &mut ArrayVec<PathResponse, 16>, new: PathResponse)
     ensures { pending.new.items ≡ with_response new pending.old.items }
 {

@@ -1,4 +1,4 @@
-//! What a connection's window, flight and round-trip time did, by a script of events.
+//! The window, flight and RTT of a connection, by a script of events.
 
 mod curves;
 mod picture;
@@ -24,13 +24,13 @@ use recovery_replay::script::{Ending, ScriptReader};
 use std::alloc::Global;
 use std::io::Read;
 
-/// The picture of a script.
+/// Returns the picture of a script.
 pub fn picture_of(alloc: Global, choice: Choice, input: &mut impl Read) -> Result<String, Failure> {
     let (name, curves) = curves_of(alloc, choice, input)?;
     Ok(draw(alloc, name, &curves, None)?)
 }
 
-/// The picture of two scripts with a line `over` between them, the second one's window over the first one's.
+/// Returns the picture of two scripts with a line `over` between them, the second one's window over the first one's.
 pub fn picture_of_two(alloc: Global, choice: Choice, text: &str) -> Result<String, Failure> {
     let Some((first, second)) = text.split_once("\nover\n") else {
         return Err(Failure::NoSecond);
@@ -42,7 +42,7 @@ pub fn picture_of_two(alloc: Global, choice: Choice, text: &str) -> Result<Strin
     Ok(draw(alloc, name, &curves, Some((over, &others)))?)
 }
 
-/// The name of a script's controllers, and its curves.
+/// Returns the name of a script's controllers, and its curves.
 fn curves_of(
     alloc: Global,
     choice: Choice,
@@ -66,7 +66,7 @@ fn curves_of(
     Ok(named)
 }
 
-/// All events of a script. Where memory is refused it asks for no other.
+/// All events of a script. Once an allocation failed it asks for no more.
 #[derive(Drop)]
 struct EventList {
     events: Vec<Event<ItemQueue>>,
@@ -80,7 +80,7 @@ impl Sink<Event<ItemQueue>> for EventList {
     }
 }
 
-/// The events of the input.
+/// Returns the events of the input.
 fn events(alloc: Global, input: &mut impl Read) -> Result<Vec<Event<ItemQueue>>, Failure> {
     let mut script = ScriptReader::new(alloc, input);
     let mut list = EventList {
@@ -95,7 +95,7 @@ fn events(alloc: Global, input: &mut impl Read) -> Result<Vec<Event<ItemQueue>>,
     }
 }
 
-/// The curves of a run over these controllers.
+/// Returns the curves of a run with these controllers.
 fn gathered<F>(
     alloc: Global,
     factory: F,

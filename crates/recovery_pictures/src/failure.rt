@@ -26,7 +26,7 @@ pub enum Failure {
 }
 
 impl Failure {
-    /// The exit status: 2 where the arguments or the text cannot be read, else 1.
+    /// Returns the exit status: 2 if the arguments or the text cannot be parsed, else 1.
     pub fn status(&self) -> u8 {
         match self {
             Failure::Usage | Failure::BadLine(_) | Failure::BadMeasurement(_) | Failure::NoSecond =>

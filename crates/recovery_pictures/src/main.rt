@@ -1,5 +1,5 @@
-//! The program `recovery-pictures`: draws what a connection or a path did, from a text, as SVG.
-//! docs/PROGRAMS.md shows them.
+//! The program `recovery-pictures`: draws what a connection or a path did, from a text, as SVG. docs/PROGRAMS.md shows
+//! the pictures.
 #![tactic(auto)]
 
 mod connection;
@@ -16,14 +16,14 @@ use requests::{HELP, Request, VERSION, request_of};
 use std::io::{ErrorKind, Read};
 use std::process::ExitCode;
 
-/// All of the input.
+/// Returns all of the input.
 fn text(rt: &HostRuntime) -> Result<String, Failure> {
     let mut text = String::new(rt.alloc());
     rt.reader().read_to_string(&mut text)?;
     Ok(text)
 }
 
-/// A text is written. Where nobody reads it any more, all is well.
+/// Writes a text. A closed pipe is no failure.
 fn write(rt: &HostRuntime, text: &str) -> Result<(), Failure> {
     match print!(rt; "{text}") {
         Err(error) if error.kind() != ErrorKind::BrokenPipe => Err(Failure::Io(error)),

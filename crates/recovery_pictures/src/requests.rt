@@ -1,4 +1,4 @@
-//! What the arguments ask for.
+//! The request that the arguments make.
 
 use crate::start::Window;
 use recovery_script_syntax::words::number_in;
@@ -26,34 +26,34 @@ Status: 0, or 1 where reading, writing or memory failed, or 2 where the argument
 /// How a connection is drawn.
 #[derive(Clone, Copy)]
 pub struct Choice {
-    /// What skipped numbers are drawn by; without it none is skipped.
+    /// The seed of the skipped numbers; without it none is skipped.
     pub seed: Option<u64>,
-    /// Which window limits what is in flight.
+    /// The window that limits what is in flight.
     pub window: Window,
-    /// The moment at which the picture begins, in nanoseconds; without it the first one of the script.
+    /// The time at which the picture begins, in nanoseconds; without it the first one of the script.
     pub from: Option<u64>,
-    /// The moment at which it ends, in nanoseconds; without it the last one of the script.
+    /// The time at which it ends, in nanoseconds; without it the last one of the script.
     pub to: Option<u64>,
-    /// Which window limits what is in flight in a second script, if there is one.
+    /// The window in a second script, if there is one.
     pub over: Option<Window>,
 }
 
-/// What the arguments ask for.
+/// The request that the arguments make.
 #[derive(Clone, Copy)]
 pub enum Request {
-    /// What a connection did.
+    /// A picture of a connection.
     Connection(Choice),
-    /// The search for a path's MTU, and a burst that is paced.
+    /// A picture of an MTU search, and of a paced burst.
     Tunnel,
-    /// How the program is called.
+    /// The usage.
     Help,
-    /// Which recovery it is.
+    /// The version.
     Version,
-    /// Nothing that it knows.
+    /// An invalid request.
     Unknown,
 }
 
-/// How many words that are no moments came already.
+/// How many positional arguments were read.
 #[derive(Clone, Copy)]
 enum Place {
     Seed,
@@ -61,7 +61,7 @@ enum Place {
     End,
 }
 
-/// What the words behind the program's name ask for.
+/// Returns the request that the arguments make.
 pub fn request_of(words: &[String]) -> Request {
     for word in words {
         match word.as_str() {
@@ -77,7 +77,7 @@ pub fn request_of(words: &[String]) -> Request {
     }
 }
 
-/// The picture of a connection that these words choose.
+/// Returns the picture of a connection that these arguments choose.
 fn connection_of(words: &[String]) -> Request {
     let mut choice = Choice {
         seed: None,
@@ -102,7 +102,7 @@ fn connection_of(words: &[String]) -> Request {
     }
 }
 
-/// The choice with a word.
+/// Adds an argument to the choices.
 fn with_word(choice: Choice, place: Place, word: &str) -> Option<(Choice, Place)> {
     match word.split_once('=') {
         Some(("over", window)) => {
@@ -117,7 +117,7 @@ fn with_word(choice: Choice, place: Place, word: &str) -> Option<(Choice, Place)
     }
 }
 
-/// The choice with a moment of this name.
+/// Adds a named time to the choices.
 fn with_moment(choice: Choice, name: &str, moment: u64) -> Option<Choice> {
     match name {
         "from" => Some(Choice {
@@ -132,7 +132,7 @@ fn with_moment(choice: Choice, name: &str, moment: u64) -> Option<Choice> {
     }
 }
 
-/// The choice with a seed, or behind it a window.
+/// Adds a seed to the choices, or after it a window.
 fn with_number(choice: Choice, place: Place, word: &str) -> Option<(Choice, Place)> {
     match place {
         Place::Seed => {
@@ -147,7 +147,7 @@ fn with_number(choice: Choice, place: Place, word: &str) -> Option<(Choice, Plac
     }
 }
 
-/// The seed that a word names, a number, or `-` for none.
+/// Parses a seed, a number, or `-` for none.
 fn seed_in(word: &str) -> Option<Option<u64>> {
     match word {
         "-" => Some(None),
@@ -155,7 +155,7 @@ fn seed_in(word: &str) -> Option<Option<u64>> {
     }
 }
 
-/// The window of a second script.
+/// Parses the window of a second script.
 fn over_of(word: &str) -> Option<Window> {
     if word == "newreno" {
         return Some(Window::NewReno);
@@ -163,7 +163,7 @@ fn over_of(word: &str) -> Option<Window> {
     named(word)
 }
 
-/// The window that a word names: CUBIC's, or one in bytes and above zero.
+/// Parses a window: CUBIC's, or one in bytes and above zero.
 fn named(word: &str) -> Option<Window> {
     if word == "cubic" {
         return Some(Window::Cubic);

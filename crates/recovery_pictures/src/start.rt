@@ -1,4 +1,4 @@
-//! How a connection starts: which window its controllers have, and its settings.
+//! How a connection starts: the window of its controllers, and its settings.
 ghost use Rattle.std.specs.Prelude.{◌≡◌};
 ghost use Rattle.recovery_packet_numbers.specs.Skips.{IsSkips};
 
@@ -8,18 +8,18 @@ use recovery_history::RecoveryConfig;
 use recovery_replay::replay::skips;
 use std::net::{IpAddr, Ipv4Addr, SocketAddr};
 
-/// Which congestion window limits what is in flight.
+/// The congestion window that limits what is in flight.
 #[derive(Clone, Copy)]
 pub enum Window {
     /// NewReno's (RFC 9002, 7).
     NewReno,
     /// CUBIC's (RFC 9438).
     Cubic,
-    /// So many bytes, above zero.
+    /// This many bytes, above zero.
     Fixed(u64),
 }
 
-/// The settings that `recovery-replay` has with a seed or with none, but for those of paths.
+/// Returns the settings that `recovery-replay` has with a seed or with none, except for those of paths.
 pub fn config<F>(transport: TransportConfig<F>, seed: Option<u64>) -> RecoveryConfig<F>
     ensures issued { result.issued ≡ 1 }
     ensures skips { IsSkips result.skips }

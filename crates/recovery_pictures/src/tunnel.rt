@@ -1,5 +1,5 @@
-//! Another datagram protocol than QUIC: it searches for what its path carries, and paces what it sends, over a link
-//! that was measured.
+//! A datagram protocol other than QUIC: it searches for the MTU of its path, and paces what it sends, over a measured
+//! link.
 
 mod link;
 mod picture;
@@ -11,7 +11,7 @@ use picture::draw;
 use rounds::Tunnel;
 use std::alloc::Global;
 
-/// The picture of a tunnel over a link of these measurements.
+/// Returns the picture of a tunnel over a link with these measurements.
 pub fn picture_of(alloc: Global, text: &str) -> Result<String, Failure> {
     let measured = measurements(alloc, text)?;
     let mut tunnel = Tunnel::new(alloc);
@@ -23,7 +23,7 @@ pub fn picture_of(alloc: Global, text: &str) -> Result<String, Failure> {
     Ok(draw(alloc, &tunnel)?)
 }
 
-/// The measurements that a text has, one a line.
+/// Parses measurements, one a line.
 fn measurements(alloc: Global, text: &str) -> Result<Vec<Measured>, Failure> {
     let mut found = Vec::new(alloc);
     let mut number: u64 = 0;

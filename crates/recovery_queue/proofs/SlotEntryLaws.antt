@@ -1,4 +1,4 @@
--- What is filed, as slots are replaced, dropped and closed up, and from a number on. The calls of `SlotQueue` rest on
+-- What is stored, as slots are replaced, dropped and closed up, and from a number on. The calls of `SlotQueue` rest on
 -- it, and the tracked packets above it.
 use Rattle.std.proofs.Common.{◌≡◌, ℕ, zero, suc, ◌+◌, ◌-◌, ◌<◌, ◌≤◌, Bool, true, false, List, [], ◌∷◌, ◌++◌, length, set, drop, filter, Option, None, Some, MatchOption, IfSome, IfNone, refl, sym, ap, subst, ◌∙◌, arith, append-nil, length-append, get_or}
 use Rattle.std.specs.Option.{is_some, option_to_list}
@@ -29,7 +29,7 @@ module _ {T : Type 0} where
   entries-append [] after = refl
   entries-append (slot ∷ before) after = grind (arith, entries-append before after)
 
-  -- no more is filed than there are slots
+  -- at most as many items are stored as there are slots
   pub entries_fit : (slots : Slots T) → length (entries_in slots) ≤ length slots
   entries_fit [] = omega arith
   entries_fit (slot ∷ slots) = grind (arith, entries_fit slots)
@@ -45,7 +45,7 @@ module _ {T : Type 0} where
       grind (arith, replaced_sound slots (head.number + 1) end place slot item rising.2 at)
   replaced_sound slots first end place slot item rising at = grind (arith, at)
 
-  -- the first number and the last are as they were
+  -- the first number and the last are unchanged
   pub replaced_ends : (slots : Slots T) (first last place : ℕ) (slot : Slot T) (item : Option T)
       → IsFirst first slots → IsLast last slots → IsSlotAt slots place slot
       → (let new = set slots place (slot_of slot.number item) in IsFirst first new × IsLast last new)
@@ -59,14 +59,14 @@ module _ {T : Type 0} where
   replaced_ends (head ∷ next ∷ slots) first last zero slot item is_first is_last at =
       grind (arith, at, is_first, is_last)
 
-  -- ---- what is held at a place
+  -- ---- what is held at a position
 
   behind : (before after : Slots T) (slot other : Slot T) → IsSlotAt (before ++ slot ∷ after) (length before) other
       → slot ≡ other
   behind [] after slot other at = at
   behind (first ∷ before) after slot other at = behind before after slot other at
 
-  -- another item, or none, in the place of one
+  -- another item, or none, replaces one
   replaced : {slots new : Slots T} {place : ℕ} {item other found : Option T} (before after : Slots T)
       (number : ℕ) → slots ≡ before ++ slot_of number item ∷ after → length before ≡ place
       → Replaces slots place other found new → (found ≡ item) × (new ≡ before ++ slot_of number other ∷ after)
@@ -84,7 +84,7 @@ module _ {T : Type 0} where
     abbrev holding : Slots T → Option T → Slots T
     holding before held = before ++ slot_of number held ∷ after
 
-    -- what is filed under a number that no slot before it has
+    -- what is stored under a number that no slot before it has
     here : (before : Slots T) → item_at before number ≡ None
         → (let entries = entries_in (holding before (Some item)) in
         (item_at (holding before (Some item)) number ≡ Some item)
@@ -100,7 +100,7 @@ module _ {T : Type 0} where
       let its = here number item item held.after held.before held.none in
       rw (held.is, ← held.place_is) (its.0, its.3)
 
-  -- the slot at the place that was found holds what is filed under the number
+  -- the slot at the position that was found has what is stored under the number
   pub found_read : {slots : Slots T} {number place : ℕ} {at : Option ℕ × ℕ} → FindsSlot slots number at
       → at.0 ≡ Some place → (slot : Slot T) → IsSlotAt slots place slot → slot.item ≡ item_at slots number
   found_read {slots} {number} {place} finds is slot there =
@@ -112,7 +112,7 @@ module _ {T : Type 0} where
     held : (item : T) × IsHeldAt old number place item
     held = grind (arith, finds.place, is)
 
-    -- what is found and taken is filed no more
+    -- what is found and removed is no longer stored
     pub taken : (found ≡ item_at old number) × (entries_in mid ≡ remove_entry (is_at (nat_cmp number)) (entries_in old))
         × IfNone found ⊥
     taken =
@@ -124,7 +124,7 @@ module _ {T : Type 0} where
           here number held.0 held.0 its.after its.before its.none,
         )
 
-    -- another is put in its place
+    -- another replaces it
     pub put_back : {left : Option T} {new : Slots T} (other : T) → Replaces mid place (Some other) left new
         → (entries_in new ≡ set_value (is_at (nat_cmp number)) (entries_in old) other) × (length new ≡ length old)
     put_back other second =
@@ -138,7 +138,7 @@ module _ {T : Type 0} where
           length-append {A = Slot T},
         )
 
-  -- where nothing is filed under a number, nothing is removed
+  -- if nothing is stored under a number, nothing is removed
   pub absent_removed : (entries : List (ℕ × T)) (number : ℕ) → lookup (is_at (nat_cmp number)) entries ≡ None
       → remove_entry (is_at (nat_cmp number)) entries ≡ entries
   absent_removed [] number none = refl
@@ -221,7 +221,7 @@ module _ {T : Type 0} where
   is_trimmed [] filled = refl
   is_trimmed (slot ∷ slots) filled = grind (arith, filled)
 
-  -- where the first slot is filled, it is the first filled one
+  -- if the first slot is filled, it is the first filled one
   pub filled_first : (slots : Slots T) (first : ℕ) → ¬ IsFrontEmpty slots
       → (IsFirst first slots → IsFirst first (filter is_filled slots)) × ¬ IsFrontEmpty (filter is_filled slots)
   filled_first [] first filled = (λ is. tt, λ empty. empty)
@@ -274,13 +274,13 @@ module _ {T : Type 0} where
     closes = closes;
   }
 
-  -- slots are dropped at the end of which none was filled
+  -- slots at the end are dropped, none of which was filled
   pub record Keeps (start slots : Slots T) : Type 0 where
     pub entries : entries_in slots ≡ entries_in start
     pub rising : (first end : ℕ) → AreSlotsIncreasing first start end → AreSlotsIncreasing first slots end
     pub front : (first : ℕ) → IsFirst first start → IsFirst first slots
 
-  -- ---- one slot more at the end
+  -- ---- one more slot at the end
 
   abbrev pub AllBelow : List (ℕ × T) → ℕ → Type 0
   AllBelow [] limit = Unit {0}
@@ -315,7 +315,7 @@ module _ {T : Type 0} where
         front = λ first front. (cut_last new slot first 0 0).2 (rw is at (kept.front first front));
       }
 
-  -- where the last number is below another, all are
+  -- if the last number is below another, all are
   pub rises_to : (slots : Slots T) (first end number : ℕ) → AreSlotsIncreasing first slots end
       → ¬ IsBackFrom number slots → AreSlotsIncreasing first slots number
   rises_to [] first end number rising below = tt
@@ -335,7 +335,7 @@ module _ {T : Type 0} where
   rises_pushed (slot ∷ slots) first number item low rising =
       grind (arith, rises_pushed slots (slot.number + 1) number item)
 
-  -- it is the last, and the first where there is no other
+  -- it is the last, and the first if there is no other
   pub ends_pushed : (slots : Slots T) (first number : ℕ) (item : Option T) → IsFirstWith first slots number
       → (let new = slots ++ slot_of number item ∷ [] in IsFirst first new × IsLast number new)
   ends_pushed [] first number item is = (is, refl)
@@ -343,7 +343,7 @@ module _ {T : Type 0} where
 
   -- ---- from a number on
 
-  -- what divides slots divides those behind the first
+  -- what divides slots divides those after the first
   behind_first : {slot : Slot T} {slots : Slots T} {number place : ℕ} → Divides (slot ∷ slots) number place
       → (next : ℕ) → (0 < next → next < place) → place ≤ next + 1 → Divides slots number next
   behind_first divides next less more = record {
@@ -381,22 +381,22 @@ module _ {T : Type 0} where
       → slot.item ≡ None → entries_in (drop place slots) ≡ entries_in (drop (place + 1) slots)
   entries_dropped slots place slot at empty = grind (arith, drop_slot slots place slot at)
 
-  -- what is filed first, if anything, is what leaves first
+  -- the first stored item, if any, is the first to be removed
   pub first_filed : (old : List (ℕ × T)) (first : Option ℕ) → first ≡ first_number (filter (is_from 0) old)
       → MatchOption first (old ≡ []) (λ number. MatchOption (lookup (is_at (nat_cmp number)) old) ⊥
       (λ item. old ≡ (number, item) ∷ remove_entry (is_at (nat_cmp number)) old))
   first_filed [] first is = grind (arith, is)
   first_filed (entry ∷ old) first is = grind (arith, nat_tests, is)
 
-  -- ---- how many are filed before a number's place, and from it on
+  -- ---- how many are stored before a number's position, and from it on
 
-  -- no more are filed before a place than there are slots
+  -- at most as many are stored before a position as there are slots
   entries_to : (slots : Slots T) (place : ℕ)
       → length (entries_in slots) ≤ place + length (entries_in (drop place slots))
   entries_to (slot ∷ slots) (suc place) = grind (arith, entries_to slots place)
   entries_to slots place = omega arith
 
-  -- whatever place divides the slots, no more are filed below the number
+  -- whatever position divides the slots, at most this many are stored below the number
   pub filed_before : {slots : Slots T} {number place : ℕ} → Divides slots number place
       → (length (filter (is_below number) (entries_in slots)) ≤ place)
       × (length (filter (is_below number) (entries_in slots)) ≤ length (entries_in slots))

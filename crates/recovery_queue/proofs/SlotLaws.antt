@@ -1,5 +1,5 @@
--- Slots by their places: what stands at one, what is filed there, and what stands before and behind it. `SlotEntryLaws`
--- and the look-ups of `SlotQueue` rest on it.
+-- Slots by their positions: what is at one, what is stored there, and what is before and after it. `SlotEntryLaws` and
+-- the look-ups of `SlotQueue` rest on it.
 use Rattle.std.proofs.Common.{◌≡◌, ℕ, zero, suc, ◌+◌, ◌-◌, ◌/◌, ◌^◌, ◌<◌, ◌≤◌, true, List, [], ◌∷◌, length, Option, None, Some, MatchOption, refl, sym, ap, arith, get_or}
 use Rattle.std.specs.Ordering.{nat_cmp, is_eq}
 use Rattle.std.specs.Cmp.{nat_cmp_total, tied_itself}
@@ -12,13 +12,13 @@ use Rattle.recovery_queue.specs.Slots.{item_at, AreSlotsIncreasing, IsSlotAt, Di
 pub at_itself : (number : ℕ) → is_at (nat_cmp number) number ≡ true
 at_itself number = ap is_eq (tied_itself nat_cmp_total number)
 
--- ---- halving
+-- ---- binary search
 
--- with a range that is left, and the looks taken for it: what is left of the digits covers the range
+-- with a range that is left, and the slots read for it: what is left of the digits covers the range
 abbrev Halves : ℕ → ℕ → ℕ → Type 0
 Halves looks range slots = (digits : ℕ) → slots < 2 ^ digits → (left : ℕ) × (looks + left ≡ digits) × (range < 2 ^ left)
 
--- a look at the middle halves the range, whichever half is left
+-- reading the middle halves the range, whichever half is left
 halved : (looks after range next slots : ℕ) → Halves looks range slots → 0 < range → after ≡ looks + 1
     → next + next ≤ range → Halves after next slots
 halved looks after range next slots halves some is half digits fits = go (halves digits fits)
@@ -32,7 +32,7 @@ abbrev pub Slots : Type 0 → Type 0
 Slots T = List (Slot T)
 
 module _ {T : Type 0} where
-  -- ---- what stands at a place
+  -- ---- what is at a position
 
   pub slot_at : (slots : Slots T) (place : ℕ) (slot : Slot T) → place < length slots
       → slot ≡ get_or slots place slot → IsSlotAt slots place slot
@@ -40,7 +40,7 @@ module _ {T : Type 0} where
   slot_at (first ∷ slots) zero slot within is = sym is
   slot_at (first ∷ slots) (suc place) slot within is = slot_at slots place slot (omega arith) is
 
-  -- what is read of the slots behind a queue
+  -- what is read after the end of a queue
   pub slot_read : {items slots : Slots T} {place : ℕ} {slot : Slot T} → items ≡ slots → place < length slots
       → slot ≡ get_or items place slot → IsSlotAt slots place slot
   slot_read is within read = slot_at _ _ _ within (rw is at read)
@@ -55,7 +55,7 @@ module _ {T : Type 0} where
   one_slot (first ∷ slots) (suc place) slot other at at2 = one_slot slots place slot other at at2
   one_slot slots place slot other at at2 = grind (arith, at, at2)
 
-  -- ---- numbers that rise
+  -- ---- numbers that increase
 
   -- there is room for them
   pub rises_room : (slots : Slots T) (first end : ℕ) → AreSlotsIncreasing first slots end → 0 < length slots
@@ -63,14 +63,14 @@ module _ {T : Type 0} where
   rises_room [] first end rising some = absurd (omega arith)
   rises_room (slot ∷ slots) first end rising some = grind (arith, rises_room slots (slot.number + 1) end)
 
-  -- a number is at least as far from the first as its place, and from the end as there are places behind it
+  -- a number is no nearer to the first than its position, and to the end than the positions after it
   stands : (slots : Slots T) (first end place : ℕ) (slot : Slot T) → AreSlotsIncreasing first slots end
       → IsSlotAt slots place slot → (first + place ≤ slot.number) × (slot.number + length slots ≤ end + place)
   stands (head ∷ slots) first end (suc place) slot rising at =
       grind (arith, stands slots (head.number + 1) end place slot rising.2 at)
   stands slots first end place slot rising at = grind (arith, at, rises_room)
 
-  -- numbers are at least as far from one another as their places
+  -- numbers are no nearer to one another than their positions
   pub apart : (slots : Slots T) (place other : ℕ) (slot later : Slot T) → IsIncreasing slots → IsSlotAt slots place slot
       → IsSlotAt slots other later → place ≤ other → slot.number + other ≤ later.number + place
   apart (head ∷ slots) zero zero slot later rises at there upto = grind (arith, at, there)
@@ -80,16 +80,16 @@ module _ {T : Type 0} where
       omega (arith, apart slots place other slot later (head.number + 1, rises.1, rises.2.2) at there)
   apart slots place other slot later rises at there upto = grind (arith, at)
 
-  -- ---- what is filed
+  -- ---- what is stored
 
-  -- nothing is filed under a number that no filled slot has
+  -- nothing is stored under a number that no filled slot has
   pub none_filed : (slots : Slots T) (number : ℕ) → ((place : ℕ) (slot : Slot T) → IsSlotAt slots place slot
       → slot.number ≡ number → slot.item ≡ None) → item_at slots number ≡ None
   none_filed [] number none = refl
   none_filed (slot ∷ slots) number none =
       grind (arith, nat_tests, none zero slot refl, none_filed slots number (λ place s at. none (suc place) s at))
 
-  -- the slot of a number holds what is filed under it
+  -- the slot of a number has what is stored under it
   pub held_at : (slots : Slots T) (place number : ℕ) (item : Option T) → IsIncreasing slots
       → IsSlotAt slots place (record { number = number; item = item })
       → MatchOption item (item_at slots number ≡ None) (IsHeldAt slots number place)
@@ -123,9 +123,9 @@ module _ {T : Type 0} where
         );
       }
 
-  -- ---- between which places a number stands
+  -- ---- the positions that enclose a number
 
-  -- slots before one place stand so near the end, and those from another on so far from the first
+  -- slots before one position are this near to the end, and those from another on this far from the first
   pub enclosed : (slots : Slots T) (first end number low high : ℕ) → AreSlotsIncreasing first slots end
       → high ≤ length slots → (0 < low → end + low ≤ number + length slots)
       → (high < length slots → number < first + high) → Encloses slots number low high
@@ -136,7 +136,7 @@ module _ {T : Type 0} where
         grind (arith, over, upper, stands slots first end p slot rising at, slot_within slots p slot at);
   }
 
-  -- where every number follows the one before it, the first and the last tell how many there are
+  -- if every number follows the one before it, the first and the last determine how many there are
   pub follow_to : (slots : Slots T) (from first last : ℕ) → AreConsecutive from slots → IsFirst first slots
       → IsLast last slots → 0 < length slots → (first ≡ from) × (last + 1 ≡ from + length slots)
   follow_to [] from first last follow is_first is_last some = absurd (omega arith)
@@ -158,13 +158,13 @@ module _ {T : Type 0} where
     above = λ p other there over. omega (arith, apart slots place p slot other rises at there);
   }
 
-  -- between two places of a range a number is sought, after so many looks
+  -- a number is sought between two positions of a range, after this many slots were read
   pub record Seeks (range : ℕ) (slots : Slots T) (number low high looks : ℕ) : Type 0 where
     pub rises : IsIncreasing slots
     pub encloses : Encloses slots number low high
     pub halves : Halves looks (high - low) range
 
-  -- a look at the middle: an end of the range moves there, or it is the slot of the number
+  -- reading the middle: an end of the range moves there, or it is the slot of the number
   pub looked : {range : ℕ} {slots : Slots T} {number low high looks after : ℕ} {slot : Slot T}
       → Seeks range slots number low high looks → low < high → (let middle = low + (high - low) / 2 in
       slot ≡ get_or slots middle slot → after ≡ looks + 1
@@ -200,12 +200,12 @@ module _ {T : Type 0} where
       middle : IsSlotAt slots (low + (high - low) / 2) slot
       middle = slot_at slots _ slot (omega (arith, old.encloses.within)) read
 
-  -- a range of fewer than 2^63 slots takes fewer than 64 looks
+  -- a range of fewer than 2^63 slots needs fewer than 64 reads
   pub few_looks : {range : ℕ} {slots : Slots T} {number low high looks : ℕ} → Seeks range slots number low high looks
       → range < 2 ^ 63 → looks < 64
   few_looks old few = let h = old.halves 63 few in grind (arith, h)
 
-  -- where a range has closed no slot has the number
+  -- if a range is empty no slot has the number
   pub closed : {slots : Slots T} {number low high : ℕ} → Encloses slots number low high → high ≤ low
       → Divides slots number low × (item_at slots number ≡ None)
   closed {slots} {number} old over = (

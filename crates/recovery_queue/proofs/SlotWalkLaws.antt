@@ -8,7 +8,7 @@ use Rattle.recovery_queue.proofs.SlotLaws.{Slots, apart, divides_at}
 use Rattle.recovery_queue.proofs.SlotEntryLaws.{divided, all_from, drop_slot, entries_dropped}
 
 module _ {T : Type 0} where
-  -- the slots between two places have numbers below this one
+  -- the slots between two positions have numbers below this one
   abbrev ArePassed : Slots T → ℕ → ℕ → ℕ → Type 0
   ArePassed slots until start place =
       (p : ℕ) (slot : Slot T) → IsSlotAt slots p slot → start ≤ p → p < place → slot.number < until
@@ -20,21 +20,21 @@ module _ {T : Type 0} where
   there_is (slot ∷ slots) zero within = (slot, refl)
   there_is (slot ∷ slots) (suc place) within = there_is slots place (omega arith)
 
-  -- a number's first place is no later than any other of its places
+  -- a number's first position is not after any other of its positions
   no_later : (slots : Slots T) (from start low : ℕ) → Divides slots from start → Divides slots from low
       → start < length slots → low ≤ start
   no_later slots from start low divides first within =
       let its = there_is slots start within in
       grind (arith, first.below start its.0 its.1, divides.above start its.0 its.1)
 
-  -- a slot with a number below another is before the place of that one
+  -- a slot with a number below another is before the position of that one
   before_it : (slots : Slots T) (until start last high : ℕ) → ArePassed slots until start (suc last)
       → Divides slots until high → start ≤ last → last < length slots → last < high
   before_it slots until start last high passed divides over within =
       let its = there_is slots last within in
       grind (arith, passed last its.0 its.1, divides.above last its.0 its.1)
 
-  -- no more slots are passed than there are places between those of the two numbers
+  -- at most as many slots are passed as there are positions between those of the two numbers
   stretch : (slots : Slots T) (from until start place low high : ℕ) → Divides slots from start
       → ArePassed slots until start place → place ≤ length slots → Divides slots from low → Divides slots until high
       → place - start ≤ high - low
@@ -48,7 +48,7 @@ module _ {T : Type 0} where
 
   -- ---- what it passes and finds
 
-  -- a walk has come to a place: the slots that it passed are empty, and their numbers are below the end
+  -- a walk has reached a position: the slots that it passed are empty, and their numbers are below the end
   pub record Walks (slots : Slots T) (from end start place : ℕ) : Type 0 where
     pub rises : IsIncreasing slots
     pub divides : Divides slots from start
@@ -68,7 +68,7 @@ module _ {T : Type 0} where
   lower [] low high over from = tt
   lower (entry ∷ entries) low high over from = (omega (arith, over, from.0), lower entries low high over from.1)
 
-  -- it comes to a slot
+  -- it reaches a slot
   module _ {slots : Slots T} {from end start place : ℕ} (slot : Slot T) (walk : Walks slots from end start place)
       (at : IsSlotAt slots place slot) where
     -- which is empty, and is passed
@@ -81,19 +81,19 @@ module _ {T : Type 0} where
           omega (arith, below, apart slots p place other slot walk.rises there at (omega (arith, under)));
     }
 
-    -- nothing is filed below its number
+    -- nothing is stored below its number
     pub walk_to : {limit : ℕ} → limit ≤ slot.number → AreFrom limit (entries_from from slots)
     walk_to over =
         let here = divided slots slot.number place (divides_at slots slot.number place slot walk.rises at refl) in
         lower _ _ slot.number over
         (subst (AreFrom slot.number) (sym here ∙ sym walk.entries) (all_from (entries_in slots) slot.number))
 
-    -- what is filed there comes first
+    -- what is stored there is first
     pub walk_found : {item : T} → slot.item ≡ Some item
         → first_entry (entries_from from slots) ≡ Some (slot.number, item)
     walk_found is = grind (arith, walk.entries, drop_slot slots place slot at, is)
 
-    -- so many slots were looked at
+    -- this many slots were read
     pub walk_looks : {looks : ℕ} → place < length slots → IsWithinDigits looks (length slots)
         → IsWithinWalk slots from end (looks + (place - start) + 1)
         × IsWithinWalk slots from slot.number (looks + (place - start) + 1)
@@ -112,7 +112,7 @@ module _ {T : Type 0} where
       ),
     )
 
-  -- it comes to the end of the slots
+  -- it reaches the end of the slots
   module _ {slots : Slots T} {from end start place : ℕ} (walk : Walks slots from end start place)
       (over : length slots ≤ place) where
     pub walk_out : AreFrom end (entries_from from slots)

@@ -1,18 +1,18 @@
--- What the calls of a queue of lost contents do to them, and the laws that they keep (RFC 9000, 13.3).
+-- What the calls of a retransmission queue do to its contents, and the laws that every queue proves (RFC 9000, 13.3).
 use Rattle.std.specs.Prelude.{◌≡◌, Bool, true}
 
--- what each call does to the contents P, where S is what a queue is asked with
+-- what each call does to the contents P; S is the argument of the test for emptiness
 pub record QueueSemantics (P S : Type 0) : Type 0 where
   pub empty : P
-  -- the contents that were there, and those that come to them
+  -- the contents that were there, and those that are joined to them
   pub joined : P → P → P
   pub is_empty : P → S → Bool
 
--- contents that are seen to be empty, whatever they are asked with
+-- contents that are empty for every argument
 abbrev pub IsVoid : {P S : Type 0} → QueueSemantics P S → P → Type 0
 IsVoid {P} {S} words contents = (s : S) → words.is_empty contents s ≡ true
 
--- the empty contents add nothing on either side, and are seen to be empty
+-- joining the empty contents on either side changes nothing, and the test for emptiness holds for them
 pub record QueueLaws {P S : Type 0} (words : QueueSemantics P S) : Type 0 where
   pub unit_left : (p : P) → words.joined words.empty p ≡ p
   pub unit_right : (p : P) → words.joined p words.empty ≡ p

@@ -1,4 +1,4 @@
--- A queue of slots in the order of their numbers: what is filed in it, and what is found in it.
+-- A queue of slots in the order of their numbers: what is stored in it, and what is found in it.
 use Rattle.std.specs.Prelude.{◌≡◌, ℕ, ◌+◌, ◌-◌, ◌*◌, ◌^◌, ◌<◌, ◌≤◌, zero, suc, List, [], ◌∷◌, ◌++◌, length, Option, None, Some, MatchOption, IfSome, filter, set, Bool, not, nat_lt, if◌then◌else◌}
 use Rattle.std.specs.Ordering.{nat_cmp}
 use Rattle.std.specs.BTreeMap.{is_at}
@@ -6,21 +6,21 @@ use Rattle.std.specs.Map.{lookup}
 use Rattle.std.specs.Option.{is_some}
 use Rattle.recovery_queue.specs.declared.slots.Slot.{Slot}
 
--- a slot adds what is filed in it, under its number
+-- a slot adds the item stored in it, under its number
 abbrev pub filed : {T : Type 0} → ℕ → Option T → List (ℕ × T) → List (ℕ × T)
 filed number None entries = entries
 filed number (Some item) entries = (number, item) ∷ entries
 
--- what is filed, in the order of the numbers
+-- the items, in the order of the numbers
 abbrev pub entries_in : {T : Type 0} → List (Slot T) → List (ℕ × T)
 entries_in [] = []
 entries_in (slot ∷ slots) = filed slot.number slot.item (entries_in slots)
 
--- what is filed under a number
+-- the item stored under a number
 abbrev pub item_at : {T : Type 0} → List (Slot T) → ℕ → Option T
 item_at slots number = lookup (is_at (nat_cmp number)) (entries_in slots)
 
--- the numbers rise, from the first on and below the end
+-- the numbers increase, from the first on and below the end
 abbrev pub AreSlotsIncreasing : {T : Type 0} → ℕ → List (Slot T) → ℕ → Type 0
 AreSlotsIncreasing first [] end = Unit {0}
 AreSlotsIncreasing first (slot ∷ slots) end =
@@ -42,7 +42,7 @@ abbrev pub IsFirst : {T : Type 0} → ℕ → List (Slot T) → Type 0
 IsFirst first [] = Unit {0}
 IsFirst first (slot ∷ slots) = slot.number ≡ first
 
--- the number of the first slot, once one more of a number stands behind them
+-- the number of the first slot, after one more slot with a number is appended
 abbrev pub IsFirstWith : {T : Type 0} → ℕ → List (Slot T) → ℕ → Type 0
 IsFirstWith first [] number = number ≡ first
 IsFirstWith first (slot ∷ slots) number = slot.number ≡ first
@@ -53,36 +53,36 @@ IsLast last [] = Unit {0}
 IsLast last (slot ∷ []) = slot.number ≡ last
 IsLast last (slot ∷ next ∷ slots) = IsLast last (next ∷ slots)
 
--- so many slots are filled, and the numbers rise from the first to the last
+-- this many slots are filled, and the numbers increase from the first to the last
 pub record IsSlotQueueSound {T : Type 0} (slots : List (Slot T)) (filled first last : ℕ) : Type 0 where
   pub count : filled ≡ length (entries_in slots)
   pub rising : AreSlotsIncreasing first slots (last + 1)
   pub first_is : IsFirst first slots
   pub last_is : IsLast last slots
 
--- the slot at a place
+-- the slot at a position
 abbrev pub IsSlotAt : {T : Type 0} → List (Slot T) → ℕ → Slot T → Type 0
 IsSlotAt [] place slot = ⊥
 IsSlotAt (first ∷ slots) zero slot = first ≡ slot
 IsSlotAt (first ∷ slots) (suc place) slot = IsSlotAt slots place slot
 
--- an item is filed under a number in the slot at a place
+-- an item is stored under a number in the slot at a position
 abbrev pub IsFiledAt : {T : Type 0} → List (Slot T) → ℕ → ℕ → T → Type 0
 IsFiledAt slots number place item =
     IsSlotAt slots place (record { number = number; item = Some item })
 
--- numbers below another stand before a place, and the others from it on
+-- numbers below another are before a position, and the others from it on
 pub record Divides {T : Type 0} (slots : List (Slot T)) (number place : ℕ) : Type 0 where
   pub below : (p : ℕ) (slot : Slot T) → IsSlotAt slots p slot → p < place → slot.number < number
   pub above : (p : ℕ) (slot : Slot T) → IsSlotAt slots p slot → place ≤ p → number ≤ slot.number
 
--- slots before a place have lower numbers, and from another on higher ones
+-- slots before a position have lower numbers, and from another on higher ones
 pub record Encloses {T : Type 0} (slots : List (Slot T)) (number low high : ℕ) : Type 0 where
   pub within : high ≤ length slots
   pub below : (p : ℕ) (slot : Slot T) → IsSlotAt slots p slot → p < low → slot.number < number
   pub above : (p : ℕ) (slot : Slot T) → IsSlotAt slots p slot → high ≤ p → number < slot.number
 
--- an item is filed under a number at a place, and nothing is filed under the number before it
+-- an item is stored under a number at a position, and nothing is stored under the number before it
 pub record IsHeldAt {T : Type 0} (slots : List (Slot T)) (number place : ℕ) (item : T) : Type 0 where
   pub before : List (Slot T)
   pub after : List (Slot T)
@@ -90,18 +90,18 @@ pub record IsHeldAt {T : Type 0} (slots : List (Slot T)) (number place : ℕ) (i
   pub place_is : length before ≡ place
   pub none : item_at before number ≡ None
 
--- no more slots were looked at than their count has binary digits
+-- the slots read are at most as many as their count has binary digits
 abbrev pub IsWithinDigits : ℕ → ℕ → Type 0
 IsWithinDigits looks slots = (digits : ℕ) → slots < 2 ^ digits → looks ≤ digits
 
--- no more slots were looked at than it takes to find a number, and one more for each slot from its place up to that of
--- another number, with the slot there
+-- the slots read are at most those that it takes to find a number, plus one for each slot from its position up to that
+-- of another number, inclusive
 abbrev pub IsWithinWalk : {T : Type 0} → List (Slot T) → ℕ → ℕ → ℕ → Type 0
 IsWithinWalk slots from until looks = (digits start stop : ℕ) → length slots < 2 ^ digits → Divides slots from start
     → Divides slots until stop → looks ≤ digits + (stop - start) + 1
 
--- a number's place among the slots, and how many were looked at for it: one at least, where it was found, and no more
--- where no number is left out
+-- a number's position among the slots, and how many were read: one or more if it was found, and at most one if the
+-- numbers have no gaps
 pub record FindsSlot {T : Type 0} (slots : List (Slot T)) (number : ℕ) (found : Option ℕ × ℕ) : Type 0 where
   pub place : MatchOption found.0 (item_at slots number ≡ None)
       (λ place. (item : T) × IsHeldAt slots number place item)
@@ -110,13 +110,13 @@ pub record FindsSlot {T : Type 0} (slots : List (Slot T)) (number : ℕ) (found 
   pub one : LeavesNoneOut slots → found.1 ≤ 1
   pub seen : IfSome found.0 (λ _. 0 < found.1)
 
--- the slot at a place is empty
+-- the slot at a position is empty
 abbrev pub IsEmptyAt : {T : Type 0} → List (Slot T) → ℕ → Type 0
 IsEmptyAt {T} slots place = (slot : Slot T) × IsSlotAt slots place slot × (slot.item ≡ None)
 
 -- ---- what changes
 
--- another item, or none, is put into the slot at a place
+-- another item, or none, is put into the slot at a position
 pub record Replaces {T : Type 0} (old : List (Slot T)) (place : ℕ) (item found : Option T)
     (new : List (Slot T)) : Type 0 where
   pub slot : Slot T
@@ -129,7 +129,7 @@ abbrev pub IsAboveAll : {T : Type 0} → List (ℕ × T) → ℕ → Type 0
 IsAboveAll {T} entries number =
     (other : ℕ) (item : T) → lookup (is_at (nat_cmp other)) entries ≡ Some item → other < number
 
--- at most 64 slots are empty beside as many as are filled
+-- at most 64 slots are empty in addition to as many as are filled
 abbrev pub IsClosedUp : {T : Type 0} → List (Slot T) → Type 0
 IsClosedUp slots = length slots ≤ 2 * length (entries_in slots) + 64
 
@@ -142,20 +142,20 @@ abbrev pub trimmed : {T : Type 0} → List (Slot T) → List (Slot T)
 trimmed [] = []
 trimmed (slot ∷ slots) = if is_some slot.item then slot ∷ slots else trimmed slots
 
--- empty slots in front are gone, and few others are left; where few are to be, no other slot is moved
+-- there are no empty slots in front, and few others; if those were few, no other slot is moved
 pub record CompactsSlots {T : Type 0} (old new : List (Slot T)) : Type 0 where
   pub front : ¬ IsFrontEmpty new
   pub few : IsClosedUp new
   pub others : IsClosedUp (trimmed old) → new ≡ trimmed old
 
--- an item is taken out of its slot, and slots are closed up
+-- an item is removed from its slot, and slots are closed up
 pub record RemovesSlot {T : Type 0} (old : List (Slot T)) (item : T) (new : List (Slot T)) : Type 0 where
   pub place : ℕ
   pub emptied : List (Slot T)
   pub empties : Replaces old place None (Some item) emptied
   pub closes : CompactsSlots emptied new
 
--- the last slot has this number or one above
+-- the last slot has this number or a higher one
 abbrev pub IsBackFrom : {T : Type 0} → ℕ → List (Slot T) → Type 0
 IsBackFrom {T} number slots =
     (before : List (Slot T)) × (slot : Slot T) × (slots ≡ before ++ slot ∷ [])
@@ -174,7 +174,7 @@ is_below number entry = nat_lt entry.0 number
 abbrev pub is_from : {T : Type 0} → ℕ → ℕ × T → Bool
 is_from number entry = not (nat_lt entry.0 number)
 
--- what is filed from a number on
+-- the items from a number on
 abbrev pub entries_from : {T : Type 0} → ℕ → List (Slot T) → List (ℕ × T)
 entries_from number slots = filter (is_from number) (entries_in slots)
 

@@ -6,9 +6,9 @@ use crate::queue::RetransmitQueue;
 use std::alloc::Global;
 use std::marker::Model;
 
-/// The numbers of the items that a packet carries, in the order in which they came (RFC 9000, 13.3).
+/// The numbers of the items that a packet carries, in the order in which they were added (RFC 9000, 13.3).
 ///
-/// Contracts see the list of the items.
+/// In contracts its value is the list of the items.
 #[derive(Drop)]
 pub struct ItemQueue {
     items: Vec<u64>,
@@ -23,14 +23,14 @@ impl Model for ItemQueue {
 }
 
 impl ItemQueue {
-    /// A queue of these items. It takes no memory.
+    /// Returns a queue of these items. Does not allocate.
     pub fn from_items(items: Vec<u64>) -> Self
         ensures { result ≡ items.items }
     {
         ItemQueue { items }
     }
 
-    /// The items, in the order in which they came.
+    /// Returns the items, in the order in which they were added.
     pub fn items(&self) -> &[u64]
         ensures { result.now ≡ self.now }
     {
@@ -68,7 +68,7 @@ impl RetransmitQueue for ItemQueue {
         self.items.is_empty()
     }
 
-    /// The other's items go behind these. Memory is asked for only where both queues have items.
+    /// Appends the other queue's items. It allocates only if both queues have items.
     fn append(&mut self, mut other: Self) -> Result<(), Self> {
         if self.items.is_empty() {
             *self = other;

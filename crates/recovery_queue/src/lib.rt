@@ -1,6 +1,6 @@
-//! What a packet carries that is sent again when it is lost (RFC 9000, 13.3): the trait of a retransmit queue with its
-//! laws (`queue.rt`, where to begin), one of numbered items, and slots filed under rising numbers, which are found by
-//! halving.
+//! The contents of a packet, which are retransmitted if it is lost (RFC 9000, 13.3): the trait of a retransmission
+//! queue with its laws (`queue.rt`, where to begin) and a queue of numbered items. Also slots under increasing numbers,
+//! which are found by binary search.
 #![tactic(auto)]
 
 pub mod items;

@@ -15,19 +15,19 @@ use std::collections::VecDeque;
 use std::marker::Model;
 use std::mem;
 
-/// How many empty slots may stand beside as many as are filled.
+/// How many slots may be empty in addition to as many as are filled.
 const SLACK: usize = 64;
 
-/// A place of the queue: what is filed under its number, or nothing once that was taken.
+/// A slot of the queue: the item stored under its number, or nothing once that was removed.
 #[derive(Drop)]
 struct Slot<T> {
     number: u64,
     item: Option<T>,
 }
 
-/// What is filed under rising numbers.
+/// Items stored under increasing numbers.
 ///
-/// Contracts see the slots. What is taken leaves its slot empty, until empty slots are closed up.
+/// In contracts its value is the slots. A removed item leaves its slot empty, until empty slots are closed up.
 #[derive(Drop)]
 pub struct SlotQueue<T> {
     slots: VecDeque<Slot<T>>,
@@ -49,7 +49,7 @@ impl<T> Model for SlotQueue<T> {
 }
 
 impl<T: Drop> SlotQueue<T> {
-    /// An empty queue. It takes no memory; `push` does.
+    /// Returns an empty queue. It does not allocate; `push` does.
     pub fn new(alloc: Global) -> Self
         ensures { result ≡ [] }
     {
@@ -61,14 +61,14 @@ impl<T: Drop> SlotQueue<T> {
         }
     }
 
-    /// How many slots there are, filled and empty.
+    /// Returns how many slots there are, filled and empty.
     pub fn len(&self) -> usize
         ensures { result ≡ length self.now }
     {
         self.slots.len()
     }
 
-    /// How many slots are filled.
+    /// Returns how many slots are filled.
     pub fn filled(&self) -> usize
         ensures count { result ≡ length (entries_in self.now) }
         ensures few { length (entries_in self.now) < 2 ^ 63 }
@@ -76,7 +76,7 @@ impl<T: Drop> SlotQueue<T> {
         self.filled
     }
 
-    /// What is filed in the slot at a place, under which number.
+    /// Returns the item in the slot at a position, with its number.
     pub fn get(&self, place: usize) -> Option<(u64, &T)>
         requires { place < length self.now }
         ensures slot { MatchOption result (IsEmptyAt self.now place)
@@ -90,8 +90,8 @@ impl<T: Drop> SlotQueue<T> {
         }
     }
 
-    /// Between which places a number stands, if it does: slots before the first have lower numbers, and from the second
-    /// on higher ones. Where no number is left out these are one place.
+    /// Returns two positions that enclose a number: slots before the first have lower numbers, and from the second on
+    /// higher ones. If the numbers have no gaps these enclose at most one position.
     fn range_of(&self, number: u64) -> (usize, usize)
         ensures encloses { Encloses self.now number result.0 result.1 }
         ensures one { LeavesNoneOut self.now → result.1 ≤ result.0 + 1 }
@@ -112,8 +112,8 @@ impl<T: Drop> SlotQueue<T> {
         (low, high)
     }
 
-    /// The place of what is filed under a number, or, in `Err`, the first place whose number is not below it; and how
-    /// many slots were read for it.
+    /// Returns the position of the item stored under a number, or, in `Err`, the first position whose number is not
+    /// below it, and how many slots were read.
     #[inline(always)]
     fn search(&self, number: u64) -> (Result<usize, usize>, u32)
         ensures held { MatchResult result.0
@@ -130,8 +130,8 @@ impl<T: Drop> SlotQueue<T> {
         (place, looks.count())
     }
 
-    /// The place of what is filed under a number, and how many slots were looked at for it: at most as many as the
-    /// count of slots has binary digits, and at most one where no number is left out.
+    /// Returns the position of the item stored under a number, and how many slots were read. These are at most as many
+    /// as the count of slots has binary digits, and at most one if the numbers have no gaps.
     pub fn find(&self, number: u64) -> (Option<usize>, u32)
         ensures { FindsSlot self.now number result }
     {
@@ -139,8 +139,8 @@ impl<T: Drop> SlotQueue<T> {
         (place.ok(), looks)
     }
 
-    /// The first place whose number is not below this one, or a place past all slots if there is none; and how many
-    /// slots were looked at for it.
+    /// Returns the first position whose number is not below this one, or a position after all slots if there is none,
+    /// and how many slots were read.
     fn start_of(&self, number: u64) -> (usize, u32)
         ensures divides { Divides self.now number result.0 }
         ensures looks { IsWithinDigits result.1 (length self.now) }
@@ -152,7 +152,7 @@ impl<T: Drop> SlotQueue<T> {
         }
     }
 
-    /// The first place whose number is not below this one; where there is none, how many slots there are, or more.
+    /// Returns the first position whose number is not below this one; if there is none, the count of slots, or more.
     pub fn place_from(&self, number: u64) -> usize
         ensures entries { entries_in (drop result self.now) ≡ entries_from number self.now }
         ensures divides { Divides self.now number result }
@@ -161,8 +161,8 @@ impl<T: Drop> SlotQueue<T> {
         place
     }
 
-    /// How many items are filed below a number: at least as many, and no more than are filed in all. It costs what
-    /// `find` costs.
+    /// Returns an upper bound on how many items are stored below a number. It is at most the count of all items. Cost:
+    /// as `find`.
     pub fn filled_below(&self, number: u64) -> usize
         ensures enough { length (filter (is_below number) (entries_in self.now)) ≤ result }
         ensures most { result ≤ length (entries_in self.now) }
@@ -170,7 +170,7 @@ impl<T: Drop> SlotQueue<T> {
         self.place_from(number).min(self.filled)
     }
 
-    /// Puts another item, or none, into the slot at a place, and hands out what was in it.
+    /// Puts another item, or none, into the slot at a position, and returns what was in it.
     #[inline(always)]
     pub fn replace(&mut self, place: usize, item: Option<T>) -> Option<T>
         requires { place < length self.old }
@@ -183,9 +183,9 @@ impl<T: Drop> SlotQueue<T> {
         old
     }
 
-    /// Makes room for so many slots more, at one request for memory at most: pushes ask for none until they are used.
+    /// Makes room for this many more slots, with at most one allocation: pushes do not allocate until they are used.
     ///
-    /// `AllocError` changes nothing. Where no slot is asked for, no memory is taken.
+    /// `AllocError` changes nothing. If no slot is requested, nothing is allocated.
     pub fn reserve(&mut self, count: usize) -> Result<(), AllocError>
         ensures slots { self.new ≡ self.old }
         ensures memory { OnErr result (0 < count) }
@@ -196,10 +196,10 @@ impl<T: Drop> SlotQueue<T> {
         self.slots.reserve(count)
     }
 
-    /// Files an item under a number above all under which something is filed, any `u64`.
+    /// Stores an item under a number above all numbers in use, any `u64`.
     ///
-    /// `AllocError` changes nothing, and the item is dropped. It costs a few steps, beside one for each empty slot at
-    /// the end with that number or one above, which goes, and a move of the slots where they need more room.
+    /// `AllocError` changes nothing, and drops the item. Cost: constant, plus one step for each empty slot at the end
+    /// with that number or a higher one, which is dropped. If the slots need more room they are moved.
     pub fn push(&mut self, number: u64, item: T) -> Result<(), AllocError>
         requires { IsAboveAll (entries_in self.old) number }
         ensures ok { OnOk result
@@ -219,7 +219,7 @@ impl<T: Drop> SlotQueue<T> {
         Ok(())
     }
 
-    /// Takes out what is filed under a number. Empty slots are closed up where they are too many.
+    /// Removes and returns the item stored under a number. Empty slots are closed up if there are too many.
     #[inline(always)]
     pub fn take(&mut self, number: u64) -> Option<T>
         ensures value { result ≡ item_at self.old number }
@@ -235,7 +235,7 @@ impl<T: Drop> SlotQueue<T> {
         item
     }
 
-    /// Takes out what is filed under the lowest number. Empty slots are closed up where they are too many.
+    /// Removes and returns the item with the lowest number. Empty slots are closed up if there are too many.
     pub fn pop_first(&mut self) -> Option<(u64, T)>
         ensures entries { MatchOption result (entries_in self.old ≡ [])
             (λ entry. entries_in self.old ≡ entry ∷ entries_in self.new) }
@@ -248,8 +248,8 @@ impl<T: Drop> SlotQueue<T> {
         Some((number, item))
     }
 
-    /// What is filed under the lowest number from another on, with that number. Cost: that of `find`, beside the empty
-    /// slots that are passed over.
+    /// Returns the item with the lowest number that is not below another, with its number. Cost: that of `find`, plus
+    /// the empty slots that are passed over.
     pub fn entry_from(&self, number: u64) -> Option<(u64, &T)>
         ensures first { MatchOption result (first_entry (entries_from number self.now) ≡ None)
             (λ found. first_entry (entries_from number self.now) ≡ Some (found.0, found.1.now)) }
@@ -263,9 +263,9 @@ impl<T: Drop> SlotQueue<T> {
         None
     }
 
-    /// What is filed under the lowest number from one on and below an end, with that number; and how many slots were
-    /// looked at. Cost: that of `find`, and one step for each slot between the first number and the one found, or the
-    /// end.
+    /// Returns the item with the lowest number that is not below `from` and is below `end`, with its number, and how
+    /// many slots were read. Cost: that of `find`, plus one step for each slot between the first number and the one
+    /// found, or the end.
     pub fn entry_between(&self, from: u64, end: u64) -> (Option<(u64, &T)>, usize)
         ensures none { IfNone result.0 (AreFrom end (entries_from from self.now)) }
         ensures first { IfSome result.0 (λ found. (found.0 < end)
@@ -289,7 +289,7 @@ impl<T: Drop> SlotQueue<T> {
         (None, looks + self.len().saturating_sub(start))
     }
 
-    /// The first number under which something is filed, from another on.
+    /// Returns the lowest number in use that is not below another.
     pub fn first_from(&self, number: u64) -> Option<u64>
         ensures first { result ≡ first_number (entries_from number self.now) }
         ensures lowest { IfSome result (λ found. AreFrom found (entries_from number self.now)) }
@@ -300,7 +300,7 @@ impl<T: Drop> SlotQueue<T> {
         }
     }
 
-    /// Closes up empty slots: those before the first filled one always, the others where they are too many.
+    /// Closes up empty slots: those before the first filled one always, the others if there are too many.
     #[inline(always)]
     fn close_up(&mut self)
         ensures entries { entries_in self.new ≡ entries_in self.old }
@@ -315,8 +315,8 @@ impl<T: Drop> SlotQueue<T> {
     }
 }
 
-/// The place of what is filed under a number, or, in `Err`, the first place whose number is not below it, between two
-/// places.
+/// Returns the position of the item stored under a number, or, in `Err`, the first position whose number is not below
+/// it, between two positions.
 #[inline(always)]
 fn halve<T>(looks: &mut Looks<'_, T>, number: u64, from: usize, to: usize) -> Result<usize, usize>
     requires fresh { looks.old.count ≡ 0 }
@@ -357,7 +357,7 @@ fn trim<T: Drop>(slots: &mut VecDeque<Slot<T>>)
     }
 }
 
-/// Whether there is a first slot, and it is empty.
+/// Returns whether there is a first slot, and it is empty.
 fn is_front_empty<T>(slots: &VecDeque<Slot<T>>) -> bool
     ensures { Decides result (IsFrontEmpty slots.now.items) }
 {
@@ -367,14 +367,14 @@ fn is_front_empty<T>(slots: &VecDeque<Slot<T>>) -> bool
     }
 }
 
-/// Drops the empty slots. It takes no memory.
+/// Drops the empty slots. Does not allocate.
 fn keep_filled<T: Drop>(slots: &mut VecDeque<Slot<T>>)
     ensures { slots.new.items ≡ filter is_filled slots.old.items }
 {
     slots.retain(|slot| slot.item.is_some());
 }
 
-/// The number of the first slot; another, where there is none.
+/// Returns the number of the first slot, or `first` if there is none.
 fn first_of<T>(slots: &VecDeque<Slot<T>>, first: u64) -> u64
     ensures { IsFirst result slots.now.items }
 {
@@ -384,7 +384,7 @@ fn first_of<T>(slots: &VecDeque<Slot<T>>, first: u64) -> u64
     }
 }
 
-/// The number of the last slot; another, where there is none.
+/// Returns the number of the last slot, or `last` if there is none.
 fn last_of<T>(slots: &VecDeque<Slot<T>>, last: u64) -> u64
     ensures { IsLast result slots.now.items }
 {
@@ -394,7 +394,7 @@ fn last_of<T>(slots: &VecDeque<Slot<T>>, last: u64) -> u64
     }
 }
 
-/// From which number on slots stand, once one more stands behind them.
+/// Returns the number of the first slot after one more slot is appended.
 fn first_with<T>(slots: &VecDeque<Slot<T>>, first: u64, number: u64) -> u64
     ensures rising { AreSlotsIncreasing first slots.now.items number
         → (result ≤ number) × AreSlotsIncreasing result slots.now.items number }
@@ -433,7 +433,7 @@ fn cut_back<T: Drop>(slots: &mut VecDeque<Slot<T>>, number: u64)
     }
 }
 
-/// Whether the last slot has this number or one above.
+/// Returns whether the last slot has this number or a higher one.
 fn is_back_from<T>(slots: &VecDeque<Slot<T>>, number: u64) -> bool
     ensures { Decides result (IsBackFrom number slots.now.items) }
 {

@@ -1,4 +1,4 @@
--- One byte more of a line, its end, and what is kept of it: `next_line` rests on it, and so does `recovery_trace`.
+-- One more byte of a line, its end, and the part that is stored: `next_line` rests on it, and so does `recovery_trace`.
 use Rattle.std.proofs.Common.{◌≡◌, ◌≢◌, ℕ, zero, suc, ◌≤◌, ◌⊎◌, List, [], ◌∷◌, ◌++◌, length, take, Option, Some, refl, sym, ap, subst, ◌∙◌, arith, length-append, length-take, take_all}
 use Rattle.std.proofs.lemmas.List.Elements.{All-nil, All-append, All-cons}
 use Rattle.std.specs.Io.KnownBytes.{Consumes}
@@ -10,7 +10,7 @@ use Rattle.recovery_replay.specs.declared.reading.Unread.TheVariants.{OutOfMemor
 use Rattle.recovery_replay.specs.Reading.{BreaksOff, IsLine, TruncatedLine}
 use Rattle.recovery_replay.proofs.ScriptLaws.{IsNoFeed}
 
--- what was taken of a line so far, and what is kept of it
+-- what was read of a line so far, and what is stored of it
 abbrev pub Taken : Option (List ℕ) → Option (List ℕ) → List ℕ → Type 0
 Taken before now kept = (line : List ℕ) × TruncatedLine line kept × Consumes before now line
 
@@ -42,7 +42,7 @@ pub line_over : (before now after : Option (List ℕ)) (kept : List ℕ) → Tak
 line_over before now after kept taken one =
     (taken.0, taken.1, Consumes-trans before now after taken.0 (10 ∷ []) taken.2 one)
 
--- a line of 4097 bytes or fewer with one more, of which 4097 are kept
+-- a line of at most 4097 bytes with one more, of which 4097 are stored
 pub kept_all : (kept : List ℕ) (byte : ℕ) → length kept ≤ 4096 → kept ++ byte ∷ [] ≡ take 4097 (kept ++ byte ∷ [])
 kept_all kept byte le = sym (take_all 4097 (kept ++ byte ∷ []) (omega (arith, length-append kept (byte ∷ []))))
 
@@ -55,7 +55,7 @@ front (suc n) (x ∷ xs) ys e = ap (λ (l : List ℕ). x ∷ l) (front n xs ys (
 pub kept_full : (kept : List ℕ) (byte : ℕ) → length kept ≡ 4097 → kept ≡ take 4097 (kept ++ byte ∷ [])
 kept_full kept byte full = sym (front 4097 kept (byte ∷ []) full)
 
--- memory is refused for one byte more
+-- the allocation for one more byte failed
 pub stopped : (before now after : Option (List ℕ)) (kept : List ℕ) (byte : ℕ) (unread : Unread)
     → Taken before now kept → byte ≢ 10 → Consumes now after (byte ∷ [])
     → (unread ≡ ReadFailed) ⊎ (unread ≡ OutOfMemory) → BreaksOff before after unread
@@ -63,7 +63,7 @@ stopped before now after kept byte unread taken no_feed one is =
     let more = one_more before now after kept (take 4097 (kept ++ byte ∷ [])) byte taken no_feed one refl in
     (more.0, more.1.no_feed, more.2, is)
 
--- ---- a line and what is kept of it
+-- ---- a line and what is stored of it
 
 pub same_line : (line kept : List ℕ) → TruncatedLine line kept → length kept ≤ 4096 → kept ≡ line
 same_line line kept k short =

@@ -1,4 +1,4 @@
--- How a run begins, and what its text holds in the end: `answers_over` rests on it.
+-- How a run begins, and its text at the end: `answers_over` rests on it.
 use Rattle.std.proofs.Common.{◌≡◌, ℕ, true, List, [], ◌∷◌, ◌++◌, Option, None, Some, string_bytes, refl, ap, sym, ◌∙◌, append-nil, append_assoc}
 use Rattle.std.specs.Prelude.{unwrap_or}
 use Rattle.std.specs.declared.net.socket_addr.SocketAddr.{SocketAddr}
@@ -20,13 +20,13 @@ use Rattle.recovery_replay.specs.declared.text.AnswerText.{AnswerText}
 use Rattle.recovery_replay.specs.Replay.{begun_over, settings, skips_with, words_with, RunsOver, Session}
 use Rattle.recovery_replay.specs.Text.{TakesLine}
 
--- the generator of a seed gives the seed's words
+-- the generator of a seed gives the seed's random words
 pub words_of_seed : (seed : Option ℕ) → stream_of (steps_u32 pcg32) (pcg32_of_seed (pcg32_seed 16 (unwrap_or seed 0)))
     ≡ words_with seed
 words_of_seed None = refl
 words_of_seed (Some seed) = refl
 
--- a text for whose last line there was memory has all lines
+-- a text whose last line could be allocated has all lines
 abbrev pub TakesText : AnswerText → ScriptReply → AnswerText → Type 0
 TakesText old reply new = TakesLine old.text old.whole reply new.text new.whole
 

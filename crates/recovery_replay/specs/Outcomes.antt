@@ -12,7 +12,7 @@ abbrev pub outcome_of : Unread → Outcome
 outcome_of reasons.ReadFailed = Ended ReadFailed
 outcome_of reasons.OutOfMemory = OutOfMemory
 
--- a write failed, for any reason or because the pipe is closed at the other end
+-- a write failed, for any reason or because the reader closed the pipe
 abbrev pub IsBroken : Outcome → Type 0
 IsBroken outcome = (outcome ≡ WriteFailed) ⊎ (outcome ≡ Closed)
 

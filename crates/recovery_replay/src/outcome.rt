@@ -17,9 +17,9 @@ use std::io::{ErrorKind, Write};
 pub enum Outcome {
     /// The answers were written, and the input ended so.
     Ended(Ending),
-    /// A write of the answers failed; a beginning of them was written.
+    /// A write of the answers failed; a prefix of them was written.
     WriteFailed,
-    /// The pipe for the answers was closed at the other end; a beginning of them was written.
+    /// The reader closed the pipe for the answers; a prefix of them was written.
     Closed,
     /// An allocation failed.
     OutOfMemory,
@@ -94,7 +94,7 @@ impl Outcome {
         text
     }
 
-    /// Writes the text. After a failure a beginning of it was written.
+    /// Writes the text. After a failure a prefix of it was written.
     pub fn report<E: Write>(self, program: &str, usage: &str, errors: &mut E) -> io::Result<()>
         requires program { length program.now ≤ 16 }
         requires usage { length usage.now ≤ 128 }

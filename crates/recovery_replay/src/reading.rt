@@ -1,4 +1,4 @@
-//! One line of an input after the other, in memory that does not grow with it.
+//! Reads an input line by line, in memory that does not grow with it.
 ghost use Rattle.std.specs.Prelude.{◌≡◌, ◌≤◌, ◌++◌, ◌∷◌, [], IfErr, OnOk, MatchResult, length, take, ◌+◌};
 ghost use Rattle.std.specs.Io.KnownBytes.{Keeps};
 ghost use Rattle.recovery_replay.specs.declared.reading.Unread.TheVariants.{OutOfMemory, ReadFailed};
@@ -17,7 +17,7 @@ pub const MAX_CALLS: u64 = u64::MAX;
 pub enum Next {
     /// By a line feed.
     Line,
-    /// By the end of the input, behind one byte or more.
+    /// By the end of the input, after one byte or more.
     Last,
 }
 
@@ -26,11 +26,11 @@ pub enum Next {
 pub enum Unread {
     /// A read failed.
     ReadFailed,
-    /// Memory was refused.
+    /// An allocation failed.
     OutOfMemory,
 }
 
-/// The next byte; `None` at the end. A read that is interrupted is tried again.
+/// Returns the next byte, or `None` at the end. A read that is interrupted is tried again.
 fn next_byte<R: Read>(input: &mut R) -> Result<Option<u8>, Unread>
     ensures { MatchResult result (IsByte (R.remaining input.old) (R.remaining input.new))
         (λ unread. (unread ≡ ReadFailed)
@@ -51,7 +51,7 @@ fn next_byte<R: Read>(input: &mut R) -> Result<Option<u8>, Unread>
     Err(Unread::ReadFailed)
 }
 
-/// Keeps a byte of a line, unless 4097 of them are kept.
+/// Appends a byte of a line, unless it has 4097 already.
 fn keep(line: &mut Vec<u8>, byte: u8) -> Result<(), Unread>
     requires { length line.old.items ≤ longest_line + 1 }
     ensures kept { OnOk result (line.new.items
@@ -67,9 +67,9 @@ fn keep(line: &mut Vec<u8>, byte: u8) -> Result<(), Unread>
     }
 }
 
-/// Reads one line in place of what `line` held, without its line feed: of a line of more than 4096 bytes the first
-/// 4097, by which it is known to be too long. `None` where the input is over. Where a read fails or memory is refused,
-/// what was taken of the line is gone. A read that is interrupted is tried again.
+/// Reads one line into `line`, without its line feed. Of a line of more than 4096 bytes it stores the first 4097, which
+/// show that it is too long. Returns `None` at the end of the input. If a read or an allocation fails, the bytes read
+/// of the line are lost. A read that is interrupted is tried again.
 pub fn next_line<R: Read>(input: &mut R, line: &mut Vec<u8>) -> Result<Option<Next>, Unread>
     ensures { MatchResult result
         (IsLine (R.remaining input.old) (R.remaining input.new) line.new.items)

@@ -1,4 +1,4 @@
-//! Events in, answers out.
+//! Reads events and writes their replies.
 ghost use Rattle.std.specs.Prelude.{◌≡◌, ℕ, Option, IfOk, OnOk, OnErr, MatchOption, string_bytes};
 ghost use Rattle.std.specs.Io.KnownBytes.{Appends};
 ghost use Rattle.recovery_replay.specs.Script.{ReaderParses};
@@ -38,20 +38,19 @@ pub const FIRST_PORT: u16 = 4433;
 /// The program's name in its error texts.
 const NAME: &str = "replay";
 
-/// How the program is called.
+/// The usage of the program.
 const USAGE: &str = "usage: recovery-replay [SEED [WINDOW]]\n";
 
-/// What the arguments choose.
+/// The choices of the arguments.
 #[derive(Clone, Copy)]
 struct Choice {
-    /// What skipped numbers are drawn by; without it none is skipped.
+    /// The seed of the skipped numbers; without it none is skipped.
     seed: Option<u64>,
-    /// The window of each controller, in bytes; without it they are NewReno's.
+    /// The window of each controller, in bytes; without it the controllers are NewReno's.
     fixed: Option<FixedWindowConfig>,
 }
 
-/// What a run over these controllers, with the peer at an address, starts with: the default settings, but for the
-/// skips.
+/// Returns the settings of a run with these controllers and the peer's address: the defaults, except for the skips.
 pub fn config<F>(factory: F, remote: SocketAddr, skips: Skips) -> RecoveryConfig<F>
     ensures { result ≡ settings factory remote skips }
 {
@@ -61,7 +60,7 @@ pub fn config<F>(factory: F, remote: SocketAddr, skips: Skips) -> RecoveryConfig
     config
 }
 
-/// How packet numbers are skipped: as they are drawn with a seed, and not at all without one.
+/// Returns how packet numbers are skipped: drawn with a seed, and not at all without one.
 pub fn skips(seed: Option<u64>) -> Skips
     ensures { result ≡ skips_with seed }
 {
@@ -71,8 +70,7 @@ pub fn skips(seed: Option<u64>) -> Skips
     }
 }
 
-/// The lines that are written for the events of a script, in a run over these controllers that begins with a seed or
-/// with none.
+/// Returns the lines of the replies to a script, in a run with these controllers and a seed or none.
 fn answers_over<F, E>(
     alloc: Global,
     factory: F,
@@ -94,7 +92,7 @@ where
     text.into_text()
 }
 
-/// The lines that are written for the events of a script, in the run that is chosen.
+/// Returns the lines of the replies to a script, in the chosen run.
 fn answers<E: Source<Event<ItemQueue>>>(
     alloc: Global,
     choice: Choice,
@@ -109,7 +107,7 @@ fn answers<E: Source<Event<ItemQueue>>>(
     }
 }
 
-/// The seed that a word says, if it says one: a number, or none by `-`.
+/// Parses a word as a seed: a number, or `-` for none.
 fn seed_in(word: &[u8]) -> Option<Option<u64>>
     ensures { MatchOption result ((seed : Option ℕ) → ¬ IsSeed word.now seed) (IsSeed word.now) }
 {
@@ -119,7 +117,7 @@ fn seed_in(word: &[u8]) -> Option<Option<u64>>
     Some(Some(number_in(word)?))
 }
 
-/// The window that a word says, if it says one: a number above zero.
+/// Parses a word as a window: a number above zero.
 fn window_in(word: &[u8]) -> Option<FixedWindowConfig>
     ensures { MatchOption result ((factory : FixedWindowConfig) → ¬ IsWindow word.now factory)
         (IsWindow word.now) }
@@ -130,7 +128,7 @@ fn window_in(word: &[u8]) -> Option<FixedWindowConfig>
     }
 }
 
-/// What the arguments of a run choose, if they are such: nothing, a seed, or a seed and a window.
+/// Parses the arguments of a run: nothing, a seed, or a seed and a window.
 fn choice_in(words: &[String]) -> Option<Choice>
     ensures { AreRead words.now result }
 {
@@ -151,13 +149,13 @@ fn choice_in(words: &[String]) -> Option<Choice>
     }
 }
 
-/// What the program comes to with an input that lies in memory: the outcome, whose text and status are the program's,
-/// and the answers. The one refusal is `NoMemory`.
+/// Returns the outcome of the program for an input in memory, whose text and status are the program's, and the answers.
+/// The only error is `NoMemory`.
 ///
-/// `words` are the arguments behind the program's name: nothing, or a seed (0 to `u64::MAX`, without sign or leading
-/// zeros, or `-` for none), and behind it a window in bytes or nothing (1 to `u64::MAX`, the same). With a seed numbers
-/// of 1-RTT packets are skipped, as `Pcg32::seed_from_u64` draws them; without one none is. With a window it is that of
-/// each path's controller for good; without one they are NewReno's.
+/// `words` are the arguments after the program's name: an optional seed, followed by an optional window in bytes. The
+/// seed is 0 to `u64::MAX`, without sign or leading zeros, or `-` for none; the window is 1 to `u64::MAX`. With a seed
+/// numbers of 1-RTT packets are skipped, as `Pcg32::seed_from_u64` draws them; without one none is. A window is that of
+/// each path's controller throughout; without one the controllers are NewReno's.
 pub fn play_bytes(
     alloc: Global,
     words: &[String],
@@ -178,7 +176,7 @@ pub fn play_bytes(
     }
 }
 
-/// Reads events and writes their answers, once the input was read.
+/// Reads events, and writes their answers when the input was read.
 fn play<R: Read, W: Write>(
     alloc: Global,
     words: &[String],
@@ -208,7 +206,7 @@ pub fn message(outcome: Outcome) -> ArrayString<128>
     outcome.text(NAME, USAGE)
 }
 
-/// Writes what is wrong. After a failure a beginning of it was written.
+/// Writes the error text. After a failure a prefix of it was written.
 pub fn report<E: Write>(outcome: Outcome, errors: &mut E) -> io::Result<()>
     ensures whole { OnOk result
         (Appends (E.contents errors.old) (E.contents errors.new) (error_text outcome)) }
@@ -217,10 +215,11 @@ pub fn report<E: Write>(outcome: Outcome, errors: &mut E) -> io::Result<()>
     outcome.report(NAME, USAGE, errors)
 }
 
-/// Reads events, writes their answers and then what is wrong: how it ended, and whether that could be told.
+/// Reads events, writes their answers and then the error text. Returns the outcome, and whether that text could be
+/// written.
 ///
-/// It does what `play_bytes` does with the bytes that are read, unless a read or a write fails. The answers are written
-/// once the input was read; they are held in memory. A failed write to `errors` changes no outcome.
+/// It does the same as `play_bytes` with the bytes that are read, unless a read or a write fails. The answers are
+/// stored in memory and written when the input was read. A failed write to `errors` changes no outcome.
 pub fn replay_and_tell<R: Read, W: Write, E: Write>(
     alloc: Global,
     words: &[String],
@@ -238,7 +237,7 @@ pub fn replay_and_tell<R: Read, W: Write, E: Write>(
     (outcome, report(outcome, errors))
 }
 
-/// Reads events, writes their answers and then what is wrong; gives the exit status.
+/// Reads events, writes their answers and then the error text. Returns the exit status.
 ///
 /// As `replay_and_tell`; a failed write to `errors` changes no status.
 pub fn replay<R: Read, W: Write, E: Write>(

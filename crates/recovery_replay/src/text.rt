@@ -1,4 +1,4 @@
-//! The lines that are written for replies, as they are given.
+//! The lines of the replies, as replies are given.
 ghost use Rattle.std.specs.Prelude.{◌≡◌, [], true, IfOk, string_bytes};
 ghost use Rattle.recovery_replay.specs.Text.{TakesLine};
 
@@ -9,16 +9,16 @@ use recovery_queue::items::ItemQueue;
 use recovery_script_syntax::answers::write_reply;
 use std::alloc::Global;
 
-/// The lines of the replies so far. Once memory was refused for one it asks for no other.
+/// The lines of the replies so far. Once an allocation failed for one it asks for no more.
 #[derive(Drop)]
 pub struct AnswerText {
     text: String,
-    /// Whether there was memory for every line.
+    /// Whether every line could be allocated.
     whole: bool,
 }
 
 impl AnswerText {
-    /// No line yet.
+    /// Returns an empty text.
     pub fn new(alloc: Global) -> Self
         ensures text { string_bytes result.text ≡ [] }
     {
@@ -28,7 +28,7 @@ impl AnswerText {
         }
     }
 
-    /// The lines of all replies, or `NoMemory` where memory was refused for one.
+    /// Returns the lines of all replies, or `NoMemory` if an allocation failed for one.
     pub fn into_text(self) -> Result<String, NoMemory>
         ensures { IfOk result (λ text.
             (self.whole ≡ true) × (string_bytes text ≡ string_bytes self.text)) }

@@ -1,4 +1,4 @@
--- What is read of the digits that bytes begin with, eight at a time. `leading_digits` rests on it.
+-- Reading leading digits of bytes, eight at a time. `leading_digits` rests on it.
 use Rattle.std.proofs.Common.{◌≡◌, ℕ, ◌+◌, ◌-◌, ◌*◌, ◌%◌, ◌^◌, ◌<◌, ◌≤◌, List, length, length-take, take, drop, get_or, ◌∙◌, refl, arith}
 use Rattle.std.specs.Char.{is_ascii_digit}
 use Rattle.std.specs.Str.Parse.{digits_value}
@@ -34,7 +34,7 @@ value_read bs at value r few =
 pub none_read : (bs : List ℕ) → HasRead bs 0 0 0 0
 none_read bs = record { after = omega arith; within = omega arith; digits = omega arith; value_is = refl }
 
--- what `up_to_eight` says of a word
+-- what `up_to_eight` returns for a word
 abbrev pub Counts : ℕ → ℕ → ℕ → Type 0
 Counts word count value = (xs : List ℕ) → IsEightBytes xs → word ≡ number_l 256 xs
     → (count ≡ digits_len xs) × (value ≡ digits_value 10 (take count xs))

@@ -1,4 +1,4 @@
--- Each form of a line: what is read is spelled so, what is spelled so is read, and the words are plain. `LineLaws` rest
+-- Each form of a line: what is read is encoded so, what is encoded so is read, and all words are plain. `LineLaws` rest
 -- on it.
 use Rattle.std.proofs.Common.{◌≡◌, ◌<◌, ℕ, List, [], ◌∷◌, Option, Some, refl, sym, ap, subst, ◌∙◌, arith, lit≤}
 use Rattle.std.specs.List.{AllByRecursion}
@@ -15,9 +15,9 @@ use Rattle.recovery_script_syntax.proofs.IdLaws.{ids_count, ids_first}
 use Rattle.recovery_script_syntax.proofs.ItemLaws.{items_take, items_again}
 use Rattle.recovery_script_syntax.proofs.PlainWordLaws.{IsPlain}
 
--- ---- several fields, and what stands behind them
+-- ---- several fields, and what follows them
 
--- what all of the words are read as, they spell
+-- what all words are read as, they encode
 fields_take : {A : Type 0} (tail : Tail) (fields : List Field) (make : Values tail fields → A) (words : List (List ℕ))
     (made : A) → fields_read tail fields make words ≡ Some (made, [])
     → (x : Values tail fields) × ((words ≡ words_for tail fields x) × AllFitFieldTypes tail fields x × (make x ≡ made))
@@ -31,7 +31,7 @@ fields_take tail (f ∷ fields) make words made e =
     let r = fields_take tail fields (λ y. make (b.0.0, y)) b.0.1 made b.2 in
     ((b.0.0, r.0), grind (arith, field_takes f words b.0.0 b.0.1 b.1, r))
 
--- a line with items is an event itself, for which no memory is taken once it was read
+-- a line with items is an event itself, for which nothing is allocated after it was read
 pub send_says : (words : List (List ℕ)) (said : Line) → reading send words ≡ Some (said, []) → TakesMemory said → ⊥
 send_says words said e memory =
     let r = fields_take an_item_tail send.fields send.line words said e in rw (← r.1.2) at memory
@@ -58,7 +58,7 @@ all_is tail (f ∷ fields) make words = refl
 abbrev pub Saying : Type 0
 Saying = (form : Form) × FormValues form
 
--- the form by which a line says something, and its values
+-- the form of a line, and its values
 abbrev pub said_by : Line → Saying
 said_by (Said event) = saying 0 event
 said_by (Ids now first count) = (issue_ids, (now, (first, (count, tt))))
@@ -71,7 +71,7 @@ means_said (Ids now first count) event m =
     (first, grind (arith, m.1, m.2, ids_count first count, ids_first first count))
 means_said (Path now port fresh) event m = (0, grind (arith, m.1, m.2.at))
 
--- what a form says is said by it, and its name is plain
+-- what a form means is encoded by it, and its name is plain
 record IsForm (form : Form) : Type 0 where
   own : (x : FormValues form) → said_by (form.line x) ≡ (form, x)
   plain : AllByRecursion (λ b. 32 < b) form.name
@@ -94,7 +94,7 @@ named_form (first ∷ listed) h name form e =
 
 -- ---- lines
 
--- the words spell what the line says
+-- the line is encoded by these words
 abbrev pub Spell : List (List ℕ) → Line → Saying → Type 0
 Spell words said by =
     (words ≡ words_said by) × AllFitFieldTypes by.0.tail by.0.fields by.1 × (by.0.line by.1 ≡ said)

@@ -1,4 +1,4 @@
--- The ids that a line issues. `FormLaws` rest on it.
+-- The IDs that a line issues. `FormLaws` rest on it.
 use Rattle.std.proofs.Common.{◌≡◌, ℕ, zero, suc, length, refl}
 use Rattle.std.proofs.lemmas.List.FromFn.{length-map-range_with_len}
 use Rattle.recovery_script_syntax.specs.Lines.{zero_id, zero_ids, first_number}

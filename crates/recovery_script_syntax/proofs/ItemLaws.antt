@@ -1,4 +1,4 @@
--- Items up to the end of the words: what is read is spelled so, what is spelled so is read, and the words are plain.
+-- Items up to the end of a line: what is read is encoded so, what is encoded so is read, and all words are plain.
 -- `FormLaws` rest on it.
 use Rattle.std.proofs.Common.{◌≡◌, ℕ, ◌+◌, ◌<◌, ◌^◌, List, [], ◌∷◌, ◌++◌, map, length, Option, Some, None, Result, Ok, Err, OnErr, Bool, false, Decides, decimal}
 use Rattle.std.proofs.Common.{arith, lit≤, refl}
@@ -22,7 +22,7 @@ items_again (item ∷ items) h =
     let rest = items_again items h.1 in
     (rw (number_again (2 ^ 64) item (lit≤ tt) h.0, rest.0) refl, (decimal_plain item (omega (arith, h.0)), rest.1))
 
--- ---- reading them one after the other
+-- ---- reading them one after another
 
 -- the next word is an item
 pub item_first : (words rest : List (List ℕ)) (item : ℕ) → field (number_of (2 ^ 64)) words ≡ Some (item, rest)
@@ -38,11 +38,11 @@ unfolding field
 no_item [] empty is decides e = grind (arith, is, decides)
 no_item (word ∷ words) empty is decides e = grind (arith, e)
 
--- these items stand before those that are read
+-- these items are before those that are read
 abbrev pub behind : List ℕ → Option (List ℕ) → Option (List ℕ)
 behind items read = read >>= λ more. Some (items ++ more)
 
--- what is true is true where memory was refused
+-- what is true is true if an allocation failed
 pub on_err : {T E P : Type 0} (result : Result T E) → P → OnErr result P
 on_err (Ok value) holds = tt
 on_err (Err error) holds = holds

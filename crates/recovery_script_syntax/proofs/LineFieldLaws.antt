@@ -1,4 +1,4 @@
--- A field that is read is the field that is spelled, what is spelled is read, and its word is plain. `FormLaws` rest on
+-- A field that is read is the field that is encoded, what is encoded is read, and its word is plain. `FormLaws` rest on
 -- it.
 use Rattle.std.proofs.Common.{arith, ◌≡◌, ℕ, ◌^◌, List, [], ◌∷◌, Option, Some, None, decimal, refl}
 use Rattle.std.proofs.lemmas.Slice.Eq.{bytes_eq-Decides}
@@ -30,7 +30,7 @@ again a_largest (Some n) h = (
 )
 again f x h = (grind (arith, number_again), grind (arith, decimal_plain))
 
--- a field at the front of the words
+-- a field at the front of some words
 pub field_takes : (f : Field) (words : List (List ℕ)) (x : Value f) (rest : List (List ℕ))
     → field (value_of f) words ≡ Some (x, rest) → (words ≡ word_for f x ∷ rest) × FitsFieldType f x
 unfolding field

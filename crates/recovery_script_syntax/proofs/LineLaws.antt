@@ -1,5 +1,5 @@
--- What is read from a line is what it spells, and what a line spells is read from it: the laws of lines and of scripts
--- rest on it.
+-- What is read from a line is what it encodes, and what a line encodes is read from it: the laws of lines and of
+-- scripts rest on it.
 use Rattle.std.proofs.Common.{IsSomeAnd, ◌≡◌, ◌≢◌, ℕ, ◌≤◌, List, [], length, Option, Some, inl, inr, refl, sym, ◌∙◌, arith}
 use Rattle.std.proofs.lemmas.Bool.Decides.{nat_tests}
 use Rattle.std.specs.List.{All, join_with_byte}
@@ -23,7 +23,7 @@ line_said : (line : List ℕ) (said : Line) → line_of line ≡ Some said → S
 unfolding line_of
 line_said line said e = line_takes (words_of line) said (whole_all (line_at (words_of line)) said e)
 
--- what a line that is not too long says, it spells
+-- what is read from a line that is not too long, it encodes
 pub line_found : (line : List ℕ) (said : Line) (event : ItemEvent) → line_of line ≡ Some said → length line ≤ 4096
     → DenotesEvent said event → EncodesEvent line event
 line_found line said event e short means =
@@ -36,7 +36,7 @@ line_found line said event e short means =
       short = short;
     }
 
--- what a line spells, it says
+-- what a line encodes is read from it
 pub line_only : (line : List ℕ) (event : ItemEvent) → EncodesEvent line event → (said : Line) ×
     (line_of line ≡ Some said)
     × DenotesEvent said event
@@ -53,7 +53,7 @@ one_meant (Path now port fresh) first second m n = inl (grind (arith, m.1, n.1, 
 
 -- ---- memory
 
--- memory for ids is refused to lines that issue them alone
+-- allocating IDs fails only for lines that issue them
 pub refused_whole : (line : List ℕ) (said : Line) → line_of line ≡ Some said → length line ≤ 4096 → TakesMemory said
     → HoldsList line
 refused_whole line (Ids now first count) e short memory =
@@ -71,7 +71,7 @@ refused_whole line (Ids now first count) e short memory =
     })
 refused_whole line said e short memory = absurd memory
 
--- memory for items is refused to lines that have them alone
+-- allocating items fails only for lines that have them
 pub items_refused : (line : List ℕ) (read : Option (Line × List (List ℕ))) → line_at (words_of line) ≡ read
     → length line ≤ 4096 → IsSomeAnd read TookAll → HoldsList line
 items_refused line (Some (Said (Send space now size ack_eliciting largest items none), [])) e short took =

@@ -1,4 +1,4 @@
--- Names at the front of bytes, and equal bytes by two words of eight. The readers of words rest on it.
+-- Names at the front of bytes, and equality of bytes by two 64-bit words. The readers of words rest on it.
 use Rattle.std.proofs.Common.{◌≡◌, ◌-◌, ◌<◌, ◌≤◌, ◌^◌, ◌==◌, ℕ, true, false, not, Option, None, Some, IfSome, List, [], ◌∷◌, length, take, get_or, drop, take_all, length-drop, length-take-le, bytes_eq, refl, sym, ap, inl, inr, ◌∙◌, arith}
 use Rattle.std.specs.List.{AllByRecursion, position_or_len, before_first}
 use Rattle.std.proofs.lemmas.Bool.Decides.{nat_tests}
@@ -56,7 +56,7 @@ module _ (bytes name : List ℕ) (plain : position_or_len (λ b. b == 32) name �
   abbrev end : ℕ
   end = length name
 
-  -- bytes that begin with a name, behind which they end or have a space
+  -- bytes that begin with a name, after which they end or have a space
   first_is : end ≤ length bytes → (end < length bytes → get_or bytes end 0 ≡ 32) → take end bytes ≡ name
       → before_first (λ b. b == 32) bytes ≡ name
   first_is fits ends is =
@@ -107,7 +107,7 @@ pub field_named : {A : Type 0} (read : List ℕ → Option A) (words rest : List
 unfolding field
 field_named read words rest name value first is = rw (first, is) refl
 
--- and one that is named by none
+-- and one that is not
 pub field_unnamed : {A : Type 0} (names : List (List ℕ × A)) (words : List (List ℕ))
     → AllByRecursion (λ pair. IfSome (first_word words) (λ first. bytes_eq first.0 pair.0 ≡ false)) names
     → field (named names) words ≡ None
@@ -118,7 +118,7 @@ field_unnamed ((name, value) ∷ names) (word ∷ words) other =
     let rest = field_unnamed names (word ∷ words) other.1 in rw (other.0) rest
 
 -- A field of two names, the first of which is tried before the second: its value is that of the name as which the next
--- word was taken, and there is none where it was taken as neither.
+-- word was read. There is none if it was read as neither.
 pub record OfTwo {A : Type 0} (name other : List ℕ) (value last : A) (words : List (List ℕ)) : Type 0 where
   pub first : (left : List (List ℕ)) → TakesName name true words left
       → field (named ((name, value) ∷ (other, last) ∷ [])) words ≡ Some (value, left)
@@ -138,7 +138,7 @@ of_two {A = A} name other value last differ words =
       neither = λ between left passed also. field_unnamed names words (passed.1, (rw (passed.0) at also.1, tt));
     }
 
--- where the next word is not the one for no number, it is read as a number is
+-- if the next word is not the one for no number, it is read as a number
 pub largest_as : (words : List (List ℕ)) → IfSome (first_word words) (λ first. bytes_eq first.0 (codes "-") ≡ false)
     → field largest_of words ≡ (field (number_of (2 ^ 64)) words >>= λ x. Some (Some x.0, x.1))
 unfolding field largest_of

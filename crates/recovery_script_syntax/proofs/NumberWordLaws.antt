@@ -1,4 +1,4 @@
--- What it says that a number was read from a word, or not. The readers of numbers and `LineFieldLaws` rest on it.
+-- The conditions for reading a number from a word. The readers of numbers and `LineFieldLaws` rest on it.
 use Rattle.std.proofs.Common.{◌+◌, ◌*◌, ◌%◌, take, length-take, lit≤, ◌≡◌, ℕ, ◌^◌, ◌<◌, ◌≤◌, List, length, get_or, Some, None, decimal, arith}
 use Rattle.std.proofs.lemmas.Bool.Decides.{nat_tests}
 use Rattle.std.proofs.lemmas.List.{get_or-take}
@@ -12,14 +12,14 @@ use Rattle.std.proofs.lemmas.Slice.Eq.{bytes_eq-Decides}
 use Rattle.recovery_script_syntax.specs.Reading.{AreDigits, number_of}
 use Rattle.recovery_script_syntax.proofs.NumeralLaws.{digits_written, leads_above_zero}
 
--- what is read is spelled so
+-- what is read is encoded so
 pub number_takes : (limit : ℕ) (word : List ℕ) (n : ℕ) → number_of limit word ≡ Some n
     → (word ≡ decimal n) × (n < limit)
 unfolding number_of
 number_takes limit word n e =
     grind (arith, nat_tests, e, bytes_eq-Decides (decimal (digits_value 10 word)) word)
 
--- what is spelled so is read
+-- what is encoded so is read
 pub number_again : (limit n : ℕ) → limit ≤ 10 ^ 64 → n < limit → number_of limit (decimal n) ≡ Some n
 unfolding number_of
 number_again limit n most lt =
@@ -27,7 +27,7 @@ number_again limit n most lt =
 
 -- ---- words that are no number
 
--- what a number is spelled by
+-- the encoding of a number
 pub record IsSpelled (word : List ℕ) (n : ℕ) : Type 0 where
   pub digits : AreDigits word (length word)
   pub some : 0 < length word
@@ -44,14 +44,14 @@ is_spelled n lt =
       value = d.1;
     }
 
--- what spells no number is not read
+-- what encodes no number is not read
 pub not_read : (word : List ℕ) → ((n : ℕ) → n < 2 ^ 128 → IsSpelled word n → ⊥) → None ≡ number_of (2 ^ 128) word
 unfolding number_of
 not_read word none =
     let n : ℕ = digits_value 10 word in
     grind (arith, nat_tests, none n, is_spelled n, bytes_eq-Decides (decimal n) word)
 
--- ---- one digit more
+-- ---- one more digit
 
 module _ (word : List ℕ) (i value : ℕ) (lt : i < length word) (byte : get_or word i 0 < 256)
     (near : (get_or word i 0 + 208) % 256 ≤ 9) (digits : AreDigits word i)

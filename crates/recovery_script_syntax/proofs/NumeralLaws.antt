@@ -8,12 +8,12 @@ use Rattle.std.proofs.lemmas.Str.{digit_value_digit}
 use Rattle.std.proofs.lemmas.Str.Parse.{digit_from_value}
 use Rattle.std.proofs.lemmas.Fmt.{decimal_digit, decimal_step_wide, decimal_by_steps_wide}
 
--- digits raise the number that they follow
+-- digits increase the number that they follow
 value_grows : (n : ℕ) (digits : List ℕ) → n ≤ digits_value_after 10 n digits
 value_grows n [] = omega arith
 value_grows n (c ∷ digits) = omega (arith, value_grows (n * 10 + digit_value c) digits)
 
--- digits behind a number above zero
+-- digits after a number above zero
 digits_behind : (n : ℕ) (digits : List ℕ) → 0 < n → AllDigits 10 digits → digits_value_after 10 n digits < 10 ^ 64
     → decimal (digits_value_after 10 n digits) ≡ decimal n ++ digits
 digits_behind n [] some all small = sym (append-nil (decimal n))
@@ -31,7 +31,7 @@ digits_behind n (c ∷ digits) some all small =
       append_assoc (decimal n) (c ∷ []) digits,
     )
 
--- digits without leading zeros are written of their value
+-- digits without leading zeros are what is written for their value
 pub digits_written : (digits : List ℕ) → AllDigits 10 digits → 0 < length digits
     → (get_or digits 0 0 ≡ 48 → length digits ≤ 1) → digits_value 10 digits < 10 ^ 64
     → decimal (digits_value 10 digits) ≡ digits

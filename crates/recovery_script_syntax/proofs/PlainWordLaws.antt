@@ -7,7 +7,7 @@ use Rattle.std.proofs.lemmas.Fmt.{decimal_is_IsNumeral_wide}
 use Rattle.std.proofs.lemmas.Str.Parse.{digit_at}
 use Rattle.recovery_script_syntax.specs.Words.{words_of}
 
--- a word of bytes behind the space
+-- a word of bytes after the space
 abbrev pub IsPlain : List ℕ → Type 0
 IsPlain word = All (λ b. 32 < b) word
 
@@ -33,7 +33,7 @@ plain_no_feed line h = rw (← join_with_byte-slice_split 32 line) (joined_feedl
 spaceless : (word : List ℕ) → IsPlain word → All (λ b. (b == 32) ≡ false) word
 spaceless = All-weaker (λ b. 32 < b) (λ b. (b == 32) ≡ false) (λ b high. ne_eqb b 32 (omega arith))
 
--- plain words, with one space between two, are the words of that line
+-- plain words, joined by single spaces, are the words of that line
 pub words_joined : (word : List ℕ) (words : List (List ℕ)) → AllByRecursion IsPlain (word ∷ words)
     → words_of (join_with_byte 32 (word ∷ words)) ≡ word ∷ words
 words_joined word [] h = slice_split_none (λ b. b == 32) word (spaceless word h.0)

@@ -1,4 +1,4 @@
--- What is put into a sink: what a whole line spells. `put_event` rests on it.
+-- What is put into a sink: the event that a whole line encodes. `put_event` rests on it.
 use Rattle.std.proofs.Common.{arith, ◌≡◌, ◌≤◌, ℕ, Bool, true, false, List, [], ◌∷◌, length, Option, Some, None, Result, Ok, Err, IfOk, OnErr, bytes_eq, refl, ap}
 use lib.Chars.{codes}
 use Rattle.std.proofs.lemmas.Bool.Decides.{nat_tests}
@@ -16,10 +16,10 @@ whole_read : (line : Option Line) (left : List (List ℕ)) (read : Option (Line 
 whole_read None left read is = ap whole is
 whole_read (Some line) left read is = ap whole is
 
--- ---- what a line spells
+-- ---- what a line encodes
 
--- what all words of a line say it spells, and where they say nothing, or nothing that an event means, it spells none;
--- memory is refused to lines that hold a list alone
+-- what is read from all words of a line it encodes; if nothing is read, or nothing that an event means, it encodes
+-- none; an allocation fails only for lines that have a list
 pub puts_said : {S E : Type 0} (takes : S → ItemEvent → S → Type 0) (line : List ℕ) (said : Option Line) (before : S)
     (result : Result (Option Bool) E)
     (after : S) → line_of line ≡ said → length line ≤ 4096 → PushesToSink takes said before result after
@@ -58,7 +58,7 @@ module _ (line : List ℕ) (words rest : List (List ℕ)) (name : List ℕ) (is 
 
 -- ---- a line with items
 
--- what was read of it was put, where no word is left
+-- what was read of it was put, if no word is left
 pub send_read : {S E : Type 0} (takes : S → ItemEvent → S → Type 0) (words : List (List ℕ)) (line : Option Line)
     (left : List (List ℕ)) (before : S) (result : Result (Option Bool) E)
     (after : S) → ParsesTo (λ x. x) line left (reading send words) → PushesToSink takes
@@ -70,7 +70,7 @@ send_read takes words (Some line) (word ∷ left) before (Err refused) after rea
     absurd (grind (arith, nat_tests, put))
 send_read takes words None left before (Err refused) after reads put = absurd put
 
--- and what was put is what the line spells
+-- and what was put is what the line encodes
 pub send_puts : {S E : Type 0} (takes : S → ItemEvent → S → Type 0) (line : List ℕ)
     (read : Option (Line × List (List ℕ))) (before : S) (result : Result (Option Bool) E)
     (after : S) → line_at (words_of line) ≡ read → length line ≤ 4096 → PutsRead takes read before result after

@@ -29,7 +29,7 @@ some_first bytes =
     let end : ℕ = position_or_len (λ b. b == 32) bytes in
     grind (arith, cases_lt end (length bytes), next_word bytes end refl, last_word bytes end refl)
 
--- no word is left behind the last one alone
+-- no word is left only after the last one
 pub none_left : {S : Type 0} (text : S → List ℕ) (rest : Option S) (b : Bool) → is_some rest ≡ not b
     → Decides b (left_of text rest ≡ [])
 none_left text None b is = grind (arith, is)

@@ -1,4 +1,4 @@
--- What is written for each answer.
+-- The line of each answer.
 use Rattle.std.specs.Prelude.{◌≡◌, ℕ, Bool, true, false, List, [], ◌∷◌, ◌++◌, Option, Some, None}
 use Rattle.std.specs.Prelude.{Result, Ok, Err, String, string_bytes, decimal}
 use Rattle.std.specs.declared.ops.Range.{Range}
@@ -30,7 +30,7 @@ abbrev pub sent_text : ℕ → Option ℕ → List ℕ
 sent_text number None = codes "sent " ++ decimal number
 sent_text number (Some forgotten) = codes "sent " ++ decimal number ++ codes " forgot " ++ decimal forgotten
 
--- of a packet that is tracked no longer: what became of it, and whether it was a probe
+-- for a packet that is no longer tracked: its outcome, and whether it was a probe
 abbrev pub done_with_text : List ℕ → Bool → List ℕ
 done_with_text fate true = fate ++ codes " probe"
 done_with_text fate false = fate
@@ -72,7 +72,7 @@ items_text items = flat_map (λ item. codes " " ++ decimal item) items
 abbrev pub queue_text : List ℕ → List ℕ
 queue_text items = codes "queue" ++ items_text items
 
--- what is said of a refusal beside its number and its name
+-- the text of an error after its number and its name
 abbrev pub refusal_reason : Refusal → List ℕ
 refusal_reason (Ecn reason) = codes " " ++ reason.now
 refusal_reason refusal = []
@@ -106,7 +106,7 @@ answer_text (Ok (Queue items)) = queue_text items
 answer_text (Ok Done) = codes "done"
 answer_text (Err refusal) = refusal_text refusal
 
--- this line was written behind what stood there
+-- this line was appended
 abbrev pub Writes : {Z : Type 0} → String Z → List ℕ → String Z → Type 0
 Writes old line new = string_bytes new ≡ string_bytes old ++ line ++ 10 ∷ []
 

@@ -1,5 +1,4 @@
--- What stands behind the name of a line: fields, each of one word, and behind them nothing or
--- items.
+-- What follows the name of a line: fields, each of one word, and after them nothing or items.
 use Rattle.std.specs.Prelude.{ℕ, ◌<◌, Bool, List, [], ◌∷◌, map, Option, IfSome, decimal, ◌+◌}
 use Rattle.std.specs.List.{AllByRecursion}
 use Rattle.recovery_base.specs.declared.below.SpaceId.{SpaceId}
@@ -24,7 +23,7 @@ pub data Field : Type 0 where
   -- a number of a QUIC frame (RFC 9000, 16)
   a_var_int : Field
   a_byte : Field
-  -- how many ids a line issues
+  -- how many IDs a line issues
   a_count : Field
 
 abbrev pub Value : Field → Type 0
@@ -70,7 +69,7 @@ FitsFieldType a_count = λ n. n < most_ids + 1
 
 -- ---- the end of a line
 
--- what stands behind the fields: nothing, or items up to the line's end, each of one word
+-- what follows the fields: nothing, or items up to the line's end, each of one word
 pub data Tail : Type 0 where
   no_tail : Tail
   an_item_tail : Tail
@@ -88,7 +87,7 @@ abbrev pub TailFits : (tail : Tail) → TailValue tail → Type 0
 TailFits no_tail value = Unit {0}
 TailFits an_item_tail items = AllByRecursion (λ item. item < u64_limit) items
 
--- ---- several fields, and what stands behind them
+-- ---- several fields, and what follows them
 
 module _ (tail : Tail) where
   abbrev pub Values : List Field → Type 0

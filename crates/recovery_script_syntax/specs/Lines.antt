@@ -1,4 +1,4 @@
--- How a line spells an event: this is the grammar of scripts.
+-- How a line encodes an event: this is the grammar of scripts.
 use Rattle.std.specs.Prelude.{◌≡◌, ℕ, ◌+◌, ◌<◌, ◌≤◌, ◌⊎◌, List, [], ◌∷◌, length, map, get_or, replicate, decimal, refl}
 use Rattle.std.specs.List.{range_with_len}
 use Rattle.std.specs.Global.{Vec}
@@ -35,38 +35,38 @@ use Rattle.recovery_script_syntax.specs.Fields.{a_space, a_timer, a_path, a_flag
 use Rattle.recovery_script_syntax.specs.Fields.{a_u64, a_span, a_u16, a_var_int, a_byte, a_count}
 use Rattle.recovery_script_syntax.specs.Words.{words_of, longest_line, most_ids}
 
--- the events of a script: what a packet carries is a list of items
+-- the events of a script: the contents of a packet are a list of items
 abbrev pub ItemEvent : Type 0
 ItemEvent = Event (List ℕ) (Unit {0}) (Unit {0}) (List ℕ)
 
 -- ---- ids
 
--- the id and the token that a byte fills
+-- the ID and the token that a byte fills
 abbrev pub id_of : ℕ → List ℕ
 id_of byte = replicate 8 byte
 
 abbrev pub token_of : ℕ → List ℕ
 token_of byte = replicate reset_token_size byte
 
--- the first byte of an id
+-- the first byte of an ID
 abbrev pub byte_of : List ℕ → ℕ
 byte_of id = get_or id 0 0
 
--- ids of zero bytes that this end issues, this many from a number on
+-- IDs of zero bytes that the local endpoint issues, this many from a number on
 abbrev pub zero_id : ℕ → IssuedCid
 zero_id number = record { sequence = number; id = id_of 0; reset_token = token_of 0 }
 
 abbrev pub zero_ids : ℕ → ℕ → List IssuedCid
 zero_ids first count = map zero_id (range_with_len first count)
 
--- the number of the first id; where there is none, a line says one that the event does not keep
+-- the number of the first ID; if there is none, the line has one that the event does not store
 abbrev pub first_number : ℕ → List IssuedCid → ℕ
 first_number unkept [] = unkept
 first_number unkept (id ∷ ids) = id.sequence
 
 -- ---- addresses
 
--- the address is 192.0.2.1, one of those for documentation (RFC 5737, 3), with this port
+-- the address is 192.0.2.1, which is reserved for documentation (RFC 5737, 3), with this port
 pub record IsDocumentationAddress (port : ℕ) (remote : SocketAddr) : Type 0 where
   pub ip : Ipv4Addr
   pub octets : ipv4_octets ip ≡ 192 ∷ 0 ∷ 2 ∷ 1 ∷ []
@@ -75,8 +75,7 @@ pub record IsDocumentationAddress (port : ℕ) (remote : SocketAddr) : Type 0 wh
 
 -- ---- lines
 
--- What a line means: the event that it says, one that holds ids, of which the last has a number, or
--- one of a path to a port.
+-- What a parsed line means: an event, an event with IDs whose last one has a number, or one of a path to a port.
 abbrev pub DenotesEvent : Line → ItemEvent → Type 0
 DenotesEvent (Said said) event = event ≡ said
 DenotesEvent (Ids now first count) event =
@@ -85,7 +84,7 @@ DenotesEvent (Ids now first count) event =
 DenotesEvent (Path now port fresh) event =
     (remote : SocketAddr) × (event ≡ NewPath now remote fresh) × IsDocumentationAddress port remote
 
--- a line's name, the fields behind it and what may follow them, and what it says with their values
+-- a line's name, the fields after it and what may follow them, and the meaning of their values
 pub record Form : Type 0 where
   pub name : List ℕ
   pub fields : List Field
@@ -96,7 +95,7 @@ pub record Form : Type 0 where
 abbrev pub FormValues : Form → Type 0
 FormValues form = Values form.tail form.fields
 
--- fields that make an event, behind a name
+-- fields that make an event, after a name
 abbrev pub form_of : List ℕ → (fields : List Field) → (Values no_tail fields → ItemEvent) → Form
 form_of name fields event = record {
   name = name;
@@ -109,7 +108,7 @@ abbrev pub received : Form
 received = form_of (codes "received") (a_space ∷ a_u64 ∷ a_u64 ∷ a_flag ∷ [])
     (λ x. Received x.0 x.1.0 x.1.1.0 x.1.1.1.0)
 
--- behind its fields stand the items of the packet's queue, in their order
+-- its fields are followed by the items of the packet's queue, in their order
 abbrev pub send : Form
 send = record {
   name = codes "send";
@@ -262,9 +261,9 @@ forms_without_items = received ∷ acked ∷ lost
 abbrev pub forms : List Form
 forms = send ∷ forms_without_items
 
--- ---- how an event is said
+-- ---- how an event is encoded
 
--- the form of an event's line and the values of its fields, with a number for what an event does not keep
+-- the form of an event's line and the values of its fields, with a number for what an event does not store
 abbrev pub saying : ℕ → ItemEvent → (form : Form) × FormValues form
 saying unkept (Received space now number ack_eliciting) = (received, (space, (now, (number, (ack_eliciting, tt)))))
 saying unkept (Send space now size ack_eliciting largest_acked items none) =
@@ -314,11 +313,11 @@ saying unkept (ResetPath now) = (reset_path, (now, tt))
 saying unkept DropPrevious = (drop_previous, tt)
 saying unkept RevertPath = (revert_path, tt)
 
--- the words that a form says with values
+-- a form with values, as words
 abbrev pub words_said : (form : Form) × FormValues form → List (List ℕ)
 words_said said = said.0.name ∷ words_for said.0.tail said.0.fields said.1
 
--- the words that spell an event
+-- an event as words
 abbrev pub encoding_of : ℕ → ItemEvent → List (List ℕ)
 encoding_of unkept event = words_said (saying unkept event)
 
@@ -326,22 +325,21 @@ encoding_of unkept event = words_said (saying unkept event)
 set_timer-spelling : encoding_of 0 (SetTimer Idle 50) ≡ codes "set-timer" ∷ codes "idle" ∷ decimal 50 ∷ []
 set_timer-spelling = refl
 
--- The values of an event's line are within the types of their fields, and the line with these values means the event:
--- one byte fills an id and its token, ids that are issued are of zero bytes, with numbers that go on, and a path is to
--- 192.0.2.1.
+-- The values of an event's line are within the types of their fields, and the line with these values means the event.
+-- One byte fills an ID and its token, issued IDs have zero bytes and consecutive numbers, and a path is to 192.0.2.1.
 abbrev pub IsWithinTypes : ℕ → ItemEvent → Type 0
 IsWithinTypes unkept event =
     let said = saying unkept event in
     AllFitFieldTypes said.0.tail said.0.fields said.1 × DenotesEvent (said.0.line said.1) event
 
--- a line spells an event
+-- a line encodes an event
 pub record EncodesEvent (line : List ℕ) (event : ItemEvent) : Type 0 where
   pub unkept : ℕ
   pub words : words_of line ≡ encoding_of unkept event
   pub within : IsWithinTypes unkept event
   pub short : length line ≤ longest_line
 
--- the line issues ids, one at least, of which each has a number
+-- the line issues one or more IDs, of which each has a number
 pub record IsIssueLine (line : List ℕ) : Type 0 where
   pub now : ℕ
   pub first : ℕ
@@ -353,7 +351,7 @@ pub record IsIssueLine (line : List ℕ) : Type 0 where
   pub bound : first + count ≤ u64_limit
   pub short : length line ≤ longest_line
 
--- the line sends a packet that carries items, one at least
+-- the line sends a packet with one or more items
 pub record SendsItems (line : List ℕ) : Type 0 where
   pub values : FormValues send
   pub words : words_of line ≡ words_said (send, values)
@@ -361,21 +359,20 @@ pub record SendsItems (line : List ℕ) : Type 0 where
   pub some : 0 < length values.1.1.1.1.1
   pub short : length line ≤ longest_line
 
--- what was read of a line has one item at least, for which memory was taken
+-- the line has one or more items, for which memory was allocated
 abbrev pub TookMemory : Line → Type 0
 TookMemory (Said (Send space now size ack_eliciting largest items none)) = 0 < length items
 TookMemory line = ⊥
 
--- the line's event holds a list, of one id or item at least
+-- the line's event has a non-empty list of IDs or items
 abbrev pub HoldsList : List ℕ → Type 0
 HoldsList line = IsIssueLine line ⊎ SendsItems line
 
--- the same ids are issued at the same moment, wherever their list lies in memory
+-- the same IDs are issued at the same time, wherever their list is in memory
 abbrev pub IssueAlike : ItemEvent → ItemEvent → Type 0
 IssueAlike (IssueIds now ids) (IssueIds then others) = (now ≡ then) × (ids.items ≡ others.items)
 IssueAlike first second = ⊥
 
--- Two values of the same event. Of a queue the items alone are seen, so that packets with the same
--- items are equal.
+-- Two values of the same event. Only the items of a queue are visible, so that packets with the same items are equal.
 abbrev pub IsSameEvent : ItemEvent → ItemEvent → Type 0
 IsSameEvent first second = (first ≡ second) ⊎ IssueAlike first second

@@ -1,4 +1,4 @@
--- How the parser goes over the words of a line. What a line means is said by the grammar in Lines.antt alone.
+-- How the parser reads the words of a line. Only the grammar in Lines.antt defines what a line means.
 use Rattle.std.specs.Prelude.{◌≡◌, ℕ, ◌+◌, ◌*◌, ◌<◌, ◌≤◌, ◌==◌, nat_lt, ◌&&◌, Bool, true}
 use Rattle.std.specs.Prelude.{false, List, [], ◌∷◌, ◌++◌, length, Option, Some, None, IfSome, IsSomeAnd, option_and_then, Result, Ok, Err}
 use Rattle.std.specs.Prelude.{if◌then◌else◌, bytes_eq, decimal, slice_index}
@@ -58,11 +58,11 @@ unfoldable pub number_of : ℕ → List ℕ → Option ℕ
 number_of limit word = let n =
     digits_value 10 word in if nat_lt n limit && bytes_eq (decimal n) word then Some n else None
 
--- bytes begin with so many digits
+-- bytes begin with this many digits
 abbrev pub AreDigits : List ℕ → ℕ → Type 0
 AreDigits bytes n = (i : ℕ) → i < n → IsInRange 48 57 (slice_index bytes i)
 
--- the number that the four bytes from a place on spell, the least first
+-- the number that the four bytes from a place on write, the lowest first
 abbrev pub four_at : List ℕ → ℕ → ℕ
 four_at bytes at =
     slice_index bytes at + slice_index bytes (at + 1) * 256 + slice_index bytes (at + 2) * 65536
@@ -96,12 +96,12 @@ field read words = do
 abbrev pub IsPlainName : List ℕ → Type 0
 IsPlainName name = position_or_len (λ b. b == 32) name ≡ length name
 
--- the next word was taken if it is this name, and else none was
+-- the next word was read if it is this name, and else none was
 abbrev pub TakesName : List ℕ → Bool → List (List ℕ) → List (List ℕ) → Type 0
 TakesName name true old new = first_word old ≡ Some (name, new)
 TakesName name false old new = (new ≡ old) × IfSome (first_word old) (λ first. bytes_eq first.0 name ≡ false)
 
--- What a function returned, seen by view, with the words that it left, is what reading gives.
+-- The value in contracts of what a function returned, with the words that it left, is the result of reading.
 abbrev pub ParsesTo : {X Y : Type 0} → (X → Y) → Option X → List (List ℕ) → Option (Y × List (List ℕ)) → Type 0
 ParsesTo view (Some x) left read = read ≡ Some (view x, left)
 ParsesTo view None left read = read ≡ None
@@ -110,11 +110,11 @@ abbrev pub left_of : {S : Type 0} → (S → List ℕ) → Option S → List (Li
 left_of text None = []
 left_of text (Some rest) = words_of (text rest)
 
--- the words that are left to read
+-- the remaining words
 abbrev pub words_left : Words → List (List ℕ)
 words_left words = left_of (λ s. s.now) words.rest
 
--- what a function returned, with the words that it left, is what reading gives
+-- what a function returned, with the words that it left, is the result of reading
 abbrev pub ReadsBy : {A : Type 0} → (List (List ℕ) → Option (A × List (List ℕ))) → Words → Words → Option A → Type 0
 ReadsBy read old new result = ParsesTo (λ x. x) result (words_left new) (read (words_left old))
 
@@ -142,13 +142,13 @@ items_read (word ∷ words) = do
   items ← items_read words
   Some (item ∷ items)
 
--- what stands behind the fields
+-- what follows the fields
 abbrev pub tail_read : {A : Type 0} (tail : Tail) → (TailValue tail → A) → List (List ℕ)
     → Option (A × List (List ℕ))
 tail_read no_tail make words = Some (make tt, words)
 tail_read an_item_tail make words = items_read words >>= λ items. Some (make items, [])
 
--- all words that are left were read as these items, or they are none
+-- all remaining words were read as these items, or they are none
 abbrev pub AreItemsRead : Words → Words → Option (Vec ℕ) → Type 0
 AreItemsRead old new result =
     ParsesTo (λ items. items.items) result (words_left new)
@@ -157,20 +157,20 @@ AreItemsRead old new result =
 -- ---- a line
 
 module _ {A : Type 0} (tail : Tail) where
-  -- fields that are read one after the other, and what is made of their values
+  -- fields that are read one after another, and what is made of their values
   unfoldable pub fields_read : (fields : List Field) → (Values tail fields → A) → List (List ℕ)
       → Option (A × List (List ℕ))
   fields_read [] make words = tail_read tail make words
   fields_read (f ∷ fields) make words =
       field (value_of f) words >>= λ x. fields_read fields (λ y. make (x.0, y)) x.1
 
-  -- the same; where there is no field, it is seen at once
+  -- the same, evaluated immediately if there is no field
   abbrev pub all_read : (fields : List Field) → (Values tail fields → A) → List (List ℕ)
       → Option (A × List (List ℕ))
   all_read [] make words = tail_read tail make words
   all_read (f ∷ fields) make words = fields_read (f ∷ fields) make words
 
--- what is read behind a form's name
+-- what is read after a form's name
 abbrev pub reading : Form → List (List ℕ) → Option (Line × List (List ℕ))
 reading form = all_read form.tail form.fields form.line
 
@@ -179,7 +179,7 @@ abbrev pub form_named : List Form → List ℕ → Option Form
 form_named [] word = None
 form_named (form ∷ forms) word = if bytes_eq word form.name then Some form else form_named forms word
 
--- what stands behind a name
+-- what follows a name
 unfoldable pub line_behind : List Form → List ℕ → List (List ℕ) → Option (Line × List (List ℕ))
 line_behind forms name words = do
   form ← form_named forms name
@@ -190,7 +190,7 @@ line_at words = do
   name ← first_word words
   line_behind forms name.0 name.1
 
--- what all of the words say
+-- the meaning of all words
 abbrev pub whole : Option (Line × List (List ℕ)) → Option Line
 whole read = do
   said ← read
@@ -199,37 +199,37 @@ whole read = do
 unfoldable pub line_of : List ℕ → Option Line
 line_of line = whole (line_at (words_of line))
 
--- what was read, where no word is left
+-- what was read, if no word is left
 abbrev pub all_of : Option Line → List (List ℕ) → Option Line
 all_of None left = None
 all_of (Some line) left = if length left == 0 then Some line else None
 
 -- ---- memory
 
--- ids are made of what was read, so memory is taken
+-- what was read has IDs, so memory is allocated
 abbrev pub TakesMemory : Line → Type 0
 TakesMemory (Said said) = ⊥
 TakesMemory (Ids now first count) = (0 < count) × (first + count ≤ u64_limit)
 TakesMemory (Path now port fresh) = ⊥
 
--- memory was taken for items, with nothing left to read
+-- memory was allocated for items, with nothing left to read
 abbrev pub TookAll : Line × List (List ℕ) → Type 0
 TookAll read = TookMemory read.0 × (read.1 ≡ [])
 
--- ---- events one behind the other
+-- ---- events one after another
 
--- the event that a line means, or it means none, or memory for its ids is refused
+-- the event of a parsed line, or none, or the allocation of its IDs failed
 abbrev pub ConstructsEvent : {E : Type 0} → Line → Result (Option ItemEvent) E → Type 0
 ConstructsEvent line (Ok (Some event)) = DenotesEvent line event
 ConstructsEvent line (Ok None) = (event : ItemEvent) → ¬ DenotesEvent line event
 ConstructsEvent line (Err refused) = TakesMemory line
 
--- the event that a line means was put into a sink, or it means none
+-- the event of a parsed line was put into a sink, or there is none
 abbrev pub PutsMeant : {S : Type 0} → (S → ItemEvent → S → Type 0) → Line → S → Option Bool → S → Type 0
 PutsMeant takes line before (Some more) after = (event : ItemEvent) × DenotesEvent line event × takes before event after
 PutsMeant takes line before None after = ((event : ItemEvent) → ¬ DenotesEvent line event) × (after ≡ before)
 
--- the same of what was read, if anything was; where memory is refused, nothing was put
+-- the same for what was read, if anything was; if an allocation failed, nothing was put
 abbrev pub PushesToSink : {S E : Type 0} → (S → ItemEvent → S → Type 0) → Option Line → S → Result (Option Bool) E → S
     → Type 0
 PushesToSink takes (Some line) before (Ok more) after = PutsMeant takes line before more after
@@ -237,19 +237,19 @@ PushesToSink takes (Some line) before (Err refused) after = TakesMemory line × 
 PushesToSink takes None before (Ok more) after = (more ≡ None) × (after ≡ before)
 PushesToSink takes None before (Err refused) after = ⊥
 
--- the same of what was read of a line with items, for which memory may be refused
+-- the same for a line with items, whose allocation may fail
 abbrev pub PutsRead : {S E : Type 0} → (S → ItemEvent → S → Type 0) → Option (Line × List (List ℕ)) → S
     → Result (Option Bool) E → S → Type 0
 PutsRead {E = E} takes read before (Ok more) after = PushesToSink {E = E} takes (whole read) before (Ok more) after
 PutsRead takes read before (Err refused) after = IsSomeAnd read TookAll × (after ≡ before)
 
--- the event that a line spells was put into a sink, or it spells none
+-- the event that a line encodes was put into a sink, or there is none
 abbrev pub PutsSpelled : {S : Type 0} → (S → ItemEvent → S → Type 0) → List ℕ → S → Option Bool → S → Type 0
 PutsSpelled takes line before (Some more) after = (event : ItemEvent) × EncodesEvent line event
     × takes before event after
 PutsSpelled takes line before None after = ((event : ItemEvent) → ¬ EncodesEvent line event) × (after ≡ before)
 
--- the event that a line spells was put behind the others, or it spells none
+-- the event that a line encodes was appended, or there is none
 abbrev pub PushesSpelled : List ℕ → List ItemEvent → Bool → List ItemEvent → Type 0
 PushesSpelled line before true after = (event : ItemEvent) × EncodesEvent line event × (after ≡ before ++ event ∷ [])
 PushesSpelled line before false after = ((event : ItemEvent) → ¬ EncodesEvent line event) × (after ≡ before)

@@ -1,4 +1,4 @@
-//! What is written for each reply: one line.
+//! Writes one line for each reply.
 ghost use Rattle.std.specs.Prelude.{◌≡◌, ◌+◌, ◌<◌, ◌≤◌, ◌++◌, ◌∷◌, [], ℕ, List, OnOk, length, string_bytes, decimal};
 ghost use Rattle.recovery_script_syntax.specs.Answers.{Writes, new_text, sent_text, done_with_text};
 ghost use Rattle.recovery_script_syntax.specs.Answers.{retire_text, flag_text, timeout_text};
@@ -18,7 +18,7 @@ use recovery_spaces::spaces::SendableFrames;
 use std::alloc::AllocError;
 use std::ops::Range;
 
-/// A number between two short texts. They are put together first, so that the text grows once.
+/// Appends a number between two short texts. They are joined first, so that the text grows once.
 #[inline(always)]
 fn push_number(text: &mut String, before: &str, number: u64, behind: &str) -> Result<(), AllocError>
     requires { length before.now + length behind.now ≤ 28 }
@@ -32,7 +32,7 @@ fn push_number(text: &mut String, before: &str, number: u64, behind: &str) -> Re
     text.push_str(part.as_str())
 }
 
-/// A line of a text and a number.
+/// Appends a line with a text and a number.
 #[inline(always)]
 fn write_number(text: &mut String, before: &str, number: u64) -> Result<(), AllocError>
     requires { length before.now ≤ 27 }
@@ -41,7 +41,7 @@ fn write_number(text: &mut String, before: &str, number: u64) -> Result<(), Allo
     push_number(text, before, number, "\n")
 }
 
-/// A line that is always the same, given with its line feed.
+/// Appends a constant line, given with its line feed.
 #[inline(always)]
 fn write_line(text: &mut String, line: &str) -> Result<(), AllocError>
     ensures { (word : List ℕ) → line.now ≡ word ++ 10 ∷ []
@@ -50,7 +50,7 @@ fn write_line(text: &mut String, line: &str) -> Result<(), AllocError>
     text.push_str(line)
 }
 
-/// A line of a word.
+/// Appends a line with a word.
 fn write_word(text: &mut String, word: &str) -> Result<(), AllocError>
     ensures { OnOk result (Writes text.old word.now text.new) }
 {
@@ -80,7 +80,7 @@ fn write_sent(text: &mut String, number: u64, forgotten: Option<u64>) -> Result<
     }
 }
 
-/// Of a packet that was acknowledged: whether it was a probe.
+/// Appends the line of an acknowledged packet: whether it was a probe.
 fn write_acked(text: &mut String, probe: bool) -> Result<(), AllocError>
     ensures { OnOk result (Writes text.old (done_with_text (codes "acked") probe) text.new) }
 {
@@ -91,7 +91,7 @@ fn write_acked(text: &mut String, probe: bool) -> Result<(), AllocError>
     }
 }
 
-/// Of a packet that was lost: whether it was a probe.
+/// Appends the line of a lost packet: whether it was a probe.
 fn write_lost(text: &mut String, probe: bool) -> Result<(), AllocError>
     ensures { OnOk result (Writes text.old (done_with_text (codes "lost") probe) text.new) }
 {
@@ -205,9 +205,9 @@ fn write_refusal(text: &mut String, refusal: Refusal) -> Result<(), AllocError>
     }
 }
 
-/// Appends the line of what an event came to. The one refusal is want of memory; nothing is then promised of the text.
+/// Appends the line of a reply. The only error is lack of memory; nothing is guaranteed about the text then.
 ///
-/// It is compiled into its callers: one that knows which event it was keeps the answers that this one can have.
+/// It is inlined into its callers: one that knows which event it was retains only the answers that this one can have.
 #[inline(always)]
 pub fn write_reply(
     text: &mut String,

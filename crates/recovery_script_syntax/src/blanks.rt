@@ -1,11 +1,11 @@
-//! The word that bytes begin with, up to a space: eight bytes at a time.
+//! The first word of bytes, up to a space: eight bytes at a time.
 ghost use Rattle.std.specs.Prelude.{◌≡◌, ◌+◌, ◌<◌, ◌≤◌, ◌^◌, ◌==◌, length, slice_index};
 ghost use Rattle.std.specs.List.{position_or_len};
 ghost use Rattle.core.specs.Slice.Scan.{Flags, HoldsNowhere};
 
 use crate::digits::word_at;
 
-/// The high bit of each of eight bytes that is a space. No sum carries into the next byte.
+/// Returns the high bit of each of eight bytes that is a space. No sum carries into the next byte.
 #[inline(always)]
 fn spaces_at(bytes: &[u8], at: usize) -> u64
     requires { at + 8 ≤ length bytes.now }
@@ -16,7 +16,7 @@ fn spaces_at(bytes: &[u8], at: usize) -> u64
     ((low + 0x7f7f_7f7f_7f7f_7f7f | others) & 0x8080_8080_8080_8080) ^ 0x8080_8080_8080_8080
 }
 
-/// The length of the word that bytes begin with, of which so many were looked at.
+/// Returns the length of the first word; the first `from` bytes have no space.
 #[inline(always)]
 fn word_len_from(bytes: &[u8], from: usize) -> usize
     requires { (from ≤ length bytes.now)
@@ -31,7 +31,7 @@ fn word_len_from(bytes: &[u8], from: usize) -> usize
     end
 }
 
-/// The length of the word that bytes begin with.
+/// Returns the length of the first word.
 pub fn word_len(bytes: &[u8]) -> usize
     ensures place { result ≡ position_or_len (λ b. b == 32) bytes.now }
     ensures fits { result < 2 ^ 63 }

@@ -1,4 +1,4 @@
-//! Digits that bytes begin with, eight at a time.
+//! Leading digits, eight at a time.
 ghost use Rattle.std.specs.Prelude.{◌≡◌, ℕ, ◌*◌, ◌%◌, ◌-◌, ◌+◌, ◌<◌, ◌≤◌, ◌^◌, List, length, take, nat_le, slice_index};
 ghost use Rattle.std.specs.Str.Parse.{digits_value};
 ghost use lib.Lanes.{number_l};
@@ -11,7 +11,7 @@ ghost use Rattle.recovery_script_syntax.specs.Reading.{AreDigits, four_at};
 
 use core::dec2flt::ten_to;
 
-/// Eight bytes as a word, the first of them the lowest.
+/// Returns eight bytes as a word, the first of them the lowest.
 #[inline(always)]
 pub fn word_at(bytes: &[u8], at: usize) -> u64
     requires { at + 8 ≤ length bytes.now }
@@ -30,7 +30,7 @@ pub fn word_at(bytes: &[u8], at: usize) -> u64
     ])
 }
 
-/// Four bytes as a word, the first of them the lowest.
+/// Returns four bytes as a word, the first of them the lowest.
 #[inline(always)]
 pub fn half_at(bytes: &[u8], at: usize) -> u32
     requires { at + 4 ≤ length bytes.now }
@@ -40,7 +40,7 @@ pub fn half_at(bytes: &[u8], at: usize) -> u32
     u32::from_le_bytes([bytes[at], bytes[at + 1], bytes[at + 2], bytes[at + 3]])
 }
 
-/// The number that eight digits write, the first of them in the lowest byte.
+/// Returns the number that eight digits write, the first of them in the lowest byte.
 #[inline(always)]
 fn value_of_eight(word: u64) -> u64
     ensures { (ds : List ℕ) → IsEightDigits ds → word ≡ number_l 256 ds
@@ -52,7 +52,7 @@ fn value_of_eight(word: u64) -> u64
     first.wrapping_add(second) >> 32
 }
 
-/// The high bit of each byte that is 10 or more. No sum carries into the next byte.
+/// Returns the high bit of each byte that is 10 or more. No sum carries into the next byte.
 #[inline(always)]
 fn flags_from_ten(word: u64) -> u64
     ensures { (byte : ℕ → ℕ) → ((k : ℕ) → byte k < 256) → word ≡ digits_from byte 0 8
@@ -61,7 +61,7 @@ fn flags_from_ten(word: u64) -> u64
     ((word & 0x7f7f_7f7f_7f7f_7f7f) + 0x7676_7676_7676_7676 | word) & 0x8080_8080_8080_8080
 }
 
-/// The word with its first bytes moved up to the end.
+/// Returns the word with its first bytes moved up to the end.
 #[inline(always)]
 fn keep_first(word: u64, count: u32) -> u64
     requires { count < 8 }
@@ -71,7 +71,7 @@ fn keep_first(word: u64, count: u32) -> u64
     word << (56 - 8 * count) << 8
 }
 
-/// How many of a word's bytes are digits from the lowest on, and the number that they write.
+/// Returns how many of a word's bytes are digits from the lowest on, and the number that they write.
 #[inline(always)]
 fn up_to_eight(word: u64) -> (usize, u64)
     ensures most { result.0 ≤ 8 }
@@ -87,7 +87,7 @@ fn up_to_eight(word: u64) -> (usize, u64)
     (count as usize, value_of_eight(keep_first(lanes, count)))
 }
 
-/// What the digits spell that bytes begin with, and how many they are. More than 19 of them can overflow.
+/// Returns the number that leading digits write, and their count. More than 19 of them can overflow.
 #[inline(always)]
 pub fn leading_digits(bytes: &[u8]) -> (u64, usize)
     ensures value { result.1 ≤ 19 → result.0 ≡ digits_value 10 (take result.1 bytes.now) }

@@ -1,4 +1,4 @@
-//! The forms of lines: what stands behind the name of each, and what it says. Each event has one.
+//! The forms of lines: the fields after the name of each, and their meaning. Each event has one.
 ghost use Rattle.std.specs.Prelude.{◌≡◌, IfOk, OnErr, IsSomeAnd};
 ghost use Rattle.recovery_script_syntax.specs.Lines.{id_of, token_of, Form};
 ghost use Rattle.recovery_script_syntax.specs.Lines.{next_id, id_timeout, next_timeout, drop_previous, revert_path};
@@ -21,12 +21,12 @@ use recovery_events::event::Event;
 use recovery_queue::items::ItemQueue;
 use std::alloc::Global;
 
-/// What a line says, before memory is taken for ids.
+/// A parsed line, before memory is allocated for IDs.
 #[derive(Drop)]
 pub(crate) enum Line {
     /// An event.
     Said(Event<ItemQueue>),
-    /// This end issues so many ids from a number on, at a moment.
+    /// The local endpoint issues this many IDs from a number on.
     Ids {
         now: Instant,
         first: u64,
@@ -40,25 +40,25 @@ pub(crate) enum Line {
     },
 }
 
-/// The id of eight bytes that a line names by one of them.
+/// Returns the ID of eight bytes that a line names by one of them.
 pub(crate) fn id_of(byte: u8) -> ConnectionId
     ensures { result ≡ id_of byte }
 {
     ConnectionId::new(&[byte; 8])
 }
 
-/// The token that goes with such an id.
+/// Returns the token that belongs to such an ID.
 pub(crate) fn token_of(byte: u8) -> ResetToken
     ensures { result ≡ token_of byte }
 {
     ResetToken::from([byte; 16])
 }
 
-/// A form of a line without items: what stands behind its name, and what it says.
+/// A form of a line without items: the fields after its name, and their meaning.
 pub(crate) trait LineForm {
     ghost form: { Form };
 
-    /// What the words say, read from the left; `None` where they are none of this form's fields.
+    /// Parses words from the left. Returns `None` if they are no fields of this form.
     fn read(words: &mut Words<'_>) -> Option<Line>
         ensures { ReadsBy (reading form) words.old words.new result };
 }
@@ -80,7 +80,7 @@ impl LineForm for ReceivedLine {
     }
 }
 
-/// The one line whose fields have items behind them. Memory is refused to a line that has one at least.
+/// Parses the one form with items after its fields. Only a line with items allocates.
 #[inline(always)]
 #[tactic(auto, unfolding(crate::specs::Reading::fields_read))]
 pub(crate) fn send(alloc: Global, words: &mut Words<'_>) -> Result<Option<Line>, NoMemory>

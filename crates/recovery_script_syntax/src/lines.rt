@@ -1,4 +1,4 @@
-//! The event that a line of a script spells, put into a sink.
+//! Parses a line of a script as an event, and puts it into a sink.
 ghost use Rattle.std.specs.Prelude.{◌≡◌, ◌+◌, ◌<◌, ◌≤◌, Some, IfOk, OnErr, vec_len, vec_capacity};
 ghost use Rattle.recovery_base.specs.Units.{u64_limit};
 ghost use Rattle.recovery_script_syntax.specs.Lines.{zero_ids, IsDocumentationAddress, HoldsList, forms_without_items, send};
@@ -25,14 +25,14 @@ use std::net::{IpAddr, Ipv4Addr, SocketAddr};
 /// The most bytes of a line, without its line feed.
 pub const LINE_LIMIT: usize = 4096;
 
-/// The address of the peer, 192.0.2.1, with this port (RFC 5737, 3).
+/// Returns the peer's address, 192.0.2.1, with this port (RFC 5737, 3).
 pub fn peer_at(port: u16) -> SocketAddr
     ensures { IsDocumentationAddress port result }
 {
     SocketAddr::new(IpAddr::V4(Ipv4Addr::new(192, 0, 2, 1)), port)
 }
 
-/// The ids of a line that issues them, each of zero bytes.
+/// Returns the IDs of a line that issues them, all with zero bytes.
 fn zero_ids(alloc: Global, first: u64, count: u64) -> Result<Vec<IssuedCid>, NoMemory>
     requires { first + count ≤ u64_limit }
     ensures made { IfOk result (λ ids. ids.items ≡ zero_ids first count) }
@@ -50,7 +50,7 @@ fn zero_ids(alloc: Global, first: u64, count: u64) -> Result<Vec<IssuedCid>, NoM
     Ok(ids)
 }
 
-/// The event of what a line says; `None` where a number of an id would pass `u64::MAX`.
+/// Returns the event of a parsed line, or `None` if an ID's number would exceed `u64::MAX`.
 #[inline(always)]
 fn event_of(alloc: Global, line: Line) -> Result<Option<Event<ItemQueue>>, NoMemory>
     ensures { ConstructsEvent line result }
@@ -71,8 +71,8 @@ fn event_of(alloc: Global, line: Line) -> Result<Option<Event<ItemQueue>>, NoMem
     }
 }
 
-/// Puts the event of what a line says into the sink; `None`, and nothing, where a number of an id would pass
-/// `u64::MAX`. The sink's code stands here once, so that it can be compiled in.
+/// Puts the event of a parsed line into the sink. Returns `None` and puts nothing if an ID's number would exceed
+/// `u64::MAX`. The sink is called at this one place, so that it can be inlined.
 #[inline(always)]
 fn put_meant<S: Sink<Event<ItemQueue>>>(
     alloc: Global,
@@ -87,7 +87,7 @@ fn put_meant<S: Sink<Event<ItemQueue>>>(
     Ok(Some(sink.put(event)))
 }
 
-/// The same, where what the line says was read and no word of it is left.
+/// Does the same after the line was read, if no word is left.
 #[inline(always)]
 fn put_read<S: Sink<Event<ItemQueue>>>(
     alloc: Global,
@@ -103,7 +103,7 @@ fn put_read<S: Sink<Event<ItemQueue>>>(
     }
 }
 
-/// Puts the event of a line of this form into the sink. Each form has its own code, out of line: only its own places
+/// Puts the event of a line of this form into the sink. Each form has its own code, out of line: only its own variables
 /// are cleared, and the sink knows which event it takes.
 #[inline(never)]
 fn put_form<F: LineForm, S: Sink<Event<ItemQueue>>>(
@@ -118,7 +118,7 @@ fn put_form<F: LineForm, S: Sink<Event<ItemQueue>>>(
     put_read(alloc, line, words, sink)
 }
 
-/// Puts the event of the one line with items into the sink.
+/// Puts the event of the one form with items into the sink.
 #[inline(never)]
 fn put_send<S: Sink<Event<ItemQueue>>>(
     alloc: Global,
@@ -131,8 +131,8 @@ fn put_send<S: Sink<Event<ItemQueue>>>(
     put_read(alloc, line, words, sink)
 }
 
-/// Puts the event of a line without items into the sink, by the line's name and the words behind it. Names of other
-/// lengths are not compared with it.
+/// Puts the event of a line without items into the sink, by the line's name and the words after it. Names of other
+/// lengths are not compared.
 #[tactic(auto, unfolding(crate::specs::Reading::line_behind))]
 fn put_behind<S: Sink<Event<ItemQueue>>>(
     alloc: Global,
@@ -186,17 +186,16 @@ fn put_behind<S: Sink<Event<ItemQueue>>>(
     }
 }
 
-/// Puts the event that a line spells, given without its line feed, into the sink, and says whether that asks for
-/// another one; `None` where the line spells none. Then, and where memory is refused, nothing is put. The one refusal
-/// is `NoMemory`.
+/// Puts the event of a line, given without its line feed, into the sink. Returns whether the sink asks for another one,
+/// or `None` if the line is no event. In that case, and after an error, nothing is put. The only error is `NoMemory`.
 pub fn put_event<S: Sink<Event<ItemQueue>>>(
     alloc: Global,
     line: &[u8],
     sink: &mut S,
 ) -> Result<Option<bool>, NoMemory>
-    // What is read is spelled so, and what is spelled is read: a line spells at most one event.
+    // A line is read exactly if it encodes an event, and encodes at most one.
     ensures found { IfOk result (λ more. PutsSpelled S.takes line.now sink.old more sink.new) }
-    // Memory is refused to a line that issues ids or has items, and to no other.
+    // An allocation fails only for a line that issues IDs or has items.
     ensures memory { OnErr result (HoldsList line.now) }
     ensures kept { OnErr result (sink.new ≡ sink.old) }
 {
@@ -213,8 +212,8 @@ pub fn put_event<S: Sink<Event<ItemQueue>>>(
     put_behind(alloc, name, &mut words, sink)
 }
 
-/// Puts the event that a line spells behind the events, which have room for one more, as [`put_event`] does: whether it
-/// spells one.
+/// Appends the event of a line to the events, which have room for one more, as [`put_event`]. Returns whether the line
+/// is an event.
 pub fn push_event(line: &[u8], events: &mut Vec<Event<ItemQueue>>) -> Result<bool, NoMemory>
     requires { vec_len events.old < vec_capacity events.old }
     ensures found { IfOk result

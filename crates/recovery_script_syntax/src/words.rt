@@ -1,4 +1,4 @@
-//! The words of a line, read one after the other.
+//! The words of a line, read one after another.
 ghost use Rattle.std.specs.Prelude.{◌≡◌, ◌*◌, ◌<◌, ◌≤◌, ◌^◌, ◌==◌, [], Some, length, take, slice_index, ◌+◌};
 ghost use Rattle.std.specs.Prelude.{bytes_eq, Decides, IfOk, IfSome, OnErr, IsSome, IsSomeAnd};
 ghost use Rattle.std.specs.List.{position_or_len, before_first};
@@ -20,7 +20,7 @@ use std::alloc::Global;
 /// The most ids that a line issues.
 const MOST_IDS: u64 = 64;
 
-/// Is a word this name?
+/// Returns whether a word is this name.
 #[inline(always)]
 pub fn is_name(word: &[u8], name: &str) -> bool
     ensures { result ≡ bytes_eq word.now name.now }
@@ -28,8 +28,8 @@ pub fn is_name(word: &[u8], name: &str) -> bool
     are_same(word, name.as_bytes())
 }
 
-/// Are these the same bytes? Eight are compared as one word, then four, so that no byte is read twice: where the others
-/// are known as this is compiled, they are numbers.
+/// Returns whether these are the same bytes. Eight are compared as one word, then four, so that no byte is read twice:
+/// if the others are known at compile time, they are numbers.
 #[inline(always)]
 fn are_same(bytes: &[u8], others: &[u8]) -> bool
     ensures { result ≡ bytes_eq bytes.now others.now }
@@ -44,7 +44,7 @@ fn are_same(bytes: &[u8], others: &[u8]) -> bool
     word_at(bytes, 0) == word_at(others, 0) && are_short_same(&bytes[8..], &others[8..])
 }
 
-/// The same of few bytes, by words of four.
+/// Does the same for few bytes, by words of four.
 #[inline(always)]
 fn are_short_same(bytes: &[u8], others: &[u8]) -> bool
     requires { length bytes.now ≡ length others.now }
@@ -57,7 +57,7 @@ fn are_short_same(bytes: &[u8], others: &[u8]) -> bool
     half_at(bytes, 0) == half_at(others, 0) && are_few_same(&bytes[4..], &others[4..])
 }
 
-/// The same of up to three bytes, one by one.
+/// Does the same for up to three bytes, one by one.
 #[inline(always)]
 fn are_few_same(bytes: &[u8], others: &[u8]) -> bool
     requires { length bytes.now ≡ length others.now }
@@ -72,7 +72,7 @@ fn are_few_same(bytes: &[u8], others: &[u8]) -> bool
     }
 }
 
-/// Does a word of bytes end at a place, that is, does nothing or a space stand there?
+/// Returns whether a word of bytes ends at a place: there is nothing or a space.
 #[inline(always)]
 fn ends_at(bytes: &[u8], end: usize) -> bool
     ensures { Decides result (end < length bytes.now → slice_index bytes.now end ≡ 32) }
@@ -80,7 +80,7 @@ fn ends_at(bytes: &[u8], end: usize) -> bool
     end >= bytes.len() || bytes[end] == b' '
 }
 
-/// Do bytes begin with this name, as their first word?
+/// Returns whether the first word of bytes is this name.
 #[inline(always)]
 fn begins_with(bytes: &[u8], name: &str) -> bool
     requires { IsPlainName name.now }
@@ -96,7 +96,7 @@ fn begins_with(bytes: &[u8], name: &str) -> bool
     is_name(&bytes[..end], name)
 }
 
-/// The number that digits spell, 0 to `u128::MAX`: without a sign and without leading zeros.
+/// Returns the number that digits write, 0 to `u128::MAX`: without a sign and without leading zeros.
 fn long_number_in(digits: &[u8]) -> Option<u128>
     ensures { result ≡ number_of (2 ^ 128) digits.now }
 {
@@ -114,7 +114,7 @@ fn long_number_in(digits: &[u8]) -> Option<u128>
     Some(value)
 }
 
-/// The number that a word spells, 0 to `u64::MAX`: digits without a sign and without leading zeros.
+/// Returns the number that a word writes, 0 to `u64::MAX`: digits without a sign and without leading zeros.
 #[tactic(auto, unfolding(crate::specs::Reading::number_of))]
 pub fn number_in(word: &[u8]) -> Option<u64>
     ensures { result ≡ number_of u64_limit word.now }
@@ -125,7 +125,7 @@ pub fn number_in(word: &[u8]) -> Option<u64>
     }
 }
 
-/// The span that a word spells: nanoseconds, 0 to 2^64 · 10^9 - 1, as a number is spelled.
+/// Returns the span that a word writes: nanoseconds, 0 to 2^64 · 10^9 - 1, in the form of a number.
 #[tactic(auto, unfolding(crate::specs::Reading::number_of))]
 fn span_in(word: &[u8]) -> Option<Duration>
     ensures { result ≡ number_of span_limit word.now }
@@ -136,8 +136,8 @@ fn span_in(word: &[u8]) -> Option<Duration>
     }
 }
 
-/// The number that the first word of bytes spells, 0 to `u64::MAX`, and the length of that word, in one pass, where it
-/// has no more than 19 digits; else `None`, whatever it spells.
+/// Returns the number that the first word of bytes writes, 0 to `u64::MAX`, and the length of that word, in one pass,
+/// if it has at most 19 digits; else `None`.
 #[inline(always)]
 fn first_short_number(bytes: &[u8]) -> Option<(u64, usize)>
     ensures { IfSome result (λ found. IsFirstNumber u64_limit bytes.now (Some found)) }
@@ -152,21 +152,21 @@ fn first_short_number(bytes: &[u8]) -> Option<(u64, usize)>
     Some((value, end))
 }
 
-/// The words of a line that are left to read.
+/// The remaining words of a line.
 #[derive(Drop)]
 pub struct Words<'a> {
     rest: Option<&'a [u8]>,
 }
 
 impl<'a> Words<'a> {
-    /// The words of a line: what stands between its spaces. A line with no byte has one word, the empty one.
+    /// Returns the words of a line, which are separated by spaces. An empty line has one word, the empty one.
     pub fn new(line: &'a [u8]) -> Self
         ensures { words_left result ≡ words_of line.now }
     {
         Words { rest: Some(line) }
     }
 
-    /// Passes over a first word of this length, and over the space behind it.
+    /// Skips the first word, which has this length, and the space after it.
     fn pass(&mut self, rest: &'a [u8], end: usize)
         requires { end ≡ position_or_len (λ b. b == 32) rest.now }
         ensures { first_word (words_of rest.now) ≡ Some (take end rest.now, words_left self.new) }
@@ -178,7 +178,7 @@ impl<'a> Words<'a> {
         }
     }
 
-    /// The next word; `None` behind the last one.
+    /// Returns the next word, or `None` after the last one.
     pub fn next(&mut self) -> Option<&'a [u8]>
         ensures { ParsesTo (λ s. s.now) result
             (words_left self.new) (first_word (words_left self.old)) }
@@ -189,7 +189,7 @@ impl<'a> Words<'a> {
         Some(&rest[..end])
     }
 
-    /// Takes the next word if it is this name, and else none: whether it is.
+    /// Skips the next word if it is this name. Returns whether it is.
     #[inline(always)]
     fn take_name(&mut self, name: &str) -> bool
         requires { IsPlainName name.now }
@@ -205,7 +205,7 @@ impl<'a> Words<'a> {
         true
     }
 
-    /// The next word as a number, 0 to `u64::MAX`.
+    /// Parses the next word as a number, 0 to `u64::MAX`.
     #[inline(never)]
     #[tactic(auto, unfolding(crate::specs::Reading::field))]
     pub fn number(&mut self) -> Option<u64>
@@ -219,7 +219,7 @@ impl<'a> Words<'a> {
         Some(number)
     }
 
-    /// The same, where the word has more than 19 digits, or spells no number.
+    /// Does the same if the word has more than 19 digits, or is no number.
     #[cold]
     #[inline(never)]
     #[tactic(auto, unfolding(crate::specs::Reading::field))]
@@ -229,7 +229,7 @@ impl<'a> Words<'a> {
         number_in(self.next()?)
     }
 
-    /// The next word as a moment: nanoseconds, 0 to `u64::MAX`.
+    /// Parses the next word as a time: nanoseconds, 0 to `u64::MAX`.
     #[tactic(auto, unfolding(crate::specs::Reading::field))]
     pub fn moment(&mut self) -> Option<Instant>
         ensures { ReadsBy (field (number_of u64_limit)) self.old self.new result }
@@ -237,7 +237,7 @@ impl<'a> Words<'a> {
         Some(Instant::from_nanos(self.number()?))
     }
 
-    /// The next word as a span: nanoseconds, 0 to 2^64 · 10^9 - 1.
+    /// Parses the next word as a span: nanoseconds, 0 to 2^64 · 10^9 - 1.
     #[inline(never)]
     #[tactic(auto, unfolding(crate::specs::Reading::field, crate::specs::Reading::number_of))]
     pub fn span(&mut self) -> Option<Duration>
@@ -251,7 +251,7 @@ impl<'a> Words<'a> {
         Some(Duration::from_nanos(nanos))
     }
 
-    /// The same, where the word has more than 19 digits, or spells no span.
+    /// Does the same if the word has more than 19 digits, or is no span.
     #[inline(never)]
     #[tactic(auto, unfolding(crate::specs::Reading::field))]
     fn span_of_any_length(&mut self) -> Option<Duration>
@@ -260,7 +260,7 @@ impl<'a> Words<'a> {
         span_in(self.next()?)
     }
 
-    /// The next word as a number, 0 to `u16::MAX`: a size in bytes, or a port.
+    /// Parses the next word as a number, 0 to `u16::MAX`: a size in bytes, or a port.
     #[tactic(auto, unfolding(crate::specs::Reading::field))]
     pub fn short(&mut self) -> Option<u16>
         ensures { ReadsBy (field (number_of u16_limit)) self.old self.new result }
@@ -269,7 +269,7 @@ impl<'a> Words<'a> {
         u16::try_from(number).ok()
     }
 
-    /// The next word as a byte, 0 to 255.
+    /// Parses the next word as a byte, 0 to 255.
     #[tactic(auto, unfolding(crate::specs::Reading::field))]
     pub fn byte(&mut self) -> Option<u8>
         ensures { ReadsBy (field (number_of byte_limit)) self.old self.new result }
@@ -278,7 +278,7 @@ impl<'a> Words<'a> {
         u8::try_from(number).ok()
     }
 
-    /// The next word as a count of ids, 0 to 64.
+    /// Parses the next word as a count of IDs, 0 to 64.
     #[tactic(auto, unfolding(crate::specs::Reading::field))]
     pub fn count(&mut self) -> Option<u64>
         ensures { ReadsBy (field (number_of (most_ids + 1))) self.old self.new result }
@@ -290,7 +290,7 @@ impl<'a> Words<'a> {
         Some(number)
     }
 
-    /// The next word as a number below 2^62.
+    /// Parses the next word as a number below 2^62.
     #[tactic(auto, unfolding(crate::specs::Reading::field))]
     pub fn var_int(&mut self) -> Option<VarInt>
         ensures { ReadsBy (field (number_of number_limit)) self.old self.new result }
@@ -299,7 +299,7 @@ impl<'a> Words<'a> {
         VarInt::from_u64(number).ok()
     }
 
-    /// The next word as a packet number, 0 to `u64::MAX`, or as none, which is spelled `-`.
+    /// Parses the next word as a packet number, 0 to `u64::MAX`, or as none, which is written `-`.
     #[tactic(auto, unfolding(crate::specs::Reading::field))]
     pub fn largest(&mut self) -> Option<Option<u64>>
         ensures { ReadsBy (field largest_of) self.old self.new result }
@@ -310,7 +310,7 @@ impl<'a> Words<'a> {
         Some(Some(self.number()?))
     }
 
-    /// The next word as a path: `current` or `previous`.
+    /// Parses the next word as a path: `current` or `previous`.
     #[tactic(auto, unfolding(crate::specs::Reading::field))]
     pub fn path(&mut self) -> Option<PathName>
         ensures { ReadsBy (field path_of) self.old self.new result }
@@ -324,7 +324,7 @@ impl<'a> Words<'a> {
         None
     }
 
-    /// The next word as a flag: 0 or 1.
+    /// Parses the next word as a flag: 0 or 1.
     #[tactic(auto, unfolding(crate::specs::Reading::field))]
     pub fn flag(&mut self) -> Option<bool>
         ensures { ReadsBy (field flag_of) self.old self.new result }
@@ -338,7 +338,7 @@ impl<'a> Words<'a> {
         None
     }
 
-    /// The next word as a packet number space: `initial`, `handshake` or `data`.
+    /// Parses the next word as a packet number space: `initial`, `handshake` or `data`.
     #[tactic(auto, unfolding(crate::specs::Reading::field))]
     pub fn space(&mut self) -> Option<SpaceId>
         ensures { ReadsBy (field space_of) self.old self.new result }
@@ -355,7 +355,7 @@ impl<'a> Words<'a> {
         None
     }
 
-    /// The next word as a timer, by its name in small letters with hyphens.
+    /// Parses the next word as a timer, by its name in small letters with hyphens.
     #[tactic(auto, unfolding(crate::specs::Reading::field))]
     pub fn timer(&mut self) -> Option<Timer>
         ensures { ReadsBy (field timer_named) self.old self.new result }
@@ -363,14 +363,14 @@ impl<'a> Words<'a> {
         Timer::named(self.next()?)
     }
 
-    /// Whether no word is left.
+    /// Returns whether no word is left.
     pub fn is_empty(&self) -> bool
         ensures { Decides result (words_left self.now ≡ []) }
     {
         self.rest.is_none()
     }
 
-    /// Whether the words that are left are items, each of them. It reads none.
+    /// Returns whether all remaining words are items. It reads none.
     fn are_items(&self) -> bool
         ensures { Decides result (IsSome (items_read (words_left self.now))) }
     {
@@ -383,8 +383,8 @@ impl<'a> Words<'a> {
         true
     }
 
-    /// All words that are left as items, 0 to `u64::MAX` each. No memory is taken unless they all are, and there is
-    /// one.
+    /// Parses all remaining words as items, 0 to `u64::MAX` each. Nothing is allocated unless all of them are, and
+    /// there is one.
     #[inline(never)]
     pub fn items(&mut self, alloc: Global) -> Result<Option<Vec<u64>>, NoMemory>
         ensures found { IfOk result (AreItemsRead self.old self.new) }

@@ -109,8 +109,8 @@ module _ {K P M : Type 0} (variables : Variables) (old new : RecoveryState K P M
     (rtt : new.paths.current.state.rtt ≡ old.paths.current.state.rtt)
     (blocked : is_blocked new.paths.current.state 1 ≡ is_blocked old.paths.current.state 1) where
   pto_same : (space : SpaceId) → pto_of new variables space ≡ pto_of old variables space
-  pto_same space = ap (λ rtt. probe_timeout_of (pto_base_of (rtt_or variables.initial_rtt rtt)) (ack_delay_in variables space)
-      (min variables.pto_count 16)) rtt
+  pto_same space = ap (λ rtt. probe_timeout_of (pto_base_of (rtt_or variables.initial_rtt rtt))
+      (ack_delay_in variables space) (min variables.pto_count 16)) rtt
 
   losses_same : AllSame (loss_due new) (loss_due old)
   losses_same space = rw discarded (loss_same (space_of space new.spaces) (space_of space old.spaces) (spaces space)

@@ -1,4 +1,4 @@
--- One call more.
+-- One more call.
 use Rattle.std.proofs.Common.{[], ◌∷◌, ◌++◌}
 use Rattle.recovery_events.proofs.FeedingLaws.{takes_push}
 use Rattle.recovery_sender_program.specs.Giving.{YieldsItems}

@@ -1,4 +1,4 @@
--- What a word that is read leaves.
+-- What is left after a word is read.
 use Rattle.std.proofs.Common.{◌≡◌, ℕ, ◌+◌, List, [], ◌∷◌, length, Some, arith}
 use Rattle.recovery_script_syntax.specs.Reading.{first_word}
 

@@ -1,4 +1,4 @@
--- What an input gives to a sink of calls.
+-- What an input passes to a sink of calls.
 use Rattle.std.specs.Prelude.{List}
 use Rattle.recovery_events.specs.Feeding.{TakesAll}
 

@@ -1,4 +1,4 @@
-//! What is written for each call: one line.
+//! Writes one line for each call.
 use itoa::Buffer;
 use recovery_base::below::SpaceId;
 use recovery_base::time::Instant;
@@ -23,12 +23,12 @@ fn push_numbers(text: &mut String, numbers: &[u64]) -> Result<(), AllocError> {
     Ok(())
 }
 
-/// Whether nothing is lost.
+/// Returns whether nothing is lost.
 fn is_none(losses: &Losses) -> bool {
     losses.numbers.is_empty() && losses.probe.is_none()
 }
 
-/// Whether an ACK frame's answer names losses: a packet is lost, or allocation failed for one that is.
+/// Returns whether an ACK frame's answer has losses: a packet is lost, or allocation failed for one that is.
 fn tells_losses(losses: &Losses) -> bool {
     losses.is_cut || !is_none(losses)
 }
@@ -57,7 +57,7 @@ fn push_lost(text: &mut String, losses: &Losses) -> Result<(), AllocError> {
     push_cut(text, losses.is_cut)
 }
 
-/// Says so if allocation failed for a packet that is lost.
+/// Appends a mark if allocation failed for a packet that is lost.
 fn push_cut(text: &mut String, is_cut: bool) -> Result<(), AllocError> {
     if is_cut {
         return text.push_str(" cut");
@@ -65,7 +65,7 @@ fn push_cut(text: &mut String, is_cut: bool) -> Result<(), AllocError> {
     Ok(())
 }
 
-/// What is lost with a space.
+/// Appends what is lost with a space.
 fn push_retransmitted(text: &mut String, all: &Retransmitted) -> Result<(), AllocError> {
     text.push_str("lost")?;
     push_numbers(text, &all.numbers)?;
@@ -127,7 +127,7 @@ fn push_timeout(text: &mut String, timeout: &Timeout) -> Result<(), AllocError> 
     }
 }
 
-/// The line of an answer or refusal of the recovery, without its line feed.
+/// Appends an answer or error of the recovery, without a line feed.
 fn push_answer(
     alloc: Global,
     text: &mut String,
@@ -163,7 +163,7 @@ fn push_reply(
     }
 }
 
-/// Appends the line of a call, with the timer for losses behind what is no refusal.
+/// Appends the line of a call, with the loss detection timer unless it is an error.
 pub fn write_said(
     alloc: Global,
     text: &mut String,

@@ -1,18 +1,18 @@
-//! What the arguments choose.
+//! The choices of the arguments.
 ghost use Rattle.std.specs.Prelude.{◌<◌};
 
 use recovery_losses::Side;
 use recovery_replay::fixed_window::FixedWindowConfig;
 use recovery_script_syntax::words::number_in;
 
-/// Which congestion window each controller has.
+/// The congestion window of each controller.
 #[derive(Clone, Copy)]
 pub enum Window {
     /// NewReno's (RFC 9002, 7).
     NewReno,
     /// CUBIC's (RFC 9438).
     Cubic,
-    /// One that nothing changes.
+    /// A window that nothing changes.
     Fixed(FixedWindowConfig),
 }
 
@@ -25,27 +25,27 @@ pub struct Settings {
     pub numerator: u64,
     /// Its denominator, above zero.
     pub denominator: u64,
-    /// How many probe timeouts make congestion persistent.
+    /// The persistent congestion threshold, in probe timeouts.
     pub periods: u32,
     ghost positive: { 0 < denominator },
 }
 
-/// What the arguments choose.
+/// The choices of the arguments.
 #[derive(Clone, Copy)]
 pub struct Choice {
-    /// Which end of the connection sends.
+    /// Which endpoint sends.
     pub side: Side,
-    /// Whether the handshake is over at the start.
+    /// Whether the handshake is complete at the start.
     pub is_established: bool,
-    /// The settings of loss detection; without them the defaults hold.
+    /// The settings of loss detection; the defaults if there are none.
     pub settings: Option<Settings>,
-    /// What skipped numbers are drawn by; without it none is skipped.
+    /// The seed of the skipped numbers; without it none is skipped.
     pub seed: Option<u64>,
-    /// Which window each controller has.
+    /// The window of each controller.
     pub window: Window,
 }
 
-/// A side, and whether its handshake is over.
+/// Parses a side, and whether its handshake is complete.
 fn side_in(word: &[u8]) -> Option<(Side, bool)> {
     match word {
         b"client" => Some((Side::Client, false)),
@@ -55,7 +55,7 @@ fn side_in(word: &[u8]) -> Option<(Side, bool)> {
     }
 }
 
-/// A seed, or none where the word is `-`.
+/// Parses a seed, or none if the word is `-`.
 fn seed_in(word: &[u8]) -> Option<Option<u64>> {
     match word {
         b"-" => Some(None),
@@ -63,7 +63,7 @@ fn seed_in(word: &[u8]) -> Option<Option<u64>> {
     }
 }
 
-/// CUBIC's window, or one above zero; NewReno's where the word is `-`.
+/// Parses CUBIC's window, or one above zero; NewReno's if the word is `-`.
 fn window_in(word: &[u8]) -> Option<Window> {
     match word {
         b"-" => return Some(Window::NewReno),
@@ -80,7 +80,7 @@ fn short_in(word: &String) -> Option<u32> {
     u32::try_from(number_in(word.as_bytes())?).ok()
 }
 
-/// The settings of loss detection, by the last four words.
+/// Parses the settings of loss detection, the last four words.
 fn settings_in(words: &[String]) -> Option<Settings> {
     let [packets, numerator, denominator, periods] = words else {
         return None;
@@ -100,7 +100,7 @@ fn settings_in(words: &[String]) -> Option<Settings> {
     })
 }
 
-/// What the words behind the program's name choose: a side, then a seed, then a window, then the settings of loss
+/// Parses the arguments after the program's name: a side, then a seed, then a window, then the settings of loss
 /// detection.
 pub fn choice_of(words: &[String]) -> Option<Choice> {
     let (side, rest) = words.split_first()?;

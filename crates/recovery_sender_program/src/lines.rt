@@ -1,4 +1,4 @@
-//! The call that a line spells.
+//! Parses a line as a call.
 use recovery_base::below::{EcnCounts, NoMemory};
 use recovery_losses::Ack;
 use recovery_queue::items::ItemQueue;
@@ -7,7 +7,7 @@ use recovery_script_syntax::words::{Words, is_name, number_in};
 use recovery_sender::{Asking, Call, Datagram, Frame, passes};
 use std::alloc::Global;
 
-/// The call of a line, given without its line feed, if it spells one.
+/// Returns the call of a line, given without its line feed, if it is one.
 pub fn call_in(alloc: Global, line: &[u8]) -> Result<Option<Call<ItemQueue>>, NoMemory> {
     if line.len() > LINE_LIMIT {
         return Ok(None);
@@ -25,7 +25,7 @@ pub fn call_in(alloc: Global, line: &[u8]) -> Result<Option<Call<ItemQueue>>, No
     }
 }
 
-/// A call that takes no memory, by its name and the words behind it.
+/// Parses a call that does not allocate, by its name and the words after it.
 fn short_call(name: &[u8], words: &mut Words<'_>) -> Option<Call<ItemQueue>> {
     match name {
         name if is_name(name, "transmit") => transmit(words),
@@ -52,7 +52,7 @@ fn probe(words: &mut Words<'_>) -> Option<Call<ItemQueue>> {
     }))
 }
 
-/// What is said of the connection, and of its spaces.
+/// Parses calls about the connection and its spaces.
 fn said(name: &[u8], words: &mut Words<'_>) -> Option<Call<ItemQueue>> {
     match name {
         name if is_name(name, "datagram") => Some(Call::Datagram(words.number()?)),
@@ -66,7 +66,7 @@ fn said(name: &[u8], words: &mut Words<'_>) -> Option<Call<ItemQueue>> {
     }
 }
 
-/// The event that a line spells, if it passes.
+/// Returns the event of a line, if it is one that passes through.
 fn passed(alloc: Global, line: &[u8]) -> Result<Option<Call<ItemQueue>>, NoMemory> {
     let mut events = Vec::with_capacity(alloc, 1)?;
     if !push_event(line, &mut events)? {
@@ -78,7 +78,7 @@ fn passed(alloc: Global, line: &[u8]) -> Result<Option<Call<ItemQueue>>, NoMemor
     }
 }
 
-/// An ACK frame: its ranges, and the counts of ECN behind them.
+/// Parses an ACK frame: its ranges, followed by the ECN counts.
 fn ack(alloc: Global, words: &mut Words<'_>) -> Result<Option<Call<ItemQueue>>, NoMemory> {
     let (Some(space), Some(now), Some(delay), Some(app_limited)) = (
         words.space(),
@@ -108,7 +108,7 @@ fn ack(alloc: Global, words: &mut Words<'_>) -> Result<Option<Call<ItemQueue>>, 
     })))
 }
 
-/// Ranges to the end of the line, or to the counts of ECN, which are answered.
+/// Parses ranges to the end of the line, or to the ECN counts, which it returns.
 fn read_ranges(
     words: &mut Words<'_>,
     ranges: &mut Vec<(u64, u64)>,
@@ -125,7 +125,7 @@ fn read_ranges(
     Ok(Some(None))
 }
 
-/// The counts of ECN that end a line.
+/// Parses the ECN counts that end a line.
 fn last_counts(words: &mut Words<'_>) -> Option<Option<EcnCounts>> {
     let counts = EcnCounts {
         ect0: words.number()?,

@@ -1,5 +1,5 @@
-//! The program `recovery-sender`: calls of a sender on standard input, the answers on standard output. Begin at
-//! `play.rt`.
+//! The program `recovery-sender`: reads calls of a sender on standard input and writes the answers to standard output.
+//! Begin at `play.rt`.
 #![tactic(auto)]
 
 mod answers;
@@ -20,7 +20,7 @@ use std::io;
 use std::io::BufReader;
 use std::process::ExitCode;
 
-/// The calls of standard input are answered.
+/// Answers the calls on standard input.
 fn played(rt: &HostRuntime, choice: Choice) -> Outcome {
     match BufReader::new(rt.alloc(), rt.reader()) {
         Ok(mut input) => play(rt.alloc(), choice, &mut input, &mut rt.stdout()),
@@ -28,7 +28,7 @@ fn played(rt: &HostRuntime, choice: Choice) -> Outcome {
     }
 }
 
-/// What a text that was asked for comes to.
+/// Returns the outcome of writing a requested text.
 fn written(text: io::Result<()>) -> Outcome {
     match text {
         Ok(()) => Outcome::Ended(Ending::Whole),
@@ -36,7 +36,7 @@ fn written(text: io::Result<()>) -> Outcome {
     }
 }
 
-/// What the words behind the program's name ask for is done.
+/// Does what the arguments ask for.
 fn asked(rt: &HostRuntime, words: &[String]) -> Outcome {
     match words {
         [word] if word.as_str() == "--help" => written(print!(rt; "{HELP}")),
@@ -48,7 +48,7 @@ fn asked(rt: &HostRuntime, words: &[String]) -> Outcome {
     }
 }
 
-/// The same, where they can be read.
+/// Does the same if the arguments can be read.
 fn carried_out(rt: &HostRuntime) -> Outcome {
     match arguments(rt) {
         Ok(words) => asked(rt, &words),

@@ -1,4 +1,4 @@
-//! What the program says of itself.
+//! The program's texts.
 /// What `--version` writes.
 pub const VERSION: &str = "recovery-sender 0.11.19\n";
 

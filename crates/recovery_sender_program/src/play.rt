@@ -1,4 +1,4 @@
-//! Calls in, answers out: each line is answered before the next is read.
+//! Reads calls and writes answers: each line is answered before the next is read.
 ghost use Rattle.recovery_sender_program.specs.Giving.{YieldsItems};
 
 use crate::answers::write_said;
@@ -23,7 +23,7 @@ use recovery_sender::{Call, CallRecord, Sender, run_over};
 use std::alloc::Global;
 use std::io::{Read, Write};
 
-/// The lines of an input as calls, up to the first that is none.
+/// The lines of an input as calls, up to the first that is no call.
 #[derive(Drop)]
 struct Lines<'a, R> {
     alloc: Global,
@@ -40,7 +40,7 @@ impl<'a, R: Read> Source<Call<ItemQueue>> for Lines<'a, R> {
     }
 }
 
-/// Gives the calls of an input to a sink, as long as that asks for another: how the input ended.
+/// Passes the calls of an input to a sink, while that asks for more. Returns how the input ended.
 fn give_all<R: Read, S: Sink<Call<ItemQueue>>>(
     alloc: Global,
     input: &mut R,
@@ -68,13 +68,13 @@ fn give_all<R: Read, S: Sink<Call<ItemQueue>>>(
     Outcome::Ended(Ending::ReadFailed)
 }
 
-/// The answers to calls, each written as it comes.
+/// The answers to calls, each written immediately.
 #[derive(Drop)]
 struct Answers<'a, W> {
     alloc: Global,
     text: String,
     output: &'a mut W,
-    /// Why no more are written, where that is so.
+    /// Why no more are written, if so.
     broken: Option<Outcome>,
 }
 
@@ -102,14 +102,14 @@ impl<'a, W: Write> Sink<CallRecord<ItemQueue>> for Answers<'a, W> {
     }
 }
 
-/// Puts the settings of loss detection.
+/// Sets the settings of loss detection.
 fn set<F>(transport: &mut TransportConfig<F>, settings: &Settings) {
     transport.packet_threshold(settings.packets);
     transport.time_threshold(settings.numerator, settings.denominator);
     transport.persistent_congestion_threshold(settings.periods);
 }
 
-/// The calls of an input, from a sender on to which nothing has happened.
+/// Answers the calls of an input, with a sender that has sent nothing.
 fn play_over<F, R, W>(
     alloc: Global,
     factory: F,

@@ -10,11 +10,11 @@ use std::io::Write;
 /// The program's name in its error texts.
 const NAME: &str = "sender";
 
-/// How the program is called.
+/// The usage of the program.
 const USAGE: &str = "usage: recovery-sender client|server|established \
     [SEED [WINDOW [PACKETS NUMERATOR DENOMINATOR PERIODS]]]\n";
 
-/// Writes what is wrong.
+/// Writes the error text.
 pub fn report<E: Write>(outcome: Outcome, errors: &mut E) -> io::Result<()>
     ensures { OnOk result
         (Appends (E.contents errors.old) (E.contents errors.new) (error_text outcome)) }

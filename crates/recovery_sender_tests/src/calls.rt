@@ -1,4 +1,4 @@
-//! What each call of a sender says, and the timer for losses that it leaves.
+//! The answer of each call of a sender, and the loss detection timer after it.
 use quic_recovery_rows::config::{settings, words};
 use quic_recovery_rows::events::{Answer, Event, at, received};
 use quic_recovery_rows::tally::Tally;
@@ -15,7 +15,7 @@ use std::process::Abort;
 
 type Reno = Sender<NewRenoConfig, Tally, Pcg32>;
 
-/// A call, with its moment in nanoseconds first.
+/// A call, with its time in nanoseconds first.
 #[derive(Clone, Copy)]
 enum Call {
     Transmit(u64, u16, SpaceId, bool),
@@ -34,7 +34,7 @@ enum Call {
     Timeout(u64),
 }
 
-/// What a call says.
+/// The answer of a call.
 #[derive(Clone, Copy, PartialEq, Eq)]
 enum Said {
     Done,
@@ -49,7 +49,7 @@ enum Said {
     Acked(u64, usize, Option<u64>),
     /// The first number that is lost, and the bytes of congestion.
     Lost(Option<u64>, Option<u64>),
-    /// So many probes are due.
+    /// This many probes are due.
     ProbesDue(u8),
     Nothing,
     Other,
@@ -127,7 +127,7 @@ fn timed_out(reply: &Result<Timeout, SenderError>) -> Said {
     }
 }
 
-/// A frame without a delay and without counts of ECN.
+/// A frame without a delay and without ECN counts.
 fn on_ack(sender: &mut Reno, now: u64, number: u64) -> Said {
     let ack = Ack {
         delay: Duration::ZERO,
@@ -138,7 +138,7 @@ fn on_ack(sender: &mut Reno, now: u64, number: u64) -> Said {
     acked(&reply)
 }
 
-/// Calls that may be refused.
+/// Calls that may fail.
 fn play(sender: &mut Reno, given: Call) -> Said {
     match given {
         Call::Transmit(now, bytes, space, in_flight) => {
@@ -176,7 +176,7 @@ fn play(sender: &mut Reno, given: Call) -> Said {
     }
 }
 
-/// An event that passes.
+/// An event that passes through.
 fn pass(sender: &mut Reno, event: Event) -> Said {
     if !passes(&event) {
         return Said::Other;
@@ -185,7 +185,7 @@ fn pass(sender: &mut Reno, event: Event) -> Said {
     answer(&reply)
 }
 
-/// The other calls: what is said of the connection.
+/// The other calls: reports about the connection.
 fn tell(sender: &mut Reno, given: Call) -> Said {
     match given {
         Call::Validated => sender.on_address_validated(),
@@ -197,7 +197,7 @@ fn tell(sender: &mut Reno, given: Call) -> Said {
     Said::Done
 }
 
-/// Asserts what each call says, and the timer that it leaves.
+/// Asserts the answer of each call, and the timer after it.
 fn walk<const N: usize>(rt: &impl Abort, sender: &mut Reno, rows: [(Call, Said, Option<u64>); N]) {
     let mut row = 0u64;
     for (given, said, timer) in rows {
@@ -208,8 +208,9 @@ fn walk<const N: usize>(rt: &impl Abort, sender: &mut Reno, rows: [(Call, Said, 
     }
 }
 
-/// A server may send three times what came in, and as much as its window holds: ten datagrams of 1,200 bytes (RFC 9000,
-/// 8.1; RFC 9002, 7.2). Its probe timeout is 333 ms, four times half of that, and the peer's delay (RFC 9002, 6.2.1).
+/// A server may send three times the bytes received, and as much as its window allows: ten datagrams of 1,200 bytes
+/// (RFC 9000, 8.1; RFC 9002, 7.2). Its probe timeout is 333 ms, four times half of that, and the peer's delay (RFC
+/// 9002, 6.2.1).
 #[test]
 fn a_server(rt: HostRuntime) {
     let (initial, data) = (SpaceId::Initial, SpaceId::Data);
@@ -257,8 +258,8 @@ fn a_server(rt: HostRuntime) {
     run(&rt, rt.alloc(), Side::Server, rows);
 }
 
-/// What was sent before a Retry, or in 0-RTT that is refused, is lost without congestion; probes are counted anew (RFC
-/// 9002, 6.3 and 6.4).
+/// What was sent before a Retry, or in rejected 0-RTT, is lost without congestion; the count of probes starts again
+/// (RFC 9002, 6.3 and 6.4).
 #[test]
 fn a_retry(rt: HostRuntime) {
     let (initial, data) = (SpaceId::Initial, SpaceId::Data);
@@ -298,8 +299,8 @@ fn a_retry(rt: HostRuntime) {
     run(&rt, rt.alloc(), Side::Client, rows);
 }
 
-/// A client's timer runs from the start on, lest both ends wait for ever (RFC 9002, 6.2.2.1), and no limit stops it;
-/// its window may be filled exactly (RFC 9002, 7).
+/// A client's timer runs from the start, so that not both endpoints wait forever (RFC 9002, 6.2.2.1), and no limit
+/// stops it. Its window may be filled exactly (RFC 9002, 7).
 #[test]
 fn a_client(rt: HostRuntime) {
     let (initial, handshake) = (SpaceId::Initial, SpaceId::Handshake);
@@ -330,8 +331,9 @@ fn a_client(rt: HostRuntime) {
     run(&rt, rt.alloc(), Side::Client, rows);
 }
 
-/// Three numbers below the largest acknowledged, or 9/8 of the RTT of 100 ms after it was sent, a packet is lost (RFC
-/// 9002, 6.1); then nothing is left, and a frame with a number that was never sent is refused (RFC 9000, 13.1).
+/// A packet is lost if its number is three below the largest acknowledged, or 9/8 of the RTT of 100 ms after it was
+/// sent (RFC 9002, 6.1). Then nothing is left, and a frame with a number that was never sent is rejected (RFC 9000,
+/// 13.1).
 #[test]
 fn losses(rt: HostRuntime) {
     let data = SpaceId::Data;

@@ -7,9 +7,9 @@ use recovery_queue::queue::RetransmitQueue;
 use std::alloc::Global;
 use std::marker::Model;
 
-/// The items of a packet. The first times that they are to join others allocation fails, as often as is asked for.
+/// The items of a packet. The first times that they are to join others allocation fails, as often as requested.
 ///
-/// Contracts see the list of the items.
+/// In contracts its value is the list of the items.
 #[derive(Drop)]
 pub struct FailingQueue {
     items: ItemQueue,
@@ -25,7 +25,7 @@ impl Model for FailingQueue {
 }
 
 impl FailingQueue {
-    /// A queue of these items. Allocation fails so often before they join others.
+    /// Returns a queue of these items. Allocation fails this often before they join others.
     pub fn new(items: Vec<u64>, failures: u32) -> Self
         ensures { result ≡ items.items }
     {
@@ -35,7 +35,7 @@ impl FailingQueue {
         }
     }
 
-    /// The items, in the order in which they came.
+    /// Returns the items, in the order in which they were added.
     pub fn items(&self) -> &[u64]
         ensures { result.now ≡ self.now }
     {

@@ -11,7 +11,7 @@ use recovery_sender::{Acknowledged, Retransmitted, Sender, SenderError};
 
 type Reno = Sender<NewRenoConfig, Tally, Pcg32>;
 
-/// So many 1-RTT packets go out at once; whether all do.
+/// Sends this many 1-RTT packets at once. Returns whether all are sent.
 fn send(sender: &mut Reno, count: u64) -> bool {
     let mut all = true;
     for _ in 0..count {
@@ -32,7 +32,7 @@ fn on_ack(sender: &mut Reno, first: u64, last: u64) -> Result<Acknowledged, Send
     sender.on_ack(SpaceId::Data, at(100_000_000), &[(first, last)], ack)
 }
 
-/// Whether these are 200 numbers one after another, from a first one on.
+/// Returns whether these are 200 consecutive numbers from `first` on.
 fn are_200(numbers: &[u64], first: u64) -> bool {
     let mut next = first;
     for number in numbers {
@@ -69,7 +69,7 @@ fn are_retransmitted(reply: &Result<Retransmitted, SenderError>) -> bool {
 }
 
 /// A frame acknowledges 200 packets. Another acknowledges the last of 203, by which 200 are lost (RFC 9002, 6.1.1). The
-/// two that are left, and 198 more, were sent in vain.
+/// two that are left, and 198 more, are then all declared lost.
 fn are_right(sender: &mut Reno) -> bool {
     if !send(sender, 200) {
         return false;

@@ -1,5 +1,5 @@
-//! Allocation fails for packets that are lost: these are still tracked, and the next pass, or the same call, goes on
-//! with them. The answers are worked by hand.
+//! Allocation fails for packets that are lost: these are still tracked, and the next pass, or the same call, continues
+//! with them. The answers are computed by hand.
 use crate::failing::FailingQueue;
 use quic_recovery_rows::config::{settings, words};
 use quic_recovery_rows::events::at;
@@ -30,7 +30,7 @@ enum Call {
     Ack(u64, u64),
     Timeout(u64),
     RetransmitAll(u64, SpaceId),
-    /// The items of 1-RTT packets that wait to be sent again.
+    /// The items of 1-RTT packets that wait for retransmission.
     TakePending,
 }
 
@@ -44,7 +44,7 @@ struct Lost {
     is_cut: bool,
 }
 
-/// What a call says.
+/// The answer of a call.
 #[derive(Clone, Copy, PartialEq, Eq)]
 enum Said {
     Done,
@@ -107,7 +107,7 @@ fn answer(reply: &Result<Answer<FailingQueue>, SenderError>) -> Said {
     }
 }
 
-/// A packet goes out. Allocation fails so often when its item is to join others.
+/// Sends a packet. Allocation fails this often when its item is to join others.
 fn send(
     alloc: Global,
     sender: &mut Failing,
@@ -169,7 +169,7 @@ fn play(alloc: Global, sender: &mut Failing, given: Call) -> Said {
     }
 }
 
-/// Asserts what each call says, and the timer that it leaves.
+/// Asserts the answer of each call, and the timer after it.
 fn walk<const N: usize>(
     rt: &impl Abort,
     alloc: Global,
@@ -226,8 +226,8 @@ fn cut(lost: Lost) -> Lost {
     }
 }
 
-/// Packets 0 and 1 are lost by an ACK (RFC 9002, 6.1.1). Allocation fails for 0, which keeps its item. The timer is due
-/// at once, and declares it lost.
+/// Packets 0 and 1 are lost by an ACK (RFC 9002, 6.1.1). Allocation fails for 0, which retains its item. The timer is
+/// due at once, and declares it lost.
 #[test]
 fn one_of_two_losses(rt: HostRuntime) {
     let data = SpaceId::Data;
@@ -264,7 +264,7 @@ fn one_of_two_losses(rt: HostRuntime) {
     run(&rt, rt.alloc(), Side::Server, rows);
 }
 
-/// Packet 0 alone is lost, by its age (RFC 9002, 6.1.2), and allocation fails for it.
+/// Only packet 0 is lost, by its age (RFC 9002, 6.1.2), and allocation fails for it.
 #[test]
 fn the_only_loss(rt: HostRuntime) {
     let data = SpaceId::Data;

@@ -11,7 +11,7 @@ use recovery_losses::{Ack, Side};
 use recovery_sender::{Call, CallRecord, CallReplyValue, Frame, Sender, run};
 use std::alloc::Global;
 
-/// A packet of 1-RTT keys goes out.
+/// A 1-RTT packet is sent.
 fn send(now: u64) -> Call<Tally> {
     Call::Event(Event::Send {
         space: SpaceId::Data,
@@ -24,7 +24,7 @@ fn send(now: u64) -> Call<Tally> {
     })
 }
 
-/// It is acknowledged, alone.
+/// It alone is acknowledged.
 fn ack(alloc: Global, now: u64) -> Call<Tally> {
     let mut ranges = Vec::new(alloc);
     let _room = ranges.push((0, 0));
@@ -40,7 +40,7 @@ fn ack(alloc: Global, now: u64) -> Call<Tally> {
     })
 }
 
-/// What is said to it, and the timer behind it.
+/// Returns whether a record has this timer and this count of acknowledged packets.
 fn is_said(said: &[CallRecord<Tally>], place: usize, wanted: Option<u64>, acked: usize) -> bool {
     match said.get(place) {
         Some(CallRecord { reply, timer }) => {
@@ -54,7 +54,7 @@ fn is_said(said: &[CallRecord<Tally>], place: usize, wanted: Option<u64>, acked:
     }
 }
 
-/// What is said to each call, and that no timer is left.
+/// Returns whether each call has the expected answer, and no timer is left.
 fn is_right(sender: &Sender<NewRenoConfig, Tally, Pcg32>, said: &[CallRecord<Tally>]) -> bool {
     said.len() == 4
         && is_said(said, 1, None, 0)
@@ -63,8 +63,8 @@ fn is_right(sender: &Sender<NewRenoConfig, Tally, Pcg32>, said: &[CallRecord<Tal
         && sender.loss_detection_timer().is_none()
 }
 
-/// A server whose handshake is confirmed sends a packet: the timer is a probe timeout behind it, 333 ms, four times
-/// half of that, and the peer's 25 ms (RFC 9002, 6.2.1 and 6.2.2). It is acknowledged, and no timer is left.
+/// A server whose handshake is confirmed sends a packet. The timer is a probe timeout later: 333 ms, four times half of
+/// that, and the peer's 25 ms (RFC 9002, 6.2.1 and 6.2.2). The packet is acknowledged, and no timer is left.
 #[test]
 fn calls_one_after_another(rt: HostRuntime) {
     let alloc = rt.alloc();

@@ -1,4 +1,4 @@
--- The packets among those that are tracked, when one is sent, taken or has other contents. `CoherentLaws` and the
+-- The packets among those that are tracked, when one is sent, removed or has other contents. `CoherentLaws` and the
 -- balance of the paths rest on it.
 use Rattle.std.proofs.Common.{arith, ◌≡◌, ℕ, ◌⊎◌, [], ◌∷◌, ◌++◌, Option, Some}
 use Rattle.recovery_spaces.specs.Packets.{Packet, Packets, packet_at, without, without_some, with_contents, replaced, carrying, sent_onto, forgotten_number, IsAmong, AreAcknowledging, IsTooLarge}
@@ -25,7 +25,7 @@ module _ {P M : Type 0} where
   among_replaced (entry ∷ packets) number other packet among =
       grind (arith, among_replaced packets number other packet)
 
--- ---- what holds of every packet
+-- ---- a property of every packet
 
 module _ {P M : Type 0} (Holds : Packet P M → Type 0) where
   -- it holds of all packets

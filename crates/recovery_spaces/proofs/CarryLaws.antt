@@ -6,7 +6,7 @@ use Rattle.recovery_spaces.specs.Packets.{Packet, Packets, Tracking, packet_at, 
 use Rattle.recovery_spaces.specs.Spaces.{Space, packets_of, space_moves, space_loses, space_takes}
 use Rattle.recovery_spaces.proofs.PacketLaws.{none_found, sum-replaced}
 
--- a packet that is put in the place of another
+-- a packet that replaces another
 put : {P M : Type 0} (packets : Packets P M) (number : ℕ) (packet other : Packet P M)
     → packet_at packets number ≡ Some packet → (let new = replaced number (Some other) packets in
     (packet_at new number ≡ Some other) × (without new number ≡ without packets number)
@@ -24,7 +24,7 @@ module _ {P M : Type 0} where
     carried contents other =
         grind (arith, λ (packet : Packet P M). put packets number packet (with_contents contents packet))
 
-    -- a sum that does not look at the contents
+    -- a sum that does not depend on the contents
     pub sum-carrying : (f : ℕ × Packet P M → ℕ) (contents : P)
         → ((n : ℕ) (packet : Packet P M) → f (n, with_contents contents packet) ≡ f (n, packet))
         → sum_by f (carrying number contents packets) ≡ sum_by f packets
@@ -41,7 +41,7 @@ module _ {P M : Type 0} where
       (after_carrying number contents tracking) ≡ tracking
   tracking_back tracking number contents other = grind (arith, carried tracking.packets number contents other)
 
--- a packet whose contents were moved, and that is taken, was lost
+-- a packet whose contents were moved, and that is removed, was lost
 pub moved_taken : {P M S : Type 0} (words : QueueSemantics P S) (number : ℕ) (space : Space P M)
     → space_takes number (space_moves words number space) ≡ space_loses words number space
 moved_taken words number space = grind (arith, carried (packets_of space) number words.empty words.empty)

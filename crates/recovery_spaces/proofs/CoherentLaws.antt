@@ -1,5 +1,5 @@
--- The parts of a space go together, whatever happens in it. The balance of the paths, and so each call of the driver on
--- a space, rests on it.
+-- The parts of a space are consistent, whatever happens in it. The balance of the paths, and so each call of the driver
+-- on a space, rests on it.
 use Rattle.std.proofs.Common.{◌≡◌, ℕ, ◌+◌, ◌≤◌, Bool, [], refl, arith, Option, None, Some}
 use Rattle.recovery_base.specs.declared.below.SpaceId.{SpaceId}
 use Rattle.recovery_acks.specs.Acks.{new_acks}
@@ -12,7 +12,7 @@ use Rattle.recovery_spaces.proofs.AmongLaws.{Acknowledges, all_without, all_sent
 use Rattle.recovery_spaces.proofs.PacketLaws.{AllBelow, all_below, are_below, AllBelow-without, AllBelow-push, AllBelow-carrying, AllBelow-without_some}
 
 module _ {P M : Type 0} where
-  -- what was received and asks for an ACK stays
+  -- the largest ack-eliciting number received is unchanged
   pub come_kept : (old here : Space P M) → HasGreatestCome old → acks_of here ≡ acks_of old → here.dedup ≡ old.dedup
       → HasGreatestCome here
   come_kept old here come acks dedup = rw (acks, dedup) come
@@ -23,7 +23,7 @@ module _ {P M : Type 0} where
     own : AllBelow (packets_of old) (next_number_of old)
     own = all_below _ _ coherent.packets
 
-    -- the packets have numbers below the next one, and acknowledge numbers of packets
+    -- the packets have numbers below the next one, and acknowledge numbers below 2^62
     coherent_by : {packets : Packets P M} → tracking_of here ≡ record (tracking_of old) { packets = packets }
         → next_number_of here ≡ next_number_of old → AllBelow packets (next_number_of old) → AreAcknowledging packets
         → IsCoherent here

@@ -1,4 +1,4 @@
--- The counts beside the tracked packets, when one is sent or taken. The calls of `SentPackets` rest on it.
+-- The counts of the tracked packets, when one is sent or removed. The calls of `SentPackets` rest on it.
 use Rattle.std.proofs.lemmas.Bool.Decides.{nat_tests}
 use Rattle.std.proofs.Common.{◌≡◌, ℕ, ◌+◌, ◌-◌, ◌<◌, ◌≤◌, ◌⊎◌, MatchOption, true, false, [], ◌∷◌, ◌++◌, length, Option, None, Some, refl, arith, filter}
 use Rattle.std.specs.Prelude.{sum_by}
@@ -8,7 +8,7 @@ use Rattle.recovery_spaces.specs.Counts.{silent_count, eliciting_count, size_cou
 use Rattle.recovery_spaces.proofs.PacketLaws.{found-append, AllBelow, sum-without, silent_count-length, some_of, first_found, first_passes}
 
 module _ {P M : Type 0} where
-  -- a packet is forgotten where another is sent: it was tracked before, above the last eliciting number, and counted
+  -- a packet is forgotten when another is sent: it was tracked before, after the last ack-eliciting number, and counted
   abbrev pub IsForgotten : Packets P M → Option ℕ → ℕ → ℕ → Packet P M → ℕ → Packets P M → Packet P M → Type 0
   IsForgotten packets last sized number sent least mid gone =
       (packet_at packets least ≡ Some gone) × (is_above last least ≡ true) × (size_count gone ≤ sized)
@@ -30,7 +30,7 @@ module _ {P M : Type 0} where
   module _ {packets : Packets P M} {last : Option ℕ} {silent sized eliciting : ℕ}
       (counted : AreCounted packets last silent sized eliciting)
     where
-      -- a packet that is taken: there is something to take from the counts
+      -- a packet that is removed: there is something to subtract from the counts
       pub counted_taken : (number : ℕ) (packet : Packet P M) → packet_at packets number ≡ Some packet
           → AreCounted (without packets number) last (silent - silent_count last (number, packet))
           (sized - size_count packet) (eliciting - elicits_count packet)
@@ -46,7 +46,7 @@ module _ {P M : Type 0} where
 
       -- ---- limits
 
-      -- at most `most_silent` silent packets are above the last eliciting number
+      -- at most `most_silent` non-ack-eliciting packets are after the last ack-eliciting number
       pub silent_bound : length (silent_above last packets) ≤ most_silent
       silent_bound = omega (arith, silent_count-length last packets, counted.bound, counted.silent_is)
 
@@ -60,7 +60,8 @@ module _ {P M : Type 0} where
             grind (arith, nat_tests, is, view, none, counted.silent_is, silent_count-length last packets)
 
         module _ {inside packet : Packet P M} (view : inside ≡ packet) (is_silent : inside.ack_eliciting ≡ false) where
-          -- the least number above the last eliciting one is what is forgotten, once there are so many silent packets
+          -- the smallest number after the last ack-eliciting one is forgotten, once there are this many
+          -- non-ack-eliciting packets
           pub forgotten_is : most_silent ≤ silent → least_number (filter (λ entry. is_above last entry.0) packets)
               ≡ forgotten_number tracking.last_eliciting packet tracking.packets
           forgotten_is full = grind (

@@ -1,4 +1,4 @@
--- What one entry more says of the ACKs of a space. `SpaceLaws` and the driver's `RepliesAfterLaws` rest on it.
+-- How one more entry changes the ACKs of a space. `SpaceLaws` and the driver's `RepliesAfterLaws` rest on it.
 use Rattle.std.proofs.Common.{◌≡◌, ℕ, ◌⊎◌, ◌↔◌, Bool, nat_lt, IsTrue, Option, None, Some, List, ◌∷◌, arith}
 use Rattle.std.proofs.lemmas.Bool.Decides.{nat_tests}
 use Rattle.recovery_base.specs.declared.below.frames.AckFrequency.{AckFrequency}
@@ -29,7 +29,7 @@ armed_alike : {Case Started Starts Required Requires Here There : Type 0} → St
     → Here ↔ There → (Case × (¬ Started) × ¬ (Required ⊎ Here)) ↔ (Case × (¬ Starts) × ¬ (Requires ⊎ There))
 armed_alike since required same = grind (arith, since, required, same)
 
--- ---- by the numbers of the window or by all that came
+-- ---- by the numbers of the window or by all received
 
 module _ (Here There : ℕ → Type 0) (greatest : HasGreatest There) (alike : (n : ℕ) → Here n ↔ RecentNumbers There n)
     (number : ℕ) where

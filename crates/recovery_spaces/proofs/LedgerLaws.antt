@@ -14,7 +14,7 @@ use Rattle.recovery_spaces.specs.Spaces.{Space, Spaces, with_space, packets_of}
 use Rattle.recovery_spaces.proofs.CarryLaws.{sum-carrying}
 use Rattle.recovery_spaces.proofs.PacketLaws.{sum-without, without-absent}
 
--- what a packet that is forgotten takes from a sum
+-- what a packet that is forgotten subtracts from a sum
 abbrev pub gone : {P M : Type 0} → (ℕ × Packet P M → ℕ) → Option (ℕ × Packet P M) → ℕ
 gone f None = 0
 gone f (Some entry) = f entry
@@ -50,7 +50,7 @@ module _ {P M : Type 0} (path : PathLedger) where
     pub count : (counters_of after).ack_eliciting + sum_by eliciting old
         ≡ (counters_of path).ack_eliciting + sum_by eliciting new
 
-  -- a space that is emptied packet by packet: the first leaves the counters, and the rest is counted still
+  -- a space that is emptied packet by packet: the first leaves the counters, and the rest is still counted
   pub first_leaves : (entry : ℕ × Packet P M) (rest : Packets P M) → AreCounted (entry ∷ rest)
       → IsCountedOn path entry.1 × IsCountedIn (counters_of (after_leaving path entry.1)) (generation_of path) rest
       × Follows (entry ∷ rest) rest (after_leaving path entry.1)
@@ -68,7 +68,7 @@ module _ {P M : Type 0} (path : PathLedger) where
         )
 
     module _ (counted : AreCounted packets) where
-      -- a tracked packet leaves, whatever its contents: it is among those counted, where it is the path's
+      -- a tracked packet leaves, whatever its contents: if it is the path's, it is counted
       pub lost_follows : (number : ℕ) (contents : P) (packet : Packet P M)
           → option_map (with_contents contents) (packet_at packets number) ≡ Some packet
           → IsCountedOn path packet × Follows packets (without packets number) (after_leaving path packet)
@@ -90,7 +90,7 @@ module _ {P M : Type 0} (path : PathLedger) where
         abbrev forgotten : Option (ℕ × Packet P M)
         forgotten = entry_at packets (forgotten_number last packet packets)
 
-        -- a packet that is forgotten is among those counted, where it is the path's
+        -- a packet that is forgotten is counted, if it is the path's
         pub forgotten_counted : (entry : ℕ × Packet P M) → forgotten ≡ Some entry → IsCountedOn path entry.1
         forgotten_counted entry is = grind (
           arith,
@@ -143,7 +143,7 @@ module _ {P M : Type 0} (path : PathLedger) where
 -- ---- one space among three
 
 module _ {P M : Type 0} (spaces : Spaces P M) (path : PathLedger) (balanced : IsBalancedOn spaces path) where
-  -- the packets of a space are among those counted
+  -- the packets of a space are counted
   pub space_counted : (space : SpaceId) → AreCounted path (tracked_by spaces space)
   space_counted Initial = grind (arith, balanced)
   space_counted Handshake = grind (arith, balanced)

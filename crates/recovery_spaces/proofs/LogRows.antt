@@ -20,15 +20,15 @@ is_nil (n ∷ rest) = false
 abbrev words : QueueSemantics (List ℕ) (Unit {0})
 words = record { empty = []; joined = λ first last. first ++ last; is_empty = λ contents streams. is_nil contents }
 
--- an ack-eliciting packet of 500 bytes at 7, and a silent one of 40 bytes at 8, on the first path; 30 and 31 are
--- what else is said of them
+-- an ack-eliciting packet of 500 bytes at 7, and a non-ack-eliciting one of 40 bytes at 8, on the first path; 30 and 31
+-- are stored with them
 abbrev first : Packet (List ℕ) ℕ
 first = packet_sent 0 7 500 true None (1 ∷ 2 ∷ []) 30
 
 abbrev second : Packet (List ℕ) ℕ
 second = packet_sent 0 8 40 false (Some 3) [] 31
 
--- what a probe finds: what is pending, a packet, or nothing
+-- what a probe finds: the retransmission queue, a packet, or nothing
 abbrev pending_stands : ProbeFound
 pending_stands = record { moved = None; nothing = false }
 
@@ -53,7 +53,7 @@ sent_by-next = refl
 sent_by-last : (sent_by words both_sent).last ≡ Some 0
 sent_by-last = refl
 
--- a number that is skipped counts as given out
+-- a number that is skipped counts as assigned
 sent_by-skipped : (sent_by words (sends 4 first ∷ both_sent)).next ≡ 5
 sent_by-skipped = refl
 
@@ -80,7 +80,7 @@ probe_found-nothing = refl
 probe_found-pending : probe_found {M = ℕ} words tt (pending_by (loses 0 ∷ both_sent)) [] ≡ pending_stands
 probe_found-pending = refl
 
--- a PING is marked only where no ACK at once is asked for
+-- a PING is requested only if no immediate ACK is
 abbrev marks_by : List (SpaceEntry (List ℕ) ℕ) → Bool × Bool
 marks_by log = ((queued_by words log).ping, (queued_by words log).immediate)
 
@@ -97,7 +97,7 @@ probes_by-two = refl
 has_other-marked : has_other words tt (queued_by words (probes true (moves 0) ∷ both_sent)) ≡ true
 has_other-marked = refl
 
--- both are in flight, and one of them elicits an ACK
+-- both are in flight, and one of them is ack-eliciting
 in_data : List (SpaceEntry (List ℕ) ℕ) → SpaceId → Packets (List ℕ) ℕ
 in_data log Data = (sent_by words log).tracked
 in_data log other = []
@@ -110,7 +110,7 @@ in_flight-other_path : in_flight 1 (in_data both_sent) ≡ record { bytes = 0; a
 unfolding in_data
 in_flight-other_path = refl
 
--- the largest number that was acknowledged, with the moment when its packet was sent
+-- the largest acknowledged number, and when its packet was sent
 largest_acknowledged-none : largest_acknowledged words 5 both_sent ≡ (None, 5)
 largest_acknowledged-none = refl
 
@@ -121,7 +121,7 @@ largest_acknowledged-second = refl
 last_eliciting_sent-both : last_eliciting_sent both_sent ≡ Some 7
 last_eliciting_sent-both = refl
 
--- packets 4 and 9 came, then 9 again, and an ACK went out; then 6 came
+-- packets 4 and 9 were received, then 9 again, and an ACK was sent; then 6 was received
 abbrev came_in : List (SpaceEntry (List ℕ) ℕ)
 came_in = heard 3 6 false ∷ ack_goes ∷ heard_again 9 ∷ heard 2 9 true ∷ heard 1 4 true ∷ []
 

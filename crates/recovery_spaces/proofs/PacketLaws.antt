@@ -1,5 +1,5 @@
--- Tracked packets: what sums over them and look-ups among them do when one is sent or taken. All that is said of
--- tracked packets rests on it.
+-- Tracked packets: sums over them and look-ups among them when one is sent or removed. All laws of tracked packets rest
+-- on it.
 use Rattle.std.proofs.Common.{◌≡◌, ◌≢◌, ◌↔◌, ℕ, ◌+◌, ◌≤◌, Bool, true, [], ◌∷◌, ◌++◌, length, filter, Option, None, Some, refl, sym, arith}
 use Rattle.std.specs.Prelude.{sum_by}
 use Rattle.std.specs.Ordering.{nat_cmp}
@@ -66,7 +66,7 @@ module _ {P M : Type 0} where
 
   -- ---- sums
 
-  -- a packet that is taken leaves the sum
+  -- a packet that is removed leaves the sum
   pub sum-without : (f : ℕ × Packet P M → ℕ) (packets : Packets P M) (number : ℕ) (packet : Packet P M)
       → packet_at packets number ≡ Some packet
       → sum_by f (without packets number) + f (number, packet) ≡ sum_by f packets
@@ -74,7 +74,7 @@ module _ {P M : Type 0} where
   sum-without f (entry ∷ packets) number packet found =
       grind (arith, sum_by-cons f, number_at number entry.0, sum-without f packets number packet)
 
-  -- other contents of a packet leave a sum that does not look at them
+  -- other contents of a packet do not change a sum that does not depend on them
   pub sum-replaced : (f : ℕ × Packet P M → ℕ) (packets : Packets P M) (number : ℕ) (packet other : Packet P M)
       → packet_at packets number ≡ Some packet
       → ((n : ℕ) → f (n, other) ≡ f (n, packet)) → sum_by f (replaced number (Some other) packets) ≡ sum_by f packets
@@ -82,8 +82,8 @@ module _ {P M : Type 0} where
   sum-replaced f (entry ∷ packets) number packet other found alike =
       grind (arith, sum_by-cons f, alike entry.0, sum-replaced f packets number packet other)
 
-  -- the count of silent packets is their number, and where no packet above the last eliciting number elicits an ACK,
-  -- they are all that is above it
+  -- the count of non-ack-eliciting packets is their number, and if no packet after the last ack-eliciting number is
+  -- ack-eliciting, they are all that is after it
   pub silent_count-length : (last : Option ℕ) (packets : Packets P M)
       → (length (silent_above last packets) ≡ sum_by (silent_count last) packets)
       × (sum_by (eliciting_count last) packets ≡ 0
@@ -108,7 +108,7 @@ module _ {P M : Type 0} where
         sized_counted packets,
       )
 
-  -- those that elicit an ACK are counted, and where none is counted there is none
+  -- ack-eliciting packets are counted, and if none is counted there is none
   pub eliciting_counted : (packets : Packets P M) → (let eliciting = sum_by (λ entry. elicits_count entry.1) packets in
       (eliciting ≤ length packets) × ((eliciting ≢ 0) ↔ HasEliciting packets))
   eliciting_counted [] = (omega arith, (λ some. some refl, λ eliciting none. eliciting))
@@ -120,7 +120,7 @@ module _ {P M : Type 0} where
         eliciting_counted packets,
       )
 
-  -- ---- silent packets
+  -- ---- non-ack-eliciting packets
 
   -- the first number that passes a test is that of a packet
   pub first_found : (test : ℕ × Packet P M → Bool) (packets : Packets P M) (number : ℕ)
@@ -140,7 +140,7 @@ module _ {P M : Type 0} where
 
   -- ---- the number that is forgotten is that of a packet
 
-  -- the number that is handed back is the one that is forgotten
+  -- the number that is returned is the one that is forgotten
   pub entry_number_of : (last : Option ℕ) (packet : Packet P M) (packets : Packets P M)
       → entry_number (entry_at packets (forgotten_number last packet packets)) ≡ forgotten_number last packet packets
   entry_number_of last packet packets = grind (arith, first_found (is_silent_above last) packets)

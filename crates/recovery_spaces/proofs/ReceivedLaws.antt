@@ -1,4 +1,4 @@
--- The numbers that came in a space. `HeardLaws` rest on it, and the driver's steps, which leave them alone.
+-- The numbers received in a space. `HeardLaws` rest on it, and the driver's steps, which do not change them.
 use Rattle.std.proofs.Common.{◌≡◌, inl, Bool, false, IsTrue, List, [], ◌∷◌}
 use Rattle.recovery_base.proofs.WindowLaws.{HasGreatest, greatest_with}
 use Rattle.recovery_spaces.specs.Received.{ReceivedNumbers}
@@ -8,7 +8,7 @@ pub fails : (b : Bool) → b ≡ false → ¬ IsTrue b
 fails b is holds = cc
 
 module _ {P M : Type 0} where
-  -- the numbers that came have a greatest one
+  -- the numbers received have a largest one
   pub came_greatest : (log : List (SpaceEntry P M)) → HasGreatest (ReceivedNumbers log)
   came_greatest [] = inl (λ m here. here)
   came_greatest (heard now number ack_eliciting ∷ earlier) =

@@ -1,4 +1,4 @@
--- What is to be acknowledged in a space, one event at a time. `receive` rests on it, and the driver's `acked`.
+-- The pending ACKs of a space, one event at a time. `receive` rests on it, and the driver's `acked`.
 use Rattle.std.proofs.Common.{◌≡◌, ℕ, ◌<◌, ◌≤◌, ◌⊎◌, inl, inr, ◌↔◌, Bool, true, false, cond, IsTrue, IfSome, Option, None, Some, refl, sym, ap, ◌∙◌, arith}
 use Rattle.recovery_base.specs.Numbers.{RecentNumbers, InsertNumber, Exceeds}
 use Rattle.std.proofs.lemmas.Option.{none-some}
@@ -10,7 +10,7 @@ use Rattle.recovery_acks.proofs.AckLaws.{out_of_order_alike}
 use Rattle.recovery_spaces.specs.Packets.{Packet}
 use Rattle.recovery_spaces.specs.Spaces.{Space, acks_of, with_acks, after_acknowledging, heard_with, ArmsBy, HasGreatestCome, AddsReceivedNumber, ReceivesNew, SubtractsLargest}
 
--- ---- a timer that is started or goes on
+-- ---- a timer that is started or continues
 
 is_none : (base : Option ℕ) → (base ≡ None) ↔ (¬ ((m : ℕ) × (base ≡ Some m)))
 is_none None = (λ is set. none-some set.0 set.1, λ unset. refl)
@@ -21,12 +21,12 @@ starts : (arm : Bool) (now : ℕ) (before after : Option ℕ) (Armed : Type 0) �
     → (m : ℕ) → (after ≡ Some m) ↔ ((before ≡ Some m) ⊎ ((m ≡ now) × Armed))
 starts arm now before after Armed is arms free m = grind (arith, is, arms, free)
 
--- an ACK is required at once, by numbers that ask alike
+-- an ACK is required at once, by equivalent sets of numbers
 required_by : {Required Was Many New Old : Type 0} → Required ↔ (Was ⊎ (Many ⊎ New)) → New ↔ Old
     → Required ↔ (Was ⊎ (IsTrue true × (Many ⊎ Old)))
 required_by same order = grind (arith, same, order)
 
--- and starts the timer for a late ACK where none is
+-- and starts the ACK delay timer if none runs
 armed_by : {Arm Unset Set Can Required Was Asks : Type 0} → Arm ↔ (Unset × ¬ Can) → Unset ↔ (¬ Set)
     → (Can → Required) → (Required → Can) → Required ↔ (Was ⊎ (IsTrue true × Asks))
     → Arm ↔ (IsTrue true × (¬ Set) × ¬ (Was ⊎ Asks))
@@ -53,7 +53,7 @@ module _ (Old New : ℕ → Type 0) (number : ℕ) (greatest : HasGreatest Old)
         armed_by (rw (adds.others.1) at receives.armed) (is_none old.base) (λ (send : CanSend new). send.0)
         (λ required. (required, rw receives.ranges adds.some)) required_eliciting
 
-  -- what it does, and when it starts the timer for a late ACK
+  -- what it does, and when it starts the ACK delay timer
   pub hears : (ack_eliciting : Bool) → ReceivesPacket New added now number ack_eliciting arm new
       → AddsReceivedNumber Old old now number ack_eliciting new × (IsTrue arm ↔ Armed ack_eliciting)
   hears true receives = (
@@ -76,7 +76,7 @@ module _ (Old New : ℕ → Type 0) (number : ℕ) (greatest : HasGreatest Old)
     grind (arith, receives.0),
   )
 
--- the greatest ack-eliciting number was reached by the numbers before, and is by those after
+-- the largest ack-eliciting number was reached by the numbers before, and is by those after
 pub still_reached : (Old New : ℕ → Type 0) (number : ℕ) → HasGreatest Old → HasGreatest New
     → ((n : ℕ) → New n ↔ RecentNumbers (InsertNumber number Old) n) → (earlier now : Option ℕ) → now ≡ earlier
     → ((n : ℕ) → earlier ≡ Some n → ¬ Exceeds Old n) → IfSome now (IsAtLeastSome New)
@@ -84,7 +84,7 @@ still_reached Old New number greatest after numbers earlier None same within = t
 still_reached Old New number greatest after numbers earlier (Some n) same within =
     reached New after n (stays_reached Old New number greatest numbers n (within n (sym same)))
 
--- the greatest ack-eliciting number was received, also when one more came
+-- the largest ack-eliciting number was received, also after one more
 pub heard_greatest : {P M : Type 0} → (old new : Space P M) (now number : ℕ) (ack_eliciting : Bool)
     → HasGreatestCome old → ReceivesNew old now number ack_eliciting new → HasGreatestCome new
 heard_greatest old new now number ack_eliciting come step n is exceeds =
@@ -101,7 +101,7 @@ heard_greatest old new now number ack_eliciting come step n is exceeds =
         (has_greatest old.dedup) step.numbers k
         (come k was) (rw same exceeds)
 
-    -- the number itself is reached: so is what it came after, or all exceed it
+    -- n is not the number itself
     here : HasGreatest (InsertNumber number (HasReceived old.dedup)) → number ≡ n → ⊥
     here (inl none) same = none number (inl refl)
     here (inr g) same =
@@ -109,7 +109,7 @@ heard_greatest old new now number ack_eliciting come step n is exceeds =
         let lt : g.0 < n = exceeds g.0 ((step.numbers g.0).1 (g.1, λ k there. omega (arith, g.2 k there))) in
         omega (arith, same)
 
--- what is acknowledged leaves the greatest ack-eliciting number
+-- what is acknowledged does not change the largest ack-eliciting number
 pub acked_greatest : {P M : Type 0} → (number : ℕ) (packet : Packet P M) (old new : Space P M) → HasGreatestCome old
     → SubtractsLargest packet.largest_acked (acks_of old) (acks_of new)
     → new ≡ with_acks (acks_of new) (after_acknowledging number packet.time_sent old) → HasGreatestCome new

@@ -62,7 +62,7 @@ module _ {P M S : Type 0} (words : QueueSemantics P S) where
         asked_law words log (acks_of old) left.acks,
       )
 
-  -- a space in which nothing happened yet
+  -- a space in which nothing happened
   pub fresh_space : (start : ℕ) (fresh : Space P M) → IsMade words start fresh → SpaceAfter words start [] fresh
   unfolding InRanges
   fresh_space start fresh made = record {
@@ -83,14 +83,14 @@ module _ {P M S : Type 0} (words : QueueSemantics P S) where
     sent = grind (arith, made.packets, made.next);
   }
 
--- what holds of three spaces holds of each
+-- what holds for three spaces holds for each
 pub of_each : {P M : Type 0} (Holds : Space P M → Type 0) (spaces : Spaces P M) → Holds spaces.initial
     → Holds spaces.handshake → Holds spaces.«data» → (space : SpaceId) → Holds (space_of space spaces)
 of_each {P} {M} Holds spaces initial handshake other Initial = initial
 of_each {P} {M} Holds spaces initial handshake other Handshake = handshake
 of_each {P} {M} Holds spaces initial handshake other Data = other
 
--- and where one changes, it holds of each still
+-- and if one changes, it still holds for each
 pub each_with : {P M : Type 0} (Holds : Space P M → Type 0) (spaces : Spaces P M) (space : SpaceId) (here : Space P M)
     → ((other : SpaceId) → Holds (space_of other spaces)) → Holds here
     → (other : SpaceId) → Holds (space_of other (with_space spaces space here))

@@ -1,4 +1,4 @@
--- Tracked packets in their slots: what is kept of them when one is sent, taken or forgotten. The calls of `SentPackets`
+-- Tracked packets in their slots: what is preserved when one is sent, removed or forgotten. The calls of `SentPackets`
 -- rest on it.
 use Rattle.std.proofs.lemmas.Bool.Decides.{nat_tests}
 use Rattle.std.proofs.Common.{◌≡◌, Bool, MatchOption, ℕ, ◌+◌, ◌-◌, ◌^◌, ◌<◌, ◌≤◌, min, max, true, false, [], ◌∷◌, ◌++◌, length, filter, Option, None, Some, refl, arith, length-append, IfSome}
@@ -14,12 +14,12 @@ use Rattle.recovery_spaces.proofs.PacketLaws.{AllBelow-push, sum-without, sum-re
 use Rattle.std.proofs.lemmas.List.Sums.{sum_by_push}
 use Rattle.recovery_spaces.proofs.CountLaws.{none_above, counted_taken}
 
--- from which number on those above another are looked for
+-- from which number on those above another are sought
 abbrev from_on : Option ℕ → ℕ → ℕ
 from_on None from = from
 from_on (Some last) from = max (last + 1) from
 
--- ---- the least number above another
+-- ---- the smallest number above another
 
 module _ {P M : Type 0} (last : Option ℕ) (from : ℕ) where
   abbrev later : Packets P M → Packets P M
@@ -36,16 +36,16 @@ module _ {P M : Type 0} (last : Option ℕ) (from : ℕ) where
   least_above None packets above lowest = tt
   least_above (Some least) packets above lowest = (first_above least packets above).1 lowest
 
--- no number is above the greatest there is
+-- no number is above the largest one
 pub all_above : {P M : Type 0} (last : ℕ) → (last + 1 < 2 ^ 64 → ⊥) → (packets : Packets P M)
     → AllBelow packets (2 ^ 64) → None ≡ least_number (filter (λ entry. is_above (Some last) entry.0) packets)
 all_above last high [] below = refl
 all_above last high (entry ∷ packets) below = grind (arith, nat_tests, high, all_above last high packets)
 
--- ---- a packet is taken, sent, or left with other contents
+-- ---- a packet is removed, sent, or gets other contents
 
 module _ {P M S : Type 0} (words : QueueSemantics P S) (last : Option ℕ) (from filled : ℕ) where
-  -- what each packet keeps
+  -- the invariant of each packet
   abbrev AreKept : Packets P M → ℕ → Type 0
   AreKept packets limit = AreAboveFrom last from packets × AreVoidBelow words filled packets × AllBelow packets limit
 
@@ -82,7 +82,7 @@ module _ {P M S : Type 0} {words : QueueSemantics P S} {slots : Slots (Packet P 
   kept_all : AreKept words last from filled old (2 ^ 64)
   kept_all = (tracked.found, tracked.void, all_below old (2 ^ 64) tracked.small)
 
-  -- what is tracked once each packet is kept
+  -- what is tracked once each packet satisfies the invariant
   tracked_by : {new : Slots (Packet P M)} {next : Option ℕ} {fewer less some lower empty : ℕ} {packets : Packets P M}
       → entries_in new ≡ packets → AreCounted packets next fewer less some → IsClosedUp new
       → AreKept words next lower empty packets (2 ^ 64) → AreTracked words new next fewer less some lower empty
@@ -117,7 +117,7 @@ module _ {P M S : Type 0} {words : QueueSemantics P S} {slots : Slots (Packet P 
     kept_below = (tracked.found, tracked.void, all_below old number below)
 
     module _ (one : length new ≤ length slots + 1) where
-      -- a slot more for a packet more
+      -- one more slot for one more packet
       closed_pushed : IsClosedUp new
       closed_pushed = grind (arith, is, one, length-append old ((number, packet) ∷ []), tracked.closed)
 
@@ -145,7 +145,7 @@ module _ {P M S : Type 0} {words : QueueSemantics P S} {slots : Slots (Packet P 
           (kept_pushed words last from filled number packet old last (min from number) fits
           (λ n le low up. grind arith) kept_below)
 
-    -- one more silent packet, for one that is forgotten
+    -- one more non-ack-eliciting packet, for one that is forgotten
     pub tracked_forgetting : {left : Slots (Packet P M)} (least : ℕ) (gone : Packet P M)
         {inside : Packet P M} → inside ≡ packet → inside.ack_eliciting ≡ false → IsAboveLast last number
         → packet_at old least ≡ Some gone → is_above last least ≡ true
@@ -168,7 +168,7 @@ module _ {P M S : Type 0} {words : QueueSemantics P S} {slots : Slots (Packet P 
         (λ n le low over. grind (arith, below least gone found))
         (kept_without words last least filled old number least (lowest, kept_below.1, kept_below.2)))
 
-  -- ---- where they stand
+  -- ---- their positions
 
   pub has_slots : HasSlots old (length slots)
   has_slots = record { enough = entries_fit slots; bound = tracked.closed }
@@ -197,8 +197,8 @@ module _ {P M S : Type 0} {words : QueueSemantics P S} {slots : Slots (Packet P 
 -- ---- the search for a packet with contents
 
 module _ {P M S : Type 0} (words : QueueSemantics P S) where
-  -- what is known of all packets hangs on the rest: those before it have nothing to be sent, and no contents where that
-  -- is said
+  -- the properties of all packets depend on the rest: those before it have nothing to send, and no contents if that is
+  -- stated
   pub record Passes (streams : S) (from : ℕ) (all rest : Packets P M) (AreVoid : Type 0) : Type 0 where
     pub left : first_filled words streams rest ≡ first_filled words streams all
     pub below : AreVoidBelow words from all
@@ -218,11 +218,11 @@ module _ {P M S : Type 0} (words : QueueSemantics P S) where
 
   module _ {streams : S} {from : ℕ} {all rest : Packets P M} {AreVoid : Type 0}
       (old : Passes streams from all rest AreVoid) where
-    -- where those before it have no contents, nothing below the first of the rest has
+    -- if those before it have no contents, nothing below the first of the rest has
     pub void_here : (number : ℕ) → rest ≡ filter (is_from number) all → AreVoid → AreVoidBelow words number all
     void_here number is void = old.before void number (rw is (none_below number all))
 
-    -- the first of the rest has something to be sent, or is passed over
+    -- the first of the rest has something to send, or is passed over
     pub passes_next : {number : ℕ} {inside packet : Packet P M} {later : Packets P M} (empty : Bool)
         → rest ≡ (number, packet) ∷ later → inside ≡ packet → empty ≡ words.is_empty inside.retransmits streams
         → (empty ≡ false → Some number ≡ first_filled words streams all)
@@ -239,7 +239,7 @@ module _ {P M S : Type 0} (words : QueueSemantics P S) where
 
 -- ---- a packet's contents are exchanged
 
--- what is left once a packet was taken out of its slot and put back with other contents
+-- what is left after a packet was removed from its slot and put back with other contents
 pub record Exchanges {P M : Type 0} (slots : Slots (Packet P M)) (number : ℕ) (packet : Packet P M)
     (contents : P) (new : Slots (Packet P M)) : Type 0 where
   pub found : packet_at (entries_in slots) number ≡ Some packet

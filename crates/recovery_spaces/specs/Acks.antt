@@ -1,5 +1,5 @@
--- What is to be acknowledged and when, by what happened in a space (RFC 9000, 13.2 and 19.3; the
--- QUIC ACK frequency extension, draft-ietf-quic-ack-frequency-04).
+-- The pending ACKs of a space and when they are due, by its log (RFC 9000, 13.2 and 19.3;
+-- draft-ietf-quic-ack-frequency-04).
 use Rattle.std.specs.Prelude.{ℕ, ◌≡◌, ◌<◌, ◌⊎◌, List, [], ◌∷◌, Bool, IsTrue}
 use Rattle.recovery_base.specs.Numbers.{InsertNumber}
 use Rattle.recovery_acks.specs.Acks.{AckCounts, RequiresImmediateAck, fresh, counts_acked, counts_inserted, counts_received, most_ranges}
@@ -13,7 +13,7 @@ use Rattle.recovery_spaces.specs.Tracked.{sent_by}
 -- ---- the ACK set
 
 module _ {P M S : Type 0} (words : QueueSemantics P S) where
-  -- the numbers that were new and not subtracted, cut after each to the highest runs, `most_ranges` of them
+  -- the new numbers that were not subtracted, reduced after each to the highest runs, `most_ranges` of them
   abbrev pub ToAcknowledge : List (SpaceEntry P M) → ℕ → Type 0
   ToAcknowledge [] n = ⊥
   ToAcknowledge (heard now m eliciting ∷ earlier) n = IsInHighest most_ranges (InsertNumber m (ToAcknowledge earlier)) n
@@ -22,10 +22,10 @@ module _ {P M S : Type 0} (words : QueueSemantics P S) where
       × IsTrue (is_above (largest_acked_by (packet_at (sent_by words earlier).tracked number)) n)
   ToAcknowledge (entry ∷ earlier) n = ToAcknowledge earlier n
 
--- ---- an ACK at once, or a timer
+-- ---- an immediate ACK, or a timer
 
 module _ {P M : Type 0} where
-  -- what decides of the next ACK
+  -- the counts that decide about the next ACK
   abbrev pub counts_by : List (SpaceEntry P M) → AckCounts
   counts_by [] = fresh
   counts_by (heard now number eliciting ∷ earlier) =
@@ -45,14 +45,14 @@ module _ {P M : Type 0} where
   IsRequired (ack_is_late ∷ earlier) = 0 < (counts_by earlier).eliciting
   IsRequired (entry ∷ earlier) = IsRequired earlier
 
--- the timer for a late ACK starts at a new ack-eliciting packet, where it was not started since the
--- last ACK and no ACK is required at once; these numbers came before it
+-- the ACK delay timer starts at a new ack-eliciting packet, if it was not started since the last ACK and no ACK is
+-- required at once. The arguments are the state before the packet
 abbrev pub ArmsAckTimer : (ℕ → Type 0) → Type 0 → (ℕ → Type 0) → AckCounts → ℕ → Bool → Type 0
 ArmsAckTimer Came Required Started counts number eliciting =
     IsTrue eliciting × (¬ ((m : ℕ) × Started m)) × ¬ (Required ⊎ RequiresImmediateAck
     (InsertNumber number Came) counts number)
 
--- the moment when the timer for a late ACK was started since the last ACK
+-- the time when the ACK delay timer was started since the last ACK
 abbrev pub StartedAt : {P M : Type 0} → List (SpaceEntry P M) → ℕ → Type 0
 StartedAt [] moment = ⊥
 StartedAt (heard now number eliciting ∷ earlier) moment =
@@ -62,10 +62,10 @@ StartedAt (heard now number eliciting ∷ earlier) moment =
 StartedAt (ack_goes ∷ earlier) moment = ⊥
 StartedAt (entry ∷ earlier) moment = StartedAt earlier moment
 
--- ---- all that is no value
+-- ---- the sets and propositions
 
--- of a space: the numbers that came, whether an ACK is required at once, the numbers to be acknowledged, and the moment
--- when the timer for a late ACK was started since the last ACK
+-- of a space: the numbers received, whether an ACK is required at once, the pending ACKs, and the time when the ACK
+-- delay timer was started since the last ACK
 pub record AckState : Type 1 where
   pub came : ℕ → Type 0
   pub required : Type 0

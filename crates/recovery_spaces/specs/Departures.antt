@@ -1,4 +1,4 @@
--- How often a number stands among others: 1 for each that is it.
+-- How often a number occurs among others.
 use Rattle.std.specs.Prelude.{ℕ, ◌==◌, if◌then◌else◌}
 
 abbrev pub one_if_same : ℕ → ℕ → ℕ

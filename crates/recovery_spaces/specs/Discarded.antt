@@ -10,7 +10,7 @@ is_discarded Initial discarded = discarded.initial
 is_discarded Handshake discarded = discarded.handshake
 is_discarded Data discarded = discarded.«data»
 
--- a space is discarded, and the others stay
+-- a space is discarded, and the others are unchanged
 abbrev pub DiscardedStep : SpaceId → DiscardedSpaces → DiscardedSpaces → Type 0
 DiscardedStep space old new =
     (other : SpaceId) → is_discarded other new ≡ (same_space space other || is_discarded other old)

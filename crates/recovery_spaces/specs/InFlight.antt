@@ -16,14 +16,14 @@ eliciting_in generation entry = if entry.1.path_generation == generation && entr
 abbrev pub over_spaces : (SpaceId → ℕ) → ℕ
 over_spaces count = count Initial + count Handshake + count Data
 
--- the sum of sizes, and the count of packets that elicit an ACK
+-- the sum of sizes, and the count of ack-eliciting packets
 abbrev pub in_flight : {P M : Type 0} → ℕ → (SpaceId → Packets P M) → InFlight
 in_flight generation tracked = record {
   bytes = over_spaces (λ space. sum_by (size_in generation) (tracked space));
   ack_eliciting = over_spaces (λ space. sum_by (eliciting_in generation) (tracked space));
 }
 
--- ---- one packet in or out
+-- ---- one packet more or less
 
 abbrev pub eliciting_one : {P M : Type 0} → Packet P M → ℕ
 eliciting_one packet = if packet.ack_eliciting then 1 else 0
@@ -40,18 +40,18 @@ without_packet counters packet = record {
   ack_eliciting = counters.ack_eliciting - eliciting_one packet;
 }
 
--- the packet is among those counted
+-- the packet is counted
 abbrev pub IsCounted : {P M : Type 0} → InFlight → Packet P M → Type 0
 IsCounted counters packet =
     (packet.size ≤ counters.bytes) × (eliciting_one packet ≤ counters.ack_eliciting)
 
--- all packets of a space are among those counted
+-- all packets of a space are counted
 abbrev pub IsCountedIn : {P M : Type 0} → InFlight → ℕ → Packets P M → Type 0
 IsCountedIn counters generation packets =
     (sum_by (size_in generation) packets ≤ counters.bytes)
     × (sum_by (eliciting_in generation) packets ≤ counters.ack_eliciting)
 
--- a counter would pass the end of its type
+-- a counter would exceed its type
 abbrev pub Overflows : {P M : Type 0} → InFlight → Packet P M → Type 0
 Overflows counters packet = (u64_limit ≤ counters.bytes + packet.size)
     ⊎ (u64_limit ≤ counters.ack_eliciting + (if packet.ack_eliciting then 1 else 0))

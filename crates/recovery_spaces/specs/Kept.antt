@@ -1,5 +1,4 @@
--- What a space keeps of the packets that it sent, for loss recovery and probes (RFC 9002, A.3 and
--- 6.2.4).
+-- What a space stores about sent packets for loss recovery and probes (RFC 9002, A.3 and 6.2.4).
 use Rattle.std.specs.Prelude.{ℕ, ◌+◌, ◌-◌, min, List, [], ◌∷◌, Option, None, Some, if◌then◌else◌}
 use Rattle.std.specs.Option.{option_map_or}
 use Rattle.recovery_base.specs.Units.{largest_u32}
@@ -15,7 +14,7 @@ last_eliciting_sent (sends number packet ∷ earlier) =
     if packet.ack_eliciting then Some packet.time_sent else last_eliciting_sent earlier
 last_eliciting_sent (entry ∷ earlier) = last_eliciting_sent earlier
 
--- one probe more, as far as they are counted
+-- one more probe, up to the counter's maximum
 abbrev pub one_more : ℕ → ℕ
 one_more count = min (count + 1) largest_u32
 
@@ -27,8 +26,7 @@ probes_by (probes immediate found ∷ earlier) = one_more (probes_by earlier)
 probes_by (entry ∷ earlier) = probes_by earlier
 
 module _ {P M S : Type 0} (words : QueueSemantics P S) where
-  -- the largest number that was acknowledged, and when its packet was sent; before the first none, and the moment when
-  -- the space was made
+  -- the largest acknowledged number, and when its packet was sent; at first none, and the time when the space was made
   abbrev pub largest_acknowledged : ℕ → List (SpaceEntry P M) → Option ℕ × ℕ
   largest_acknowledged start [] = (None, start)
   largest_acknowledged start (acknowledged number ∷ earlier) = let old = largest_acknowledged start earlier in

@@ -1,4 +1,4 @@
--- What ties the ledgers of the paths (RFC 9002, B.2) to what the spaces track (RFC 9002, A.1).
+-- How the counters of the paths (RFC 9002, B.2) follow from the tracked packets (RFC 9002, A.1).
 use Rattle.std.specs.Prelude.{◌≡◌, ◌≤◌, ℕ}
 use Rattle.recovery_base.specs.declared.below.SpaceId.{SpaceId}
 use Rattle.recovery_spaces.specs.InFlight.{in_flight}
@@ -13,7 +13,7 @@ tracked_by spaces space = packets_of (space_of space spaces)
 abbrev pub IsBalancedOn : {P M : Type 0} → Spaces P M → PathLedger → Type 0
 IsBalancedOn spaces path = counters_of path ≡ in_flight (generation_of path) (tracked_by spaces)
 
--- the parts of each space go together
+-- the parts of each space are consistent
 abbrev pub AreCoherent : {P M : Type 0} → Spaces P M → Type 0
 AreCoherent spaces = (space : SpaceId) → IsCoherent (space_of space spaces)
 
@@ -22,6 +22,6 @@ abbrev pub IsUpTo : {P M : Type 0} → ℕ → Packets P M → Type 0
 IsUpTo {P} {M} generation packets =
     (packet : Packet P M) → IsAmong packets packet → packet.path_generation ≤ generation
 
--- no tracked packet is
+-- no tracked packet is of a generation above this one
 abbrev pub AreUpTo : {P M : Type 0} → ℕ → Spaces P M → Type 0
 AreUpTo generation spaces = (space : SpaceId) → IsUpTo generation (tracked_by spaces space)

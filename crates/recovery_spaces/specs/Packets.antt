@@ -7,20 +7,20 @@ use Rattle.std.specs.Map.{lookup, remove_entry, set_value}
 use Rattle.recovery_base.specs.Units.{number_limit}
 use Rattle.recovery_queue.specs.Slots.{first_entry, is_from}
 
--- a packet as contracts see it; the contents P are what its queue holds (RFC 9000, 13.3), and M is what else an
--- application keeps of it
+-- the value of a packet in contracts; P are the contents of its queue (RFC 9000, 13.3), and M is what the caller stores
+-- about it
 pub record Packet (P M : Type 0) : Type 0 where
   -- the path's generation
   pub path_generation : ℕ
-  -- the moment when it was sent
+  -- when it was sent
   pub time_sent : ℕ
   pub size : ℕ
   pub ack_eliciting : Bool
-  -- the largest number that it acknowledges
+  -- the largest number in its ACK frame
   pub largest_acked : Option ℕ
-  -- what is sent again when it is lost
+  -- what is retransmitted if it is lost
   pub retransmits : P
-  -- what else an application keeps of it
+  -- what the caller stores about it
   pub stream_frames : M
 
 abbrev pub Packets : (P M : Type 0) → Type 0
@@ -30,7 +30,7 @@ Packets P M = List (ℕ × Packet P M)
 abbrev pub packet_at : {P M : Type 0} → Packets P M → ℕ → Option (Packet P M)
 packet_at packets number = lookup (is_at (nat_cmp number)) packets
 
--- the packets but the one of a number
+-- the packets except the one of a number
 abbrev pub without : {P M : Type 0} → Packets P M → ℕ → Packets P M
 without packets number = remove_entry (is_at (nat_cmp number)) packets
 
@@ -41,12 +41,12 @@ with_contents contents packet = record packet { retransmits = contents }
 abbrev pub replaced : {P M : Type 0} → ℕ → Option (Packet P M) → Packets P M → Packets P M
 replaced number packet packets = option_map_or (set_value (is_at (nat_cmp number)) packets) packet packets
 
--- the packets, where that of a number, if there is one, has other contents
+-- the packets, with other contents in that of a number, if there is one
 abbrev pub carrying : {P M : Type 0} → ℕ → P → Packets P M → Packets P M
 carrying number contents packets =
     replaced number (option_map (with_contents contents) (packet_at packets number)) packets
 
--- what a packet carries, where there is one
+-- the contents of a packet, if there is one
 abbrev pub contents_or : {P M : Type 0} → P → Option (Packet P M) → P
 contents_or other packet = option_map_or (λ there. there.retransmits) packet other
 
@@ -55,7 +55,7 @@ abbrev pub AreBelow : {P M : Type 0} → Packets P M → ℕ → Type 0
 AreBelow {P} {M} packets limit =
     (number : ℕ) (packet : Packet P M) → packet_at packets number ≡ Some packet → number < limit
 
--- a number above another, where there is one
+-- a number above another, if there is one
 abbrev pub IsAboveLast : Option ℕ → ℕ → Type 0
 IsAboveLast last number = (m : ℕ) → last ≡ Some m → m < number
 
@@ -64,7 +64,7 @@ abbrev pub HasSize : {P M : Type 0} → Packets P M → Type 0
 HasSize [] = ⊥
 HasSize (entry ∷ packets) = (entry.1.size ≢ 0) ⊎ HasSize packets
 
--- some packet elicits an ACK
+-- some packet is ack-eliciting
 abbrev pub HasEliciting : {P M : Type 0} → Packets P M → Type 0
 HasEliciting [] = ⊥
 HasEliciting (entry ∷ packets) = IsTrue entry.1.ack_eliciting ⊎ HasEliciting packets
@@ -73,13 +73,13 @@ HasEliciting (entry ∷ packets) = IsTrue entry.1.ack_eliciting ⊎ HasEliciting
 abbrev pub first_from : {P M : Type 0} → ℕ → Packets P M → Option (ℕ × Packet P M)
 first_from number packets = first_entry (filter (is_from number) packets)
 
--- ---- silent packets
+-- ---- non-ack-eliciting packets
 
--- above a number, where there is one
+-- above a number, if there is one
 abbrev pub is_above : Option ℕ → ℕ → Bool
 is_above last number = option_map_or (λ other. nat_lt other number) last true
 
--- a packet that elicits no ACK, above the last number that elicited one
+-- a non-ack-eliciting packet after the last ack-eliciting number
 abbrev pub is_silent_above : {P M : Type 0} → Option ℕ → ℕ × Packet P M → Bool
 is_silent_above last entry = is_above last entry.0 && not entry.1.ack_eliciting
 
@@ -90,11 +90,11 @@ abbrev pub least_number : {P M : Type 0} → Packets P M → Option ℕ
 least_number [] = None
 least_number (entry ∷ packets) = Some entry.0
 
--- the most silent packets above the last ack-eliciting one that are tracked: quinn-proto keeps 1000 beside the newest
+-- the most non-ack-eliciting packets tracked after the last ack-eliciting one: quinn-proto stores 1000 and the newest
 abbrev pub most_silent : ℕ
 most_silent = 1001
 
--- the number that is forgotten when a packet is sent: where that is silent, the least of so many silent ones
+-- the number that is forgotten when a packet is sent: for a non-ack-eliciting one, the smallest of that many
 abbrev pub forgotten_number : {P M : Type 0} → Option ℕ → Packet P M → Packets P M → Option ℕ
 forgotten_number last packet packets = let silent = silent_above last packets in
     if not packet.ack_eliciting && nat_le most_silent (length silent) then least_number silent else None
@@ -102,7 +102,7 @@ forgotten_number last packet packets = let silent = silent_above last packets in
 abbrev pub without_some : {P M : Type 0} → Packets P M → Option ℕ → Packets P M
 without_some packets number = option_map_or (without packets) number packets
 
--- the packets when one more was sent
+-- the packets after one more was sent
 abbrev pub sent_onto : {P M : Type 0} → Option ℕ → ℕ → Packet P M → Packets P M → Packets P M
 sent_onto last number packet packets =
     without_some packets (forgotten_number last packet packets) ++ (number, packet) ∷ []
@@ -117,11 +117,11 @@ entry_at packets = option_and_then (λ number. numbered number (packet_at packet
 abbrev pub entry_number : {P M : Type 0} → Option (ℕ × Packet P M) → Option ℕ
 entry_number = option_map (λ entry. entry.0)
 
--- a number that is none of a packet (RFC 9000, 12.3)
+-- a number of 2^62 or more, which no packet has (RFC 9000, 12.3)
 abbrev pub IsTooLarge : Option ℕ → Type 0
 IsTooLarge number = IsSomeAnd number (λ n. number_limit ≤ n)
 
--- the largest number that a packet acknowledges, where it is tracked and acknowledges one
+-- the largest number in the ACK frame of a packet, if it is tracked and has one
 abbrev pub largest_acked_by : {P M : Type 0} → Option (Packet P M) → Option ℕ
 largest_acked_by = option_and_then (λ packet. packet.largest_acked)
 
@@ -130,7 +130,7 @@ abbrev pub IsAmong : {P M : Type 0} → Packets P M → Packet P M → Type 0
 IsAmong [] packet = ⊥
 IsAmong (entry ∷ packets) packet = (entry.1 ≡ packet) ⊎ IsAmong packets packet
 
--- what the packets acknowledge are numbers of packets
+-- the packets acknowledge numbers below 2^62
 abbrev pub AreAcknowledging : {P M : Type 0} → Packets P M → Type 0
 AreAcknowledging {P} {M} packets =
     (packet : Packet P M) → IsAmong packets packet → ¬ IsTooLarge packet.largest_acked
@@ -139,13 +139,13 @@ AreAcknowledging {P} {M} packets =
 
 pub record Tracking (P M : Type 0) : Type 0 where
   pub packets : Packets P M
-  -- the number of the last packet sent that elicits an ACK
+  -- the number of the last ack-eliciting packet sent
   pub last_eliciting : Option ℕ
 
 abbrev pub no_packets : {P M : Type 0} → Tracking P M
 no_packets = record { packets = []; last_eliciting = None }
 
--- the silent packets above the last ack-eliciting one
+-- the non-ack-eliciting packets after the last ack-eliciting one
 abbrev pub silent_in : {P M : Type 0} → Tracking P M → Packets P M
 silent_in tracking = silent_above tracking.last_eliciting tracking.packets
 

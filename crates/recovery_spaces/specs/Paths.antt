@@ -1,4 +1,4 @@
--- The ledger of a path: its generation, and what it has in flight (RFC 9002, B.2).
+-- The ledger of a path: its generation, and its counters of what is in flight (RFC 9002, B.2).
 use Rattle.std.specs.Prelude.{ℕ, ◌≡◌, ◌==◌, Option, if◌then◌else◌}
 use Rattle.std.specs.Option.{ForSome, option_map_or}
 use Rattle.recovery_spaces.specs.declared.paths.InFlight.{InFlight}
@@ -6,7 +6,7 @@ use Rattle.recovery_spaces.specs.InFlight.{with_packet, without_packet, IsCounte
 use Rattle.recovery_spaces.specs.Packets.{Packet, AreBelow, IsAboveLast, forgotten_entry}
 use Rattle.recovery_spaces.specs.Spaces.{Space, tracking_of}
 
--- its counters with its generation, as contracts see them
+-- the value in contracts of its counters with its generation
 pub record PathLedger : Type 0 where
   pub generation : ℕ
   pub in_flight : InFlight
@@ -41,20 +41,20 @@ abbrev pub after_forgetting : {P M : Type 0} → PathLedger → Option (ℕ × P
 after_forgetting path forgotten =
     with_counters (option_map_or (λ entry. counters_left path entry.1) forgotten (counters_of path)) path
 
--- the path when a packet was sent on it, and perhaps another forgotten
+-- the path after a packet was sent on it, and perhaps another forgotten
 abbrev pub path_after_sending : {P M : Type 0}
     → PathLedger → Packet P M → Option (ℕ × Packet P M) → PathLedger
 path_after_sending path packet forgotten =
     after_forgetting (with_counters (with_packet (counters_of path) packet) path) forgotten
 
--- ---- what is asked of callers
+-- ---- what callers must guarantee
 
--- where the packet is the path's, it is among those counted
+-- a packet of the path is counted
 abbrev pub IsCountedOn : {P M : Type 0} → PathLedger → Packet P M → Type 0
 IsCountedOn path packet = packet.path_generation ≡ generation_of path → IsCounted (counters_of path) packet
 
--- a packet of the path may be tracked in a space under a number: it is above all numbers of the
--- space, and a packet of the path that is forgotten for it is among those counted
+-- a packet of the path may be tracked in a space under a number above all of the space, if a packet of the path that is
+-- forgotten for it is counted
 pub record CanTrack {P M : Type 0} (path : PathLedger) (number : ℕ) (packet : Packet P M)
     (space : Space P M) : Type 0 where
   pub above : AreBelow (tracking_of space).packets number

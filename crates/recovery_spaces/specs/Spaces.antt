@@ -25,7 +25,7 @@ use Rattle.recovery_spaces.specs.Tracked.{SentState, sent_by}
 use Rattle.recovery_spaces.specs.Received.{ReceivedNumbers}
 use Rattle.recovery_spaces.specs.Packets.{Packet, Packets, Tracking, packet_at, AreBelow, IsAboveLast, AreAcknowledging, after_sending, after_taking, after_carrying, is_above, no_packets}
 
--- a space as contracts see it; the contents P are what its queues hold
+-- the value of a space in contracts; P are the contents of its queues
 pub record Space (P M : Type 0) : Type 0 where
   pub dedup : Dedup
   pub pending_acks : Acks
@@ -37,7 +37,7 @@ pub record Space (P M : Type 0) : Type 0 where
   pub sent_with_keys : ℕ
   pub next_packet_number : ℕ
   pub sent_packets : Tracking P M
-  -- what is to be sent again
+  -- the retransmission queue
   pub pending : P
   pub ping_pending : Bool
   pub immediate_ack_pending : Bool
@@ -72,12 +72,12 @@ with_tracking tracking space = record space { sent_packets = tracking }
 abbrev pub packets_of : {P M : Type 0} → Space P M → Packets P M
 packets_of space = space.sent_packets.packets
 
--- what is known of the packets sent
+-- the state of the packets sent
 abbrev pub sent_of : {P M : Type 0} → Space P M → SentState P M
 sent_of space = let packets = space.sent_packets in
     record { next = space.next_packet_number; last = packets.last_eliciting; tracked = packets.packets }
 
--- what is to be sent again, and what probes ask for
+-- the retransmission queue, and what probes ask for
 abbrev pub queued_of : {P M : Type 0} → Space P M → QueuedState P
 queued_of space = record {
   pending = space.pending;
@@ -95,34 +95,34 @@ with_acks acks space = record space { pending_acks = acks }
 abbrev pub next_number_of : {P M : Type 0} → Space P M → ℕ
 next_number_of space = space.next_packet_number
 
--- the greatest ack-eliciting number was received
+-- the largest ack-eliciting number was received
 abbrev pub HasGreatestCome : {P M : Type 0} → Space P M → Type 0
 HasGreatestCome space =
     (number : ℕ) → (acks_of space).counts.greatest ≡ Some number → ¬ Exceeds (HasReceived space.dedup) number
 
--- all that was sent has a number below the next one, and acknowledges numbers of packets; what asks
--- for an ACK was received
+-- all packets sent have numbers below the next one, and acknowledge numbers below 2^62; the largest ack-eliciting
+-- number was received
 pub record IsCoherent {P M : Type 0} (space : Space P M) : Type 0 where
   pub packets : AreBelow (packets_of space) (next_number_of space)
   pub last : IsAboveLast (tracking_of space).last_eliciting (next_number_of space)
   pub acknowledging : AreAcknowledging (packets_of space)
   pub received : HasGreatestCome space
 
--- a number is given out, and those from the next one up to it are skipped
+-- a number is assigned, and those from the next one up to it are skipped
 abbrev pub after_number : {P M : Type 0} → ℕ → Space P M → Space P M
 after_number number space = record space {
   next_packet_number = number + 1;
   sent_with_keys = min (space.sent_with_keys + (number + 1 - space.next_packet_number)) largest_u64;
 }
 
--- a packet that elicits an ACK was sent at this moment
+-- an ack-eliciting packet was sent at this time, or another one
 abbrev pub after_eliciting : {P M : Type 0} → Bool → ℕ → Space P M → Space P M
 after_eliciting eliciting now space = record space {
   time_of_last_ack_eliciting_packet = (if eliciting then Some now else space.time_of_last_ack_eliciting_packet);
   loss_probes = (if eliciting then space.loss_probes - 1 else space.loss_probes);
 }
 
--- a number is acknowledged, sent at this moment: the greatest is kept
+-- a number is acknowledged whose packet was sent at this time: the largest is stored
 abbrev pub after_acknowledging : {P M : Type 0} → ℕ → ℕ → Space P M → Space P M
 after_acknowledging number sent space = record space {
   largest_acked_packet =
@@ -131,7 +131,7 @@ after_acknowledging number sent space = record space {
       (if is_above space.largest_acked_packet number then sent else space.largest_acked_packet_sent);
 }
 
--- nothing happened in it since it was made at this moment
+-- nothing happened in it since it was made at this time
 pub record IsMade {P M S : Type 0} (words : QueueSemantics P S) (start : ℕ) (space : Space P M) : Type 0 where
   pub numbers : (n : ℕ) → ¬ HasReceived space.dedup n
   pub acks : acks_of space ≡ new_acks []
@@ -150,7 +150,7 @@ pub record IsMade {P M S : Type 0} (words : QueueSemantics P S) (start : ℕ) (s
 
 -- ---- what an event does to its space
 
--- what is known of the packets that came, where these are the numbers
+-- the state of the packets received, if these are the numbers
 abbrev pub heard_with : (ℕ → Type 0) → Acks → AckState
 heard_with Numbers acks = record {
   came = Numbers;
@@ -165,7 +165,7 @@ heard_of space = heard_with (HasReceived space.dedup) (acks_of space)
 abbrev pub ArmsBy : AckState → AckCounts → ℕ → Bool → Type 0
 ArmsBy known = ArmsAckTimer known.came known.required known.started
 
--- a new number came and is to be acknowledged
+-- a new number was received and is to be acknowledged
 pub record AddsReceivedNumber (Numbers : ℕ → Type 0) (old : Acks) (now number : ℕ) (eliciting : Bool)
     (new : Acks) : Type 0 where
   pub pending : (n : ℕ) → IsPending new n ↔ IsInHighest most_ranges (InsertNumber number (IsPending old)) n
@@ -195,7 +195,7 @@ space_sends number packet space = after_eliciting packet.ack_eliciting packet.ti
 abbrev pub space_takes : {P M : Type 0} → ℕ → Space P M → Space P M
 space_takes number space = with_tracking (after_taking number (tracking_of space)) space
 
--- the numbers up to the largest that the peer knows of need no acknowledgement any more
+-- the numbers up to the largest that the peer knows of need no more acknowledgement
 abbrev pub SubtractsLargest : Option ℕ → Acks → Acks → Type 0
 SubtractsLargest None old new = new ≡ old
 SubtractsLargest (Some largest) old new = SubtractsBelow old largest new
@@ -216,7 +216,7 @@ space_empties space = with_tracking (record (tracking_of space) { packets = [] }
 abbrev pub space_acks_sent : {P M : Type 0} → Space P M → Space P M
 space_acks_sent space = with_acks (acks_sent (acks_of space)) space
 
--- the timer for a late ACK expired
+-- the ACK delay timer expired
 abbrev pub space_late : {P M : Type 0} → Space P M → Space P M
 space_late space =
     with_acks (with_required (nat_lt 0 (acks_of space).counts.eliciting) (acks_of space)) space
@@ -228,23 +228,23 @@ space_asked frame space =
     (with_thresholds frame.ack_eliciting_threshold frame.reordering_threshold (acks_of space))
     space
 
--- counts of ECN were kept
+-- ECN counts were stored
 abbrev pub space_fed_back : {P M : Type 0} → EcnCounts → Space P M → Space P M
 space_fed_back counts space = record space { ecn_feedback = counts }
 
--- one probe more is to be sent
+-- one more probe is to be sent
 abbrev pub one_probe_more : {P M : Type 0} → Space P M → Space P M
 one_probe_more space = record space { loss_probes = one_more space.loss_probes }
 
 module _ {P M S : Type 0} (words : QueueSemantics P S) where
-  -- the contents of a tracked packet are moved behind the pending ones
+  -- the contents of a tracked packet are appended to the retransmission queue
   abbrev pub space_moves : ℕ → Space P M → Space P M
   space_moves number space = record space {
     sent_packets = after_carrying number words.empty (tracking_of space);
     pending = joined_with words space.pending (packet_at (packets_of space) number);
   }
 
-  -- a tracked packet was lost: its contents are to be sent again
+  -- a tracked packet was lost: its contents are queued for retransmission
   abbrev pub space_loses : ℕ → Space P M → Space P M
   space_loses number space = record space {
     sent_packets = after_taking number (tracking_of space);
@@ -258,43 +258,43 @@ module _ {P M S : Type 0} (words : QueueSemantics P S) where
     pending = joined_with words space.pending (option_and_then (packet_at (packets_of space)) moved);
   }
 
-  -- contents for a probe were looked for
+  -- contents for a probe were sought
   abbrev pub space_probes : Bool → ProbeFound → Space P M → Space P M
   space_probes immediate found space = record (space_finds found.moved space) {
     ping_pending = space.ping_pending || (found.nothing && not (immediate || space.immediate_ack_pending));
     immediate_ack_pending = immediate || space.immediate_ack_pending;
   }
 
-  -- the pending contents were handed out
+  -- the retransmission queue was returned
   abbrev pub space_hands_out : Space P M → Space P M
   space_hands_out space = record space { pending = words.empty }
 
-  -- the space is discarded: nothing is tracked any more, and nothing is to be sent again
+  -- the space is discarded: it tracks nothing, and its retransmission queue is empty
   abbrev pub space_discards : Space P M → Space P M
   space_discards space = space_hands_out (space_empties space)
 
--- a packet came in
+-- a packet was received
 abbrev pub arrives : {P M : Type 0} → ℕ → ℕ → Bool → Receipt → SpaceEntry P M
 arrives now number ack_eliciting (New arm) = heard now number ack_eliciting
 arrives now number ack_eliciting Duplicate = heard_again number
 
--- what a received packet is, by the numbers that came before it and by what decides of the next ACK
+-- the receipt of a packet, by the numbers received before it and the counts that decide about the next ACK
 abbrev pub IsReceipt : AckState → AckCounts → ℕ → Bool → Receipt → Type 0
 IsReceipt known counts number eliciting (New arm) =
     IsNewNumber known.came number
     × (IsTrue arm ↔ ArmsAckTimer known.came known.required known.started counts number eliciting)
 IsReceipt known counts number eliciting Duplicate = ¬ IsNewNumber known.came number
 
--- what comes of a received packet: its number may be too large, and only a new one takes memory
+-- the result for a received packet: its number may be too large, and only a new one allocates
 abbrev pub ReceiveReply : AckState → AckCounts → ℕ → Bool → Result Receipt ReceiveError → Type 0
 ReceiveReply known counts number eliciting (Ok receipt) =
     (number < number_limit) × IsReceipt known counts number eliciting receipt
 ReceiveReply known counts number eliciting (Err NumberTooLarge) = number_limit ≤ number
 ReceiveReply known counts number eliciting (Err NoMemory) = (number < number_limit) × IsNewNumber known.came number
 
--- ---- what a log leaves
+-- ---- the state after a log
 
--- what is to be acknowledged in a space, and what decides when
+-- the pending ACKs of a space, and what decides when they are due
 pub record AcksAfter (said : AckState) (said_counts : AckCounts) (acks : Acks) : Type 0 where
   pub pending : (n : ℕ) → IsPending acks n ↔ said.pending n
   pub required : IsTrue acks.required ↔ said.required
@@ -319,18 +319,18 @@ module _ {P M S : Type 0} (words : QueueSemantics P S) where
   SpaceStep ack_is_late old new = new ≡ space_late old
   SpaceStep (asked frame) old new = new ≡ space_asked frame old
 
-  -- what a log leaves in a space that was made at this moment
+  -- the state of a space after a log, if it was made at this time
   pub record SpaceAfter (start : ℕ) (log : List (SpaceEntry P M)) (left : Space P M) : Type 0 where
-    -- a space knows the numbers that came in it, at most 128 below the greatest
+    -- a space knows the numbers received in it, at most 128 below the largest
     pub numbers : (n : ℕ) → HasReceived left.dedup n ↔ RecentNumbers (ReceivedNumbers log) n
     pub acks : AcksAfter (acks_by words log) (counts_by log) left.pending_acks
-    -- the greatest new number, and 0 before the first
+    -- the largest new number, and 0 before the first
     pub greatest : left.rx_packet ≡ option_map_or (λ largest. largest.0) (counts_by log).largest 0
     pub sent : sent_of left ≡ sent_by words log
     pub acknowledged :
         (left.largest_acked_packet, left.largest_acked_packet_sent) ≡ largest_acknowledged words start log
     pub last_sent : left.time_of_last_ack_eliciting_packet ≡ last_eliciting_sent log
     pub probes : left.loss_probes ≡ probes_by log
-    -- how many numbers were given out or skipped, as far as its type counts
+    -- how many numbers were assigned or skipped, up to the counter's maximum
     pub given_out : left.sent_with_keys ≡ min (sent_by words log).next largest_u64
     pub queued : queued_of left ≡ queued_by words log

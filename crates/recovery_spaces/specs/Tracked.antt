@@ -18,9 +18,9 @@ packet_sent generation now size ack_eliciting largest_acked retransmits stream_f
 }
 
 pub record SentState (P M : Type 0) : Type 0 where
-  -- one above the last number given out
+  -- one above the last number assigned
   pub next : ℕ
-  -- the number of the last packet sent that elicits an ACK
+  -- the number of the last ack-eliciting packet sent
   pub last : Option ℕ
   -- the packets sent, and since then not acknowledged, lost, forgotten or discarded
   pub tracked : Packets P M
@@ -36,11 +36,11 @@ sent_more number packet sent = record {
   tracked = without_some sent.tracked (forgotten_by sent packet) ++ (number, packet) ∷ [];
 }
 
--- a packet is tracked no more
+-- a packet is no longer tracked
 abbrev pub sent_less : {P M : Type 0} → ℕ → SentState P M → SentState P M
 sent_less number sent = record sent { tracked = without sent.tracked number }
 
--- a packet's contents are moved out, where a probe finds them
+-- a packet's contents are moved out, if a probe finds them
 abbrev pub sent_moved : {P M : Type 0} → P → Option ℕ → SentState P M → SentState P M
 sent_moved empty moved sent =
     record sent { tracked = option_map_or (λ number. carrying number empty sent.tracked) moved sent.tracked }

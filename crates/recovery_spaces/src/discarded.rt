@@ -14,7 +14,7 @@ pub struct DiscardedSpaces {
 }
 
 impl DiscardedSpaces {
-    /// None was discarded yet.
+    /// Returns the state in which no space is discarded.
     pub fn new() -> Self
         ensures { (space : SpaceId) → is_discarded space result ≡ false }
     {
@@ -25,7 +25,7 @@ impl DiscardedSpaces {
         }
     }
 
-    /// Whether a space was discarded.
+    /// Returns whether a space was discarded.
     pub fn contains(&self, space: SpaceId) -> bool
         ensures { result ≡ is_discarded space self.now }
     {
@@ -36,7 +36,8 @@ impl DiscardedSpaces {
         }
     }
 
-    /// A space is discarded with its keys (RFC 9001, 4.9). The others stay, and so does all where it was so before.
+    /// Marks a space as discarded with its keys (RFC 9001, 4.9). The others are unchanged, and so is one that was
+    /// discarded before.
     pub fn insert(&mut self, space: SpaceId)
         ensures { DiscardedStep space self.old self.new }
     {

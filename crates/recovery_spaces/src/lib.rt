@@ -1,5 +1,5 @@
-//! The packets that are tracked: three packet number spaces with what each sent (begin at `spaces.rt`), and the bytes
-//! in flight on a path.
+//! The tracked packets: three packet number spaces with what each sent (begin at `spaces.rt`), and the bytes in flight
+//! on a path.
 #![tactic(auto)]
 
 pub mod discarded;

@@ -7,18 +7,17 @@ use crate::spaces::SentPacket;
 use recovery_queue::queue::RetransmitQueue;
 use thiserror::Error;
 
-/// What is in flight on a path: packets that were sent on it and are tracked.
+/// Counters of what is in flight on a path: the packets that were sent on it and are tracked.
 #[derive(Clone, Copy, Default, PartialEq, Eq)]
 pub struct InFlight {
     /// The sum of their sizes, in bytes.
     pub bytes: u64,
-    /// How many of them elicit an ACK.
+    /// How many of them are ack-eliciting.
     pub ack_eliciting: u64,
 }
 
 impl InFlight {
-    /// The counters with one packet more (RFC 9002, B.2): its size in bytes, and one where it elicits an ACK. `None`
-    /// where one would pass `u64::MAX`.
+    /// Returns the counters with one more packet (RFC 9002, B.2), or `None` if one would exceed `u64::MAX`.
     pub fn checked_insert<Q: RetransmitQueue>(self, packet: &SentPacket<Q>) -> Option<InFlight>
         ensures { SomeIff result (¬ Overflows self packet.now) (with_packet self packet.now) }
     {
@@ -30,8 +29,7 @@ impl InFlight {
         })
     }
 
-    /// The counters without a packet that is counted (RFC 9002, B.2): less its size in bytes, and one less where it
-    /// elicits an ACK.
+    /// Returns the counters without a packet that is counted (RFC 9002, B.2).
     pub fn remove<Q: RetransmitQueue>(self, packet: &SentPacket<Q>) -> InFlight
         requires { IsCounted self packet.now }
         ensures { result ≡ without_packet self packet.now }
@@ -46,10 +44,10 @@ impl InFlight {
 /// Why a packet could not be sent on a path. It is dropped then, and nothing else has changed.
 #[derive(Clone, Copy, Debug, Error)]
 pub enum LedgerError {
-    /// A growth was refused by the allocator.
+    /// An allocation failed.
     #[error("out of memory")]
     NoMemory,
-    /// The bytes in flight, or the count of packets that elicit an ACK, would pass `u64::MAX`.
+    /// The bytes in flight, or the count of ack-eliciting packets, would exceed `u64::MAX`.
     #[error("the bytes in flight pass 2^64 - 1")]
     Overflow,
 }

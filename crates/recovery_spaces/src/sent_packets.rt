@@ -17,16 +17,16 @@ use std::alloc::Global;
 use std::marker::Model;
 use std::mem;
 
-/// How many silent packets (RFC 9002, 2: not ack-eliciting) are tracked above the last ack-eliciting one: a peer need
-/// not acknowledge them (RFC 9000, 13.2.1), so that without a limit they would be kept for good. quinn-proto keeps 1000
-/// beside the newest.
+/// How many non-ack-eliciting packets (RFC 9002, 2) are tracked after the last ack-eliciting one. A peer need not
+/// acknowledge them (RFC 9000, 13.2.1), so without a limit they would be stored forever. quinn-proto stores 1000 and
+/// the newest.
 pub const MAX_SILENT: u64 = 1001;
 
-/// Tracked packets in the order of their numbers, with what is known of them all.
+/// Tracked packets in the order of their numbers, with counts over all of them.
 ///
-/// The silent packets above the last ack-eliciting one are looked for from `silent_from` on: none stands below it, so
-/// that a slot which one of them left is passed over once. Packets with contents are looked for from `filled_from` on:
-/// those below have none, whatever they are asked with, and so are passed over once.
+/// The search for the first non-ack-eliciting packet after the last ack-eliciting one starts at `silent_from`: none is
+/// below it, so each emptied slot is passed over once. The search for packets with contents starts at `filled_from`.
+/// Those below it have no contents, whatever streams the test is passed, so each is passed over once.
 #[derive(Drop)]
 pub struct SentPackets<Q: RetransmitQueue> {
     packets: SlotQueue<SentPacket<Q>>,
@@ -57,7 +57,7 @@ impl<Q> SentPackets<Q>
 where
     Q: RetransmitQueue,
 {
-    /// None is tracked yet, and none was sent. It takes no memory before the first packet.
+    /// Returns the state in which no packet was sent. It allocates nothing before the first packet.
     pub fn new(alloc: Global) -> Self
         ensures { result ≡ no_packets }
     {
@@ -72,15 +72,15 @@ where
         }
     }
 
-    /// How many slots stand for the packets: one that is taken leaves its slot empty. At most 64 are empty beside as
-    /// many as there are packets: past that they are closed up in place. Constant cost.
+    /// Returns how many slots the packets use. A removed packet leaves its slot empty. At most 64 slots more than there
+    /// are packets are empty: beyond that they are closed up in place. Constant cost.
     pub fn slots(&self) -> usize
         ensures { HasSlots self.now.packets result }
     {
         self.packets.len()
     }
 
-    /// How many packets are tracked; their numbers fit 64 bits. Constant cost.
+    /// Returns how many packets are tracked. Their numbers fit 64 bits. Constant cost.
     pub fn len(&self) -> usize
         ensures count { result ≡ length self.now.packets }
         ensures small { AreBelow self.now.packets u64_limit }
@@ -88,15 +88,15 @@ where
         self.packets.filled()
     }
 
-    /// The place of the packet of a number among the slots, `None` where it is not tracked, and how many slots were
-    /// looked at: at most as many as the count of slots has binary digits.
+    /// Returns the position of a packet among the slots, `None` if it is not tracked, and how many slots were read.
+    /// These are at most as many as the count of slots has binary digits.
     pub fn find(&self, number: u64) -> (Option<usize>, u32)
         ensures { FindsPacket self.now.packets number result }
     {
         self.packets.find(number)
     }
 
-    /// The tracked packet of a number. Cost: that of `find`.
+    /// Returns the tracked packet of a number. Cost: that of `find`.
     pub fn get(&self, number: u64) -> Option<&SentPacket<Q>>
         ensures { option_copied result ≡ packet_at self.now.packets number }
     {
@@ -105,14 +105,14 @@ where
         Some(packet)
     }
 
-    /// The number of the last packet sent that elicits an ACK, tracked or not.
+    /// Returns the number of the last ack-eliciting packet sent, tracked or not.
     pub fn last_eliciting(&self) -> Option<u64>
         ensures { result ≡ self.now.last_eliciting }
     {
         self.last_eliciting
     }
 
-    /// The number that is forgotten when a packet is sent.
+    /// Returns the number that is forgotten when this packet is sent.
     fn forgotten(&self, packet: &SentPacket<Q>) -> Option<u64>
         ensures number { result
             ≡ forgotten_number self.now.last_eliciting packet.now self.now.packets }
@@ -125,10 +125,10 @@ where
         first_silent(&self.packets, self.last_eliciting, self.silent_from)
     }
 
-    /// Tracks a packet under a number above all that were sent. A silent one (RFC 9002, 2: it elicits no ACK) makes the
-    /// least of 1001 silent packets be forgotten that are tracked above the last one that elicits an ACK: that one is
-    /// handed back with its number. `NoMemory`, which comes only where a slot was refused, drops the packet and changes
-    /// nothing else. Cost: constant over all calls, but for a forgotten packet that of `remove`.
+    /// Tracks a packet under a number above all that were sent. If it is non-ack-eliciting (RFC 9002, 2) and 1001 such
+    /// packets are tracked after the last ack-eliciting one, the smallest of these is forgotten and returned with its
+    /// number. `NoMemory`, which occurs only if a slot could not be allocated, drops the packet and changes nothing
+    /// else. Cost: amortized constant, plus that of `remove` for a forgotten packet.
     #[inline(always)]
     pub fn insert(
         &mut self,
@@ -145,7 +145,7 @@ where
         let least = self.forgotten(&packet);
         let is_eliciting = packet.ack_eliciting;
         let count = size_count(&packet);
-        // For the prover: that a count was read bounds the others, which are at most that.
+        // For the prover: reading one count bounds the others, which are not larger.
         let _filled = self.packets.filled();
         self.packets.push(number, packet)?;
         self.sized += count;
@@ -169,10 +169,9 @@ where
         Ok(Some((least, gone)))
     }
 
-    /// Takes the packet of a number out. `None`, and nothing changed, where it is not tracked. It takes no memory.
-    /// Cost: that of `find`, and constant beside it over all calls: empty slots are closed up once there are more than
-    /// 64 beside as many as there are packets, so that at least half as many packets were taken since the last time as
-    /// slots are gone over.
+    /// Removes and returns the packet of a number. Returns `None` and changes nothing if it is not tracked. Does not
+    /// allocate. Cost: that of `find`, plus an amortized constant: empty slots are closed up once there are over 64
+    /// more than packets. By then the packets removed since the last time are half the slots scanned, or more.
     #[inline(always)]
     pub fn remove(&mut self, number: u64) -> Option<SentPacket<Q>>
         ensures value { result ≡ packet_at self.old.packets number }
@@ -186,8 +185,8 @@ where
         Some(packet)
     }
 
-    /// Takes the packet with the least number out. `None`, and nothing changed, where none is tracked. Cost as of
-    /// `remove`.
+    /// Removes and returns the packet with the smallest number. Returns `None` and changes nothing if none is tracked.
+    /// Cost: as `remove`.
     pub fn pop_first(&mut self) -> Option<(u64, SentPacket<Q>)>
         ensures packets { MatchOption result (self.old.packets ≡ [])
             (λ entry. self.old.packets ≡ entry ∷ self.new.packets) }
@@ -201,7 +200,8 @@ where
         Some((number, packet))
     }
 
-    /// Exchanges the queue of a tracked packet for another: false, and nothing, where the packet is not tracked.
+    /// Exchanges the queue of a tracked packet for another. Returns false and changes nothing if the packet is not
+    /// tracked.
     pub fn swap_queue(&mut self, number: u64, queue: &mut Q) -> bool
         ensures found { result ≡ is_some (packet_at self.old.packets number) }
         ensures after { self.new ≡ after_carrying number (Q.contents queue.old) self.old }
@@ -220,8 +220,8 @@ where
         true
     }
 
-    /// The least number of a packet whose queue has something to be sent. Cost: logarithmic in the packets tracked,
-    /// beside those that are passed over: a packet that is known to have nothing is passed over once.
+    /// Returns the smallest number of a packet whose queue has something to send. Cost: logarithmic in the packets
+    /// tracked, plus those that are passed over: a packet that is known to have nothing is passed over once.
     pub fn first_filled(&mut self, streams: &Q::Streams) -> Option<u64>
         ensures number { result ≡ first_filled Q.words streams.now self.old.packets }
         ensures unchanged { self.new ≡ self.old }
@@ -231,9 +231,9 @@ where
         found
     }
 
-    /// The first tracked packet at or above a number, with its number: so that the packets can be gone over by number,
-    /// upward (RFC 9002, 6.1). It also passes over the empty slots that follow the number, up to the first packet or to
-    /// the last slot. `tracked_between` stops at an end. Cost: that of `find`, plus those empty slots.
+    /// Returns the first tracked packet at or above a number, with its number, so that callers can iterate over the
+    /// packets in increasing order (RFC 9002, 6.1). Cost: that of `find`, plus the empty slots from the number to that
+    /// packet, or to the last slot. `tracked_between` stops at an end.
     pub fn tracked_from(&self, number: u64) -> Option<(u64, &SentPacket<Q>)>
         ensures first { MatchOption result (first_from number self.now.packets ≡ None)
             (λ found. first_from number self.now.packets ≡ Some (found.0, found.1.now)) }
@@ -243,8 +243,8 @@ where
         self.packets.entry_from(number)
     }
 
-    /// The first tracked packet at or above a number and below an end, with its number. Cost: that of `find`, plus the
-    /// slots between the two numbers.
+    /// Returns the first tracked packet at or above a number and below an end, with its number. Cost: that of `find`,
+    /// plus the slots between the two numbers.
     pub fn tracked_between(&self, from: u64, end: u64) -> Option<(u64, &SentPacket<Q>)>
         ensures none { IfNone result (AreFrom end (filter (is_from from) self.now.packets)) }
         ensures first { IfSome result (λ found. (found.0 < end)
@@ -255,8 +255,8 @@ where
         self.packets.entry_between(from, end).0
     }
 
-    /// How many packets with numbers below this one are tracked: at least as many, and no more than are tracked in all.
-    /// Cost: that of `find`.
+    /// Returns an upper bound on how many packets with smaller numbers are tracked. It is at most the count of all
+    /// tracked packets. Cost: that of `find`.
     pub fn count_below(&self, number: u64) -> usize
         ensures enough { length (filter (is_below number) self.now.packets) ≤ result }
         ensures most { result ≤ length self.now.packets }
@@ -264,14 +264,14 @@ where
         self.packets.filled_below(number)
     }
 
-    /// Whether some tracked packet elicits an ACK (RFC 9002, 2). Constant cost.
+    /// Returns whether some tracked packet is ack-eliciting (RFC 9002, 2). Constant cost.
     pub fn has_ack_eliciting(&self) -> bool
         ensures { Decides result (HasEliciting self.now.packets) }
     {
         self.eliciting != 0
     }
 
-    /// Whether some tracked packet has a size other than 0. Constant cost.
+    /// Returns whether some tracked packet has a size other than 0. Constant cost.
     pub fn has_size(&self) -> bool
         ensures { Decides result (HasSize self.now.packets) }
     {
@@ -279,21 +279,21 @@ where
     }
 }
 
-/// One for a packet with a size.
+/// Returns 1 for a packet with a size, else 0.
 fn size_count<Q: RetransmitQueue>(packet: &SentPacket<Q>) -> u64
     ensures { result ≡ size_count packet.now }
 {
     if packet.size == 0 { 0 } else { 1 }
 }
 
-/// One for a packet that elicits an ACK.
+/// Returns 1 for an ack-eliciting packet, else 0.
 fn elicits_count<Q: RetransmitQueue>(packet: &SentPacket<Q>) -> u64
     ensures { result ≡ elicits_count packet.now }
 {
     if packet.ack_eliciting { 1 } else { 0 }
 }
 
-/// One for a silent packet with a number above another, where there is one.
+/// Returns 1 for a non-ack-eliciting packet with a number above `last`, or any number if that is `None`, else 0.
 fn silent_count<Q: RetransmitQueue>(last: Option<u64>, number: u64, packet: &SentPacket<Q>) -> u64
     ensures { result ≡ silent_count last (number, packet.now) }
 {
@@ -308,7 +308,7 @@ fn silent_count<Q: RetransmitQueue>(last: Option<u64>, number: u64, packet: &Sen
     }
 }
 
-/// The least number above another, or of all where there is no other. None of those stands below `from`.
+/// Returns the smallest number above another, or of all if there is no other. None of those is below `from`.
 fn first_silent<Q>(packets: &SlotQueue<SentPacket<Q>>, last: Option<u64>, from: u64) -> Option<u64>
 where
     Q: RetransmitQueue,
@@ -324,7 +324,7 @@ where
     }
 }
 
-/// Below which number no packet has contents, once the packet of a number has these.
+/// Returns a number below which no packet has contents, once the packet of a number has these.
 fn filled_with<Q: RetransmitQueue>(from: u64, number: u64, queue: &Q) -> u64
     ensures below { result ≤ from }
     ensures void { number < result → IsVoid Q.words (Q.contents queue.now) }
@@ -336,8 +336,8 @@ fn filled_with<Q: RetransmitQueue>(from: u64, number: u64, queue: &Q) -> u64
     }
 }
 
-/// The least number of a packet whose queue has something to be sent, and a number below which no packet has anything,
-/// whatever it is asked with. None has below `from`.
+/// Returns the smallest number of a packet whose queue has something to send, and a number below which no packet has
+/// contents, whatever streams the test is passed. None has any below `from`.
 fn first_filled<Q>(
     packets: &SlotQueue<SentPacket<Q>>,
     mut from: u64,

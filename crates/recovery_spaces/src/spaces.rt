@@ -1,5 +1,5 @@
-//! What is kept for each packet number space (RFC 9000, 12.3): received numbers, sent numbers, tracked packets, what is
-//! to be sent again, and what probes ask for.
+//! The state of each packet number space (RFC 9000, 12.3): received numbers, sent numbers, tracked packets, the
+//! retransmission queue, and what probes ask for.
 ghost use Rattle.std.specs.Prelude.{◌≡◌, ◌≢◌, ◌<◌, ◌≤◌, ◌^◌, ◌∷◌, [], IfOk, OnOk, OnErr, IfSome, IfNone, IsSome, None, Some, MatchOption, MatchResult, false, not, ◌||◌, nat_lt, option_map};
 ghost use Rattle.std.specs.Option.{is_some};
 ghost use Rattle.recovery_base.specs.declared.below.SpaceId.{SpaceId};
@@ -23,25 +23,25 @@ use std::mem;
 use std::ops::{Index, IndexMut};
 use thiserror::Error;
 
-/// One more than the greatest packet number (RFC 9000, 12.3).
+/// One more than the largest packet number (RFC 9000, 12.3).
 pub const NUMBER_LIMIT: u64 = 1 << 62;
 
 /// A packet that was sent and is tracked: not yet acknowledged, lost, forgotten or discarded (RFC 9002, A.1.1).
 #[derive(Drop)]
 pub struct SentPacket<Q: RetransmitQueue> {
-    /// The generation of the path that it went by.
+    /// The generation of the path on which it was sent.
     pub path_generation: u64,
     /// When it was sent.
     pub time_sent: Instant,
-    /// Its size in bytes; 0 where congestion control does not count it.
+    /// Its size in bytes; 0 if congestion control does not count it.
     pub size: u16,
-    /// Whether it holds a frame that elicits an ACK (RFC 9002, 2).
+    /// Whether it is ack-eliciting (RFC 9002, 2).
     pub ack_eliciting: bool,
-    /// The largest packet number that its ACK frame acknowledges, where it holds one.
+    /// The largest packet number that its ACK frame acknowledges, if it has one.
     pub largest_acked: Option<u64>,
-    /// What is sent again when it is lost (RFC 9000, 13.3).
+    /// Its contents, which are retransmitted if it is lost (RFC 9000, 13.3).
     pub retransmits: Q,
-    /// What else an application keeps of it.
+    /// What the caller stores about its STREAM frames.
     pub stream_frames: Q::Meta,
 }
 
@@ -61,25 +61,25 @@ impl<Q: RetransmitQueue> Model for SentPacket<Q> {
     } };
 }
 
-/// What a packet that came in is to its space.
+/// The outcome of a received packet in its space.
 #[derive(Clone, Copy)]
 pub enum Receipt {
     /// Its number is new.
     New {
-        /// Whether the timer for a late ACK starts (RFC 9000, 13.2.1: max_ack_delay).
+        /// Whether the ACK delay timer starts (RFC 9000, 13.2.1: max_ack_delay).
         arm: bool,
     },
-    /// Its number may have come before (RFC 9000, 12.3).
+    /// Its number may have been received before (RFC 9000, 12.3).
     Duplicate,
 }
 
-/// Why a packet that came in is refused. Its space is then as it was before.
+/// Why a received packet is rejected. Its space is then unchanged.
 #[derive(Clone, Copy, Debug, Error)]
 pub enum ReceiveError {
     /// The number is 2^62 or more (RFC 9000, 12.3).
     #[error("a number is 2^62 or more")]
     NumberTooLarge,
-    /// A growth was refused by the allocator.
+    /// An allocation failed.
     #[error("out of memory")]
     NoMemory,
 }
@@ -89,12 +89,12 @@ pub enum ReceiveError {
 pub struct SendableFrames {
     /// An ACK is required, and some number is to be acknowledged (RFC 9000, 13.2).
     pub acks: bool,
-    /// There is something else: contents to be sent again, a PING, or a demand for an ACK at once.
+    /// There is something else: contents to retransmit, a PING, or a request for an immediate ACK.
     pub other: bool,
 }
 
 impl SendableFrames {
-    /// There is nothing to send.
+    /// Returns the value for nothing to send.
     pub fn empty() -> Self
         ensures { result ≡ record { acks = false; other = false } }
     {
@@ -104,7 +104,7 @@ impl SendableFrames {
         }
     }
 
-    /// Whether there is nothing to send.
+    /// Returns whether there is nothing to send.
     pub fn is_empty(&self) -> bool
         ensures { result ≡ not (self.now.acks || self.now.other) }
     {
@@ -112,7 +112,7 @@ impl SendableFrames {
     }
 }
 
-/// What is kept for one packet number space (RFC 9000, 12.3).
+/// The state of one packet number space (RFC 9000, 12.3).
 #[derive(Drop)]
 pub struct PacketSpace<Q: RetransmitQueue> {
     /// The packet numbers received.
@@ -121,32 +121,33 @@ pub struct PacketSpace<Q: RetransmitQueue> {
     pub pending_acks: PendingAcks,
     /// The largest packet number received; 0 before the first.
     pub rx_packet: u64,
-    /// The largest packet number that was acknowledged.
+    /// The largest acknowledged packet number.
     pub largest_acked_packet: Option<u64>,
     /// When that packet was sent; before any was acknowledged, when the space was made.
     pub largest_acked_packet_sent: Instant,
-    /// When the last packet that elicits an ACK was sent.
+    /// When the last ack-eliciting packet was sent.
     pub time_of_last_ack_eliciting_packet: Option<Instant>,
     /// How many probe packets are still to be sent (RFC 9002, 6.2.4); stops at `u32::MAX`.
     pub loss_probes: u32,
-    /// How many packet numbers were given out or skipped; stops at `u64::MAX`.
+    /// How many packet numbers were assigned or skipped; stops at `u64::MAX`.
     pub sent_with_keys: u64,
-    /// What is to be sent again, of packets that were lost or that a probe found (RFC 9000, 13.3).
+    /// The retransmission queue: contents of packets that were lost or found by a probe (RFC 9000, 13.3).
     pub pending: Q,
-    /// Whether a PING is to be sent, since a probe found nothing else (RFC 9002, 6.2.4).
+    /// Whether to send a PING, since a probe found nothing else (RFC 9002, 6.2.4).
     pub ping_pending: bool,
-    /// Whether the peer is to be asked for an ACK at once (draft-ietf-quic-ack-frequency-04, section 5).
+    /// Whether to ask the peer for an immediate ACK (draft-ietf-quic-ack-frequency-04, section 5).
     pub immediate_ack_pending: bool,
-    /// How many packets came with each ECN codepoint (RFC 9000, 13.4.1).
+    /// How many packets were received with each ECN codepoint (RFC 9000, 13.4.1).
     pub ecn_counters: EcnCounts,
     /// The counts of the peer's last ACK frame that passed the check (RFC 9000, 13.4.2). The peer counts by space, and
-    /// ACKs of two spaces come in any order: against one sum for all, honest counts could seem to fall.
+    /// ACKs of two spaces are received in any order. Against one sum for all spaces, honest counts could seem to
+    /// decrease.
     pub ecn_feedback: EcnCounts,
-    /// When a packet is to be called lost, where one may be (RFC 9002, 6.1.2).
+    /// When a packet is to be declared lost, if one may be (RFC 9002, 6.1.2).
     pub loss_time: Option<Instant>,
     /// How many bytes of CRYPTO frames were sent: the offset of the next one (RFC 9000, 19.6).
     pub crypto_offset: u64,
-    /// The packets that are tracked, by number (RFC 9002, A.1).
+    /// The tracked packets, by number (RFC 9002, A.1).
     pub sent_packets: SentPackets<Q>,
     next_packet_number: u64,
     alloc: Global,
@@ -182,7 +183,7 @@ impl<Q> PacketSpace<Q>
 where
     Q: RetransmitQueue,
 {
-    /// A space in which nothing was received or sent yet.
+    /// Returns a space in which nothing was received or sent.
     pub fn new(alloc: Global, now: Instant) -> Self
         ensures { IsMade Q.words now result }
     {
@@ -208,14 +209,14 @@ where
         }
     }
 
-    /// The number of the next packet, 0 to 2^62; at 2^62 there is none left (RFC 9000, 12.3).
+    /// Returns the number of the next packet, 0 to 2^62; at 2^62 there is none left (RFC 9000, 12.3).
     pub fn next_packet_number(&self) -> u64
         ensures { result ≡ next_number_of self.now }
     {
         self.next_packet_number
     }
 
-    /// Gives out the next packet number, below 2^62. `None`, and nothing changed, where it would be 2^62 (RFC 9000,
+    /// Assigns the next packet number, below 2^62. Returns `None` and changes nothing if it would be 2^62 (RFC 9000,
     /// 12.3).
     pub fn get_tx_number(&mut self) -> Option<u64>
         ensures number { IfSome result (λ number. number ≡ next_number_of self.old) }
@@ -232,7 +233,7 @@ where
         Some(number)
     }
 
-    /// The numbers from the next one to this one are given out or skipped.
+    /// Marks the numbers from the next one to this one as assigned or skipped.
     fn give_out(&mut self, number: u64)
         requires above { next_number_of self.old ≤ number }
         requires small { number < number_limit }
@@ -243,9 +244,9 @@ where
         self.next_packet_number = number + 1;
     }
 
-    /// A packet came in: whether it is new, and whether to start the timer for a late ACK (RFC 9000, 13.2). Refused by
-    /// `NumberTooLarge`, then by `NoMemory`, which is never the answer to a duplicate; a refusal leaves the space as it
-    /// was.
+    /// Records a received packet. Returns whether it is new, and whether to start the ACK delay timer (RFC 9000, 13.2).
+    /// Rejected with `NumberTooLarge`, then with `NoMemory`, which never answers a duplicate. An error leaves the space
+    /// unchanged.
     pub fn receive(
         &mut self,
         now: Instant,
@@ -281,7 +282,7 @@ where
         Ok(Receipt::New { arm })
     }
 
-    /// Takes out the packet of a number, as [`SentPackets::remove`] does.
+    /// Removes the packet of a number, as [`SentPackets::remove`].
     #[inline(always)]
     pub fn take(&mut self, number: u64) -> Option<SentPacket<Q>>
         ensures packet { result ≡ packet_at (packets_of self.old) number }
@@ -291,7 +292,7 @@ where
         self.sent_packets.remove(number)
     }
 
-    /// Takes out the packet with the least number, as [`SentPackets::pop_first`] does.
+    /// Removes the packet with the smallest number, as [`SentPackets::pop_first`].
     pub fn take_first(&mut self) -> Option<(u64, SentPacket<Q>)>
         ensures first { MatchOption result (packets_of self.old ≡ [])
             (λ entry. packets_of self.old ≡ entry ∷ packets_of self.new) }
@@ -303,9 +304,9 @@ where
         self.sent_packets.pop_first()
     }
 
-    /// A packet was tracked under a number, and sent at this moment: the number is given out, and those from the next
-    /// one up to it are skipped (RFC 9000, 21.4). One that elicits an ACK is the last of its kind, and takes one from
-    /// the probes that are still to be sent.
+    /// Records that a packet was tracked under a number and sent at this time. The number is assigned, and those from
+    /// the next one up to it are skipped (RFC 9000, 21.4). An ack-eliciting packet sets the time of the last one, and
+    /// counts as one of the probes still to be sent.
     #[inline(always)]
     pub fn on_sent(&mut self, number: u64, ack_eliciting: bool, now: Instant)
         requires above { next_number_of self.old ≤ number }
@@ -319,8 +320,8 @@ where
         }
     }
 
-    /// A packet is acknowledged: the largest number is kept, and what the packet acknowledged itself needs no ACK any
-    /// more (RFC 9000, 13.2.4).
+    /// Records that a packet is acknowledged: stores the largest number, and drops the pending ACKs up to the largest
+    /// number in the packet's own ACK frame (RFC 9000, 13.2.4).
     #[inline(always)]
     pub fn on_acked(&mut self, number: u64, packet: &SentPacket<Q>)
         requires { ¬ IsTooLarge packet.now.largest_acked }
@@ -343,10 +344,9 @@ where
         }
     }
 
-    /// Moves the contents of a tracked packet behind the pending ones, to be sent again (RFC 9000, 13.3); the packet is
-    /// left with an empty queue. False, and nothing changed, where it is not tracked. `NoMemory`, of which a packet
-    /// that is not tracked is never refused, changes nothing. Cost: logarithmic in the packets tracked, and that of the
-    /// queue's `append`.
+    /// Appends the contents of a tracked packet to the retransmission queue (RFC 9000, 13.3). The packet is left with
+    /// an empty queue. Returns false and changes nothing if it is not tracked. `NoMemory`, which occurs only for a
+    /// tracked packet, changes nothing. Cost: logarithmic in the packets tracked, plus that of the queue's `append`.
     #[inline(always)]
     pub fn queue_lost(&mut self, number: u64) -> Result<bool, NoMemory>
         ensures found { IfOk result
@@ -368,9 +368,9 @@ where
         }
     }
 
-    /// A packet is lost (RFC 9002, A.10): its contents are moved behind the pending ones, and it is tracked no more. It
-    /// is handed back with an empty queue. `None`, and nothing changed, where it is not tracked; then memory is never
-    /// refused. `NoMemory` changes nothing. Cost as of `queue_lost`.
+    /// Declares a packet lost (RFC 9002, A.10): appends its contents to the retransmission queue, removes the packet
+    /// and returns it with an empty queue. Returns `None` and changes nothing if it is not tracked; `NoMemory` does not
+    /// occur then. `NoMemory` changes nothing. Cost: as `queue_lost`.
     #[inline(always)]
     pub fn lose(&mut self, number: u64) -> Result<Option<SentPacket<Q>>, NoMemory>
         ensures packet { IfOk result (λ packet. packet
@@ -384,19 +384,20 @@ where
         Ok(self.take(number))
     }
 
-    /// Looks for contents to be sent with a probe, where one is to be sent (RFC 9002, 6.2.4): what is pending serves;
-    /// else the contents of the first packet by number that has some are moved to the pending ones; else a PING is
-    /// marked, unless the peer is to be asked for an ACK at once, by a frame that elicits one itself.
-    /// `request_immediate_ack` marks that it is.
+    /// Finds contents to send with a probe, if one is to be sent (RFC 9002, 6.2.4). If the retransmission queue is not
+    /// empty, it serves. If it is, the contents of the first packet that has some are moved into it. If none has, a
+    /// PING is requested, unless the peer is to be asked for an immediate ACK, by a frame that is ack-eliciting itself.
+    /// `request_immediate_ack` requests that frame.
     ///
-    /// A packet is called lost only once the peer acknowledged a later one, so that of the last packets of a flight no
-    /// loss shows: a probe makes the peer answer, and what it carries should be of use (RFC 9002, 6.2). The oldest
-    /// contents are the likeliest to be missed, and are moved and not copied: else they would go out a third time where
-    /// their first packet is called lost after all. A PING is left to a client whose server may send no more before it
-    /// hears from it (RFC 9002, 6.2.2.1).
+    /// A packet is declared lost only once the peer acknowledged a later one, so the loss of a flight's last packets
+    /// does not show. A probe makes the peer answer, and what it carries should be useful (RFC 9002, 6.2). The oldest
+    /// contents are the most likely to be missing. They are moved and not copied: otherwise they would be sent a third
+    /// time if their first packet is declared lost after all. A PING remains for a client whose server may send no more
+    /// before it receives something (RFC 9002, 6.2.2.1).
     ///
-    /// `NoMemory`, only where contents are to be moved, changes nothing. Cost: that of `find`, beside the packets that
-    /// are passed over: one that is known to have nothing (`RetransmitQueue::is_void`) once, another each time.
+    /// `NoMemory`, which occurs only if contents are to be moved, changes nothing. Cost: that of `find`, plus the
+    /// packets that are passed over: one that is known to have nothing (`RetransmitQueue::is_void`) once, another each
+    /// time.
     pub fn maybe_queue_probe(
         &mut self,
         request_immediate_ack: bool,
@@ -427,9 +428,9 @@ where
         Ok(())
     }
 
-    /// A probe is asked for (RFC 9002, 6.2.4), and perhaps an ACK at once with it: one more is to be sent, up to
-    /// `u32::MAX`, and contents for it are looked for as `maybe_queue_probe` does. Answers what there is to send then.
-    /// `NoMemory`, only where contents are to be moved, changes nothing.
+    /// Requests a probe (RFC 9002, 6.2.4), and an immediate ACK if asked: counts one more probe to send, up to
+    /// `u32::MAX`, and finds contents for it as `maybe_queue_probe`. Returns what can be sent then. `NoMemory`, which
+    /// occurs only if contents are to be moved, changes nothing.
     pub fn queue_probe(
         &mut self,
         immediate: bool,
@@ -455,8 +456,8 @@ where
         }
     }
 
-    /// What there is to send: an ACK, where one is required and some number is to be acknowledged (RFC 9000, 13.2), and
-    /// something else, where contents are pending or a PING or a demand for an ACK at once is.
+    /// Returns what can be sent. `acks`: an ACK is required, and some number is to be acknowledged (RFC 9000, 13.2).
+    /// `other`: the retransmission queue is not empty, or a PING or an immediate ACK is requested.
     pub fn can_send(&self, streams: &Q::Streams) -> SendableFrames
         ensures { IsSendable Q.words streams.now (heard_of self.now) (queued_of self.now) result }
     {
@@ -468,7 +469,7 @@ where
         }
     }
 
-    /// Hands out what is to be sent again (RFC 9000, 13.3), and leaves an empty queue. It takes no memory.
+    /// Returns the retransmission queue (RFC 9000, 13.3) and leaves it empty. Does not allocate.
     pub fn take_pending(&mut self, alloc: Global) -> Q
         ensures pending { Q.contents result ≡ self.old.pending }
         ensures step { SpaceStep Q.words takes_pending self.old self.new }
@@ -476,9 +477,9 @@ where
         mem::replace(&mut self.pending, Q::empty(alloc))
     }
 
-    /// Checks the counts of ECN of an ACK frame against those of the last one that passed (RFC 9000, 13.4.2), where it
-    /// is the first to acknowledge as many packets that were sent with ECT(0). `Ok` keeps them, and says whether CE
-    /// rose; `Err` keeps the old ones, and says the cause in words, as `EcnCounts::detect` does.
+    /// Checks the ECN counts of an ACK frame against the last that passed (RFC 9000, 13.4.2). The frame is the first to
+    /// acknowledge `newly_acked` packets that were sent with ECT(0). `Ok` stores the counts and returns whether CE
+    /// increased. `Err` stores nothing and returns the fault's text, as `EcnCounts::detect`.
     pub fn detect_ecn(&mut self, newly_acked: u64, counts: EcnCounts) -> Result<bool, &'static str>
         ensures result { MatchResult result
             (λ marked. (ecn_fault self.old.ecn_feedback newly_acked counts ≡ None)
@@ -518,7 +519,7 @@ impl<Q> PacketSpaces<Q>
 where
     Q: RetransmitQueue,
 {
-    /// Three spaces in which nothing was received or sent yet.
+    /// Returns three spaces in which nothing was received or sent.
     pub fn new(alloc: Global, now: Instant) -> Self
         ensures { (space : SpaceId) → IsMade Q.words now (space_of space result) }
     {

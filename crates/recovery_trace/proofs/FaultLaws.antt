@@ -26,7 +26,7 @@ through line start (suc n) le none =
     ap (λ (place : ℕ). spaces (take place line)) (let e : start + suc n ≡ start + n + 1 = omega arith in e)
     ∙ grind (arith, nat_tests, before, more, here)
 
--- and behind it stands one
+-- and is followed by one
 pub counted_more : (line : List ℕ) (start end number : ℕ) → EndsWord line start end → end + 1 ≤ length line
     → number ≡ spaces (take start line) + 1 → number + 1 ≡ spaces (take (end + 1) line) + 1
 counted_more line start end number word le counted =

@@ -23,7 +23,7 @@ front_ascii (byte ∷ bytes) zero h place = behind_all place
 front_ascii (byte ∷ bytes) (suc n) h zero = h zero
 front_ascii (byte ∷ bytes) (suc n) h (suc place) = front_ascii bytes n (λ at. h (suc at)) place
 
--- as much as there is, and no more than this
+-- as much as there is, up to this
 pub take_least : (bytes : List ℕ) (n : ℕ) → take (min n (length bytes)) bytes ≡ take n bytes
 take_least bytes n = grind (arith, take_all (length bytes) bytes, take_all n bytes)
 

@@ -1,4 +1,4 @@
--- The loop over the lines of a trace: what `run` has at each.
+-- The loop over the lines of a trace: the invariant of `run`.
 use Rattle.std.proofs.Common.{◌≡◌, ℕ, ◌+◌, ◌≤◌, inl, true, false, List, [], ◌∷◌, ◌++◌, length, reverse, Option, None, Some, refl, sym, ap, subst, arith, append-nil}
 use Rattle.std.proofs.lemmas.List.Elements.{All-nil}
 use Rattle.std.specs.Io.KnownBytes.{Consumes}
@@ -34,7 +34,7 @@ pub record GoingBy {F K : Type 0} (beginning : ItemBeginning F K) (choice : Choi
   pub so_far : SoFar beginning choice outcome lines
   pub counted : number ≡ length lines + 1
 
--- one line of an input, of which this is kept; the last may lack its line feed
+-- one line of an input, of which this is stored; the last may lack its line feed
 pub record OneLine (now left : Option (List ℕ)) (kept : List ℕ) : Type 0 where
   pub line : List ℕ
   pub is_kept : TruncatedLine line kept
@@ -71,7 +71,7 @@ whole Last not = absurd (not refl)
 
 module _ {F R C K : Type 0} {f : _} {c : _} {q : _} {m : _} {r : _} (choice : Choice)
     (first : Recovery F (List ℕ) R C K (Unit {0}) (Unit {0}) (List ℕ) f c q m r) where
-  -- whatever the beginning by which the first recovery came
+  -- for every beginning that led to the first recovery
   abbrev pub Going : Streams → Recovery F (List ℕ) R C K (Unit {0}) (Unit {0}) (List ℕ) f c q m r → ℕ → Outcome → ℕ
       → Type 0
   Going streams recovery time outcome number = (config : RecoveryConfig F) (start : ℕ) (random : Stream) →
@@ -126,7 +126,7 @@ module _ {F R C K : Type 0} {f : _} {c : _} {q : _} {m : _} {r : _} (choice : Ch
       one : OneLine now left kept
       one = one_of now left kept next is_line
 
-      -- a whole line whose event is done, or that is silent
+      -- a whole line whose event is applied, or that is empty or a comment
       pub one_done : next ≡ Line → LineOutcome choice.shows kept number old new earlier later mid after now_said said
           Done
           → Going (streams_of unread left before after unsaid said) new later outcome (number + 1)
@@ -228,7 +228,7 @@ module _ {F R C K : Type 0} {f : _} {c : _} {q : _} {m : _} {r : _} (choice : Ch
           (one.takes unread g.lines g.taken)
           (one.more, one.few, also_taken unread now left g.lines g.taken one.more one.consumed)
 
-    -- so many lines that none more is counted
+    -- so long an input that lines are no longer counted
     pub too_many : TracesFrom first choice (streams_of unread now before mid unsaid now_said)
         (Ended ReadFailed)
     too_many config start random came =
@@ -236,7 +236,7 @@ module _ {F R C K : Type 0} {f : _} {c : _} {q : _} {m : _} {r : _} (choice : Ch
         ends_cut (origin first config start random) choice unread now before mid unsaid now_said (state_of old) earlier
         g.lines g.made now outcome reasons.ReadFailed g.so_far g.taken ([], All-nil _, Consumes-nil now, inl refl)
 
--- memory was refused before anything was read
+-- an allocation failed before anything was read
 pub refused : {F K : Type 0} (beginning : ItemBeginning F K) (choice : Choice) (unread before unsaid : Option (List ℕ))
     → TracesInput beginning choice (streams_of unread unread before before unsaid unsaid) OutOfMemory
 refused beginning choice unread before unsaid = (

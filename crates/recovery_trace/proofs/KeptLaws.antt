@@ -1,4 +1,4 @@
--- What is said of what is kept of a line holds of the line: `run` rests on it.
+-- What is stated about the stored part of a line holds for the line: `run` rests on it.
 use Rattle.std.proofs.Common.{◌↔◌, ℕ, ◌≤◌, List, [], ◌∷◌, length, take, sym, ap, subst, arith, length-append, length-take}
 use Rattle.recovery_script_syntax.specs.Lines.{EncodesEvent}
 use Rattle.recovery_replay.specs.Reading.{TruncatedLine}

@@ -1,7 +1,7 @@
--- Texts written one behind the other: `write_state`, `write_metrics` and `write_turn` rest on them.
+-- Texts that are appended one after another: `write_state`, `write_metrics` and `write_turn` rest on them.
 use Rattle.std.proofs.Common.{◌≡◌, ℕ, List, ◌++◌, OnOk, Result, Ok, Err, ap, ◌∙◌, append_assoc}
 
--- five parts, of which the last may have been refused
+-- five parts, of which the allocation of the last may have failed
 pub five : {X E : Type 0} (r : Result X E) (start one two three four five' a b c d e : List ℕ)
     → one ≡ start ++ a → two ≡ one ++ b → three ≡ two ++ c → four ≡ three ++ d → OnOk r (five' ≡ four ++ e)
     → OnOk r (five' ≡ start ++ (a ++ (b ++ (c ++ (d ++ e)))))

@@ -1,4 +1,4 @@
--- One line more of a trace, and its ends: `run` rests on it.
+-- One more line of a trace, and its ends: `run` rests on it.
 use Rattle.std.proofs.Common.{◌≡◌, ℕ, suc, ◌+◌, ◌<◌, ◌≤◌, max, inl, inr, true, false, List, [], ◌∷◌, ◌++◌, length, reverse, take, All, Option, refl, sym, ap, subst, true≢false, ◌∙◌, arith, append-nil, append_assoc}
 use Rattle.std.specs.List.{flat_map}
 use Rattle.std.proofs.lemmas.List.{reverse-append}
@@ -53,7 +53,7 @@ pub one_line : (cut : List ℕ) → NoFeed cut → length (lines_of cut) ≤ 1
 one_line [] h = omega arith
 one_line (byte ∷ cut) h = omega (arith, ap length (alone (byte ∷ cut) h (omega arith)))
 
--- what was taken so far are these lines
+-- what was read so far are these lines
 pub record Taken (unread now : Option (List ℕ)) (lines : List (List ℕ)) : Type 0 where
   pub no_feeds : All NoFeed (reverse lines)
   pub taken : Consumes unread now (flat_map ended (reverse lines))
@@ -99,7 +99,7 @@ module _ (unread now left : Option (List ℕ)) (lines : List (List ℕ)) (t : Ta
         ∙ sym (turned line lines),
   )
 
--- ---- what the lines came to
+-- ---- the outcome of the lines
 
 module _ {F K : Type 0} (beginning : ItemBeginning F K) (choice : Choice) where
   -- how the trace would end if it ended here
@@ -108,7 +108,7 @@ module _ {F K : Type 0} (beginning : ItemBeginning F K) (choice : Choice) where
   SoFar (Ended (BadLine number)) lines = LastUnreadable number lines × (choice.is_strict ≡ false)
   SoFar outcome lines = ⊥
 
-  -- what these lines came to, and the recovery and the time by then
+  -- the outcome of these lines, and the recovery and the time by then
   pub record Made (before after unsaid said : Option (List ℕ)) (recovery : ItemParts K) (time : ℕ)
       (lines : List (List ℕ)) : Type 0 where
     pub text : List ℕ
@@ -141,7 +141,7 @@ module _ {F K : Type 0} (beginning : ItemBeginning F K) (choice : Choice) where
         → later ≡ max (time_of m.traced.past) (moment_of event)
     is_later event timed = timed ∙ ap (λ time. max time (moment_of event)) m.timed
 
-    -- the line's event is done
+    -- the line's event is applied
     abbrev traced_done : (event : ItemEvent) (reply : ScriptReply) (text : List ℕ) → EncodesEvent line event
         → StepFromPast beginning m.traced.past event reply new → later ≡ max earlier (moment_of event)
         → text ≡ turn_text beginning.words choice.shows later (note_of event) reply new
@@ -214,7 +214,7 @@ module _ {F K : Type 0} (beginning : ItemBeginning F K) (choice : Choice) where
       is_said = Appends-trans unsaid now_said said m.told (take front.0 text) m.is_said front.1;
     }
 
-    -- a write of its answer breaks off
+    -- a write of its answer fails
     pub front_out : (unread left : Option (List ℕ)) (event : ItemEvent) (reply : ScriptReply) (text : List ℕ)
         → EncodesEvent line event
         → StepFromPast beginning m.traced.past event reply new → later ≡ max earlier (moment_of event)
@@ -275,7 +275,7 @@ module _ {F R C K : Type 0} {f : _} {c : _} {q : _} {m : _} {r : _} (config : Re
 
     module _ (unread left : Option (List ℕ)) (so_far : Outcome)
         (is_so_far : SoFar (origin old config start random) choice so_far lines) where
-      -- the write of its answer broke off
+      -- the write of its answer failed
       broken : ((text : List ℕ) × AppliesLineEvent choice.shows kept old new earlier later text
           × AppendsFront now after text)
           × Keeps now_said said
@@ -292,7 +292,7 @@ module _ {F R C K : Type 0} {f : _} {c : _} {q : _} {m : _} {r : _} (config : Re
                 (does.goes config start random made.traced.past made.came) does.timed does.written front kept_said,
           )
 
-      -- it is over with this line, which was taken
+      -- the trace ends with this line, which was read
       pub turn_over : (outcome : Outcome)
           → LineOutcome choice.shows kept number old new earlier later now after now_said said (Over outcome)
           → ConsumesLines (streams_of unread left before after unsaid said) (line ∷ lines)
@@ -329,7 +329,7 @@ module _ {F K : Type 0} (beginning : ItemBeginning F K) (choice : Choice)
   all_out : WroteAll beginning choice ends lines
   all_out = (made.text, made.told, made.traced, made.out, made.is_said)
 
-  -- the input is over
+  -- the input is at its end
   pub ends_so : (outcome : Outcome) → SoFar beginning choice outcome lines → ConsumesLines ends lines → IsAtEnd left
       → TracesInput beginning choice ends outcome
   ends_so (Ended Whole) so_far takes over = (lines, takes, over, so_far, all_out)
@@ -337,7 +337,7 @@ module _ {F K : Type 0} (beginning : ItemBeginning F K) (choice : Choice)
       (lines, takes, subst (λ s. EndsBad s number ends lines) (sym so_far.1) (so_far.0, over), all_out)
   ends_so outcome so_far takes over = absurd so_far
 
-  -- a read fails, or memory is refused, on the way to the end of a line
+  -- a read or an allocation fails before the end of a line
   pub ends_cut : (now : Option (List ℕ)) (so_far : Outcome) (why : Unread) → SoFar beginning choice so_far lines
       → Taken unread now lines → BreaksOff now left why → TracesInput beginning choice ends (outcome_of why)
   ends_cut now so_far why is_so_far taken (cut, no_feed, consumed, inl is) = rw is (
@@ -357,7 +357,7 @@ module _ {F K : Type 0} (beginning : ItemBeginning F K) (choice : Choice)
     (unread left before after unsaid said : Option (List ℕ)) (recovery : ItemParts K) (time : ℕ)
     (line : List ℕ) (lines : List (List ℕ))
     (made : Made beginning choice before after unsaid said recovery time (line ∷ lines)) where
-  -- a line that cannot be read ends a strict trace
+  -- a line that cannot be parsed ends a strict trace
   pub ends_bad : (so_far : Outcome) → SoFar beginning choice so_far lines → choice.is_strict ≡ true
       → IsUnreadableLine line → (number : ℕ) → number ≡ length lines + 1
       → ConsumesLines (streams_of unread left before after unsaid said) (line ∷ lines)

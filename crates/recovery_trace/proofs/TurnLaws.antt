@@ -1,4 +1,4 @@
--- A write that breaks off: `take_turn` rests on it.
+-- A write that fails: `take_turn` rests on it.
 use Rattle.std.proofs.Common.{ℕ, inl, inr, List, Option, sym, subst}
 use Rattle.std.specs.Io.KnownBytes.{Keeps}
 use Rattle.quic_recovery.specs.declared.driver.Recovery.{Recovery}

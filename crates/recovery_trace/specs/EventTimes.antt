@@ -3,7 +3,7 @@ use Rattle.std.specs.Prelude.{ℕ}
 use Rattle.recovery_events.specs.declared.event.Event.TheVariants.{Received, Send, Acked, IssueIds, Transmit, PacerCheck, Congestion, EndAcks, PollMtu, LossesDone, NewPath, ResetPath}
 use Rattle.recovery_script_syntax.specs.Lines.{ItemEvent}
 
--- the moment at which an event happens, or 0 where it tells none
+-- the time of an event, or 0 if it has none
 abbrev pub moment_of : ItemEvent → ℕ
 moment_of (Received space now number eliciting) = now
 moment_of (Send space now size eliciting largest queue frames) = now

@@ -1,4 +1,4 @@
--- What is told of a line that cannot be read.
+-- The report of a line that cannot be parsed.
 use Rattle.std.specs.Prelude.{◌≡◌, ℕ, List, [], ◌∷◌, ◌++◌, take, decimal, slice_range}
 use Rattle.std.specs.List.{flat_map}
 use Rattle.std.specs.Str.{IsAscii}
@@ -12,19 +12,19 @@ use Rattle.recovery_trace.specs.Faults.{NamesWordOf}
 abbrev pub most_shown : ℕ
 most_shown = 64
 
--- the first 64 bytes of a word between quotes, each as Rust escapes it in a text
+-- the first 64 bytes of a word between quotes, each as Rust escapes it in a string
 abbrev pub quoted : List ℕ → List ℕ
 quoted word = 34 ∷ (flat_map (debug_escape 34) (take most_shown word) ++ 34 ∷ [])
 
--- how the line of this number is named, and a word of it
+-- the name of the line of this number, and of a word of it
 abbrev pub line_named : ℕ → List ℕ
 line_named number = codes "line " ++ (decimal number ++ codes ": ")
 
 abbrev pub word_named : ℕ → List ℕ
 word_named number = codes "cannot read word " ++ (decimal number ++ codes ", ")
 
--- Behind what stood before, the line that tells a fault of the line of this number; of a word that is not ASCII alone
--- nothing is said.
+-- The report of a fault of the line of this number, after what was written before. Nothing is stated about a word that
+-- is not ASCII.
 abbrev pub TellsFault : List ℕ → ℕ → Fault → List ℕ → List ℕ → Type 0
 TellsFault line number TooLong before text = text ≡ (before ++ line_named number) ++ codes "longer than 4096 bytes\n"
 TellsFault line number TooShort before text =
@@ -33,6 +33,6 @@ TellsFault line number (Word word start end) before text =
     IsAscii (slice_range line start end)
     → text ≡ (((before ++ line_named number) ++ word_named word) ++ quoted (slice_range line start end)) ++ codes "\n"
 
--- it tells a fault that the line has
+-- it reports a fault that the line has
 abbrev pub ReportsFault : List ℕ → ℕ → List ℕ → Type 0
 ReportsFault line number text = (fault : Fault) × NamesWordOf line fault × TellsFault line number fault [] text

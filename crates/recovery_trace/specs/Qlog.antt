@@ -1,5 +1,5 @@
--- What is written of an event as qlog, in JSON text sequences (RFC 7464; draft-ietf-quic-qlog-quic-events): times and
--- spans in milliseconds, as whole nanoseconds with an exponent.
+-- The qlog records of an event, as JSON text sequences (RFC 7464; draft-ietf-quic-qlog-quic-events): times and spans in
+-- milliseconds, as whole nanoseconds with an exponent.
 use Rattle.std.specs.Prelude.{ℕ, ◌-◌, Bool, true, false, List, [], ◌∷◌, ◌++◌, Ok, decimal}
 use lib.Chars.{codes}
 use Rattle.recovery_base.specs.declared.below.SpaceId.{SpaceId}
@@ -16,7 +16,7 @@ use Rattle.recovery_trace.specs.declared.qlog.Note.{Note}
 use Rattle.recovery_trace.specs.declared.qlog.Note.TheVariants.{Sent, Probing, Received, Lost, Congestion, Set, Stopped, Nothing}
 use Rattle.recovery_trace.specs.States.{flight_text, window_text, rtt_text}
 
--- what qlog has a word for of an event
+-- what qlog can express of an event
 abbrev pub note_of : ItemEvent → Note
 note_of (events.Send space now size eliciting largest queue frames) = Sent space size eliciting
 note_of (events.PollMtu now) = Probing
@@ -27,14 +27,14 @@ note_of (events.SetTimer LossDetection time) = Set time
 note_of (events.StopTimer LossDetection) = Stopped
 note_of event = Nothing
 
--- the record before all events
+-- the header record
 abbrev pub header_text : List ℕ
 header_text =
     30 ∷ (codes "{\"qlog_version\":\"0.3\",\"qlog_format\":\"JSON-SEQ\",\"title\":\"recovery-trace\",\"trace\":"
     ++ (codes "{\"vantage_point\":{\"type\":\"unknown\"},\"common_fields\":"
     ++ codes "{\"time_format\":\"relative\",\"reference_time\":0}}}\n"))
 
--- a record of a time, by its name and its data
+-- a record with a time, a name and data
 abbrev pub record_text : ℕ → List ℕ → List ℕ → List ℕ
 record_text time name values =
     30 ∷ (codes "{\"time\":" ++ (decimal time ++ (codes "e-6,\"name\":\"" ++ (name
@@ -47,7 +47,7 @@ type_text Initial = codes "initial"
 type_text Handshake = codes "handshake"
 type_text Data = codes "1RTT"
 
--- of its frames a line says whether one elicits an ACK
+-- of the frames, the record has whether one is ack-eliciting
 abbrev pub frame_text : Bool → List ℕ
 frame_text true = codes "ping"
 frame_text false = codes "padding"
@@ -70,7 +70,7 @@ unfoldable pub lost_text : ℕ → List ℕ → ℕ → List ℕ
 lost_text time kind number =
     record_text time (codes "recovery:packet_lost") (packet_text kind number (codes "}}}\n"))
 
--- ---- congestion, and the timer for losses and probes
+-- ---- congestion, and the loss detection timer
 
 abbrev pub trigger_text : Bool → List ℕ
 trigger_text true = codes ",\"trigger\":\"persistent_congestion\""
@@ -89,9 +89,9 @@ set_text time delta =
 unfoldable pub stopped_text : ℕ → List ℕ
 stopped_text time = record_text time (codes "recovery:timer_updated") (codes "\"event_type\":\"cancelled\"}}\n")
 
--- ---- an event, and what it leaves
+-- ---- an event, and the state after it
 
--- its own record, where it was not refused
+-- its own record, if it was not rejected
 abbrev pub note_text : ℕ → Note → ScriptReply → List ℕ
 note_text time (Sent space size eliciting) (Ok (answers.Sent number forgotten)) =
     sent_text time (type_text space) number size (frame_text eliciting)

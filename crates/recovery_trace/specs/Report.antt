@@ -9,7 +9,7 @@ use Rattle.recovery_replay.specs.Outcomes.{outcome_text}
 abbrev pub usage_text : List ℕ
 usage_text = codes "usage: recovery-trace [--state|--qlog] [--strict] [--controller NAME] [SEED [WINDOW]]\n"
 
--- each line that cannot be read was reported already
+-- each line that cannot be parsed was reported already
 abbrev pub error_text : Outcome → List ℕ
 error_text (Ended (BadLine number)) = []
 error_text outcome = outcome_text (codes "recovery-trace") usage_text outcome

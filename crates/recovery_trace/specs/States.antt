@@ -18,7 +18,7 @@ flight_text flight =
     codes "\"bytes_in_flight\":" ++ (decimal flight.bytes ++ (codes ",\"packets_in_flight\":"
     ++ decimal flight.ack_eliciting))
 
--- none yet where it is infinite (RFC 9002, B.3), which is 2^64 - 1
+-- none while it is infinite (RFC 9002, B.3), which is 2^64 - 1
 abbrev pub threshold_text : Option ℕ → List ℕ
 threshold_text (Some bytes) = if nat_lt bytes largest_u64 then codes ",\"ssthresh\":" ++ decimal bytes else []
 threshold_text None = []
@@ -33,7 +33,7 @@ spans_text smoothed variance least latest =
     ++ (codes "e-6,\"min_rtt\":" ++ (decimal least ++ (codes "e-6,\"latest_rtt\":" ++ (decimal latest
     ++ codes "e-6")))))))
 
--- the best estimate is the initial RTT, and so is the last sample, before the first one (RFC 9002, 5)
+-- before the first sample, the smoothed RTT and the last sample are the initial RTT (RFC 9002, 5)
 abbrev pub rtt_text : Rtt → List ℕ
 rtt_text rtt = spans_text (rtt_get rtt) rtt.variance rtt.least rtt.latest
 

@@ -1,4 +1,4 @@
--- What a trace makes of its input.
+-- The output of a trace for its input.
 use Rattle.std.specs.Prelude.{◌≡◌, ℕ, ◌+◌, ◌≤◌, max, ◌⊎◌, Bool, true, false, List, [], ◌∷◌, ◌++◌, length, reverse, take, All, Option}
 use Rattle.std.specs.List.{flat_map}
 use Rattle.std.specs.declared.net.socket_addr.SocketAddr.{SocketAddr}
@@ -41,7 +41,7 @@ ItemBeginning F K = Beginning F K (List ℕ) (Unit {0}) (Unit {0}) (List ℕ)
 
 -- ---- the lines of a trace, the newest first
 
--- they spell the events of a past, in their order; any other line spells none
+-- they encode the events of a past, in their order; any other line is no event
 abbrev pub SpelledBy : List (List ℕ) → ItemHistory → Type 0
 SpelledBy [] [] = Unit {0}
 SpelledBy [] (happened ∷ past) = ⊥
@@ -49,7 +49,7 @@ SpelledBy (line ∷ lines) [] = IsSkippedLine line × SpelledBy lines []
 SpelledBy (line ∷ lines) (happened ∷ past) =
     (EncodesEvent line happened.0 × SpelledBy lines past) ⊎ (IsSkippedLine line × SpelledBy lines (happened ∷ past))
 
--- what is told of them: of each that cannot be read a line, or a beginning of one that could not be written
+-- their reports: for each line that cannot be parsed one line, or a prefix of one that could not be written
 abbrev pub FaultReportsOf : List (List ℕ) → List ℕ → Type 0
 FaultReportsOf [] told = told ≡ []
 FaultReportsOf (line ∷ lines) told =
@@ -57,14 +57,14 @@ FaultReportsOf (line ∷ lines) told =
     ⊎ (IsUnreadableLine line × ((front : List ℕ) × (text : List ℕ) × (n : ℕ) × FaultReportsOf lines front
     × ReportsFault line (length lines + 1) text × (told ≡ front ++ take n text)))
 
--- the greatest moment at which an event of a past happened, or 0
+-- the latest time of an event of a past, or 0
 abbrev pub time_of : ItemHistory → ℕ
 time_of [] = 0
 time_of (happened ∷ past) = max (time_of past) (moment_of happened.0)
 
 module _ {F K : Type 0} (beginning : ItemBeginning F K) (shows : Shown) where
-  -- what is written of a past: of each event the line of its reply, and behind it, where it is asked for, that of the
-  -- time and of the state to which the past came by then, or its records of qlog
+  -- the output of a past: for each event the line of its reply, and, if asked for, that of the time and state after it,
+  -- or its qlog records
   abbrev pub OutputOf : ItemHistory → List ℕ → Type 0
   OutputOf [] text = text ≡ []
   OutputOf (happened ∷ past) text =
@@ -72,8 +72,8 @@ module _ {F K : Type 0} (beginning : ItemBeginning F K) (shows : Shown) where
       × (text ≡ front
       ++ turn_text beginning.words shows (time_of (happened ∷ past)) (note_of happened.0) happened.1 left)
 
-  -- What these lines spell happened, and all that is promised of whole runs holds at each event; this is written of it,
-  -- and this is told of the lines.
+  -- What these lines encode happened, and all promises hold at each event; this is the output, and these are the
+  -- reports.
   pub record TraceGuarantees (lines : List (List ℕ)) (text told : List ℕ) : Type 0 where
     pub past : ItemHistory
     pub spelled : SpelledBy lines past
@@ -83,7 +83,7 @@ module _ {F K : Type 0} (beginning : ItemBeginning F K) (shows : Shown) where
 
 -- ---- how a trace ends
 
--- what an input had left before and after, and what an output and one for errors held
+-- the rest of an input before and after, and the contents of an output and one for errors
 pub record Streams : Type 0 where
   pub unread : Option (List ℕ)
   pub left : Option (List ℕ)
@@ -96,27 +96,27 @@ abbrev pub streams_of : (unread left before after unsaid said : Option (List ℕ
 streams_of unread left before after unsaid said =
     record { unread = unread; left = left; before = before; after = after; unsaid = unsaid; said = said }
 
--- bytes were taken that are these lines, the newest first; the last may lack its line feed
+-- bytes were read that are these lines, the newest first; the last may lack its line feed
 abbrev pub ConsumesLines : Streams → List (List ℕ) → Type 0
 ConsumesLines streams lines =
     (taken : List ℕ) × Consumes streams.unread streams.left taken × (lines_of taken ≡ reverse lines)
 
--- they were taken, each with its line feed, and behind them what was not looked at
+-- they were read, each with its line feed, and after them bytes that were not examined
 abbrev pub TakesAlso : Streams → List (List ℕ) → List ℕ → Type 0
 TakesAlso streams lines more =
     Consumes streams.unread streams.left (flat_map ended (reverse lines) ++ more)
 
--- a trace that stops at a line that cannot be read has none behind it
+-- a trace that stops at a line that cannot be parsed has none after it
 abbrev pub AreParseableLines : Choice → List (List ℕ) → Type 0
 AreParseableLines choice lines = choice.is_strict ≡ true → All IsFine lines
 
--- the last of the lines that cannot be read has this number
+-- the last of the lines that cannot be parsed has this number
 abbrev pub LastUnreadable : ℕ → List (List ℕ) → Type 0
 LastUnreadable number [] = ⊥
 LastUnreadable number (line ∷ lines) =
     (IsUnreadableLine line × (number ≡ length lines + 1)) ⊎ (IsFine line × LastUnreadable number lines)
 
--- the last line cannot be read, and those before can; or the input is over, and some line cannot be read
+-- the last line cannot be parsed, and those before can; or the input is at its end, and some line cannot be parsed
 abbrev pub EndsBad : Bool → ℕ → Streams → List (List ℕ) → Type 0
 EndsBad true number streams [] = ⊥
 EndsBad true number streams (line ∷ lines) =
@@ -124,20 +124,20 @@ EndsBad true number streams (line ∷ lines) =
 EndsBad false number streams lines = LastUnreadable number lines × IsAtEnd streams.left
 
 module _ {F K : Type 0} (beginning : ItemBeginning F K) (choice : Choice) (streams : Streams) where
-  -- all of it was written and told
+  -- all of the output and the reports was written
   abbrev pub WroteAll : List (List ℕ) → Type 0
   WroteAll lines =
       (text : List ℕ) × (told : List ℕ) × TraceGuarantees beginning choice.shows lines text told
       × Appends streams.before streams.after text × Appends streams.unsaid streams.said told
 
-  -- a beginning of it was written
+  -- a prefix of the output was written
   abbrev pub WrotePrefix : List (List ℕ) → Type 0
   WrotePrefix lines =
       (text : List ℕ) × (told : List ℕ) × TraceGuarantees beginning choice.shows lines text told
       × AppendsFront streams.before streams.after text × Appends streams.unsaid streams.said told
 
-  -- These lines were read, and all that they spell is out where the input is over or a read fails: of a line that this
-  -- cuts off nothing is. A write that breaks off is the last; where memory is refused, at most one line more was taken.
+  -- These lines were read. If the input is at its end or a read fails, all of their output is written; a line that the
+  -- failure cuts off has none. A write that fails is the last; if an allocation fails, at most one more line was read.
   abbrev pub TracesInput : Outcome → Type 0
   TracesInput (Ended Whole) =
       (lines : List (List ℕ)) × ConsumesLines streams lines × IsAtEnd streams.left × All IsFine lines × WroteAll lines
@@ -159,34 +159,34 @@ module _ {F K : Type 0} (beginning : ItemBeginning F K) (choice : Choice) (strea
 -- ---- a trace from its beginning
 
 module _ {F R C K : Type 0} {f : _} {c : _} {q : _} {m : _} {r : _} where
-  -- a beginning of a recovery over its own controllers and queues
+  -- a beginning of a recovery with its own controllers and queues
   abbrev pub origin : Recovery F (List ℕ) R C K (Unit {0}) (Unit {0}) (List ℕ) f c q m r → RecoveryConfig F → ℕ → Stream
       → ItemBeginning F K
   origin recovery config start random =
       begins f.built c.words (queue_model q.contents q.words q.blank) config start random
 
-  -- from a recovery on to which nothing has happened, however it began
+  -- from a recovery without any event, however it began
   abbrev pub TracesFrom : Recovery F (List ℕ) R C K (Unit {0}) (Unit {0}) (List ℕ) f c q m r → Choice → Streams
       → Outcome → Type 0
   TracesFrom recovery choice streams outcome = (config : RecoveryConfig F) (start : ℕ) (random : Stream) →
       ReachedBy (origin recovery config start random) [] (state_of recovery)
       → TracesInput (origin recovery config start random) choice streams outcome
 
--- from the moment 0 on, over these controllers, with a peer at an address of its port
+-- from time 0 on, with these controllers and a peer at an address with its port
 abbrev pub TracesOver : {F K : Type 0} → (F → ℕ → ℕ → K) → ControllerSemantics K → F → Choice → Streams → Outcome
     → Type 0
 TracesOver built words factory choice streams outcome =
     (remote : SocketAddr) × IsDocumentationAddress first_port remote
     × TracesInput (begun_over built words factory choice.seed remote) choice streams outcome
 
--- the same over the controllers that are chosen: NewReno (RFC 9002, 7), CUBIC (RFC 9438), or those of a fixed window
+-- the same with the chosen controllers: NewReno (RFC 9002, 7), CUBIC (RFC 9438), or those of a fixed window
 abbrev pub TracesBy : Controllers → Choice → Streams → Outcome → Type 0
 TracesBy NewReno choice streams outcome = TracesOver reno_made reno_words default_reno choice streams outcome
 TracesBy Cubic choice streams outcome = TracesOver cubic_made cubic_words default_window choice streams outcome
 TracesBy (Fixed factory) choice streams outcome =
     TracesOver (λ fixed now mtu. fixed_made fixed.window) fixed_words factory choice streams outcome
 
--- a trace behind the record before all events of qlog, or a write of that broke off, and nothing was read
+-- a trace after the header record of qlog, or a write of that failed, and nothing was read
 abbrev pub TracesBehind : Choice → Streams → Outcome → Type 0
 TracesBehind choice streams outcome =
     ((headed : Option (List ℕ)) × Appends streams.before headed header_text

@@ -1,4 +1,4 @@
--- What a line of a trace comes to.
+-- The outcome of a line of a trace.
 use Rattle.std.specs.Prelude.{◌≡◌, ℕ, max, ◌⊎◌, Bool, true, false, List, [], ◌∷◌, ◌++◌, Option}
 use Rattle.std.specs.Io.KnownBytes.{Appends, Keeps}
 use Rattle.recovery_congestion.specs.Controllers.{ControllerSemantics}
@@ -22,7 +22,7 @@ use Rattle.recovery_trace.specs.FaultReports.{ReportsFault}
 
 -- ---- lines
 
--- it spells no event
+-- it is no event
 abbrev pub IsSkippedLine : List ℕ → Type 0
 IsSkippedLine line = (event : ItemEvent) → ¬ EncodesEvent line event
 
@@ -31,21 +31,20 @@ abbrev pub IsSilent : List ℕ → Type 0
 IsSilent [] = Unit {0}
 IsSilent (byte ∷ bytes) = byte ≡ 35
 
--- it spells an event, or is passed over in silence
+-- it is an event, or an empty line or comment
 abbrev pub IsFine : List ℕ → Type 0
 IsFine line = ((event : ItemEvent) × EncodesEvent line event) ⊎ (IsSkippedLine line × IsSilent line)
 
--- it cannot be read
+-- it cannot be parsed
 abbrev pub IsUnreadableLine : List ℕ → Type 0
 IsUnreadableLine line = IsSkippedLine line × ¬ IsSilent line
 
--- ---- what is written of an event
+-- ---- the output of an event
 
 abbrev pub ItemParts : Type 0 → Type 0
 ItemParts K = RecoveryState K (List ℕ) (Unit {0})
 
--- the line of its reply, and behind it, where it is asked for, that of the time and of the state that is left; or its
--- records of qlog
+-- the line of its reply, and, if asked for, that of the time and of the state after it; or its qlog records
 abbrev pub turn_text : {K : Type 0} → ControllerSemantics K → Shown → ℕ → Note → ScriptReply → ItemParts K → List ℕ
 turn_text words shown.Answers time note reply left = answer_line reply
 turn_text words shown.States time note reply left = answer_line reply ++ state_text words time left.paths.current
@@ -55,7 +54,7 @@ turn_text words shown.Qlog time note reply left =
 -- ---- one line
 
 module _ {F R C K : Type 0} {f : _} {c : _} {q : _} {m : _} {r : _} where
-  -- the event that it spells is done, the time moves on to its moment where that is later, and this is written of it
+  -- its event is applied, the time advances to that of the event if that is later, and this is the output
   pub record AppliesLineEvent (shows : Shown) (line : List ℕ)
       (old new : Recovery F (List ℕ) R C K (Unit {0}) (Unit {0}) (List ℕ) f c q m r) (earlier later : ℕ)
       (text : List ℕ) : Type 0 where
@@ -66,7 +65,7 @@ module _ {F R C K : Type 0} {f : _} {c : _} {q : _} {m : _} {r : _} where
     pub timed : later ≡ max earlier (moment_of event)
     pub written : text ≡ turn_text c.words shows later (note_of event) reply (state_of new)
 
-  -- so it is, or the line spells no event, and nothing is done
+  -- so it is, or the line is no event, and nothing happens
   abbrev pub TurnOutcome : Shown → List ℕ → Recovery F (List ℕ) R C K (Unit {0}) (Unit {0}) (List ℕ) f c q m r
       → Recovery F (List ℕ) R C K (Unit {0}) (Unit {0}) (List ℕ) f c q m r → ℕ → ℕ → List ℕ → Bool
       → Type 0
@@ -74,10 +73,10 @@ module _ {F R C K : Type 0} {f : _} {c : _} {q : _} {m : _} {r : _} where
   TurnOutcome shows line old new earlier later text false =
       IsSkippedLine line × (state_of new ≡ state_of old) × (later ≡ earlier)
 
-  -- What a line of this number comes to, by what the outputs held before and after:
-  -- its event is done and what is written of it is out, or it is passed over in silence and nothing is done;
-  -- it cannot be read, nothing is done, and that is told, as far as it can be written;
-  -- its event is done, and a write of it broke off; or memory is refused, and nothing was written.
+  -- The outcome of a line of this number, by the outputs before and after. Either its event is applied and its output
+  -- written, or it is an empty line or comment and nothing happens. Or it cannot be parsed, and that is reported as far
+  -- as it can be written. Or its event is applied, and a write of its output failed. Or an allocation failed, and
+  -- nothing was written.
   abbrev pub LineOutcome : Shown → List ℕ → ℕ → Recovery F (List ℕ) R C K (Unit {0}) (Unit {0}) (List ℕ) f c q m r
       → Recovery F (List ℕ) R C K (Unit {0}) (Unit {0}) (List ℕ) f c q m r → ℕ → ℕ → Option (List ℕ)
       → Option (List ℕ) → Option (List ℕ) → Option (List ℕ) → Turn → Type 0

@@ -1,4 +1,4 @@
-//! What it is of a line that cannot be read.
+//! The fault of a line that cannot be parsed.
 ghost use Rattle.std.specs.Prelude.{◌≤◌, IfOk, IsTrue, length};
 ghost use Rattle.recovery_trace.specs.Faults.{IsEventPrefix, EndsWord, NamesWordOf};
 ghost use Rattle.recovery_script_syntax.specs.Words.{longest_line};
@@ -47,25 +47,25 @@ const EXAMPLES: [&str; 36] = [
     "revert-path",
 ];
 
-/// Why a line spells no event.
+/// Why a line is no event.
 #[derive(Clone, Copy)]
 pub enum Fault {
     /// It has more than 4096 bytes.
     TooLong,
     /// Words are missing at its end.
     TooShort,
-    /// A word cannot stand where it stands, or is one too many.
+    /// A word does not fit its place, or is one too many.
     Word {
         /// Which word of the line, counted from 1.
         number: u64,
-        /// Where it begins, in bytes from the line's first.
+        /// Its start, in bytes from the line's first.
         start: usize,
-        /// Where it ends.
+        /// Its end.
         end: usize,
     },
 }
 
-/// Where the first word of a line ends that begins at a place or behind it.
+/// Returns the end of the word of a line that begins at a place.
 fn word_end(line: &[u8], start: usize) -> usize
     requires { start ≤ length line.now }
     ensures { EndsWord line.now start result }
@@ -77,7 +77,7 @@ fn word_end(line: &[u8], start: usize) -> usize
     end
 }
 
-/// The example of the event whose name bytes are, or none.
+/// Returns the example of the event with this name, if any.
 fn example_of(name: &[u8]) -> Option<&'static [u8]> {
     for example in EXAMPLES {
         let bytes = example.as_bytes();
@@ -88,7 +88,7 @@ fn example_of(name: &[u8]) -> Option<&'static [u8]> {
     None
 }
 
-/// Do bytes begin a line that spells an event and goes on so?
+/// Returns whether these bytes begin a line that is an event, with this continuation.
 fn begins(alloc: Global, front: &[u8], behind: &[u8]) -> Result<bool, NoMemory>
     ensures { IfOk result (λ does. IsTrue does → IsEventPrefix front.now) }
 {
@@ -100,7 +100,7 @@ fn begins(alloc: Global, front: &[u8], behind: &[u8]) -> Result<bool, NoMemory>
     push_event(&line, &mut events)
 }
 
-/// What stands behind the first word of what may begin with a space.
+/// Returns what follows the first word of bytes that may begin with a space.
 fn behind_word(words: &[u8]) -> &[u8] {
     if words.is_empty() {
         return words;
@@ -108,7 +108,7 @@ fn behind_word(words: &[u8]) -> &[u8] {
     &words[word_end(words, 1)..]
 }
 
-/// Which word of a line is the first that the words of an example cannot follow.
+/// Returns the first word of a line that cannot continue as the example does.
 fn fault_beside(alloc: Global, line: &[u8], example: &[u8]) -> Result<Fault, NoMemory>
     requires { length line.now ≤ longest_line }
     ensures { IfOk result (NamesWordOf line.now) }
@@ -130,8 +130,7 @@ fn fault_beside(alloc: Global, line: &[u8], example: &[u8]) -> Result<Fault, NoM
     Ok(Fault::TooShort)
 }
 
-/// Why a line spells no event that is known to spell none. What stands before the word that is named begins a line that
-/// spells one.
+/// Returns why a line is no event. What precedes the reported word begins a line that is an event.
 pub fn fault_in(alloc: Global, line: &[u8]) -> Result<Fault, NoMemory>
     ensures { IfOk result (NamesWordOf line.now) }
 {

@@ -1,4 +1,4 @@
-//! The program `recovery-trace`: one event at a time, its reply at once, and the state where it is asked for. Begin at
+//! The program `recovery-trace`: one event at a time, its reply immediately, and the state if asked for. Begin at
 //! `turn.rt`.
 #![tactic(auto)]
 
@@ -22,7 +22,7 @@ use std::io::BufReader;
 use std::process::ExitCode;
 use trace::trace;
 
-/// A trace from standard input to standard output.
+/// Runs a trace from standard input to standard output.
 fn traced(rt: &HostRuntime, choice: Choice) -> Outcome {
     match BufReader::new(rt.alloc(), rt.reader()) {
         Ok(mut input) => trace(
@@ -36,7 +36,7 @@ fn traced(rt: &HostRuntime, choice: Choice) -> Outcome {
     }
 }
 
-/// What a text that was asked for comes to.
+/// Returns the outcome of writing a requested text.
 fn written(text: io::Result<()>) -> Outcome {
     match text {
         Ok(()) => Outcome::Ended(Ending::Whole),
@@ -44,7 +44,7 @@ fn written(text: io::Result<()>) -> Outcome {
     }
 }
 
-/// What the arguments ask for is done.
+/// Does what the arguments ask for.
 fn carried_out(rt: &HostRuntime) -> Outcome {
     match arguments(rt) {
         Ok(words) => match request_of(&words) {

@@ -5,7 +5,7 @@ ghost use Rattle.recovery_trace.specs.EventTimes.{moment_of};
 use recovery_events::event::Event;
 use recovery_queue::items::ItemQueue;
 
-/// The moment at which an event happens, in nanoseconds, or 0 where it tells none.
+/// Returns the time of an event, in nanoseconds, or 0 if it has none.
 pub fn moment_of(event: &Event<ItemQueue>) -> u64
     ensures { result ≡ moment_of event.now }
 {

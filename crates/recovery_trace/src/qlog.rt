@@ -1,4 +1,4 @@
-//! What is written of an event as qlog, in JSON text sequences (RFC 7464; draft-ietf-quic-qlog-quic-events).
+//! The qlog records of an event, as JSON text sequences (RFC 7464; draft-ietf-quic-qlog-quic-events).
 ghost use Rattle.std.specs.Prelude.{◌≡◌, ◌++◌, OnOk, string_bytes};
 ghost use Rattle.recovery_trace.specs.Qlog.{note_of, type_text, frame_text, trigger_text, sent_text, received_text, lost_text};
 ghost use Rattle.recovery_trace.specs.Qlog.{congestion_text, set_text, stopped_text, note_text, metrics_named, metrics_text};
@@ -12,34 +12,34 @@ use recovery_paths::paths::PathData;
 use recovery_queue::items::ItemQueue;
 use std::alloc::AllocError;
 
-/// The record before all events.
+/// The header record.
 pub const HEADER: &str =
     "\u{1e}{\"qlog_version\":\"0.3\",\"qlog_format\":\"JSON-SEQ\",\"title\":\"recovery-trace\",\
 \"trace\":{\"vantage_point\":{\"type\":\"unknown\"},\"common_fields\":{\"time_format\":\"relative\",\
 \"reference_time\":0}}}\n";
 
-/// What qlog has a word for of an event.
+/// What qlog can express of an event.
 #[derive(Clone, Copy)]
 pub enum Note {
-    /// A packet goes out: its space, its size in bytes, and whether it elicits an ACK.
+    /// A packet is sent: its space, its size in bytes, and whether it is ack-eliciting.
     Sent(SpaceId, u16, bool),
-    /// A probe of the MTU goes out where one is due.
+    /// An MTU probe is sent if one is due.
     Probing,
-    /// A packet came in: its space, its number, and whether it elicits an ACK.
+    /// A packet was received: its space, its number, and whether it is ack-eliciting.
     Received(SpaceId, u64, bool),
     /// A packet is declared lost: its space and its number.
     Lost(SpaceId, u64),
     /// There is congestion, which may be persistent.
     Congestion(bool),
-    /// The timer for losses and probes is set to a moment, in nanoseconds.
+    /// The loss detection timer is set to a time, in nanoseconds.
     Set(u64),
     /// That timer is stopped.
     Stopped,
-    /// It has none.
+    /// Nothing.
     Nothing,
 }
 
-/// What qlog has a word for of an event.
+/// Returns what qlog can express of an event.
 pub fn note_of(event: &Event<ItemQueue>) -> Note
     ensures { result ≡ note_of event.now }
 {
@@ -70,7 +70,7 @@ pub fn note_of(event: &Event<ItemQueue>) -> Note
     }
 }
 
-/// The type of packets of a space.
+/// Returns the packet type of a space.
 fn type_of(space: SpaceId) -> &'static str
     ensures { result.now ≡ type_text space }
 {
@@ -81,14 +81,14 @@ fn type_of(space: SpaceId) -> &'static str
     }
 }
 
-/// The one frame that is told of a packet.
+/// Returns the one frame that is recorded of a packet.
 fn frame_of(eliciting: bool) -> &'static str
     ensures { result.now ≡ frame_text eliciting }
 {
     if eliciting { "ping" } else { "padding" }
 }
 
-/// What is said of persistent congestion.
+/// Returns the trigger for persistent congestion.
 fn trigger_of(persistent: bool) -> &'static str
     ensures { result.now ≡ trigger_text persistent }
 {
@@ -184,7 +184,7 @@ fn write_stopped(text: &mut String, time: u64) -> Result<(), AllocError>
     )
 }
 
-/// Appends the record of an event, where qlog has one and it was not refused.
+/// Appends the record of an event, if qlog has one and it was not rejected.
 pub fn write_note(
     text: &mut String,
     time: u64,

@@ -12,7 +12,7 @@ use std::io::Write;
 /// The program's name in its error texts.
 const NAME: &str = "recovery-trace";
 
-/// Writes what is wrong. Each line that cannot be read was reported already.
+/// Writes the error text. Each line that cannot be parsed was reported already.
 pub fn report<E: Write>(outcome: Outcome, errors: &mut E) -> io::Result<()>
     ensures { OnOk result
         (Appends (E.contents errors.old) (E.contents errors.new) (error_text outcome)) }

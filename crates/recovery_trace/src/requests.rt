@@ -1,15 +1,15 @@
-//! What the arguments ask for.
+//! The request that the arguments make.
 use recovery_replay::fixed_window::FixedWindowConfig;
 use recovery_script_syntax::words::number_in;
 
-/// How the program is called.
+/// The usage of the program.
 pub const USAGE: &str =
     "usage: recovery-trace [--state|--qlog] [--strict] [--controller NAME] [SEED [WINDOW]]\n";
 
 /// What `--version` writes.
 pub const VERSION: &str = "recovery-trace 0.11.19\n";
 
-/// What `--help` writes behind the usage.
+/// What `--help` writes after the usage.
 pub const HELP: &str = "\
 Answers events one at a time: reads a line, writes its answer, reads the next.
 
@@ -37,44 +37,44 @@ pub enum Controllers {
     Fixed(FixedWindowConfig),
 }
 
-/// What is written of an event.
+/// What is written for an event.
 #[derive(Clone, Copy)]
 pub enum Shown {
     /// Its answer.
     Answers,
-    /// Its answer, and the state behind it.
+    /// Its answer, and the state after it.
     States,
-    /// Its records of qlog.
+    /// Its qlog records.
     Qlog,
 }
 
-/// What a trace is to do.
+/// The choices for a trace.
 #[derive(Clone, Copy)]
 pub struct Choice {
-    /// What skipped numbers are drawn by; without it none is skipped.
+    /// The seed of the skipped numbers; without it none is skipped.
     pub seed: Option<u64>,
-    /// The controllers of paths; unless asked for otherwise they are NewReno's.
+    /// The controllers of paths; NewReno's by default.
     pub controllers: Controllers,
-    /// What is written of each event.
+    /// What is written for each event.
     pub shows: Shown,
-    /// Whether the first line that cannot be read ends the trace.
+    /// Whether the first line that cannot be parsed ends the trace.
     pub is_strict: bool,
 }
 
-/// What the arguments ask for.
+/// The request that the arguments make.
 #[derive(Clone, Copy)]
 pub enum Request {
     /// A trace.
     Trace(Choice),
-    /// How the program is called.
+    /// The usage.
     Help,
-    /// Which recovery it is.
+    /// The version.
     Version,
-    /// Nothing that it knows.
+    /// An invalid request.
     Unknown,
 }
 
-/// How many words that are no flag came already.
+/// How many positional arguments were read.
 #[derive(Clone, Copy)]
 enum Place {
     Seed,
@@ -82,7 +82,7 @@ enum Place {
     End,
 }
 
-/// The choice with a seed, where the word is one: a number, or `-` for none.
+/// Adds a seed to the choices, if the word is one: a number, or `-` for none.
 fn with_seed(choice: Choice, word: &[u8]) -> Option<Choice> {
     if word == "-".as_bytes() {
         return Some(Choice {
@@ -97,7 +97,7 @@ fn with_seed(choice: Choice, word: &[u8]) -> Option<Choice> {
     })
 }
 
-/// The choice with a window, where the word is one, a number above zero, and no other controllers are named.
+/// Adds a window to the choices, if the word is one, a number above zero, and no other controllers are named.
 fn with_window(choice: Choice, word: &[u8]) -> Option<Choice> {
     if let Controllers::Cubic = choice.controllers {
         return None;
@@ -111,7 +111,7 @@ fn with_window(choice: Choice, word: &[u8]) -> Option<Choice> {
     }
 }
 
-/// The choice with the controllers of a name, where it is one and there is no window.
+/// Adds the named controllers to the choices, if the name is known and there is no window.
 fn with_name(choice: Choice, word: &[u8]) -> Option<Choice> {
     if let Controllers::Fixed(_) = choice.controllers {
         return None;
@@ -127,7 +127,7 @@ fn with_name(choice: Choice, word: &[u8]) -> Option<Choice> {
     })
 }
 
-/// The choice with a word that is no flag.
+/// Adds a positional argument to the choices.
 fn with_word(choice: Choice, place: Place, word: &[u8]) -> Option<(Choice, Place)> {
     match place {
         Place::Seed => Some((with_seed(choice, word)?, Place::Window)),
@@ -136,8 +136,8 @@ fn with_word(choice: Choice, place: Place, word: &[u8]) -> Option<(Choice, Place
     }
 }
 
-/// What the words behind the program's name ask for. Flags may stand anywhere; the first of `--help` and `--version`
-/// decides, unless a word before it is unknown.
+/// Returns the request that the arguments make. Options may be anywhere; the first of `--help` and `--version` decides,
+/// unless an argument before it is invalid.
 pub fn request_of(words: &[String]) -> Request {
     let mut choice = Choice {
         seed: None,

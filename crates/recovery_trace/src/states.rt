@@ -1,4 +1,4 @@
-//! The state of a path at a time as one JSON object, by the names that qlog gives to metrics of recovery.
+//! The state of a path at a time as one JSON object, with the names that qlog gives to recovery metrics.
 ghost use Rattle.std.specs.Prelude.{◌≡◌, ◌++◌, OnOk, string_bytes};
 ghost use Rattle.recovery_trace.specs.States.{time_text, flight_text, window_text, spans_text, rtt_text, room_text, state_text};
 
@@ -8,7 +8,7 @@ use recovery_paths::paths::PathData;
 use recovery_spaces::paths::InFlight;
 use std::alloc::AllocError;
 
-/// The time, in milliseconds: the beginning of the line.
+/// Appends the time, in milliseconds: the beginning of the line.
 #[tactic(auto, unfolding(crate::specs::States::time_text))]
 fn write_time(text: &mut String, time: u64) -> Result<(), AllocError>
     ensures { OnOk result (string_bytes text.new ≡ string_bytes text.old ++ time_text time) }
@@ -16,7 +16,7 @@ fn write_time(text: &mut String, time: u64) -> Result<(), AllocError>
     write!(text, "{{\"time\":{time}e-6,")
 }
 
-/// Bytes, and packets that elicit an ACK (RFC 9002, B.2).
+/// Appends the bytes and ack-eliciting packets in flight (RFC 9002, B.2).
 pub fn write_flight(text: &mut String, flight: InFlight) -> Result<(), AllocError>
     ensures { OnOk result (string_bytes text.new ≡ string_bytes text.old ++ flight_text flight) }
 {
@@ -28,7 +28,7 @@ pub fn write_flight(text: &mut String, flight: InFlight) -> Result<(), AllocErro
     )
 }
 
-/// The window and the slow start threshold, in bytes; no threshold where there is none yet (RFC 9002, B.3: infinite).
+/// Appends the window and the slow start threshold, in bytes; no threshold while it is infinite (RFC 9002, B.3).
 pub fn write_window(text: &mut String, metrics: &ControllerMetrics) -> Result<(), AllocError>
     ensures { OnOk result
         (string_bytes text.new ≡ string_bytes text.old ++ window_text metrics.now) }
@@ -43,7 +43,7 @@ pub fn write_window(text: &mut String, metrics: &ControllerMetrics) -> Result<()
     }
 }
 
-/// Spans in milliseconds, exact: whole nanoseconds with the exponent of a JSON number.
+/// Appends spans in milliseconds, exact: whole nanoseconds with the exponent of a JSON number.
 #[tactic(auto, unfolding(crate::specs::States::spans_text))]
 fn write_spans(
     text: &mut String,
@@ -62,7 +62,7 @@ fn write_spans(
     )
 }
 
-/// The round-trip times (RFC 9002, 5): the best estimate, its mean deviation, the least sample and the last one.
+/// Appends the RTT (RFC 9002, 5): smoothed, variation, smallest sample and last one.
 pub fn write_rtt(text: &mut String, rtt: &RttEstimator) -> Result<(), AllocError>
     ensures { OnOk result (string_bytes text.new ≡ string_bytes text.old ++ rtt_text rtt.now) }
 {
@@ -75,7 +75,7 @@ pub fn write_rtt(text: &mut String, rtt: &RttEstimator) -> Result<(), AllocError
     )
 }
 
-/// The MTU in use, and the bytes in the pacer's bucket: the end of the line.
+/// Appends the MTU in use, and the bytes in the pacer's bucket: the end of the line.
 #[tactic(auto, unfolding(crate::specs::States::room_text))]
 fn write_room(text: &mut String, mtu: u16, tokens: u64) -> Result<(), AllocError>
     ensures { OnOk result
@@ -84,8 +84,8 @@ fn write_room(text: &mut String, mtu: u16, tokens: u64) -> Result<(), AllocError
     writeln!(text, ",\"mtu\":{mtu},\"pacer_tokens\":{tokens}}}")
 }
 
-/// Appends the line of a path's state at a time, in nanoseconds. The one refusal is want of memory; nothing is then
-/// promised of the text.
+/// Appends the line of a path's state at a time, in nanoseconds. The only error is lack of memory; nothing is
+/// guaranteed about the text then.
 pub fn write_state<C: Controller + Drop>(
     text: &mut String,
     time: u64,

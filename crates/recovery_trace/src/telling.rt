@@ -1,4 +1,4 @@
-//! What is told of a line that cannot be read.
+//! The report of a line that cannot be parsed.
 ghost use Rattle.std.specs.Prelude.{◌≡◌, ◌≤◌, ◌++◌, true, min, IfOk, OnOk, length, string_bytes};
 ghost use Rattle.recovery_trace.specs.Faults.{NamesWordOf};
 ghost use Rattle.std.specs.Str.{IsAscii};
@@ -9,17 +9,17 @@ use recovery_base::below::NoMemory;
 use std::alloc::{AllocError, Global};
 use std::str;
 
-/// How many bytes of a word that cannot be read are shown.
+/// How many bytes of an invalid word are shown.
 const SHOWN: usize = 64;
 
-/// Is the byte inside a character of UTF-8, and not its first?
+/// Returns whether the byte is a UTF-8 continuation byte.
 fn is_inside(byte: u8) -> bool
     ensures { result ≡ true → 128 ≤ byte }
 {
     (128..192).contains(&byte)
 }
 
-/// How many bytes of a word are shown: at most 64, and of a character all or none.
+/// Returns how many bytes of a word are shown: at most 64, without splitting a character.
 fn shown_len(word: &[u8]) -> usize
     ensures within { result ≤ min most_shown (length word.now) }
     ensures plain { IsAscii word.now → result ≡ min most_shown (length word.now) }
@@ -34,7 +34,7 @@ fn shown_len(word: &[u8]) -> usize
     end
 }
 
-/// Appends a word between quotes, as far as it is shown: what is no text, byte by byte.
+/// Appends a word between quotes, as far as it is shown: what is not UTF-8, byte by byte.
 fn write_word(text: &mut String, word: &[u8]) -> Result<(), AllocError>
     ensures { OnOk result (IsAscii word.now
         → string_bytes text.new ≡ string_bytes text.old ++ quoted word.now) }
@@ -46,7 +46,7 @@ fn write_word(text: &mut String, word: &[u8]) -> Result<(), AllocError>
     }
 }
 
-/// Appends the line that tells a fault of the line of this number.
+/// Appends the report of a fault of the line of this number.
 fn write_fault(text: &mut String, line: &[u8], number: u64, fault: Fault) -> Result<(), AllocError>
     requires { NamesWordOf line.now fault }
     ensures { OnOk result
@@ -68,7 +68,7 @@ fn write_fault(text: &mut String, line: &[u8], number: u64, fault: Fault) -> Res
     }
 }
 
-/// What is told of a line that spells no event and has this number.
+/// Returns the report of a line that is no event and has this number.
 pub fn fault_line(alloc: Global, line: &[u8], number: u64) -> Result<String, NoMemory>
     ensures { IfOk result (λ text. ReportsFault line.now number (string_bytes text)) }
 {

@@ -1,4 +1,4 @@
-//! A trace: each line is read, its event done and its answer written before the next line is read.
+//! A trace: each line is read, its event applied and its answer written before the next line is read.
 ghost use Rattle.recovery_trace.specs.Trace.{streams_of, TracesAs, TracesBehind, TracesBy, TracesFrom, TracesOver};
 
 use crate::qlog::HEADER;
@@ -19,7 +19,7 @@ use recovery_script_syntax::lines::peer_at;
 use std::alloc::Global;
 use std::io::{Read, Write};
 
-/// The lines of an input, from a recovery on to which nothing has happened.
+/// Runs the lines of an input on a recovery without any event.
 fn run<F, R, W, E>(
     alloc: Global,
     live: &mut LiveRecovery<F, ItemQueue, Pcg32>,
@@ -71,7 +71,7 @@ where
     Outcome::Ended(Ending::ReadFailed)
 }
 
-/// A trace over these controllers.
+/// Runs a trace over these controllers.
 fn trace_over<F, R, W, E>(
     alloc: Global,
     factory: F,
@@ -102,7 +102,7 @@ where
     }
 }
 
-/// A trace over the controllers that are chosen.
+/// Runs a trace over the chosen controllers.
 fn trace_by<R: Read, W: Write, E: Write>(
     alloc: Global,
     choice: Choice,
@@ -128,7 +128,7 @@ fn trace_by<R: Read, W: Write, E: Write>(
     }
 }
 
-/// A trace behind the record before all events of qlog.
+/// Runs a trace after the header record of qlog.
 fn trace_behind<R: Read, W: Write, E: Write>(
     alloc: Global,
     choice: Choice,
@@ -147,11 +147,11 @@ fn trace_behind<R: Read, W: Write, E: Write>(
     }
 }
 
-/// Reads lines and answers each before it reads the next; the answers, and with them what is shown of the state, go to
-/// `output` and are flushed, what cannot be read is told to `errors`.
+/// Reads lines and answers each before it reads the next. The answers, and the state if asked for, are written to
+/// `output` and flushed; lines that cannot be parsed are reported to `errors`.
 ///
-/// At each line the replies so far are those that the events so far say (`Recovery::run`), and all that is promised of
-/// whole runs holds of them. Memory is taken for one line and one answer, and for what the recovery keeps.
+/// After each line the replies so far follow from the events so far, and all promises of `Recovery::run` hold for them.
+/// Memory is allocated for one line and one answer, and for the recovery's state.
 pub fn trace<R: Read, W: Write, E: Write>(
     alloc: Global,
     choice: Choice,

@@ -1,4 +1,4 @@
-//! One line of a trace: what it comes to.
+//! One line of a trace and its outcome.
 ghost use Rattle.std.specs.Prelude.{◌≡◌, ◌⊎◌, ◌++◌, IfErr, IfOk, OnOk, string_bytes, MatchBool};
 ghost use Rattle.std.specs.Io.KnownBytes.{Appends};
 ghost use Rattle.quic_recovery.specs.State.{state_of};
@@ -24,25 +24,25 @@ use recovery_script_syntax::lines::push_event;
 use std::alloc::{AllocError, Global};
 use std::io::Write;
 
-/// What a line came to.
+/// The outcome of a line.
 #[derive(Clone, Copy)]
 pub enum Turn {
-    /// Its event was answered, or it is a comment or empty.
+    /// Its event was answered, or it is empty or a comment.
     Done,
-    /// It cannot be read.
+    /// It cannot be parsed.
     Bad,
     /// The trace is over.
     Over(Outcome),
 }
 
-/// Is the line one that is passed over in silence: empty, or a comment?
+/// Returns whether the line is empty or a comment.
 fn is_silent(line: &[u8]) -> bool
     ensures { MatchBool result (IsSilent line.now) (¬ IsSilent line.now) }
 {
     line.is_empty() || line[0] == b'#'
 }
 
-/// Appends the line of a reply, and behind it that of the state where it is asked for; or records of qlog.
+/// Appends the line of a reply, and that of the state if asked for; or qlog records.
 fn write_turn<F>(
     text: &mut String,
     reply: &Result<Answer<ItemQueue>, Refusal>,
@@ -69,8 +69,8 @@ where
     }
 }
 
-/// Does the event of a line, moves the time on to its moment, and puts what is written for it in place of the text;
-/// false, and no text, where it spells none.
+/// Applies the event of a line, advances the time to that of the event, and replaces the text by what is written for
+/// it. Returns false, with no text, if the line is no event.
 fn answer<F>(
     alloc: Global,
     live: &mut LiveRecovery<F, ItemQueue, Pcg32>,
@@ -102,7 +102,7 @@ where
     }
 }
 
-/// Writes a text and flushes. After a failure a beginning of it was written.
+/// Writes a text and flushes. After a failure a prefix of it was written.
 pub fn write_out<W: Write>(output: &mut W, text: &str) -> Result<(), Outcome>
     ensures whole { OnOk result (Appends (W.contents output.old) (W.contents output.new) text.now) }
     ensures front { AppendsFront (W.contents output.old) (W.contents output.new) text.now }
@@ -114,11 +114,11 @@ pub fn write_out<W: Write>(output: &mut W, text: &str) -> Result<(), Outcome>
     }
 }
 
-/// One line: its event is done, and its answer is written to `output` and flushed before this returns; or what it is of
-/// it that cannot be read is told to `errors`, and nothing is done. `time` is the greatest moment so far, in
-/// nanoseconds, and `text` what is written, of which the caller keeps the room.
+/// Processes one line. Its event is applied, and its answer is written to `output` and flushed before this returns. If
+/// it cannot be parsed, that is reported to `errors`, and nothing else happens. `time` is the latest time so far, in
+/// nanoseconds. `text` is the buffer for the output, which the caller reuses.
 ///
-/// What cannot be told to `errors` is left out.
+/// Reports that cannot be written to `errors` are dropped.
 pub fn take_turn<F, W, E>(
     alloc: Global,
     live: &mut LiveRecovery<F, ItemQueue, Pcg32>,

@@ -55,46 +55,46 @@ pub const ANSWER_NEEDS_ROOM: u8 = 133;
 /// The event is refused. It lies far from the answers, so that further ones do not move it.
 pub const ANSWER_REFUSED: u8 = 255;
 
-/// A growth was refused by the allocator.
+/// An allocation failed.
 pub const REFUSAL_NO_MEMORY: u8 = 1;
 /// A packet number is 2^62 or more (RFC 9000, 12.3).
 pub const REFUSAL_NUMBER_TOO_LARGE: u8 = 2;
-/// The space has given out all packet numbers below 2^62 (RFC 9000, 12.3).
+/// The space has assigned all packet numbers below 2^62 (RFC 9000, 12.3).
 pub const REFUSAL_NUMBERS_EXHAUSTED: u8 = 3;
-/// The packet is not tracked: it was not sent, or it was acknowledged, lost or forgotten.
+/// The packet is not tracked: it was never sent, or it was acknowledged, lost or forgotten.
 pub const REFUSAL_NOT_TRACKED: u8 = 4;
 /// The keys of the space were dropped (RFC 9001, 4.9).
 pub const REFUSAL_SPACE_DISCARDED: u8 = 5;
 /// There is no such path.
 pub const REFUSAL_NO_SUCH_PATH: u8 = 6;
-/// The MTU of the current path is searched for (RFC 8899, 5).
+/// An MTU search runs on the current path (RFC 8899, 5).
 pub const REFUSAL_SEARCHING: u8 = 7;
-/// A size of no bytes is none that a path carries.
+/// A size is zero bytes.
 pub const REFUSAL_ZERO_MTU: u8 = 8;
-/// A counter would pass the end of its type.
+/// A counter would exceed the maximum of its type.
 pub const REFUSAL_OVERFLOW: u8 = 9;
-/// The number of the peer's id lies below the active one (RFC 9000, 19.15).
+/// The peer's ID number is below the active one (RFC 9000, 19.15).
 pub const REFUSAL_RETIRED: u8 = 10;
-/// The number of the peer's id lies past the ids that are held (RFC 9000, 5.1.1).
+/// The peer's ID number exceeds those that can be held (RFC 9000, 5.1.1).
 pub const REFUSAL_EXCEEDS_LIMIT: u8 = 11;
-/// The frame retires numbers past its own (RFC 9000, 19.15).
+/// The frame's retire-prior-to exceeds its own number (RFC 9000, 19.15).
 pub const REFUSAL_BAD_RETIRE_PRIOR_TO: u8 = 12;
-/// This end uses ids of no bytes, of which none can be retired (RFC 9000, 19.16).
+/// The local endpoint uses zero-length IDs, which cannot be retired (RFC 9000, 19.16).
 pub const REFUSAL_CIDS_NOT_IN_USE: u8 = 13;
-/// The number was not issued (RFC 9000, 19.16).
+/// The ID number was not issued (RFC 9000, 19.16).
 pub const REFUSAL_UNISSUED_CID: u8 = 14;
 /// An ACK_FREQUENCY frame asks for a delay below 1 ms (draft-ietf-quic-ack-frequency-04, section 4). The number of
-/// the frame is kept.
+/// the frame is stored.
 pub const REFUSAL_DELAY_TOO_SMALL: u8 = 15;
-/// A number was acknowledged that was skipped, and never sent (RFC 9000, 21.4).
+/// A skipped number, which was never sent, was acknowledged (RFC 9000, 21.4).
 pub const REFUSAL_SKIPPED_ACKED: u8 = 16;
-/// The peer's counts of ECN cannot be right (RFC 9000, 13.4.2.1), in these words.
+/// The peer's ECN counts fail the check of RFC 9000, 13.4.2.1. The text says how.
 pub const REFUSAL_ECN: u8 = 17;
-/// The initial id is no longer the active one (RFC 9000, 7.2).
+/// The initial ID is no longer the active one (RFC 9000, 7.2).
 pub const REFUSAL_NOT_INITIAL_ID: u8 = 18;
-/// Numbers do not go on where they should, or a range ends before it begins.
+/// Numbers do not continue from the expected one, or a range ends before it begins.
 pub const REFUSAL_BAD_RANGE: u8 = 19;
-/// The number of the peer's id is held with another id, or with a token that is not the frame's (RFC 9000, 19.15).
+/// The peer's ID number is held with another ID, or with another token (RFC 9000, 19.15).
 pub const REFUSAL_CONFLICT: u8 = 20;
 /// A number was acknowledged that was never sent (RFC 9000, 13.1): of a sender alone. The errors of senders lie above
 /// those of events, so that further ones of these do not meet them.
@@ -173,7 +173,7 @@ pub const SPACE_DATA: u8 = 2;
 
 /// When to declare packets lost or to send a probe (RFC 9002, 6.2 and A.8).
 pub const TIMER_LOSS_DETECTION: u8 = 0;
-/// When to close for want of traffic (RFC 9000, 10.1).
+/// When to close the connection because it is idle (RFC 9000, 10.1).
 pub const TIMER_IDLE: u8 = 1;
 /// When a closing or draining connection ends (RFC 9000, 10.2).
 pub const TIMER_CLOSE: u8 = 2;
@@ -183,11 +183,11 @@ pub const TIMER_KEY_DISCARD: u8 = 3;
 pub const TIMER_PATH_VALIDATION: u8 = 4;
 /// When to send a PING against the idle timeout (RFC 9000, 10.1.2).
 pub const TIMER_KEEP_ALIVE: u8 = 5;
-/// When the pacer lets the next packet go (RFC 9002, 7.7).
+/// When the pacer lets the next packet pass (RFC 9002, 7.7).
 pub const TIMER_PACING: u8 = 6;
-/// When to issue new connection ids (RFC 9000, 5.1.1).
+/// When to issue new connection IDs (RFC 9000, 5.1.1).
 pub const TIMER_PUSH_NEW_CID: u8 = 7;
-/// When to send an ACK that was held back (RFC 9000, 13.2.1).
+/// When to send a delayed ACK (RFC 9000, 13.2.1).
 pub const TIMER_MAX_ACK_DELAY: u8 = 8;
 
 /// An address and a port.

@@ -8,7 +8,7 @@ use crate::ffi;
 pub enum Timer {
     /// When to declare packets lost or to send a probe (RFC 9002, 6.2 and A.8).
     LossDetection = ffi::TIMER_LOSS_DETECTION,
-    /// When to close for want of traffic (RFC 9000, 10.1).
+    /// When to close the connection because it is idle (RFC 9000, 10.1).
     Idle = ffi::TIMER_IDLE,
     /// When a closing or draining connection ends (RFC 9000, 10.2).
     Close = ffi::TIMER_CLOSE,
@@ -18,11 +18,11 @@ pub enum Timer {
     PathValidation = ffi::TIMER_PATH_VALIDATION,
     /// When to send a PING against the idle timeout (RFC 9000, 10.1.2).
     KeepAlive = ffi::TIMER_KEEP_ALIVE,
-    /// When the pacer lets the next packet go (RFC 9002, 7.7).
+    /// When the pacer lets the next packet pass (RFC 9002, 7.7).
     Pacing = ffi::TIMER_PACING,
-    /// When to issue new connection ids (RFC 9000, 5.1.1).
+    /// When to issue new connection IDs (RFC 9000, 5.1.1).
     PushNewCid = ffi::TIMER_PUSH_NEW_CID,
-    /// When to send an ACK that was held back (RFC 9000, 13.2.1).
+    /// When to send a delayed ACK (RFC 9000, 13.2.1).
     MaxAckDelay = ffi::TIMER_MAX_ACK_DELAY,
 }
 

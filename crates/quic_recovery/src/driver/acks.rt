@@ -1,4 +1,4 @@
-//! The events of ACKs (RFC 9000, 13.2; the QUIC ACK frequency extension).
+//! The events of ACKs (RFC 9000, 13.2; draft-ietf-quic-ack-frequency-04).
 
 use crate::driver::Recovery;
 use rand_core::Rng;
@@ -16,7 +16,7 @@ where
     ghost use Rattle.recovery_events.specs.declared.event.Event.TheVariants.{AckFrequencyIn, AcksSent, AckDelayTimeout};
     ghost use Rattle.quic_recovery.specs.State.{Transition};
 
-    /// The peer asks for fewer ACKs.
+    /// An ACK_FREQUENCY frame was received.
     #[inline(always)]
     pub(super) fn ack_frequency_in(&mut self, frame: AckFrequency) -> Result<Answer<Q>, Refusal>
         ensures { Transition (AckFrequencyIn frame) self.old result self.new }
@@ -34,7 +34,7 @@ where
         }
     }
 
-    /// An ACK is sent (RFC 9000, 13.2).
+    /// An ACK was sent (RFC 9000, 13.2).
     #[inline(always)]
     pub(super) fn acks_sent(&mut self, space: SpaceId) -> Result<Answer<Q>, Refusal>
         ensures { Transition (AcksSent space) self.old result self.new }
@@ -46,7 +46,7 @@ where
         Ok(Answer::Done)
     }
 
-    /// The timer for a late ACK expired (RFC 9000, 13.2.1).
+    /// The ACK delay timer expired (RFC 9000, 13.2.1).
     #[inline(always)]
     pub(super) fn ack_delay_timeout(&mut self, space: SpaceId) -> Result<Answer<Q>, Refusal>
         ensures { Transition (AckDelayTimeout space) self.old result self.new }

@@ -1,4 +1,4 @@
-//! The events of the search for the MTU (RFC 8899, 5; RFC 9000, 14.3).
+//! The events of the MTU search (RFC 8899, 5; RFC 9000, 14.3).
 
 use crate::driver::Recovery;
 use rand_core::Rng;
@@ -18,8 +18,8 @@ where
     ghost use Rattle.recovery_events.specs.declared.event.Event.TheVariants.{PollMtu, PeerLimit, LossesDone};
     ghost use Rattle.quic_recovery.specs.State.{Transition};
 
-    /// Is a probe of the MTU due? The discovery is kept once the probe is tracked, so that a refusal leaves it as it
-    /// was.
+    /// Is a probe of the MTU due? The new state of the search is stored once the probe is tracked, so that an error
+    /// leaves the search unchanged.
     #[inline(always)]
     pub(super) fn poll_mtu(&mut self, now: Instant) -> Result<Answer<Q>, Refusal>
         ensures { Transition (PollMtu now) self.old result self.new }
@@ -47,7 +47,7 @@ where
         }
     }
 
-    /// The peer takes datagrams of at most so many bytes.
+    /// The peer stated the largest datagram that it accepts.
     #[inline(always)]
     pub(super) fn limit_by_peer(&mut self, size: u16) -> Result<Answer<Q>, Refusal>
         ensures { Transition (PeerLimit size) self.old result self.new }
@@ -63,7 +63,7 @@ where
         Ok(Answer::Done)
     }
 
-    /// All losses were told: was there a black hole?
+    /// All losses of a pass were reported: was there a black hole?
     #[inline(always)]
     pub(super) fn losses_done(&mut self, now: Instant) -> Result<Answer<Q>, Refusal>
         ensures { Transition (LossesDone now) self.old result self.new }

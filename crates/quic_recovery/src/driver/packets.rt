@@ -27,7 +27,7 @@ where
     ghost use Rattle.quic_recovery.specs.State.{Transition, state_of};
     ghost use Rattle.recovery_history.specs.Transitions.{inputs_of};
 
-    /// A packet comes in (RFC 9000, 12.3).
+    /// A packet was received (RFC 9000, 12.3).
     #[inline(always)]
     pub(super) fn received(
         &mut self,
@@ -149,7 +149,7 @@ where
         Ok(Answer::Done)
     }
 
-    /// The number that is given out next in a space.
+    /// Returns the packet number that a space assigns next.
     pub(super) fn number_in(&self, space: SpaceId) -> u64
         ensures { result ≡ number_in (inputs_of (state_of self.now)) space }
     {
@@ -157,8 +157,8 @@ where
     }
 }
 
-/// The number that is given out next in a space, where `next` is one above the last one: numbers of 1-RTT packets are
-/// skipped at times (RFC 9000, 21.4).
+/// Returns the packet number that a space assigns next. `next` is one above the last one; some 1-RTT numbers are
+/// skipped (RFC 9000, 21.4).
 fn number_behind(filter: &PacketNumberFilter, space: SpaceId, next: u64) -> u64
     ensures { result ≡ number_behind filter.now space next }
 {
@@ -168,7 +168,7 @@ fn number_behind(filter: &PacketNumberFilter, space: SpaceId, next: u64) -> u64
     }
 }
 
-/// That number is given out, below 2^62: where a 1-RTT number was skipped for it, the next skip is drawn.
+/// Records that this number, below 2^62, was assigned. If a 1-RTT number was skipped for it, draws the next skip.
 fn draw_skip<R: Rng>(filter: &mut PacketNumberFilter, rng: &mut R, space: SpaceId, next: u64)
     requires { number_behind filter.old space next < number_limit }
     ensures { record { filter = filter.new; words = R.stream rng.new }
@@ -179,7 +179,7 @@ fn draw_skip<R: Rng>(filter: &mut PacketNumberFilter, rng: &mut R, space: SpaceI
     }
 }
 
-/// What a packet that came in is answered.
+/// Returns the answer to a received packet.
 fn reply_to<Q>(receipt: Result<Receipt, ReceiveError>) -> Result<Answer<Q>, Refusal>
     ensures { result ≡ reply_to receipt }
 {
@@ -191,7 +191,7 @@ fn reply_to<Q>(receipt: Result<Receipt, ReceiveError>) -> Result<Answer<Q>, Refu
     }
 }
 
-/// What a packet that cannot be tracked is refused.
+/// Returns the error of a packet that cannot be tracked.
 fn refusal_of(error: LedgerError) -> Refusal
     ensures { result ≡ refusal_of error }
 {
@@ -201,7 +201,7 @@ fn refusal_of(error: LedgerError) -> Refusal
     }
 }
 
-/// Whether a number is given that is none of a packet (RFC 9000, 12.3).
+/// Returns whether a number is given that exceeds all packet numbers (RFC 9000, 12.3).
 fn is_too_large(number: Option<u64>) -> bool
     ensures { Decides result (IsTooLarge number) }
 {
@@ -211,7 +211,7 @@ fn is_too_large(number: Option<u64>) -> bool
     }
 }
 
-/// The number of a packet that was handed back with it.
+/// Returns the number of the forgotten packet, if any.
 fn number_of<Q: RetransmitQueue>(forgotten: &Option<(u64, SentPacket<Q>)>) -> Option<u64>
     ensures { result ≡ entry_number forgotten.now }
 {

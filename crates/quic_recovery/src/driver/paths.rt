@@ -20,7 +20,7 @@ where
     ghost use Rattle.recovery_events.specs.declared.event.Event.TheVariants.{InFlight, Sample, DatagramIn, Validated, Transmit, PacerCheck, Congestion, EndAcks, NewPath, ResetPath, DropPrevious, RevertPath};
     ghost use Rattle.quic_recovery.specs.State.{Transition, ReadOnlyTransition};
 
-    /// What is in flight on a path? (RFC 9002, B.2)
+    /// How much is in flight on a path (RFC 9002, B.2)?
     #[inline(always)]
     pub(super) fn in_flight(&self, path: PathName) -> Result<Answer<Q>, Refusal>
         ensures { ReadOnlyTransition (InFlight path) self.now result }
@@ -34,7 +34,7 @@ where
         }
     }
 
-    /// A sample of the round-trip time (RFC 9002, 5).
+    /// An RTT sample (RFC 9002, 5).
     #[inline(always)]
     pub(super) fn sample(&mut self, delay: Duration, rtt: Duration) -> Result<Answer<Q>, Refusal>
         ensures { Transition (Sample delay rtt) self.old result self.new }
@@ -43,7 +43,7 @@ where
         Ok(Answer::Done)
     }
 
-    /// A datagram came in (RFC 9000, 8.1).
+    /// A datagram was received (RFC 9000, 8.1).
     #[inline(always)]
     pub(super) fn datagram_in(&mut self, path: PathName, bytes: u64) -> Result<Answer<Q>, Refusal>
         ensures { Transition (DatagramIn path bytes) self.old result self.new }
@@ -55,7 +55,7 @@ where
         }
     }
 
-    /// The peer was seen to receive at an address (RFC 9000, 8).
+    /// The peer's address was validated (RFC 9000, 8).
     #[inline(always)]
     pub(super) fn validated(&mut self, path: PathName) -> Result<Answer<Q>, Refusal>
         ensures { Transition (Validated path) self.old result self.new }
@@ -100,7 +100,7 @@ where
         Ok(Answer::Done)
     }
 
-    /// The path in use begins anew (RFC 9000, 9.4).
+    /// The path in use starts from its initial values (RFC 9000, 9.4).
     #[inline(always)]
     pub(super) fn reset_path(&mut self, now: Instant) -> Result<Answer<Q>, Refusal>
         ensures { Transition (ResetPath now) self.old result self.new }
@@ -160,7 +160,7 @@ where
         Ok(Answer::Transmitted)
     }
 
-    /// May so many bytes be transmitted now, as far as the pacer goes (RFC 9002, 7.7)?
+    /// Does the pacer let this many bytes pass now (RFC 9002, 7.7)?
     #[inline(always)]
     pub(super) fn pacer_check(&mut self, now: Instant, bytes: u64) -> Result<Answer<Q>, Refusal>
         ensures { Transition (PacerCheck now bytes) self.old result self.new }
@@ -171,7 +171,7 @@ where
         }
     }
 
-    /// Packets were lost, or marked (RFC 9002, 7.3).
+    /// Packets were lost, or ECN reported congestion (RFC 9002, 7.3).
     #[inline(always)]
     pub(super) fn congestion(
         &mut self,
@@ -188,7 +188,7 @@ where
         Ok(Answer::Done)
     }
 
-    /// An ACK was told to its end.
+    /// All packets that an ACK newly acknowledges were reported.
     #[inline(always)]
     pub(super) fn end_acks(
         &mut self,

@@ -1,4 +1,5 @@
-//! The events of probes, of what is sent again, of ECN and of skipped numbers (RFC 9000, 13 and 21.4; RFC 9002, 6.2.4).
+//! The events of probes, of the retransmission queue, of ECN and of skipped numbers (RFC 9000, 13 and 21.4; RFC 9002,
+//! 6.2.4).
 
 use crate::driver::Recovery;
 use rand_core::Rng;
@@ -17,7 +18,7 @@ where
     ghost use Rattle.recovery_events.specs.declared.event.Event.TheVariants.{Ecn, CheckAck, QueueProbe, TakePending};
     ghost use Rattle.quic_recovery.specs.State.{Transition, ReadOnlyTransition};
 
-    /// The counts of ECN of an ACK frame (RFC 9000, 13.4.2).
+    /// The ECN counts of an ACK frame (RFC 9000, 13.4.2).
     #[inline(always)]
     pub(super) fn ecn(
         &mut self,
@@ -36,9 +37,9 @@ where
         }
     }
 
-    /// Whether a range of numbers may be acknowledged, as [`Event::CheckAck`](crate::Event::CheckAck) is answered (RFC
-    /// 9000, 13.1 and 21.4). Refused by `SpaceDiscarded`, `NumberTooLarge`, `BadRange` or `SkippedAcked`, in this
-    /// order. Nothing changes.
+    /// Returns whether a range of numbers may be acknowledged, as [`Event::CheckAck`](crate::Event::CheckAck) (RFC
+    /// 9000, 13.1 and 21.4). Rejected with `SpaceDiscarded`, `NumberTooLarge`, `BadRange` or `SkippedAcked`, in this
+    /// order. Changes nothing.
     #[inline(always)]
     pub fn check_ack(&self, space: SpaceId, low: u64, high: u64) -> Result<Answer<Q>, Refusal>
         ensures { ReadOnlyTransition (CheckAck space low high) self.now result }
@@ -77,7 +78,7 @@ where
         }
     }
 
-    /// What is to be sent again is handed out (RFC 9000, 13.3).
+    /// The retransmission queue is returned (RFC 9000, 13.3).
     #[inline(always)]
     pub(super) fn take_pending(&mut self, space: SpaceId) -> Result<Answer<Q>, Refusal>
         ensures { Transition (TakePending space) self.old result self.new }

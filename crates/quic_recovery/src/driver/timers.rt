@@ -17,7 +17,7 @@ where
     ghost use Rattle.recovery_events.specs.declared.event.Event.TheVariants.{SetTimer, StopTimer, NextTimeout};
     ghost use Rattle.quic_recovery.specs.State.{Transition, ReadOnlyTransition};
 
-    /// A timer is set, or set anew.
+    /// A timer is set, or set to another time.
     #[inline(always)]
     pub(super) fn set_timer(&mut self, timer: Timer, time: Instant) -> Result<Answer<Q>, Refusal>
         ensures { Transition (SetTimer timer time) self.old result self.new }

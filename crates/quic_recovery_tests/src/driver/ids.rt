@@ -1,4 +1,4 @@
-//! The connection ids of both ends: the tokens that lines do not have, and which ids are left.
+//! The connection IDs of both endpoints: the tokens that lines do not have, and which IDs are left.
 use super::*;
 use recovery_base::below::{ConnectionId, IssuedCid, NewConnectionId, ResetToken};
 
@@ -6,7 +6,7 @@ const NOTHING: Reply = Ok(Answer::Retire(None));
 
 const CONFLICT: Reply = Err(Refusal::Conflict);
 
-/// An id of eight bytes, all the same.
+/// Returns an ID of eight equal bytes.
 fn cid(byte: u8) -> ConnectionId {
     ConnectionId::new(&[byte; 8])
 }
@@ -15,7 +15,7 @@ fn token(byte: u8) -> ResetToken {
     ResetToken::from([byte; 16])
 }
 
-/// The id has this byte, and the token that one.
+/// Returns a frame whose ID has this byte, and whose token has that one.
 fn new_id(sequence: u64, retire_prior_to: u64, byte: u8, token_byte: u8) -> Event {
     Event::NewId(NewConnectionId {
         sequence,
@@ -29,7 +29,7 @@ fn retire(start: u64, end: u64, byte: u8) -> Reply {
     Ok(Answer::Retire(Some((start..end, token(byte)))))
 }
 
-/// Ids of this end with these numbers are issued.
+/// Issues local IDs with these numbers.
 fn issue(rt: &impl Abort, alloc: Global, numbers: [u64; 2]) -> Event {
     let mut ids = Vec::new(alloc);
     for sequence in numbers {
@@ -43,7 +43,7 @@ fn issue(rt: &impl Abort, alloc: Global, numbers: [u64; 2]) -> Event {
     Event::IssueIds { now: at(0), ids }
 }
 
-/// A token is not its id, and is handed out with the numbers to retire once its id is in use.
+/// A token is not its ID, and is returned with the numbers to retire once its ID is in use.
 fn peer_ids_left(rt: &impl Abort, recovery: &mut Reno) {
     let rows = [
         (new_id(1, 0, 7, 9), NOTHING),

@@ -1,4 +1,4 @@
-//! The recovery of a connection that lives.
+//! The recovery of a running connection.
 use super::*;
 use quic_recovery::LiveRecovery;
 use rand_pcg::Pcg32;
@@ -20,7 +20,7 @@ fn apply(rt: &impl Abort, live: &mut Live) {
     }
 }
 
-/// Asserts which marks were there, and that these take their place.
+/// Asserts which marks were set, and replaces them by these.
 fn marked(rt: &impl Abort, live: &mut Live) {
     let marks = PathMarks {
         sending_ecn: false,
@@ -36,7 +36,7 @@ fn marked(rt: &impl Abort, live: &mut Live) {
     holds(rt, is_fresh, 1);
 }
 
-/// A packet of 1-RTT keys is to be called lost at 9.
+/// A 1-RTT packet is to be declared lost at 9.
 fn leaves_marks(rt: &impl Abort, left: &Reno) {
     let data = kept(rt, left, SpaceId::Data);
     holds(rt, data.loss_time == Some(at(9)), 2);

@@ -1,9 +1,9 @@
-//! The numbers, names and texts of refusals.
+//! The numbers, names and texts of errors.
 use super::holds;
 use recovery_events::event::Refusal;
 use std::alloc::Global;
 
-/// Refusals with their numbers, names and texts.
+/// Errors with their numbers, names and texts.
 static TEXTS: [(Refusal, u8, &str, &str); 20] = [
     (Refusal::NoMemory, 1, "NoMemory", "out of memory"),
     (
@@ -112,7 +112,7 @@ static TEXTS: [(Refusal, u8, &str, &str); 20] = [
     ),
 ];
 
-/// Whether a refusal is printed so.
+/// Returns whether an error is printed so.
 fn is_printed(alloc: Global, refusal: &Refusal, text: &str) -> bool {
     match format!(in alloc; "{refusal}") {
         Ok(printed) => printed.as_str() == text,
@@ -120,7 +120,7 @@ fn is_printed(alloc: Global, refusal: &Refusal, text: &str) -> bool {
     }
 }
 
-/// Asserts the number, the name and the text of each refusal.
+/// Asserts the number, the name and the text of each error.
 #[test]
 fn refusals_have_numbers_names_and_texts(rt: HostRuntime) {
     for (refusal, number, name, text) in &TEXTS {

@@ -32,7 +32,7 @@ fn delayed(nanos: u64) -> Reply {
     Ok(Answer::Delayed(at(nanos)))
 }
 
-/// Where the MTU is not to be searched for, no probe is ever due.
+/// If the MTU is not to be searched, no probe is ever due.
 #[test]
 fn no_search(rt: HostRuntime) {
     let mut config = settings(8);
@@ -72,8 +72,8 @@ fn ids_of_no_bytes_are_not_retired(rt: HostRuntime) {
     drop(recovery);
 }
 
-/// What is told of a controller holds of another one: its window, 24,000 bytes at first, halves at each congestion
-/// event, and no acknowledgement raises it.
+/// What is stated for every controller holds for another one: its window, initially 24,000 bytes, halves at each
+/// congestion event, and no acknowledgement increases it.
 #[test]
 fn a_controller_that_halves(rt: HostRuntime) {
     let transport = TransportConfig::with_factory(HalvingConfig::new(24_000));

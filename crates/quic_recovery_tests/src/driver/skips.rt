@@ -1,4 +1,4 @@
-//! Packet numbers that are skipped (RFC 9000, 21.4), and how many a space has given out or skipped.
+//! Packet numbers that are skipped (RFC 9000, 21.4), and how many a space has assigned or skipped.
 use super::*;
 use rand_core::SeedableRng;
 use rand_pcg::Pcg64;
@@ -9,7 +9,7 @@ fn check_ack(space: SpaceId, low: u64, high: u64) -> Event {
     Event::CheckAck { space, low, high }
 }
 
-/// Asserts how many numbers a space has given out or skipped, which is the next one too.
+/// Asserts how many numbers a space has assigned or skipped, which is also the next one.
 fn count<R: Rng + Drop>(
     rt: &impl Abort,
     recovery: &Recovery<NewRenoConfig, Tally, R>,
@@ -21,7 +21,7 @@ fn count<R: Rng + Drop>(
     holds(rt, here.sent_with_keys == given_out && is_next, given_out);
 }
 
-/// Numbers of Data alone are skipped. A probe of the MTU passes a skip too.
+/// Only numbers of 1-RTT packets are skipped. An MTU probe skips too.
 #[test]
 fn number_0_is_skipped(rt: HostRuntime) {
     let (initial, data) = (SpaceId::Initial, SpaceId::Data);
@@ -49,8 +49,8 @@ fn number_0_is_skipped(rt: HostRuntime) {
     drop(recovery);
 }
 
-/// Asserts that of the numbers below the third of three skips the first two are not given out, and that the first is
-/// refused from the number behind it up to the one behind the second.
+/// Asserts that of the numbers below the third of three skips the first two are not assigned. The ACK of the first is
+/// rejected from the number after it up to the one after the second.
 fn go_on<R: Rng + Drop>(
     rt: &impl Abort,
     recovery: &mut Recovery<NewRenoConfig, Tally, R>,
@@ -78,14 +78,14 @@ fn go_on<R: Rng + Drop>(
     count(rt, recovery, SpaceId::Data, end.saturating_add(2));
 }
 
-/// Seeds of another generator than the program's, and the three skips that are drawn first.
+/// Seeds of another generator than the program's, and the first three skips.
 static DRAWN: [(u64, (u64, u64, u64)); 3] = [
     (0, (8, 86, 218)),
     (1, (53, 65, 142)),
     (7, (0, 78, 243)),
 ];
 
-/// The skips are those of the table of known words.
+/// The skips are those of the table of known random words.
 #[test]
 fn skips_are_drawn(rt: HostRuntime) {
     for (seed, skips) in &DRAWN {

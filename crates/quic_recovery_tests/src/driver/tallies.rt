@@ -1,4 +1,4 @@
-//! What is sent again, and probes, over a queue that is not the program's.
+//! The retransmission queue, and probes, over a queue type that is not the program's.
 ghost use Rattle.std.specs.Prelude.{◌<◌};
 
 use super::*;
@@ -44,7 +44,7 @@ fn tally(bytes: u64) -> Reply {
     Ok(Answer::Queue(Tally { bytes }))
 }
 
-/// Asserts what the events of a fresh connection are replied, one a row, and which marks for probes they leave.
+/// Asserts the replies to the events of a fresh connection, one a row, and which requests of probes they leave.
 fn play_fresh<const N: usize>(
     rt: &impl Abort,
     alloc: Global,
@@ -64,8 +64,8 @@ fn play_fresh<const N: usize>(
     drop(recovery);
 }
 
-/// What is lost is added to what waits already; a probe takes what waits, or else what the first packet with a queue
-/// has.
+/// What is lost is added to what already waits; a probe finds what waits, or else the contents of the first packet that
+/// has any.
 #[test]
 fn what_is_sent_again(rt: HostRuntime) {
     let rows = [
@@ -87,8 +87,8 @@ fn what_is_sent_again(rt: HostRuntime) {
     play_fresh(&rt, rt.alloc(), rows, (false, false, 2));
 }
 
-/// Where nothing is found a PING is marked, unless an ACK at once is asked for. Queues are asked with the streams of
-/// the event.
+/// If nothing is found a PING is requested, unless an immediate ACK is. Queues are tested with the streams of the
+/// event.
 #[test]
 fn a_probe_that_finds_nothing(rt: HostRuntime) {
     let closed = [

@@ -1,4 +1,4 @@
-//! Numbers, frames and parameters of the wire that loss recovery reads.
+//! The integers, frames and parameters that loss recovery reads.
 ghost use Rattle.std.specs.Prelude.{◌≡◌, ℕ, ◌-◌, ◌<◌, None, Some, MatchResult, OnOk, OnErr, nat_lt};
 ghost use Rattle.std.specs.Result.{OkIff};
 ghost use Rattle.recovery_base.specs.Ecn.{ecn_fault};
@@ -10,7 +10,7 @@ use thiserror::Error;
 
 /// A variable-length integer: 0 to 2^62 - 1 (RFC 9000, 16).
 ///
-/// Contracts see the plain number.
+/// In contracts its value is the plain number.
 #[derive(Clone, Copy, PartialEq, Eq, PartialOrd, Ord, Hash)]
 pub struct VarInt {
     value: u64,
@@ -35,12 +35,12 @@ impl Default for VarInt {
 }
 
 impl VarInt {
-    /// The greatest one: 2^62 - 1.
+    /// The largest one: 2^62 - 1.
     pub const MAX: VarInt = VarInt {
         value: 4_611_686_018_427_387_903,
     };
 
-    /// Any `u32` fits.
+    /// Returns the integer; any `u32` fits.
     pub fn from_u32(value: u32) -> Self
         ensures { result ≡ value }
     {
@@ -49,7 +49,7 @@ impl VarInt {
         }
     }
 
-    /// The number itself, 0 to 2^62 - 1 (RFC 9000, 16). 2^62 or more is refused with `VarIntBoundsExceeded`.
+    /// Returns the integer, 0 to 2^62 - 1 (RFC 9000, 16). 2^62 or more fails with `VarIntBoundsExceeded`.
     pub fn from_u64(value: u64) -> Result<Self, VarIntBoundsExceeded>
         ensures { OkIff result (value < number_limit) value }
     {
@@ -59,7 +59,7 @@ impl VarInt {
         Ok(VarInt { value })
     }
 
-    /// The number, below 2^62.
+    /// Returns the number, below 2^62.
     pub fn into_inner(self) -> u64
         ensures value { result ≡ self }
         ensures bound { result < number_limit }
@@ -68,7 +68,7 @@ impl VarInt {
     }
 }
 
-/// Refuses 2^62 or more.
+/// Fails for 2^62 or more.
 impl TryFrom<u128> for VarInt {
     type Error = VarIntBoundsExceeded;
 
@@ -87,16 +87,16 @@ impl TryFrom<u128> for VarInt {
 #[error("value too large for a variable-length integer")]
 pub struct VarIntBoundsExceeded;
 
-/// What an ACK_FREQUENCY frame asks for (draft-ietf-quic-ack-frequency-04, section 4).
+/// The request of an ACK_FREQUENCY frame (draft-ietf-quic-ack-frequency-04, section 4).
 #[derive(Clone, Copy, PartialEq, Eq)]
 pub struct AckFrequency {
-    /// Its number in the order of sending.
+    /// Its sequence number.
     pub sequence: VarInt,
-    /// How many ack-eliciting packets may come without an ACK at once.
+    /// How many ack-eliciting packets may be received without an immediate ACK.
     pub ack_eliciting_threshold: VarInt,
     /// The longest delay of an ACK, in microseconds.
     pub request_max_ack_delay: VarInt,
-    /// How far out of order a packet may be without an ACK at once; 0 turns it off.
+    /// How far out of order a packet may be without an immediate ACK; 0 turns this off.
     pub reordering_threshold: VarInt,
 }
 
@@ -104,14 +104,14 @@ pub struct AckFrequency {
 #[derive(Clone, Copy, Debug, PartialEq, Eq, Error)]
 #[error("{reason}")]
 pub struct TransportError {
-    /// The code on the wire.
+    /// The error code on the wire.
     pub code: u64,
-    /// What happened, in words.
+    /// What happened, as text.
     pub reason: &'static str,
 }
 
 impl TransportError {
-    /// The peer broke the protocol: code 10.
+    /// Returns a PROTOCOL_VIOLATION: code 10.
     pub fn PROTOCOL_VIOLATION(reason: &'static str) -> Self
         ensures code { result.code ≡ protocol_violation }
         ensures reason { result.reason.now ≡ reason.now }
@@ -120,28 +120,28 @@ impl TransportError {
     }
 }
 
-/// What the peer said of its ACK delays (RFC 9000, 18.2; draft-ietf-quic-ack-frequency-04, section 3).
+/// The peer's transport parameters of ACK delays (RFC 9000, 18.2; draft-ietf-quic-ack-frequency-04, section 3).
 #[derive(Clone, Copy, PartialEq, Eq)]
 pub struct TransportParameters {
-    /// The least delay that it can be asked for, in microseconds.
+    /// The smallest delay that may be requested from it, in microseconds.
     pub min_ack_delay: Option<VarInt>,
     /// The longest delay of its ACKs, in milliseconds.
     pub max_ack_delay: VarInt,
 }
 
-/// How many packets a peer says it got with each ECN codepoint, in all (RFC 9000, 19.3.2).
+/// How many packets a peer reports as received with each ECN codepoint, in total (RFC 9000, 19.3.2).
 #[derive(Clone, Copy, PartialEq, Eq, Default)]
 pub struct EcnCounts {
-    /// Packets that came with ECT(0).
+    /// Packets received with ECT(0).
     pub ect0: u64,
-    /// Packets that came with ECT(1).
+    /// Packets received with ECT(1).
     pub ect1: u64,
-    /// Packets that came with CE, which is Congestion Experienced.
+    /// Packets received with CE (Congestion Experienced).
     pub ce: u64,
 }
 
 impl EcnCounts {
-    /// No packet of any codepoint.
+    /// No packet with any codepoint.
     pub const ZERO: EcnCounts = EcnCounts {
         ect0: 0,
         ect1: 0,
@@ -151,14 +151,14 @@ impl EcnCounts {
     /// Checks the counts of an ACK frame against these, which are those of the last one (RFC 9000, 13.4.2.1).
     /// `newly_acked` is how many packets sent with ECT(0) the frame is the first to acknowledge.
     ///
-    /// A path that erases or rewrites codepoints hides congestion: it shows in counts that rise by less than what was
-    /// acknowledged, and ECN is then to be given up. A rise by more is right: ACK frames that were lost told of those
-    /// packets.
+    /// A path that erases or rewrites codepoints hides congestion. It shows in counts that increase by less than what
+    /// was acknowledged, and ECN must then be disabled. A larger increase is valid: it is for packets whose ACK frames
+    /// were lost.
     ///
-    /// `Ok` keeps the new counts, and says whether CE rose: packets were marked for congestion. `Err` keeps the old
-    /// ones and says the cause, the first in this order that holds: one of the three counts fell ("peer ECT(0) count
-    /// regression", "peer ECT(1) count regression", "peer CE count regression"), the three rose by less than
-    /// `newly_acked` together ("ECN bleaching"), or ECT(0) and CE did so or ECT(1) rose ("ECN corruption").
+    /// `Ok` stores the new counts and returns whether CE increased: packets were marked for congestion. `Err` stores
+    /// nothing and returns the first of these faults, as text. One of the three counts decreased ("peer ECT(0) count
+    /// regression", "peer ECT(1) count regression", "peer CE count regression"). The three increased by less than
+    /// `newly_acked` together ("ECN bleaching"). ECT(0) and CE did so, or ECT(1) increased ("ECN corruption").
     pub fn detect(&mut self, newly_acked: u64, counts: EcnCounts) -> Result<bool, &'static str>
         ensures result { MatchResult result
             (λ marked. (ecn_fault self.old newly_acked counts ≡ None)

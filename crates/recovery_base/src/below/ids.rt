@@ -1,21 +1,21 @@
-//! Connection ids and their stateless reset tokens (RFC 9000, 5.1 and 10.3).
+//! Connection IDs and their stateless reset tokens (RFC 9000, 5.1 and 10.3).
 ghost use Rattle.std.specs.Prelude.{◌≡◌, ◌≤◌, length};
 
 use std::marker::Model;
 
-/// The most bytes that a connection id has (RFC 9000, 17.2).
+/// The maximum length of a connection ID in bytes (RFC 9000, 17.2).
 const MAX_CID_SIZE: usize = 20;
 
-/// The bytes of a stateless reset token (RFC 9000, 10.3).
+/// The length of a stateless reset token in bytes (RFC 9000, 10.3).
 const RESET_TOKEN_SIZE: usize = 16;
 
-/// A connection id of 0 to 20 bytes. Two are equal where their bytes are.
+/// A connection ID of 0 to 20 bytes. Two are equal if their bytes are.
 ///
-/// Contracts see the list of its bytes.
+/// In contracts its value is the list of its bytes.
 #[derive(Clone, Copy, PartialEq, Eq)]
 pub struct ConnectionId {
     len: u8,
-    /// The bytes of the id, and zeros behind them.
+    /// The bytes of the ID, followed by zeros.
     bytes: [u8; MAX_CID_SIZE],
 }
 
@@ -36,7 +36,7 @@ impl Model for ConnectionId {
 }
 
 impl ConnectionId {
-    /// The id with these bytes, at most 20.
+    /// Returns the ID with these bytes, at most 20.
     pub fn new(bytes: &[u8]) -> Self
         requires { length bytes.now ≤ 20 }
         ensures { result ≡ bytes.now }
@@ -50,9 +50,9 @@ impl ConnectionId {
     }
 }
 
-/// A stateless reset token of 16 bytes (RFC 9000, 10.3). Two are equal where their bytes are.
+/// A stateless reset token of 16 bytes (RFC 9000, 10.3). Two are equal if their bytes are.
 ///
-/// Contracts see the list of its bytes.
+/// In contracts its value is the list of its bytes.
 #[derive(Clone, Copy, PartialEq, Eq)]
 pub struct ResetToken([u8; RESET_TOKEN_SIZE]);
 
@@ -67,7 +67,7 @@ impl Model for ResetToken {
 }
 
 impl ResetToken {
-    /// Its bytes, as a packet that resets a connection ends with them (RFC 9000, 10.3).
+    /// Returns its bytes, which end a Stateless Reset (RFC 9000, 10.3).
     pub fn to_bytes(self) -> [u8; 16]
         ensures { result ≡ self }
     {
@@ -83,26 +83,26 @@ impl From<[u8; 16]> for ResetToken {
     }
 }
 
-/// A NEW_CONNECTION_ID frame: an id that the peer issues (RFC 9000, 19.15).
+/// A NEW_CONNECTION_ID frame: an ID that the peer issues (RFC 9000, 19.15).
 #[derive(Clone, Copy)]
 pub struct NewConnectionId {
-    /// The number of the id, below 2^62.
+    /// The number of the ID, below 2^62.
     pub sequence: u64,
-    /// The ids with numbers below this one are to be retired. It is at most the number of the id.
+    /// The IDs with numbers below this one are to be retired. It is at most the number of the ID.
     pub retire_prior_to: u64,
-    /// The id.
+    /// The ID.
     pub id: ConnectionId,
-    /// The token with which the peer resets a connection that uses the id.
+    /// The token with which the peer resets a connection that uses the ID.
     pub reset_token: ResetToken,
 }
 
-/// An id that this end issues, as a NEW_CONNECTION_ID frame tells it (RFC 9000, 19.15).
+/// An ID that the local endpoint issues by a NEW_CONNECTION_ID frame (RFC 9000, 19.15).
 #[derive(Clone, Copy)]
 pub struct IssuedCid {
-    /// The number of the id, below 2^62.
+    /// The number of the ID, below 2^62.
     pub sequence: u64,
-    /// The id.
+    /// The ID.
     pub id: ConnectionId,
-    /// The token with which this end resets a connection that uses the id.
+    /// The token with which the local endpoint resets a connection that uses the ID.
     pub reset_token: ResetToken,
 }

@@ -1,4 +1,4 @@
-//! A set of numbers kept as ranges.
+//! A set of numbers stored as ranges.
 ghost use Rattle.std.specs.Prelude.{◌≡◌, ℕ, ◌+◌, ◌<◌, ◌==◌, ◌++◌, List, [], length, IfNone, IfOk, OnErr, IsErr, IsOk, MatchBool, ⊤};
 ghost use Rattle.std.specs.Option.{option_to_list};
 ghost use Rattle.std.specs.Slice.Iter.{iter_rest};
@@ -12,9 +12,9 @@ use std::marker::Model;
 use std::ops::Range;
 use std::slice::Iter;
 
-/// A set of numbers, kept as ranges in ascending order that neither overlap nor touch.
+/// A set of numbers, stored as ranges in ascending order that neither overlap nor touch.
 ///
-/// Contracts see the list of the ranges.
+/// In contracts its value is the list of the ranges.
 #[derive(Clone, Drop)]
 pub struct ArrayRangeSet {
     ranges: Vec<Range<u64>>,
@@ -56,7 +56,7 @@ impl Eq for ArrayRangeSet {
 }
 
 impl ArrayRangeSet {
-    /// The empty set. It takes no memory.
+    /// Returns the empty set. Does not allocate.
     pub fn new(alloc: Global) -> Self
         ensures { result ≡ [] }
     {
@@ -65,11 +65,11 @@ impl ArrayRangeSet {
         }
     }
 
-    /// Adds a number below 2^62, and says whether it is new.
+    /// Adds a number below 2^62. Returns whether it is new.
     ///
-    /// `NoMemory` changes nothing; a number that is in the set takes no memory. It costs a look at the last range, a
-    /// binary search of the ranges where the number lies below that one, and a move of those above where one comes or
-    /// goes.
+    /// `NoMemory` changes nothing; a number that is in the set allocates nothing. Cost: constant for a number in or
+    /// above the last range, else a binary search of the ranges, plus a move of those above if a range is added or
+    /// merged.
     pub fn insert_one(&mut self, x: u64) -> Result<bool, NoMemory>
         requires { x < number_limit }
         ensures inserts { IfOk result (λ new. InsertsOne self.old x new self.new) }
@@ -81,10 +81,10 @@ impl ArrayRangeSet {
         insert(&mut self.ranges, x)
     }
 
-    /// Takes the numbers of a range out, and says whether one went.
+    /// Removes the numbers of a range. Returns whether the set had any of them.
     ///
-    /// `NoMemory` changes nothing. Memory is taken only where one of the ranges holds numbers on both sides of those
-    /// that go: a removal that starts at 0 takes none. It costs one pass over the ranges.
+    /// `NoMemory` changes nothing. It allocates only if one of the ranges has numbers on both sides of those removed: a
+    /// removal that starts at 0 never does. Cost: linear in the ranges.
     pub fn remove(&mut self, range: Range<u64>) -> Result<bool, NoMemory>
         ensures removes { IfOk result (λ some.
             Removes self.old range.start range.end some self.new) }
@@ -98,7 +98,7 @@ impl ArrayRangeSet {
         remove(&mut self.ranges, range.start, range.end)
     }
 
-    /// Takes the lowest range out.
+    /// Removes and returns the lowest range.
     pub fn pop_min(&mut self) -> Option<Range<u64>>
         ensures lowest { self.old ≡ option_to_list result ++ self.new }
         ensures none { IfNone result (self.old ≡ []) }
@@ -110,14 +110,14 @@ impl ArrayRangeSet {
         Some(self.ranges.remove(0))
     }
 
-    /// The number of ranges.
+    /// Returns the number of ranges.
     pub fn len(&self) -> usize
         ensures { result ≡ length self.now }
     {
         self.ranges.len()
     }
 
-    /// Whether no number is in the set.
+    /// Returns whether the set is empty.
     pub fn is_empty(&self) -> bool
         ensures numbers { MatchBool result
             ((n : ℕ) → ¬ InRanges self.now n)
@@ -126,7 +126,7 @@ impl ArrayRangeSet {
         self.ranges.is_empty()
     }
 
-    /// The ranges in order.
+    /// Returns the ranges in order.
     pub fn iter(&self) -> Iter<'_, Range<u64>>
         ensures rest { iter_rest result ≡ self.now }
         ensures apart { AreApart 0 self.now }
@@ -135,12 +135,12 @@ impl ArrayRangeSet {
     }
 }
 
-/// The place of the first range that ends at a number or above it.
+/// Returns the position of the first range that ends at a number or above it.
 fn place(ranges: &[Range<u64>], x: u64) -> usize
     requires { AreApart 0 ranges.now }
     ensures { IsPlace ranges.now x result }
 {
-    // Numbers mostly come in order: the last range is tried before the search.
+    // Numbers are mostly received in order: the last range is tried before the search.
     let Some(last) = ranges.last() else {
         return 0;
     };
@@ -213,7 +213,7 @@ fn remove(ranges: &mut Vec<Range<u64>>, start: u64, end: u64) -> Result<bool, No
     Ok(true)
 }
 
-/// Takes the numbers from `start` up to `end` out of each range, none of which holds numbers on both sides.
+/// Removes the numbers from `start` up to `end` from each range, none of which has numbers on both sides.
 fn cut(ranges: &mut Vec<Range<u64>>, start: u64, end: u64)
     ensures { ranges.new.items ≡ cut_ranges start end ranges.old.items }
 {

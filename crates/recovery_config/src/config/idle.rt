@@ -11,7 +11,7 @@ const NANOS_PER_MILLI: u128 = 1_000_000;
 
 /// How long a connection may be idle, in whole milliseconds, 0 to 2^62 - 1 (RFC 9000, 10.1).
 ///
-/// Contracts see the plain number.
+/// In contracts its value is the plain number.
 #[derive(Clone, Copy, PartialEq, Eq, PartialOrd, Ord, Hash)]
 pub struct IdleTimeout {
     millis: VarInt,
@@ -25,7 +25,7 @@ impl Model for IdleTimeout {
     ghost inverse = { λ n. record { millis = n } };
 }
 
-/// No time at all.
+/// Zero.
 impl Default for IdleTimeout {
     ghost is_default = { λ timeout. timeout ≡ 0 };
 
@@ -37,7 +37,7 @@ impl Default for IdleTimeout {
 }
 
 impl IdleTimeout {
-    /// The time in milliseconds.
+    /// Returns the time in milliseconds.
     pub(super) fn into_millis(self) -> VarInt
         ensures { result ≡ self }
     {
@@ -54,7 +54,7 @@ impl From<VarInt> for IdleTimeout {
     }
 }
 
-/// The whole milliseconds of a span, rounded down. Refuses a span of 2^62 ms or more.
+/// The whole milliseconds of a span, rounded down. Fails for a span of 2^62 ms or more.
 impl TryFrom<Duration> for IdleTimeout {
     type Error = VarIntBoundsExceeded;
 

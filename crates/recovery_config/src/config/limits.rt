@@ -1,4 +1,4 @@
-//! Settings of streams, windows, buffers and of a connection that is idle.
+//! Settings of streams, windows, buffers and idle connections.
 ghost use Rattle.std.specs.Prelude.{◌≡◌};
 
 use super::{IdleTimeout, TransportConfig};
@@ -6,7 +6,7 @@ use recovery_base::below::VarInt;
 use recovery_base::time::Duration;
 
 impl<F> TransportConfig<F> {
-    /// How many bidirectional streams the peer may have open at once (RFC 9000, 4.6). Default 100.
+    /// Sets how many bidirectional streams the peer may have open at once (RFC 9000, 4.6). Default 100.
     pub fn max_concurrent_bidi_streams(&mut self, value: VarInt) -> &mut Self
         ensures same { result.ghost_name ≡ self.entry.ghost_name }
         ensures value { result.now ≡ record self.old { max_concurrent_bidi_streams = value } }
@@ -15,7 +15,7 @@ impl<F> TransportConfig<F> {
         self
     }
 
-    /// How many unidirectional streams the peer may have open at once (RFC 9000, 4.6). Default 100.
+    /// Sets how many unidirectional streams the peer may have open at once (RFC 9000, 4.6). Default 100.
     pub fn max_concurrent_uni_streams(&mut self, value: VarInt) -> &mut Self
         ensures same { result.ghost_name ≡ self.entry.ghost_name }
         ensures value { result.now ≡ record self.old { max_concurrent_uni_streams = value } }
@@ -24,8 +24,8 @@ impl<F> TransportConfig<F> {
         self
     }
 
-    /// How long the connection may be idle, in milliseconds; none sets no limit (RFC 9000, 10.1). Default 30000 ms (RFC
-    /// 9308, 3.2).
+    /// Sets how long the connection may be idle, in milliseconds; `None` sets no limit (RFC 9000, 10.1). Default 30000
+    /// ms (RFC 9308, 3.2).
     pub fn max_idle_timeout(&mut self, value: Option<IdleTimeout>) -> &mut Self
         ensures same { result.ghost_name ≡ self.entry.ghost_name }
         ensures value { result.now ≡ record self.old { max_idle_timeout = value } }
@@ -34,8 +34,8 @@ impl<F> TransportConfig<F> {
         self
     }
 
-    /// How many bytes of one stream the peer may send that were not read (RFC 9000, 4.1). Default 1250000, which is 100
-    /// ms at 12.5 MB a second.
+    /// Sets how many unread bytes of one stream the peer may send (RFC 9000, 4.1). Default 1250000, which is 100 ms at
+    /// 12.5 MB a second.
     pub fn stream_receive_window(&mut self, value: VarInt) -> &mut Self
         ensures same { result.ghost_name ≡ self.entry.ghost_name }
         ensures value { result.now ≡ record self.old { stream_receive_window = value } }
@@ -44,8 +44,8 @@ impl<F> TransportConfig<F> {
         self
     }
 
-    /// How many bytes of all streams the peer may send that were not read (RFC 9000, 4.1). Default `VarInt::MAX`, which
-    /// leaves the limit to the streams.
+    /// Sets how many unread bytes of all streams the peer may send (RFC 9000, 4.1). Default `VarInt::MAX`, which leaves
+    /// the limit to the streams.
     pub fn receive_window(&mut self, value: VarInt) -> &mut Self
         ensures same { result.ghost_name ≡ self.entry.ghost_name }
         ensures value { result.now ≡ record self.old { receive_window = value } }
@@ -54,8 +54,8 @@ impl<F> TransportConfig<F> {
         self
     }
 
-    /// How many bytes of streams this end may hold that were sent and not acknowledged. Default 10000000, eight times
-    /// the window of a stream.
+    /// Sets how many unacknowledged bytes of streams the local endpoint may store. Default 10000000, eight times the
+    /// window of a stream.
     pub fn send_window(&mut self, value: u64) -> &mut Self
         ensures same { result.ghost_name ≡ self.entry.ghost_name }
         ensures value { result.now ≡ record self.old { send_window = value } }
@@ -64,7 +64,8 @@ impl<F> TransportConfig<F> {
         self
     }
 
-    /// Whether streams of one priority take turns at sending; else each sends until it has no more. Default true.
+    /// Sets whether streams of one priority take turns at sending; if not, each sends until it has no more. Default
+    /// true.
     pub fn send_fairness(&mut self, value: bool) -> &mut Self
         ensures same { result.ghost_name ≡ self.entry.ghost_name }
         ensures value { result.now ≡ record self.old { send_fairness = value } }
@@ -73,8 +74,8 @@ impl<F> TransportConfig<F> {
         self
     }
 
-    /// How long the connection may be silent before a PING keeps it alive; none sends no such PING (RFC 9000, 10.1.2).
-    /// Default none.
+    /// Sets how long the connection may be without traffic before a keep-alive PING is sent; `None` sends none (RFC
+    /// 9000, 10.1.2). Default `None`.
     pub fn keep_alive_interval(&mut self, value: Option<Duration>) -> &mut Self
         ensures same { result.ghost_name ≡ self.entry.ghost_name }
         ensures value { result.now ≡ record self.old { keep_alive_interval = value } }
@@ -83,7 +84,7 @@ impl<F> TransportConfig<F> {
         self
     }
 
-    /// How many bytes of CRYPTO frames out of order are held (RFC 9000, 7.5). Default 16384.
+    /// Sets how many bytes of CRYPTO frames out of order are stored (RFC 9000, 7.5). Default 16384.
     pub fn crypto_buffer_size(&mut self, value: usize) -> &mut Self
         ensures same { result.ghost_name ≡ self.entry.ghost_name }
         ensures value { result.now ≡ record self.old { crypto_buffer_size = value } }
@@ -92,7 +93,7 @@ impl<F> TransportConfig<F> {
         self
     }
 
-    /// Whether the spin bit tells observers of the RTT (RFC 9000, 17.4). Default true.
+    /// Sets whether the spin bit lets observers measure the RTT (RFC 9000, 17.4). Default true.
     pub fn allow_spin(&mut self, value: bool) -> &mut Self
         ensures same { result.ghost_name ≡ self.entry.ghost_name }
         ensures value { result.now ≡ record self.old { allow_spin = value } }
@@ -101,8 +102,8 @@ impl<F> TransportConfig<F> {
         self
     }
 
-    /// How many bytes of datagrams are held until they are read; none takes no datagrams (RFC 9221, 3). Default
-    /// 1250000.
+    /// Sets how many bytes of datagrams are stored until they are read; `None` accepts no datagrams (RFC 9221, 3).
+    /// Default 1250000.
     pub fn datagram_receive_buffer_size(&mut self, value: Option<usize>) -> &mut Self
         ensures same { result.ghost_name ≡ self.entry.ghost_name }
         ensures value { result.now ≡ record self.old { datagram_receive_buffer_size = value } }
@@ -111,7 +112,7 @@ impl<F> TransportConfig<F> {
         self
     }
 
-    /// How many bytes of datagrams are held until they are sent (RFC 9221, 5). Default 1048576.
+    /// Sets how many bytes of datagrams are stored until they are sent (RFC 9221, 5). Default 1048576.
     pub fn datagram_send_buffer_size(&mut self, value: usize) -> &mut Self
         ensures same { result.ghost_name ≡ self.entry.ghost_name }
         ensures value { result.now ≡ record self.old { datagram_send_buffer_size = value } }

@@ -15,7 +15,7 @@ use std::marker::Model;
 /// 7.2).
 const INITIAL_WINDOW: u64 = 12_000;
 
-/// How a [`NewReno`] begins, and how a loss reduces its window.
+/// The settings of a [`NewReno`]: its initial window, and how a loss reduces the window.
 #[derive(Clone, Copy)]
 pub struct NewRenoConfig {
     initial_window: u64,
@@ -38,7 +38,7 @@ impl Model for NewRenoConfig {
 }
 
 impl NewRenoConfig {
-    /// The window at first, in bytes, above zero. Default 12000 (RFC 9002, 7.2).
+    /// Sets the initial window, in bytes, above zero. Default 12000 (RFC 9002, 7.2).
     pub fn initial_window(&mut self, value: u64) -> &mut Self
         requires { 0 < value }
         ensures same { result.ghost_name ≡ self.entry.ghost_name }
@@ -48,7 +48,7 @@ impl NewRenoConfig {
         self
     }
 
-    /// What the window is multiplied by at a loss: a fraction whose denominator is above zero. Default 1/2 (RFC 9002,
+    /// Sets the factor of the window at a loss: a fraction whose denominator is above zero. Default 1/2 (RFC 9002,
     /// 7.3.2).
     pub fn loss_reduction_factor(&mut self, numerator: u64, denominator: u64) -> &mut Self
         requires { 0 < denominator }
@@ -88,8 +88,8 @@ impl ControllerFactory for NewRenoConfig {
     ghost starts_by_now = { λ factory now mtu. le_refl now };
 }
 
-/// A window that grows by the bytes acknowledged up to a threshold, above it by one MTU for each window of them, and
-/// falls by a fixed factor at a loss, once in a recovery (RFC 9002, 7.3).
+/// NewReno: a window that grows by the bytes acknowledged up to a threshold, and above it by one MTU for each window of
+/// them. A loss reduces it by a fixed factor, once in a recovery (RFC 9002, 7.3).
 #[derive(Clone, Drop)]
 pub struct NewReno {
     config: NewRenoConfig,
@@ -101,8 +101,8 @@ pub struct NewReno {
 }
 
 impl NewReno {
-    /// In slow start, with the window of the configuration, for a path of this MTU in bytes. Packets sent at this
-    /// moment or before count as sent before it.
+    /// Returns a controller in slow start, with the window of the configuration, for a path of this MTU in bytes.
+    /// Packets sent at this time count as sent before it.
     pub fn new(config: NewRenoConfig, now: Instant, current_mtu: u16) -> Self
         ensures value { result ≡ reno_made config now current_mtu }
         ensures sound { 0 < current_mtu → IsRenoSound result }
@@ -118,14 +118,14 @@ impl NewReno {
         }
     }
 
-    /// The least window (RFC 9002, 7.2).
+    /// Returns the minimum window (RFC 9002, 7.2).
     fn minimum_window(&self) -> u64
         ensures { result ≡ minimum_window self.now }
     {
         2 * u64::from(self.current_mtu)
     }
 
-    /// The window after a loss.
+    /// Returns the window after a loss.
     fn reduced_window(&self) -> u64
         ensures { result ≡ reduced_window self.now }
     {
@@ -135,14 +135,14 @@ impl NewReno {
         reduced.max(self.minimum_window())
     }
 
-    /// Whether a packet was sent before the recovery began, or as it began.
+    /// Returns whether a packet was sent before the recovery began, or as it began.
     fn precedes_recovery(&self, sent: Instant) -> bool
         ensures { result ≡ nat_le sent self.now.recovery_start_time }
     {
         sent <= self.recovery_start_time
     }
 
-    /// Grows in slow start. What goes past the threshold counts for congestion avoidance already.
+    /// Grows in slow start. Bytes beyond the threshold already count for congestion avoidance.
     fn start_slowly(&mut self, bytes: u64)
         ensures { self.new ≡ slow_started bytes self.old }
     {
@@ -153,7 +153,7 @@ impl NewReno {
         self.window = window;
     }
 
-    /// Counts in congestion avoidance, and grows by one MTU where a window of bytes is counted.
+    /// Counts bytes in congestion avoidance, and grows by one MTU for each window of them.
     fn avoid_congestion(&mut self, bytes: u64)
         ensures { self.new ≡ avoided (sum_to_most self.old.bytes_acked bytes) self.old }
     {
@@ -182,7 +182,7 @@ impl Controller for NewReno {
         ensures { self.new ≡ self.old }
     {}
 
-    /// The window never falls. In congestion avoidance it grows by one MTU for each window of bytes.
+    /// Never reduces the window. In congestion avoidance it grows by one MTU for each window of bytes.
     fn on_ack(
         &mut self,
         _now: Instant,
@@ -217,7 +217,7 @@ impl Controller for NewReno {
         ensures { self.new ≡ self.old }
     {}
 
-    /// Does nothing for packets sent before the recovery began. Nothing else lets the window fall.
+    /// Does nothing for packets sent before the recovery began. Nothing else reduces the window.
     fn on_congestion_event(
         &mut self,
         now: Instant,
@@ -241,7 +241,7 @@ impl Controller for NewReno {
         };
     }
 
-    /// The window never falls, and is two MTUs at least.
+    /// Never reduces the window, which becomes two MTUs or more.
     fn on_mtu_update(&mut self, new_mtu: u16)
         ensures value { self.new ≡ reno_with_mtu new_mtu self.old }
         ensures kept { self.old.window ≤ self.new.window }
@@ -256,7 +256,7 @@ impl Controller for NewReno {
         self.window
     }
 
-    /// The window and the threshold; there is no pacing rate.
+    /// Returns the window and the threshold; there is no pacing rate.
     fn metrics(&self) -> ControllerMetrics
         ensures { result ≡ reno_metrics self.now }
     {
@@ -273,7 +273,7 @@ impl Controller for NewReno {
         self.config.initial_window
     }
 
-    /// Takes no memory, and never answers `NoMemory`.
+    /// Does not allocate, and never fails.
     fn try_clone(&self) -> Result<Self, NoMemory>
         ensures { result ≡ Ok self.now }
     {

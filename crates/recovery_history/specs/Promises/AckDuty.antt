@@ -1,5 +1,5 @@
 -- The duty to acknowledge (RFC 9000, 13.2.1): while an ack-eliciting packet waits, an ACK is required at once, or the
--- timer for a late one runs. When an ACK is required is said by the table (`IsRequired`).
+-- ACK delay timer runs. `IsRequired` defines when an ACK is required.
 use Rattle.std.specs.Prelude.{◌≡◌, ◌⊎◌, Bool, true, false, not, ◌&&◌, ◌||◌, [], ◌∷◌, Ok}
 use Rattle.recovery_base.specs.declared.below.SpaceId.{SpaceId}
 use Rattle.recovery_base.specs.Spaces.{same_space}
@@ -16,13 +16,13 @@ module _ {Q S M P : Type 0} (space : SpaceId) where
   acknowledges (AcksSent there, Ok answer) = same_space there space
   acknowledges happened = false
 
-  -- a new ack-eliciting packet came since the last ACK
+  -- a new ack-eliciting packet was received since the last ACK
   abbrev pub waits : History Q S M P → Bool
   waits [] = false
   waits ((Received there now n true, Ok (New started)) ∷ earlier) = same_space there space || waits earlier
   waits (happened ∷ earlier) = not (acknowledges happened) && waits earlier
 
-  -- the timer for a late one ends as it expires, and as an ACK is sent
+  -- the ACK delay timer ends when it expires and when an ACK is sent
   abbrev pub ends_timer : Event Q S M P × Reply Q → Bool
   ends_timer (AckDelayTimeout there, Ok answer) = same_space there space
   ends_timer happened = acknowledges happened
@@ -38,6 +38,6 @@ module _ {F K Q S M P : Type 0} (beginning : Beginning F K Q S M P) where
   AcknowledgesInTime history = (space : SpaceId) → waits space history ≡ true
       → IsRequired ((logs_of beginning history).spaces space) ⊎ (timer_runs space history ≡ true)
 
-  -- after an event too
+  -- also after an event
   abbrev pub AckIsScheduled : History Q S M P → Event Q S M P → Reply Q → Type 0
   AckIsScheduled before event reply = AcknowledgesInTime ((event, reply) ∷ before)

@@ -1,6 +1,5 @@
--- When the timer for a late ACK starts (RFC 9000, 13.2.1 and 13.2.2): the answer to a new packet asks for it exactly
--- where that elicits an ACK, the timer does not run by the answers, and no ACK is required at once then, as the table
--- says (`IsRequired`).
+-- When the ACK delay timer starts (RFC 9000, 13.2.1 and 13.2.2). The answer to a new packet asks for it exactly if the
+-- packet is ack-eliciting, the timer does not run by the answers, and no ACK is required at once (`IsRequired`).
 use Rattle.std.specs.Prelude.{◌≡◌, ◌↔◌, true, false, ◌∷◌, Ok}
 use Rattle.recovery_spaces.specs.Acks.{IsRequired}
 use Rattle.recovery_events.specs.declared.event.Event.{Event}

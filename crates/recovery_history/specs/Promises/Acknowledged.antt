@@ -1,5 +1,5 @@
--- What is to be acknowledged (RFC 9000, 13.2.3 and 13.2.4): new numbers, but those up to the largest number in the ACK
--- of a packet that was acknowledged since they came, and those that came to lie below the 64 highest ranges.
+-- The pending ACKs (RFC 9000, 13.2.3 and 13.2.4): new numbers, except those up to the largest number in the ACK of a
+-- packet acknowledged since they were received, and those that fell below the 64 highest ranges.
 use Rattle.std.specs.Prelude.{◌≡◌, ℕ, ◌≤◌, ◌⊎◌, ◌↔◌, ◌==◌, ◌&&◌, true, false, [], ◌∷◌, IsSomeAnd, Option, None, Ok, if◌then◌else◌}
 use Rattle.recovery_acks.specs.Acks.{most_ranges}
 use Rattle.recovery_acks.specs.Runs.{LiesBelow}
@@ -21,7 +21,7 @@ module _ {Q S M P : Type 0} (space : SpaceId) where
       ((same_space there space && m == n) ≡ true) ⊎ WasReceived n earlier
   WasReceived n (happened ∷ earlier) = WasReceived n earlier
 
-  -- the largest number whose ACK the packet of a number carries; a probe of the MTU carries none
+  -- the largest number in the ACK that the packet of a number carries; an MTU probe carries none
   abbrev pub largest_in : ℕ → History Q S M P → Option ℕ
   largest_in n [] = None
   largest_in n ((Send there now size eliciting largest queue frames, Ok (Sent number forgotten)) ∷ earlier) =
@@ -30,7 +30,8 @@ module _ {Q S M P : Type 0} (space : SpaceId) where
       if same_space Data space && number == n then None else largest_in n earlier
   largest_in n (happened ∷ earlier) = largest_in n earlier
 
-  -- since a number came, a packet was acknowledged whose ACK goes up to it or higher, or it came to lie so far below
+  -- since a number was received, a packet was acknowledged whose ACK had it or a larger one, or it fell below the
+  -- ranges
   abbrev pub WasDropped : ℕ → History Q S M P → Type 0
   WasDropped n [] = ⊥
   WasDropped n ((Acked there now m app_limited, Ok answer) ∷ earlier) =
@@ -41,7 +42,7 @@ module _ {Q S M P : Type 0} (space : SpaceId) where
       ⊎ (((same_space there space && m == n) ≡ false) × WasDropped n earlier)
   WasDropped n (happened ∷ earlier) = WasDropped n earlier
 
--- so says the table, to which the state is tied
+-- stated of the logs by `Table.antt`, which determine the state
 abbrev pub TracksPendingAcks : {F K Q S M P : Type 0} → Beginning F K Q S M P → History Q S M P → Type 0
 TracksPendingAcks beginning history = (space : SpaceId) (n : ℕ)
     → ToAcknowledge beginning.queue.words ((logs_of beginning history).spaces space) n

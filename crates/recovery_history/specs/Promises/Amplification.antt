@@ -1,5 +1,5 @@
--- Amplification (RFC 9000, 8.1): until the address of a path is validated, and where all that went out on it was
--- checked, at most three times the bytes that came in on it went out.
+-- Amplification (RFC 9000, 8.1): until the address of a path is validated, if all that was sent on it was checked, at
+-- most three times the bytes received on it were sent.
 use Rattle.std.specs.Prelude.{◌≡◌, ◌∷◌, ◌*◌, ◌≤◌, Bool, true, false, sum_by}
 use Rattle.std.specs.List.{list_all}
 use Rattle.recovery_paths.specs.declared.path_pair.PathName.{PathName}
@@ -14,7 +14,7 @@ module _ {Q S M P : Type 0} where
   is_checked (Transmit now bytes checked, reply) = checked
   is_checked happened = true
 
-  -- of each path that lives, where the first one is validated at the start, or not
+  -- for each existing path; the flag states whether the first one is validated at the start
   abbrev pub IsWithinAmplificationLimit : Bool → History Q S M P → Type 0
   IsWithinAmplificationLimit first history = (name : PathName) →
       let here = datagrams_on name history in

@@ -1,5 +1,5 @@
--- Black holes (RFC 8899, 4.3): a report needs four bursts of losses of large packets that no acknowledgement refuted,
--- and it comes at four since the first of which no large packet was acknowledged, though small ones may be.
+-- Black holes (RFC 8899, 4.3): a report needs four bursts of losses of large packets that no acknowledgement refuted.
+-- It is made at four since the first of which no large packet was acknowledged; small ones may have been.
 use Rattle.std.specs.Prelude.{◌≡◌, ℕ, ◌≤◌, nat_lt, true, ◌||◌, List, [], ◌∷◌, ◌++◌, drop, length, filter, Ok, if◌then◌else◌, ◌-◌}
 use Rattle.std.specs.List.{list_any}
 use Rattle.recovery_base.specs.declared.below.SpaceId.TheVariants.{Data}
@@ -13,15 +13,15 @@ use Rattle.recovery_history.specs.Promises.ProbeCount.{begins_anew}
 use Rattle.recovery_history.specs.Promises.Bursts.{size_of, open_run, closed}
 
 module _ {Q S M P : Type 0} where
-  -- the bursts closed since all began anew, but those that an acknowledged packet refutes: a probe all, another one
-  -- those with a packet no larger
+  -- the bursts closed since the last restart, except those refuted by an acknowledged packet: a probe refutes all,
+  -- another packet those that have a packet no larger
   abbrev pub standing : History Q S M P → List (List Loss)
   standing [] = []
   standing ((Acked Data now n app_limited, Ok (answer.Acked probe)) ∷ earlier) =
       if probe then [] else filter (is_above (size_of earlier n)) (standing earlier)
   standing (happened ∷ earlier) = if begins_anew happened then [] else closed happened earlier ++ standing earlier
 
-  -- those closed since then with neither a probe nor a packet larger than this acknowledged since
+  -- those closed since the last acknowledgement of a probe or of a packet larger than this
   abbrev pub unanswered : ℕ → History Q S M P → List (List Loss)
   unanswered size [] = []
   unanswered size ((Acked Data now n app_limited, Ok (answer.Acked probe)) ∷ earlier) =
@@ -29,7 +29,7 @@ module _ {Q S M P : Type 0} where
   unanswered size (happened ∷ earlier) =
       if begins_anew happened then [] else closed happened earlier ++ unanswered size earlier
 
-  -- the numbers of those acknowledged since the last fresh path, or the last that was used again
+  -- their numbers, since the last fresh path or return to a path
   abbrev pub larger_acked : ℕ → History Q S M P → List ℕ
   larger_acked size [] = []
   larger_acked size ((Acked Data now n app_limited, Ok (answer.Acked probe)) ∷ earlier) =
@@ -38,8 +38,8 @@ module _ {Q S M P : Type 0} where
   larger_acked size ((RevertPath, Ok given) ∷ earlier) = []
   larger_acked size (happened ∷ earlier) = larger_acked size earlier
 
-  -- bursts count whose packets are all above the least MTU; a report is forced by one that ends past each such number
-  -- with three behind it
+  -- a burst counts if all its packets are above the minimum MTU; a report is made if one that ends above each such
+  -- number has three after it
   abbrev pub ReportsBlackHoleAtFour : ℕ → History Q S M P → Event Q S M P → Reply Q → Type 0
   ReportsBlackHoleAtFour least history (LossesDone now) reply =
       let bursts = filter (is_above least) (open_run history ∷ unanswered least history) in

@@ -1,4 +1,4 @@
--- Nothing is lost or doubled (RFC 9000, 13.3): by each measure that adds up, what was sent is held still, or gone.
+-- Nothing is lost or duplicated (RFC 9000, 13.3): by each measure that adds up, what was sent is still held, or gone.
 use Rattle.std.specs.Prelude.{◌≡◌, ℕ, [], ◌∷◌, Option, None, Some, Ok, if◌then◌else◌}
 use Rattle.recovery_base.specs.declared.below.SpaceId.{SpaceId}
 use Rattle.recovery_base.specs.Spaces.{same_space}
@@ -15,12 +15,12 @@ module _ {F K Q S M P T : Type 0} (run : Beginning F K Q S M P) (totals : Totals
     abbrev known : History Q S M P → SpaceReplyInputs P M
     known history = (inputs_after run history).spaces space
 
-    -- what the packet of a number carries, if any
+    -- the contents of the packet of a number, if any
     abbrev pub carried : Option ℕ → History Q S M P → T
     carried None history = totals.zero
     carried (Some n) history = measure (contents_or run.queue.words.empty (packet_at (known history).sent.tracked n))
 
-    -- what all do, with what waits to be sent again, both by the table
+    -- the contents of all packets, and with the retransmission queue, both by `Table.antt`
     abbrev pub all : Packets P M → T
     all [] = totals.zero
     all (sent ∷ packets) = totals.plus (measure sent.1.retransmits) (all packets)
@@ -28,7 +28,7 @@ module _ {F K Q S M P T : Type 0} (run : Beginning F K Q S M P) (totals : Totals
     abbrev pub held : History Q S M P → T
     held history = totals.plus (all (known history).sent.tracked) (measure (known history).queued.pending)
 
-    -- what goes out, and what is gone, by each event in the space
+    -- what is sent, and what is gone, by each event in the space
     abbrev pub in_it : SpaceId → T → T
     in_it there n = if same_space there space then n else totals.zero
 

@@ -1,4 +1,4 @@
--- The end of a search for the MTU (RFC 8899, 5.3): over a link that carries the sizes up to one, it is near the best.
+-- The end of an MTU search (RFC 8899, 5.3): over a link that carries all sizes up to one, it is near the best size.
 use Rattle.std.specs.Prelude.{◌≡◌, ℕ, ◌+◌, ◌*◌, ◌<◌, ◌≤◌, min, max, All, true, false, not, ◌&&◌, ◌||◌, nat_le, [], ◌∷◌, Ok, if◌then◌else◌}
 use Rattle.recovery_config.specs.Settings.{initial_mtu_of}
 use Rattle.recovery_mtud.specs.declared.config.MtuDiscoveryConfig.{MtuDiscoveryConfig}
@@ -15,7 +15,7 @@ use Rattle.recovery_history.specs.Promises.Probes.{acked_probes, lost_probes, ru
 use Rattle.recovery_history.specs.Search.{WhereSearched}
 
 module _ {Q S M P : Type 0} where
-  -- where no search runs, a poll begins one from this moment on
+  -- if no search runs, a poll from this time on begins one
   abbrev pub next : MtuDiscoveryConfig → History Q S M P → ℕ
   next settings [] = 0
   next settings ((PollMtu now, Ok answer.NoProbe) ∷ earlier) =
@@ -25,13 +25,13 @@ module _ {Q S M P : Type 0} where
   next settings (happened ∷ earlier) = if begins_anew happened then 0 else next settings earlier
 
   module _ (first least : ℕ) where
-    -- what was in use before the first probe of the search that runs
+    -- the MTU in use before the first probe of the search that runs
     abbrev pub start : History Q S M P → ℕ
     start [] = first
     start (happened ∷ earlier) =
         if runs (happened ∷ earlier) then start earlier else mtu true first least (happened ∷ earlier)
 
-    -- where what was in use at first and each probe acknowledged fit the link, and each lost one does not
+    -- if the first MTU and each acknowledged probe fit the link, and no lost one does
     abbrev pub IsNear : MtuDiscoveryConfig → ℕ → History Q S M P → Type 0
     IsNear settings link history = start history ≤ link
         → All (λ size. size ≤ link) (acked_probes history) → All (λ size. link < size) (lost_probes history)
@@ -39,7 +39,7 @@ module _ {Q S M P : Type 0} where
         (mtu true first least history ≤ link) × (best < mtu true first least history + 2 * settings.minimum_change)
 
 module _ {F K Q S M P : Type 0} (beginning : Beginning F K Q S M P) where
-  -- where the least change is at least 3, for a poll that ends a search that runs, or one that is due
+  -- for a poll that ends a search that runs or is due, if the minimum change is 3 or more
   abbrev pub ConvergesNearBest : History Q S M P → Event Q S M P → Reply Q → Type 0
   ConvergesNearBest history (PollMtu now) (Ok answer.NoProbe) =
       WhereSearched beginning (λ settings. is_in_flight history ≡ false

@@ -1,5 +1,5 @@
--- Bytes in flight (RFC 9002, 2 and B.2): the sum of the sizes of the packets that went out on a path and were not since
--- acknowledged, lost, forgotten or discarded; and how many of these elicit an ACK.
+-- Bytes in flight (RFC 9002, 2 and B.2): the sum of the sizes of the packets that were sent on a path and not
+-- acknowledged, lost, forgotten or discarded since; and how many of these are ack-eliciting.
 use Rattle.std.specs.Prelude.{◌≡◌, ℕ, ◌+◌, ◌==◌, Bool, true, false, ◌||◌, [], ◌∷◌, Option, None, Some, Ok, Err, if◌then◌else◌}
 use Rattle.recovery_base.specs.declared.below.SpaceId.{SpaceId}
 use Rattle.recovery_base.specs.declared.below.SpaceId.TheVariants.{Data}
@@ -13,14 +13,14 @@ use Rattle.recovery_history.specs.Promises.Paths.{generations, generation_by}
 use Rattle.recovery_history.specs.Promises.Tracked.{leaves}
 
 module _ {Q S M P : Type 0} (weigh : ℕ → Bool → ℕ) where
-  -- what a packet that goes out weighs, by its size and whether it elicits an ACK, unless its number is gone
+  -- what a sent packet adds, by its size and whether it is ack-eliciting, unless its number is gone
   abbrev pub weight : (SpaceId → ℕ → Bool) → Event Q S M P × Reply Q → ℕ
   weight gone (Send space now size eliciting largest queue frames, Ok (Sent number forgotten)) =
       if gone space number then 0 else weigh size eliciting
   weight gone (PollMtu now, Ok (Probe number size)) = if gone Data number then 0 else weigh size true
   weight gone happened = 0
 
-  -- the sum over the packets that went out on a path and whose numbers are not gone, nor left since
+  -- the sum over the packets that were sent on a path, whose numbers are not gone and did not leave since
   abbrev pub sum_on : ℕ → (SpaceId → ℕ → Bool) → History Q S M P → ℕ
   sum_on generation gone [] = 0
   sum_on generation gone (happened ∷ earlier) =

@@ -1,4 +1,4 @@
--- Datagrams of a path (RFC 9000, 8.1): in and out since it was made; and whether its address is validated.
+-- The datagrams received and sent on a path since it was made (RFC 9000, 8.1); and whether its address is validated.
 use Rattle.std.specs.Prelude.{ℕ, Bool, true, false, [], ◌∷◌, Ok, if◌then◌else◌}
 use Rattle.recovery_paths.specs.declared.path_pair.PathName.{PathName}
 use Rattle.recovery_paths.specs.declared.path_pair.PathName.TheVariants.{Current, Previous}
@@ -8,15 +8,15 @@ use Rattle.recovery_events.specs.declared.event.Answer.TheVariants.{Transmitted}
 use Rattle.recovery_history.specs.History.{History, Reply}
 
 module _ {Q S M P : Type 0} where
-  -- a datagram came in on the path of this name, or went out on it
+  -- a datagram was received or sent on this path
   abbrev pub is_on : PathName → Event Q S M P × Reply Q → Bool
   is_on Current (DatagramIn Current bytes, Ok answer) = true
   is_on Previous (DatagramIn Previous bytes, Ok answer) = true
   is_on Current (Transmit now bytes checked, Ok Transmitted) = true
   is_on name happened = false
 
-  -- the datagrams of a path since it was made: it is in use until another is, then the previous one until it is
-  -- dropped, or used again (RFC 9000, 9.3.2)
+  -- the datagrams of a path since it was made: it is the current path until another is made, and then the previous one,
+  -- until it is dropped or used again (RFC 9000, 9.3.2)
   abbrev pub datagrams_on : PathName → History Q S M P → History Q S M P
   datagrams_on name [] = []
   datagrams_on Current ((NewPath now remote is_fresh, Ok answer) ∷ earlier) = []
@@ -35,7 +35,7 @@ module _ {Q S M P : Type 0} where
   bytes_out (Transmit now bytes checked, reply) = bytes
   bytes_out happened = 0
 
-  -- its address is validated: since the path was made, or from the start, where the first path is so
+  -- its address was validated since the path was made, or, if it is the first path, from the start
   abbrev pub is_validated : Bool → PathName → History Q S M P → Bool
   is_validated first name [] = first
   is_validated first Current ((NewPath now remote is_fresh, Ok answer) ∷ earlier) = false

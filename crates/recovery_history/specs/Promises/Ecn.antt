@@ -1,6 +1,6 @@
--- Counts of ECN (RFC 9000, 13.4.2.1): those of an ACK frame are held against the last of its space that were taken.
--- They are refused exactly where they fail the check, in the words of the first fault, and else the answer says whether
--- more packets were marked as congested.
+-- ECN counts (RFC 9000, 13.4.2.1): those of an ACK frame are compared with the last ones of its space that were
+-- accepted. They are rejected exactly if they fail the check, with the text of the first fault. Else the answer states
+-- whether more packets were marked with ECN-CE.
 use Rattle.std.specs.Prelude.{◌≡◌, nat_lt, [], ◌∷◌, None, Some, Ok, Err, if◌then◌else◌}
 use Rattle.recovery_base.specs.declared.below.SpaceId.{SpaceId}
 use Rattle.recovery_base.specs.declared.below.frames.EcnCounts.{EcnCounts}
@@ -21,7 +21,7 @@ module _ {Q S M P : Type 0} where
       if same_space there space then counts else last_counts space earlier
   last_counts space (happened ∷ earlier) = last_counts space earlier
 
-  -- where the space was discarded is said by `refused`
+  -- for discarded spaces see `rejections`
   abbrev pub ChecksEcn : History Q S M P → Event Q S M P → Reply Q → Type 0
   ChecksEcn history (Ecn space newly counts) (Ok given) =
       let last = last_counts space history in

@@ -1,4 +1,4 @@
--- One fate (RFC 9002, A.1, A.7, A.10 and 6.4): a number is given out once at most, and each one that was is exactly one
+-- One outcome (RFC 9002, A.1, A.7, A.10 and 6.4): a number is assigned at most once. Each assigned one is exactly one
 -- of these: tracked, acknowledged, lost, forgotten, discarded with its space.
 use Rattle.std.specs.Prelude.{◌≡◌, ℕ, ◌+◌, ◌≤◌, ◌==◌, Bool, false, ◌&&◌, [], ◌∷◌, Some, Ok, if◌then◌else◌}
 use Rattle.recovery_base.specs.declared.below.SpaceId.{SpaceId}
@@ -13,7 +13,7 @@ abbrev pub more_if : Bool → ℕ → ℕ
 more_if happens n = if happens then n + 1 else n
 
 module _ {Q S M P : Type 0} where
-  -- how often it happened, where that may depend on what came before
+  -- how often something happened, which may depend on what was before
   abbrev pub times : (Event Q S M P × Reply Q → History Q S M P → Bool) → History Q S M P → ℕ
   times happens [] = 0
   times happens (happened ∷ earlier) = more_if (happens happened earlier) (times happens earlier)
@@ -39,7 +39,7 @@ module _ {Q S M P : Type 0} where
     goes_with_space (DiscardSpace there, Ok answer) earlier = same_space there space && is_tracked space n earlier
     goes_with_space happened earlier = false
 
-    -- how often it has a fate
+    -- how many outcomes the number has
     abbrev pub fates : History Q S M P → ℕ
     fates history = more_if (is_tracked space n history)
         (times is_acked history + times is_lost history + times is_forgotten history + times goes_with_space history)

@@ -1,6 +1,6 @@
--- Packets that are forgotten: silent ones, which elicit no ACK, may never be acknowledged (RFC 9002, 2 and A.1). Of
--- those since the last packet that elicits one a space tracks 1001 at most (`most_silent`): where so many are tracked
--- and one more goes out, the oldest of them is forgotten, and else none is.
+-- Forgotten packets: non-ack-eliciting ones may never be acknowledged (RFC 9002, 2 and A.1). A space tracks at most
+-- 1001 of them since the last ack-eliciting packet (`most_silent`). If one more is sent, the oldest of them is
+-- forgotten, and else none is.
 use Rattle.std.specs.Prelude.{◌≡◌, ℕ, Bool, false, not, ◌&&◌, ◌||◌, nat_le, List, [], ◌∷◌, ◌++◌, length, Option, None, Some, Ok, if◌then◌else◌}
 use Rattle.recovery_base.specs.declared.below.SpaceId.{SpaceId}
 use Rattle.recovery_base.specs.declared.below.SpaceId.TheVariants.{Data}
@@ -17,20 +17,21 @@ oldest [] = None
 oldest (n ∷ later) = Some n
 
 module _ {Q S M P : Type 0} (space : SpaceId) where
-  -- a packet goes out that elicits an ACK
+  -- an ack-eliciting packet is sent
   abbrev pub elicits : Event Q S M P × Reply Q → Bool
   elicits (Send there now size eliciting largest queue frames, Ok (Sent number forgotten)) =
       same_space there space && eliciting
   elicits (PollMtu now, Ok (Probe number size)) = same_space Data space
   elicits happened = false
 
-  -- behind these a silent packet goes out, unless its number is gone
+  -- a non-ack-eliciting packet that is sent is appended, unless its number is gone
   abbrev pub with_silent : (ℕ → Bool) → Event Q S M P × Reply Q → List ℕ → List ℕ
   with_silent gone (Send there now size eliciting largest queue frames, Ok (Sent number forgotten)) before =
       if same_space there space && not (eliciting || gone number) then before ++ number ∷ [] else before
   with_silent gone happened before = before
 
-  -- the silent packets since the last that elicits an ACK, whose numbers are not gone, nor left since: the oldest first
+  -- the non-ack-eliciting packets since the last ack-eliciting one that are not gone and did not leave, the oldest
+  -- first
   abbrev pub silent_since : (ℕ → Bool) → History Q S M P → List ℕ
   silent_since gone [] = []
   silent_since gone (happened ∷ earlier) =

@@ -1,5 +1,6 @@
--- Requests for fewer ACKs (draft-ietf-quic-ack-frequency-04, section 4): a frame is taken exactly where its number is
--- above those of all that came before it; one that asks for less than a millisecond is refused then.
+-- ACK_FREQUENCY frames (draft-ietf-quic-ack-frequency-04, section 4): a frame is the newest if its number is above
+-- those of all received before it. It is accepted exactly if it is the newest and asks for a millisecond or more. If
+-- only the delay is too small, it is rejected.
 use Rattle.std.specs.Prelude.{◌≡◌, ℕ, Bool, true, false, not, ◌&&◌, nat_lt, [], ◌∷◌, Ok, Err, if◌then◌else◌}
 use Rattle.recovery_base.specs.declared.below.SpaceId.TheVariants.{Data}
 use Rattle.recovery_base.specs.Units.{timer_granularity}
@@ -12,7 +13,7 @@ use Rattle.recovery_history.specs.History.{History, Reply}
 use Rattle.recovery_history.specs.Promises.NewNumbers.{is_discarded}
 
 module _ {Q S M P : Type 0} where
-  -- the number is above those of all frames that came
+  -- the number is above those of all frames received
   abbrev pub is_newest : ℕ → History Q S M P → Bool
   is_newest n [] = true
   is_newest n ((AckFrequencyIn frame, Ok answer) ∷ earlier) = nat_lt frame.sequence n && is_newest n earlier

@@ -1,6 +1,6 @@
--- When the peer is to be asked to retire ids (RFC 9000, 5.1.2 and 19.15): ids that are issued live for a time, and
--- `IdTimeout` ends the oldest of their lifetimes. The answer is yes exactly where the peer retired all ids that it was
--- asked to before, and not yet all up to the last one of this lifetime.
+-- When to ask the peer to retire IDs (RFC 9000, 5.1.2 and 19.15): issued IDs have a lifetime, and `IdTimeout` ends the
+-- oldest one. The answer is yes exactly if the peer retired all IDs that it was asked to before, and not yet all up to
+-- the last one of this lifetime.
 use Rattle.std.specs.Prelude.{◌≡◌, ℕ, ◌==◌, ◌+◌, Bool, true, not, ◌&&◌, List, [], ◌∷◌, length, drop, Ok, if◌then◌else◌}
 use Rattle.std.specs.List.{list_any, range_with_len}
 use Rattle.recovery_ids.specs.declared.state.CidTimestamp.{CidTimestamp}
@@ -12,8 +12,8 @@ use Rattle.recovery_history.specs.History.{Beginning, History, Reply}
 use Rattle.recovery_history.specs.Promises.OwnIds.{issued, is_retired}
 
 module _ {F K Q S M P : Type 0} (beginning : Beginning F K Q S M P) where
-  -- the lifetimes that run, the oldest first: ids begin one for the last of them, which stands for all issued at that
-  -- moment, and a timeout ends the oldest
+  -- the lifetimes that run, the oldest first: issuing IDs starts one, recorded with the last of them, and a timeout
+  -- ends the oldest
   abbrev pub lifetimes : History Q S M P → List CidTimestamp
   lifetimes [] =
       let config = beginning.config in deadlines_with_last config.cid_lifetime beginning.start config.issued []
@@ -24,7 +24,7 @@ module _ {F K Q S M P : Type 0} (beginning : Beginning F K Q S M P) where
   lifetimes ((IdTimeout, Ok answer) ∷ earlier) = drop 1 (lifetimes earlier)
   lifetimes (happened ∷ earlier) = lifetimes earlier
 
-  -- the oldest is of the ids below this number
+  -- the oldest lifetime is that of the IDs below this number
   abbrev pub oldest_end : History Q S M P → ℕ
   oldest_end history = next_mark 0 (lifetimes history)
 
@@ -34,7 +34,7 @@ module _ {F K Q S M P : Type 0} (beginning : Beginning F K Q S M P) where
   asked_below ((IdTimeout, Ok (Flag true)) ∷ earlier) = oldest_end earlier
   asked_below (happened ∷ earlier) = asked_below earlier
 
-  -- some id below a number is not retired
+  -- some ID below a number is not retired
   abbrev pub lives_below : ℕ → History Q S M P → Bool
   lives_below end history = list_any (λ n. not (is_retired history n)) (range_with_len 0 end)
 

@@ -1,9 +1,8 @@
--- Measures of what is sent again when it is lost (RFC 9000, 13.3): how many items, how many bytes, which flags, which
--- streams.
+-- Measures of the contents of packets (RFC 9000, 13.3): how many items, how many bytes, which flags, which streams.
 use Rattle.std.specs.Prelude.{◌≡◌}
 use Rattle.recovery_queue.specs.Queues.{QueueSemantics}
 
--- what measures are added up by: sums of numbers, flags by 'or', sets by their unions
+-- by what measures are added up: sums of numbers, flags by 'or', sets by their unions
 pub record Totals (T : Type 0) : Type 0 where
   pub zero : T
   pub plus : T → T → T

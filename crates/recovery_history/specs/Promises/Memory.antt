@@ -1,5 +1,5 @@
--- Memory is refused to an event only where something may grow by it: a set of numbers, the packets that are tracked,
--- what waits to be sent again, the ids of this end; and a path that goes on from the last has a second controller.
+-- An event fails with `NoMemory` only if it can allocate. What may grow is a set of numbers, the tracked packets, the
+-- retransmission queue and the local IDs. A path that is not fresh needs a second controller.
 use Rattle.std.specs.Prelude.{◌≡◌, Bool, true, false, not, Err}
 use Rattle.recovery_events.specs.declared.event.Event.{Event}
 use Rattle.recovery_events.specs.declared.event.Event.TheVariants.{Received, Send, Lost, IssueIds, PollMtu, QueueProbe, NewPath}

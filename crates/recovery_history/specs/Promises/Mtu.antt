@@ -1,4 +1,4 @@
--- The MTU in use (RFC 8899, 5; RFC 9000, 14.3): the size of the last probe acknowledged, unless it was lowered since.
+-- The MTU in use (RFC 8899, 5; RFC 9000, 14.3): the size of the last probe acknowledged, unless it was set since.
 use Rattle.std.specs.Prelude.{◌≡◌, ℕ, min, Bool, true, None, Some, [], ◌∷◌, Ok, is_some, if◌then◌else◌}
 use Rattle.std.specs.Option.{ForSome}
 use Rattle.recovery_config.specs.Settings.{initial_mtu_of}
@@ -15,8 +15,8 @@ use Rattle.recovery_history.specs.Promises.Probes.{last_probe}
 use Rattle.recovery_history.specs.Search.{discovery_settings}
 
 module _ {Q S M P : Type 0} (searched : Bool) (first least : ℕ) where
-  -- paths begin with the first MTU, and a report leaves the least; where paths are not searched, no limit is kept. That
-  -- of the previous path is that of when it was left, and stays when it is used again, within the peer's limit
+  -- paths begin with the first MTU, and a black hole leaves the minimum; if MTU discovery is disabled, no limit is
+  -- stored. The previous path has the MTU with which it was left, also when it is used again, within the peer's limit
   abbrev pub mtu_on : PathName → History Q S M P → ℕ
   mtu_on name [] = first
   mtu_on Previous ((NewPath now remote is_fresh, Ok given) ∷ earlier) = mtu_on Current earlier
@@ -30,7 +30,7 @@ module _ {Q S M P : Type 0} (searched : Bool) (first least : ℕ) where
   mtu_on Current ((RevertPath, Ok given) ∷ earlier) = within (mtu_on Previous earlier) (limit earlier)
   mtu_on name (happened ∷ earlier) = mtu_on name earlier
 
-  -- that of the path in use
+  -- the MTU of the path in use
   abbrev pub mtu : History Q S M P → ℕ
   mtu = mtu_on Current
 
@@ -46,7 +46,7 @@ module _ {F K Q S M P : Type 0} (run : Beginning F K Q S M P) where
   mtu_in_use =
       let config = run.config.transport in mtu (is_some (discovery_settings run)) (initial_mtu_of config) config.min_mtu
 
-  -- after an event the path in use has it, and so has the one before, where it lives, that of when it was left
+  -- after an event the path in use has it, and the previous path, if it exists, has that of when it was left
   abbrev pub UsesAckedMtu : History Q S M P → Event Q S M P → Reply Q → Type 0
   UsesAckedMtu history event reply =
       let now = (event, reply) ∷ history in let paths = (inputs_after run now).paths in

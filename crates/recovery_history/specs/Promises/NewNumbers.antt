@@ -1,5 +1,5 @@
--- New packet numbers (RFC 9000, 12.3): a packet is processed once. Its number is new where it exceeds all that came in
--- its space, or is none of them and not too old.
+-- New packet numbers (RFC 9000, 12.3): a packet is processed once. Its number is new if it exceeds all received in its
+-- space, or is none of them and not too old.
 use Rattle.std.specs.Prelude.{◌≡◌, ℕ, ◌+◌, Bool, true, false, not, ◌&&◌, ◌||◌, nat_eq, nat_lt, nat_le, List, [], ◌∷◌, Ok, Err, if◌then◌else◌}
 use Rattle.std.specs.List.{list_all}
 use Rattle.std.specs.Set.{is_member}
@@ -13,12 +13,12 @@ use Rattle.recovery_events.specs.declared.event.Answer.TheVariants.{New, Duplica
 use Rattle.recovery_events.specs.declared.event.Refusal.TheVariants.{SpaceDiscarded, NumberTooLarge, NoMemory}
 use Rattle.recovery_history.specs.History.{History, Reply}
 
--- it exceeds every number that came, or it is none of them, and at most 128 (`most_below`) below each
+-- it exceeds every number received, or is none of them and at most 128 (`most_below`) below each
 abbrev pub is_new : List ℕ → ℕ → Bool
 is_new came n = list_all (λ m. nat_lt m n) came
     || (not (is_member nat_eq came n) && list_all (λ m. nat_le m (n + most_below)) came)
 
--- what a packet is replied, where its space was discarded or not, its number is too large or not, and new or not
+-- the reply to a packet: whether its space was discarded, its number is too large, and it is new
 abbrev pub IsReceiveReply : {Q : Type 0} → Bool → Bool → Bool → Reply Q → Type 0
 IsReceiveReply true too_large new reply = reply ≡ Err SpaceDiscarded
 IsReceiveReply false true new reply = reply ≡ Err NumberTooLarge
@@ -28,7 +28,7 @@ IsReceiveReply false false new (Err NoMemory) = new ≡ true
 IsReceiveReply false false new other = ⊥
 
 module _ {Q S M P : Type 0} where
-  -- the numbers that came in a space
+  -- the numbers received in a space
   abbrev pub came_in : SpaceId → History Q S M P → List ℕ
   came_in space [] = []
   came_in space ((Received there now number eliciting, Ok answer) ∷ earlier) =

@@ -1,6 +1,6 @@
--- The search for the MTU in turn (RFC 8899, 5.1 and 5.3; RFC 9000, 14.4): a probe goes out in a search alone, while
--- none is in flight; a packet that leaves is told to be a probe exactly where it is the one in flight; a limit above
--- zero is taken exactly while no search runs.
+-- The order of an MTU search (RFC 8899, 5.1 and 5.3; RFC 9000, 14.4). A probe is sent only in a search, while none is
+-- in flight. A packet acknowledged or lost is reported as a probe exactly if it is the one in flight. A limit above
+-- zero is accepted exactly if no search runs.
 use Rattle.std.specs.Prelude.{◌≡◌, ℕ, ◌==◌, Bool, true, false, ◌&&◌, ◌||◌, nat_le, IsSomeAnd, Ok, Err, if◌then◌else◌}
 use Rattle.recovery_base.specs.declared.below.SpaceId.{SpaceId}
 use Rattle.recovery_base.specs.declared.below.SpaceId.TheVariants.{Data}
@@ -16,7 +16,7 @@ use Rattle.recovery_history.specs.Promises.Probes.{last_probe, runs}
 use Rattle.recovery_history.specs.Search.{discovery_settings}
 
 module _ {Q S M P : Type 0} where
-  -- the packet of 1-RTT keys of this number is the probe in flight
+  -- the 1-RTT packet of this number is the probe in flight
   abbrev pub is_probe_in_flight : SpaceId → ℕ → History Q S M P → Bool
   is_probe_in_flight space number history =
       same_space space Data && (is_in_flight history && number == (last_probe history).0)

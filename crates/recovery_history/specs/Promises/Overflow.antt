@@ -1,6 +1,6 @@
--- Counters that are full: by `Overflow` are refused exactly a datagram with which the bytes that came in on its path
--- would come to 2^64 (RFC 9000, 8.1), and a path with which so many were made (9.3). Of packets `sends` says so, of
--- datagrams that go out `blocked`.
+-- Full counters: `Overflow` rejects exactly a received datagram with which the bytes received on its path would reach
+-- 2^64 (RFC 9000, 8.1), and a path with which the paths made would (9.3). For packets see `send_result`, for sent
+-- datagrams `blocked`.
 use Rattle.std.specs.Prelude.{ℕ, ◌+◌, ◌<◌, ◌≤◌, sum_by, Ok, Err}
 use Rattle.recovery_base.specs.Units.{u64_limit}
 use Rattle.recovery_events.specs.declared.event.Event.{Event}
@@ -10,7 +10,7 @@ use Rattle.recovery_history.specs.History.{History, Reply}
 use Rattle.recovery_history.specs.Promises.Datagrams.{datagrams_on, bytes_in}
 use Rattle.recovery_history.specs.Promises.Paths.{paths_made}
 
--- a counter would come to this; the other causes of refusal are said by `refused` and `told`
+-- the counter would reach this; for the other errors see `rejections` and `reply_after`
 abbrev pub IsRoom : {Q : Type 0} → ℕ → Reply Q → Type 0
 IsRoom n (Ok given) = n < u64_limit
 IsRoom n (Err Overflow) = u64_limit ≤ n

@@ -1,5 +1,5 @@
--- Ids of this end (RFC 9000, 5.1.1 and 19.16): their numbers go on from those issued before, and a peer retires only
--- what was issued; the answer says whether it has room for one more.
+-- Local IDs (RFC 9000, 5.1.1 and 19.16): their numbers continue from those issued before, and the peer retires only
+-- issued ones. The answer states whether it has room for one more.
 use Rattle.std.specs.Prelude.{◌≡◌, ℕ, ◌+◌, ◌==◌, Bool, true, false, not, ◌&&◌, ◌||◌, nat_lt, nat_le, List, [], ◌∷◌, length, Ok, Err, count_by, if◌then◌else◌}
 use Rattle.std.specs.List.{range_with_len}
 use Rattle.recovery_base.specs.declared.below.ids.IssuedCid.{IssuedCid}
@@ -10,24 +10,24 @@ use Rattle.recovery_events.specs.declared.event.Answer.TheVariants.{Done, Flag}
 use Rattle.recovery_events.specs.declared.event.Refusal.TheVariants.{NumberTooLarge, BadRange, NoMemory, CidsNotInUse, UnissuedCid}
 use Rattle.recovery_history.specs.History.{History, Reply}
 
--- the numbers go on from one
+-- consecutive numbers from n on
 abbrev pub go_on : ℕ → List IssuedCid → Bool
 go_on n [] = true
 go_on n (id ∷ ids) = id.sequence == n && go_on (n + 1) ids
 
--- the reply to these ids, where so many were issued before
+-- the reply to these IDs, after `count` were issued
 abbrev pub issue_reply : {Q : Type 0} → ℕ → List IssuedCid → Reply Q
 issue_reply count ids =
     if nat_lt number_limit (count + length ids) then Err NumberTooLarge
     else if go_on count ids then Ok Done else Err BadRange
 
--- only where there are ids, memory may be refused in place of an answer
+-- only if there are IDs, `NoMemory` may replace the answer
 abbrev pub IsIssue : {Q : Type 0} → ℕ → List IssuedCid → Reply Q → Type 0
 IsIssue {Q} count (id ∷ ids) (Err NoMemory) = (let done : Reply Q = Ok Done in issue_reply count (id ∷ ids) ≡ done)
 IsIssue count ids reply = reply ≡ issue_reply count ids
 
 module _ {Q S M P : Type 0} where
-  -- how many were issued: those at the start, and all since
+  -- how many were issued, at the start and since
   abbrev pub issued : ℕ → History Q S M P → ℕ
   issued first [] = first
   issued first ((IssueIds now ids, Ok answer) ∷ earlier) = issued first earlier + length ids.items
@@ -38,7 +38,7 @@ module _ {Q S M P : Type 0} where
   is_retired ((PeerRetired sequence limit, Ok answer) ∷ earlier) n = n == sequence || is_retired earlier n
   is_retired (happened ∷ earlier) n = is_retired earlier n
 
-  -- where so many ids were issued at the start, of so many bytes
+  -- `first` IDs of `bytes` bytes were issued at the start
   abbrev pub IssuesIdsInOrder : ℕ → ℕ → History Q S M P → Event Q S M P → Reply Q → Type 0
   IssuesIdsInOrder first bytes history (IssueIds now ids) reply = IsIssue (issued first history) ids.items reply
   IssuesIdsInOrder first bytes history (PeerRetired sequence limit) reply =

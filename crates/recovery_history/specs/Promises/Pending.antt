@@ -1,6 +1,6 @@
--- What is to be sent again is handed out in the order in which it came to wait (RFC 9000, 13.3): what packets carried
--- that were lost, or that a probe sends again, since all was handed out, one behind the other. What a packet carries,
--- and which one a probe finds, is the table's.
+-- The retransmission queue is returned in its order (RFC 9000, 13.3). It has the contents of packets that were lost, or
+-- found by a probe, since it was last returned, joined in the order of these events. `Table.antt` defines what a packet
+-- carries, and which one a probe finds.
 use Rattle.std.specs.Prelude.{◌≡◌, ℕ, List, [], ◌∷◌, ◌++◌, Option, Some, option_map, option_to_list, Ok, if◌then◌else◌}
 use Rattle.std.specs.Option.{option_and_then}
 use Rattle.recovery_base.specs.declared.below.SpaceId.{SpaceId}
@@ -15,22 +15,22 @@ use Rattle.recovery_history.specs.ReplyInputs.{tracked_known}
 use Rattle.recovery_history.specs.RepliesAfter.{inputs_after}
 
 module _ {F K Q S M P : Type 0} (run : Beginning F K Q S M P) where
-  -- these contents, one behind the other; the newest stand first
+  -- these contents, joined; the newest are first in the list
   abbrev pub joined_all : List P → P
   joined_all [] = run.queue.words.empty
   joined_all (newest ∷ before) = run.queue.words.joined (joined_all before) newest
 
   module _ (space : SpaceId) where
-    -- what the packet of a number carries, where it is tracked, by the table
+    -- the contents of the packet of a number, if it is tracked, by `Table.antt`
     abbrev pub carried : Option ℕ → History Q S M P → List P
     carried n history = option_to_list (option_map (λ packet. packet.retransmits)
         (option_and_then (packet_at (tracked_known (inputs_after run history) space)) n))
 
-    -- the packet of which a probe sends the contents again, if any, by the table
+    -- the packet whose contents a probe retransmits, if any, by `Table.antt`
     abbrev pub found : S → History Q S M P → Option ℕ
     found streams history = (found_in (inputs_after run history) run.queue.words streams space).moved
 
-    -- what came to wait since all was handed out, the newest first
+    -- what was queued since the queue was last returned, the newest first
     abbrev pub waiting : History Q S M P → List P
     waiting [] = []
     waiting ((Lost there n, Ok answer) ∷ earlier) =

@@ -1,5 +1,5 @@
--- The search for the MTU (RFC 8899, 5; RFC 9000, 14.3): from its first probe to its end a search takes at most 48
--- probes, of at most 16 sizes.
+-- The MTU search (RFC 8899, 5; RFC 9000, 14.3): from its first probe to its end a search sends at most 48 probes, of at
+-- most 16 sizes.
 use Rattle.std.specs.Prelude.{ℕ, ◌≤◌, nat_eq, Bool, true, false, List, [], ◌∷◌, length, Ok, if◌then◌else◌}
 use Rattle.std.specs.Set.{distinct_count}
 use Rattle.recovery_events.specs.declared.event.Event.{Event}
@@ -10,7 +10,7 @@ use Rattle.recovery_history.specs.Search.{WhereSearched}
 use Rattle.recovery_mtud.specs.Search.{probe_budget, size_budget}
 
 module _ {Q S M P : Type 0} where
-  -- all begins anew: by a report of a black hole, by a reset, on a fresh path, or on one that is used again
+  -- the search state is reset: by a report of a black hole, a reset, a fresh path, or a return to the previous path
   abbrev pub begins_anew : Event Q S M P × Reply Q → Bool
   begins_anew (LossesDone now, Ok (answer.BlackHole true)) = true
   begins_anew (ResetPath now, Ok given) = true
@@ -18,7 +18,7 @@ module _ {Q S M P : Type 0} where
   begins_anew (RevertPath, Ok given) = true
   begins_anew happened = false
 
-  -- a probe is in flight from its answer until it is acknowledged or lost, or all begins anew
+  -- a probe is in flight from its answer until it is acknowledged or lost, or the search state is reset
   abbrev pub is_in_flight : History Q S M P → Bool
   is_in_flight [] = false
   is_in_flight ((PollMtu now, Ok (answer.Probe number size)) ∷ earlier) = true
@@ -26,7 +26,7 @@ module _ {Q S M P : Type 0} where
   is_in_flight ((Lost space number, Ok (answer.Lost true)) ∷ earlier) = false
   is_in_flight (happened ∷ earlier) = if begins_anew happened then false else is_in_flight earlier
 
-  -- the sizes probed by the search that runs; it ends where a poll gives no probe while none is in flight
+  -- the sizes probed by the search that runs; it ends if a poll returns no probe while none is in flight
   abbrev pub sizes_probed : History Q S M P → List ℕ
   sizes_probed [] = []
   sizes_probed ((PollMtu now, Ok (answer.Probe number size)) ∷ earlier) = size ∷ sizes_probed earlier
@@ -34,7 +34,7 @@ module _ {Q S M P : Type 0} where
   sizes_probed (happened ∷ earlier) = if begins_anew happened then [] else sizes_probed earlier
 
 module _ {F K Q S M P : Type 0} (beginning : Beginning F K Q S M P) where
-  -- after an event, the search that runs has taken few, where the least change is at least 3
+  -- after an event, the search that runs has sent few probes, if the minimum change is 3 or more
   abbrev pub BoundsProbeCount : History Q S M P → Event Q S M P → Reply Q → Type 0
   BoundsProbeCount history event reply =
       let sizes = sizes_probed ((event, reply) ∷ history) in

@@ -1,4 +1,4 @@
--- The probes of the search for the MTU that runs (RFC 8899, 5.1): their sizes, and what became of them.
+-- The probes of the MTU search that runs (RFC 8899, 5.1): their sizes and outcomes.
 use Rattle.std.specs.Prelude.{ℕ, Bool, true, nat_lt, length, List, [], ◌∷◌, Ok, if◌then◌else◌}
 use Rattle.recovery_events.specs.declared.event.Event.TheVariants.{PollMtu, Acked, Lost}
 use Rattle.recovery_events.specs.declared.event.Answer.TheVariants as answer
@@ -10,7 +10,7 @@ module _ {Q S M P : Type 0} where
   abbrev pub runs : History Q S M P → Bool
   runs history = nat_lt 0 (length (sizes_probed history))
 
-  -- the number and the size of the probe that went out last
+  -- the number and the size of the probe that was sent last
   abbrev pub last_probe : History Q S M P → ℕ × ℕ
   last_probe [] = (0, 0)
   last_probe ((PollMtu now, Ok (answer.Probe number size)) ∷ earlier) = (number, size)

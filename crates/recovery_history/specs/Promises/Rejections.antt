@@ -1,5 +1,5 @@
--- Refusals that follow from the history alone: in a space whose keys were dropped (RFC 9002, 6.4), of a packet that is
--- not tracked (A.7), on no path (RFC 9000, 9.3), of a late initial id (7.2). Each is given exactly where it has cause.
+-- Errors that follow from the history alone: for a discarded space (RFC 9002, 6.4), a packet that is not tracked (A.7),
+-- a missing path (RFC 9000, 9.3), a late initial ID (7.2). Each occurs exactly if it has cause.
 use Rattle.std.specs.Prelude.{◌≡◌, ◌==◌, Bool, is_some, Option, None, Some, Err, if◌then◌else◌}
 use Rattle.recovery_base.specs.declared.below.SpaceId.{SpaceId}
 use Rattle.recovery_base.specs.declared.below.SpaceId.TheVariants.{Data}

@@ -1,4 +1,4 @@
--- Packets leave once (RFC 9002, A.7 and A.10): no number of a space is acknowledged twice, or lost twice, or both
+-- Packets are resolved once (RFC 9002, A.7 and A.10): no number of a space is acknowledged twice, lost twice, or both
 -- acknowledged and lost.
 use Rattle.std.specs.Prelude.{ℕ, ◌+◌, ◌≤◌}
 use Rattle.recovery_base.specs.declared.below.SpaceId.{SpaceId}

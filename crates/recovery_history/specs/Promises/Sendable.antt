@@ -1,5 +1,5 @@
--- What a probe finds to send (RFC 9002, 6.2.4): always something that elicits an ACK; and an ACK exactly where one is
--- required at once, as the table says (`IsRequired`), and some number is to be acknowledged.
+-- What a probe finds to send (RFC 9002, 6.2.4): always something ack-eliciting; and an ACK exactly if one is required
+-- at once (`IsRequired`) and some number is to be acknowledged.
 use Rattle.std.specs.Prelude.{◌≡◌, ◌↔◌, ℕ, true, false, Ok}
 use Rattle.recovery_spaces.specs.Acks.{IsRequired}
 use Rattle.recovery_queue.specs.Queues.{QueueSemantics}
@@ -10,7 +10,7 @@ use Rattle.recovery_history.specs.RepliesAfter.{logs_of}
 use Rattle.recovery_history.specs.History.{Beginning, History, Reply}
 use Rattle.recovery_history.specs.Promises.Acknowledged.{WasReceived, WasDropped}
 
--- what joins something is something
+-- a queue joined with non-empty contents is not empty
 abbrev pub JoinStaysNonempty : {P S : Type 0} → QueueSemantics P S → S → Type 0
 JoinStaysNonempty {P} words streams = (pending other : P) → words.is_empty other streams ≡ false
     → words.is_empty (words.joined pending other) streams ≡ false

@@ -1,6 +1,6 @@
--- Whether a packet goes out (RFC 9000, 12.3; RFC 9002, B.2): it is refused exactly where it carries an ACK of a number
--- that is none, where no number is left for it, and where the bytes in flight on the path in use, or the packets there
--- that elicit an ACK, would pass their counters.
+-- Whether a packet is sent (RFC 9000, 12.3; RFC 9002, B.2). It is rejected exactly if it carries an ACK of a number of
+-- 2^62 or more, no number is left for it, or it overflows what is in flight. Those are the bytes and the ack-eliciting
+-- packets on the path in use.
 use Rattle.std.specs.Prelude.{ℕ, ◌+◌, ◌≤◌, ◌⊎◌, Bool, false, Ok, Err, if◌then◌else◌}
 use Rattle.recovery_base.specs.declared.below.SpaceId.{SpaceId}
 use Rattle.recovery_base.specs.declared.below.SpaceId.TheVariants.{Data}
@@ -20,7 +20,7 @@ module _ {Q S M P : Type 0} (history : History Q S M P) where
   abbrev pub sum_now : (ℕ → Bool → ℕ) → ℕ
   sum_now weigh = sum_on weigh (generations history).current (λ space n. false) history
 
-  -- with one packet more a counter would come to 2^64
+  -- one more packet would make a counter reach 2^64
   abbrev pub OverflowsInFlight : ℕ → Bool → Type 0
   OverflowsInFlight size eliciting = (u64_limit ≤ sum_now (λ bytes elicits. bytes) + size)
       ⊎ (u64_limit ≤ sum_now (λ bytes elicits. if elicits then 1 else 0) + (if eliciting then 1 else 0))
@@ -29,7 +29,7 @@ module _ {Q S M P : Type 0} (history : History Q S M P) where
   abbrev pub HasNoNumber : SpaceId → Type 0
   HasNoNumber space = (n : ℕ) × IsNextNumber space n history × (number_limit ≤ n)
 
-  -- where the space was discarded is said by `refused`
+  -- for discarded spaces see `rejections`
   abbrev pub SendsOrRejects : Event Q S M P → Reply Q → Type 0
   SendsOrRejects (Send space now size eliciting largest queue frames) (Ok (Sent number forgotten)) =
       (¬ IsTooLarge largest) × ¬ OverflowsInFlight size eliciting

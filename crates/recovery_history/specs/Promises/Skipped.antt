@@ -1,6 +1,6 @@
--- Skipped numbers (RFC 9000, 12.3 and 21.4): a packet goes out under the first number above all that were given out in
--- its space, or, of 1-RTT packets, under the one behind it, which leaves one out; and the ACK of a range is refused
--- exactly where it holds the last number that was left out, or is no range of numbers below 2^62.
+-- Skipped numbers (RFC 9000, 12.3 and 21.4): a packet is sent under the first number above all assigned in its space,
+-- or, of 1-RTT packets, under the next one, which skips a number. The ACK of a range is rejected exactly if it contains
+-- the number skipped last, or is no range of numbers below 2^62.
 use Rattle.std.specs.Prelude.{◌≡◌, ℕ, ◌+◌, ◌<◌, ◌≤◌, true, Ok, Err}
 use Rattle.recovery_base.specs.declared.below.SpaceId.{SpaceId}
 use Rattle.recovery_base.specs.declared.below.SpaceId.TheVariants.{Data}
@@ -14,21 +14,21 @@ use Rattle.recovery_history.specs.Promises.Fates.{times, is_given}
 use Rattle.recovery_history.specs.Promises.Tracked.{goes_out}
 
 module _ {Q S M P : Type 0} (space : SpaceId) where
-  -- neither the number nor one above it was given out
+  -- neither the number nor one above it was assigned
   abbrev pub IsAboveAllSent : ℕ → History Q S M P → Type 0
   IsAboveAllSent n history = (m : ℕ) → n ≤ m → times (is_given space m) history ≡ 0
 
-  -- it is the first such number, or, of 1-RTT packets, the one behind that
+  -- it is the first such number, or, of 1-RTT packets, the one after that
   abbrev pub IsNextNumber : ℕ → History Q S M P → Type 0
   IsNextNumber n history =
       IsAboveAllSent n history × ((m : ℕ) → IsAboveAllSent m history → m < n → (space ≡ Data) × (m + 1 ≡ n))
 
-  -- it was not given out, and one above it was
+  -- it was not assigned, and one above it was
   abbrev pub WasSkipped : ℕ → History Q S M P → Type 0
   WasSkipped n history = (times (is_given space n) history ≡ 0)
       × ((m : ℕ) × (n < m) × (0 < times (is_given space m) history))
 
-  -- the last such number lies in a range; those before it are not remembered
+  -- the last such number is in a range; earlier ones are not remembered
   abbrev pub ContainsSkipped : ℕ → ℕ → History Q S M P → Type 0
   ContainsSkipped low high history = (n : ℕ) × WasSkipped n history × ((m : ℕ) → WasSkipped m history → m ≤ n)
       × (low ≤ n) × (n ≤ high)
@@ -38,7 +38,7 @@ module _ {Q S M P : Type 0} where
   AssignsNextNumber history event reply =
       (space : SpaceId) (number : ℕ) → goes_out (event, reply) space number ≡ true → IsNextNumber space number history
 
-  -- where the space was discarded is said by `refused`
+  -- for discarded spaces see `rejections`
   abbrev pub RejectsSkippedAcks : History Q S M P → Event Q S M P → Reply Q → Type 0
   RejectsSkippedAcks history (CheckAck space low high) (Ok given) =
       (given ≡ Done) × (high < number_limit) × (low ≤ high) × ¬ ContainsSkipped space low high history

@@ -1,5 +1,5 @@
--- Timers (RFC 9002, 6.2 and A.3): each is set to the moment that it was last set to, unless it was stopped since; the
--- next timeout is the least of these.
+-- Timers (RFC 9002, 6.2 and A.3): each has the time for which it was last set, unless it was stopped since. The next
+-- timeout is the earliest of these.
 use Rattle.std.specs.Prelude.{◌≡◌, ℕ, min, List, [], ◌∷◌, map, Option, None, Some, option_map, unwrap_or, Ok, if◌then◌else◌}
 use Rattle.recovery_base.specs.declared.timer.Timer.{Timer}
 use Rattle.recovery_base.specs.declared.timer.TheConstants.Timer.{VALUES}
@@ -12,14 +12,14 @@ use Rattle.recovery_history.specs.History.{History, Reply}
 abbrev pub every_timer : List Timer
 every_timer = VALUES
 
--- the least of the moments that are there
+-- the earliest of the times that are there
 abbrev pub least : List (Option ℕ) → Option ℕ
 least [] = None
 least (None ∷ moments) = least moments
 least (Some moment ∷ moments) = Some (unwrap_or (option_map (min moment) (least moments)) moment)
 
 module _ {Q S M P : Type 0} where
-  -- the moment that a timer is set to
+  -- the time for which a timer is set
   abbrev pub timer_value : History Q S M P → Timer → Option ℕ
   timer_value [] timer = None
   timer_value ((SetTimer other time, Ok answer) ∷ earlier) timer =

@@ -1,5 +1,5 @@
--- Where no numbers are to be skipped, none are (RFC 9000, 12.3): each packet goes out under the first number above all
--- that were given out in its space.
+-- If skipping is disabled, no number is skipped (RFC 9000, 12.3): each packet is sent under the first number above all
+-- assigned in its space.
 use Rattle.std.specs.Prelude.{◌≡◌, ℕ, ◌≤◌, true}
 use Rattle.recovery_base.specs.declared.below.SpaceId.{SpaceId}
 use Rattle.recovery_packet_numbers.specs.declared.filter.Skips.TheVariants.{Disabled}

@@ -1,4 +1,4 @@
-//! Which packet numbers are new: the worked rows, and the window beside the plain program over a set.
+//! Which packet numbers are new: worked rows, and the window compared with a plain program over a set.
 ghost use Rattle.std.specs.Prelude.{◌<◌, ◌≤◌};
 ghost use Rattle.recovery_base.specs.Units.{number_limit};
 
@@ -11,7 +11,7 @@ use std::process::Abort;
 
 const BOUND: u64 = 1 << 62;
 
-/// The plain program: the numbers that came, cut to those at most 128 below the greatest.
+/// The plain program: the numbers received, reduced to those at most 128 below the largest.
 #[derive(Drop)]
 struct Plain {
     recent: BTreeSet<u64>,
@@ -62,13 +62,13 @@ impl Plain {
     }
 }
 
-/// Puts a number in: whether it is a duplicate.
+/// Inserts a number. Returns whether it is a duplicate.
 fn insert(rt: &impl Abort, dedup: &mut Dedup, number: u64) -> bool {
     assert!(rt; number < BOUND);
     dedup.insert(number)
 }
 
-/// Asserts of each number whether it is a duplicate.
+/// Asserts for each number whether it is a duplicate.
 fn walk(rt: &impl Abort, rows: &[(u64, bool)]) -> Dedup {
     let mut dedup = Dedup::new();
     for (number, wanted) in rows {
@@ -78,7 +78,7 @@ fn walk(rt: &impl Abort, rows: &[(u64, bool)]) -> Dedup {
     dedup
 }
 
-/// The least missing number of an interval, once a new number at its end or behind came.
+/// Returns the smallest missing number of an interval, after a new number at or above its end.
 fn missing_after(mut dedup: Dedup, greatest: u64, low: u64, high: u64) -> Option<u64>
     requires number { greatest < number_limit }
     requires ordered { low ≤ high }
@@ -127,7 +127,7 @@ fn finds_the_least_missing(rt: HostRuntime) {
     }
 }
 
-/// One number into both, and a look at an interval that ends at it.
+/// Inserts one number into both, and compares an interval that ends at it.
 fn compare(rt: &impl Abort, dedup: &mut Dedup, plain: &mut Plain, number: u64, low: u64) {
     let number = number.min(BOUND - 1);
     let before = *dedup;
@@ -140,7 +140,7 @@ fn compare(rt: &impl Abort, dedup: &mut Dedup, plain: &mut Plain, number: u64, l
     }
 }
 
-/// Some numbers into both, from the beginning on.
+/// Inserts some numbers into both, from the beginning on.
 fn compare_all(rt: &impl Abort, alloc: Global, numbers: &[u64], low: u64) {
     let mut dedup = Dedup::new();
     let mut plain = Plain::new(alloc);
@@ -178,7 +178,7 @@ fn is_the_plain_program_on_short_inputs(rt: HostRuntime) {
     }
 }
 
-/// Two thousand numbers around those before, and around a start. What the generator's state is then.
+/// Inserts two thousand numbers around those before, and around a start. Returns the generator's state.
 fn compare_around(rt: &impl Abort, alloc: Global, start: u64, seed: u64) -> u64 {
     let mut random = seed;
     let mut dedup = Dedup::new();
@@ -209,21 +209,21 @@ fn is_the_plain_program_around_each_boundary(rt: HostRuntime) {
     }
 }
 
-/// The greatest number before it moves.
+/// The largest number before it moves.
 const START: u64 = 299;
 
-/// How far the greatest number moves, and one further: by whole words, by bits, and out of the window.
+/// How far the largest number moves, and one further: by whole words, by bits, and out of the window.
 const MOVES: [u64; 11] = [0, 1, 31, 32, 33, 63, 64, 96, 127, 128, 1 << 61];
 
-/// Of the numbers before, each that so many divide is left out.
+/// Of the numbers before, each multiple of this is omitted.
 const LEFT_OUT: [u64; 7] = [1000, 2, 3, 32, 33, 64, 97];
 
-/// How far below the greatest number an interval begins or ends: at both sides of each word's edge.
+/// How far below the largest number an interval begins or ends: at both sides of each word's edge.
 const EDGES: [u64; 19] = [
     0, 1, 2, 31, 32, 33, 34, 63, 64, 65, 66, 95, 96, 97, 98, 127, 128, 129, 130,
 ];
 
-/// Asserts what is a duplicate in and behind the window.
+/// Asserts what is a duplicate in the window and below it.
 fn compare_members(rt: &impl Abort, dedup: Dedup, plain: &Plain, greatest: u64) {
     for below in 0..=131u64 {
         let mut dedup = dedup;
@@ -233,7 +233,7 @@ fn compare_members(rt: &impl Abort, dedup: Dedup, plain: &Plain, greatest: u64) 
     }
 }
 
-/// Asserts what is missing between any two edges, once the greatest number came.
+/// Asserts what is missing between any two edges, after the largest number was inserted.
 fn compare_intervals(rt: &impl Abort, before: Dedup, plain: &Plain, greatest: u64) {
     assert!(rt; greatest < BOUND);
     for first in EDGES {
@@ -247,7 +247,7 @@ fn compare_intervals(rt: &impl Abort, before: Dedup, plain: &Plain, greatest: u6
     }
 }
 
-/// The numbers before, then one so far above them.
+/// Compares the numbers before, followed by one this far above them.
 fn compare_moved(rt: &impl Abort, alloc: Global, left_out: u64, by: u64) {
     let mut dedup = Dedup::new();
     let mut plain = Plain::new(alloc);

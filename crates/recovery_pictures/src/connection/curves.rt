@@ -1,4 +1,4 @@
-//! What is gathered while events go in.
+//! What is collected while events are applied.
 
 use crate::panels::nanos;
 use crate::plot::axis::Point;
@@ -12,20 +12,20 @@ use recovery_events::event::Event;
 use recovery_queue::items::ItemQueue;
 use std::alloc::Global;
 
-/// What an event is to the curves.
+/// The effect of an event on the curves.
 #[derive(Clone, Copy)]
 enum Told {
     /// A packet is declared lost.
     Loss,
     /// A probe is due.
     Probe,
-    /// A round-trip time of so many nanoseconds was measured.
+    /// An RTT of this many nanoseconds was measured.
     Sample(u64),
-    /// Nothing of its own.
+    /// None.
     Other,
 }
 
-/// The curves of the path in use. All moments are nanoseconds since the clock's zero, all sizes bytes.
+/// The curves of the path in use. All times are nanoseconds since the clock's zero, all sizes bytes.
 #[derive(Drop)]
 pub struct Curves {
     /// The congestion window (RFC 9002, 7).
@@ -34,27 +34,27 @@ pub struct Curves {
     pub ssthresh: Vec<Point>,
     /// The bytes in flight (RFC 9002, B.2).
     pub flight: Vec<Point>,
-    /// The bytes in the pacer's bucket, as it was left last (RFC 9002, 7.7).
+    /// The bytes in the pacer's bucket, as of its last call (RFC 9002, 7.7).
     pub tokens: Vec<Point>,
-    /// The moments at which packets were declared lost.
+    /// The times at which packets were declared lost.
     pub losses: Vec<u64>,
-    /// The moments at which probes were due (RFC 9002, 6.2.4).
+    /// The times at which probes were due (RFC 9002, 6.2.4).
     pub probes: Vec<u64>,
-    /// The smoothed round-trip time (RFC 9002, 5.3), in nanoseconds.
+    /// The smoothed RTT (RFC 9002, 5.3), in nanoseconds.
     pub smoothed: Vec<Point>,
-    /// The round-trip times that were measured, in nanoseconds.
+    /// The RTT samples, in nanoseconds.
     pub samples: Vec<Point>,
-    /// The first moment that an event told.
+    /// The first time of an event.
     pub first: u64,
-    /// The last one.
+    /// The last time of an event.
     pub now: u64,
-    /// The moment from which on the curves are gathered.
+    /// The time from which on the curves are collected.
     pub from: u64,
-    /// The moment up to which they are, if it is not the last one.
+    /// The time up to which they are, if it is not the last one.
     to: Option<u64>,
 }
 
-/// What is noted of the path after an event.
+/// What is recorded of the path after an event.
 #[derive(Clone, Copy)]
 struct Noted {
     window: u64,
@@ -65,7 +65,7 @@ struct Noted {
 }
 
 impl Curves {
-    /// No curves yet, of events whose first moment is this.
+    /// Returns empty curves, for events whose first time is this.
     pub fn new(alloc: Global, first: u64, choice: Choice) -> Self {
         Curves {
             window: Vec::new(alloc),
@@ -83,12 +83,12 @@ impl Curves {
         }
     }
 
-    /// Where the picture ends: where it was asked to, else at the last moment that an event told.
+    /// Returns the end of the picture: the requested one, or else the last time of an event.
     pub fn end(&self) -> u64 {
         self.to.unwrap_or(self.now)
     }
 
-    /// Hands all events in, and gathers after each. Refused events change nothing.
+    /// Applies all events, and collects after each. Rejected events change nothing.
     pub fn gather<F>(
         &mut self,
         recovery: &mut LiveRecovery<F, ItemQueue, Pcg32>,
@@ -138,7 +138,7 @@ impl Curves {
         }
     }
 
-    /// Notes what stands where the picture begins.
+    /// Records the values at the beginning of the picture.
     fn begin(&mut self, noted: Noted, told: Told) -> Result<(), NoMemory> {
         put_first(&mut self.window, self.from, noted.window)?;
         if let Some(y) = finite(noted.ssthresh) {
@@ -174,7 +174,7 @@ impl Curves {
     }
 }
 
-/// A slow start threshold, where there is one: none is infinite (RFC 9002, B.3).
+/// Returns a slow start threshold, if there is one: without one it is infinite (RFC 9002, B.3).
 fn finite(ssthresh: Option<u64>) -> Option<u64> {
     match ssthresh {
         Some(bytes) if bytes < u64::MAX => Some(bytes),
@@ -182,7 +182,7 @@ fn finite(ssthresh: Option<u64>) -> Option<u64> {
     }
 }
 
-/// The one point of a curve that begins at a moment.
+/// Sets the one point of a curve that begins at a time.
 fn put_first(points: &mut Vec<Point>, x: u64, y: u64) -> Result<(), NoMemory> {
     match points.last_mut() {
         Some(last) => last.y = y,
@@ -191,7 +191,7 @@ fn put_first(points: &mut Vec<Point>, x: u64, y: u64) -> Result<(), NoMemory> {
     Ok(())
 }
 
-/// A point behind others, where its height is not that of the last one.
+/// Appends a point, if its height is not that of the last one.
 fn push_change(points: &mut Vec<Point>, point: Point) -> Result<(), NoMemory> {
     let is_same = points.last().is_some_and(|last| last.y == point.y);
     if !is_same {
@@ -200,7 +200,7 @@ fn push_change(points: &mut Vec<Point>, point: Point) -> Result<(), NoMemory> {
     Ok(())
 }
 
-/// The last height still stands at a moment.
+/// Extends the last height to a time.
 fn hold(points: &mut Vec<Point>, now: u64) -> Result<(), NoMemory> {
     if let Some(last) = points.last() {
         let point = Point { x: now, y: last.y };
@@ -209,7 +209,7 @@ fn hold(points: &mut Vec<Point>, now: u64) -> Result<(), NoMemory> {
     Ok(())
 }
 
-/// The first moment that an event tells, in nanoseconds, or zero.
+/// Returns the first time of an event, in nanoseconds, or zero.
 pub fn first_moment(events: &[Event<ItemQueue>]) -> u64 {
     for event in events {
         if let Some(now) = moment_of(event) {
@@ -219,7 +219,7 @@ pub fn first_moment(events: &[Event<ItemQueue>]) -> u64 {
     0
 }
 
-/// The moment that an event tells.
+/// Returns the time of an event.
 fn moment_of(event: &Event<ItemQueue>) -> Option<Instant> {
     match event {
         Event::Received { now, .. }

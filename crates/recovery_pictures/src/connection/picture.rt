@@ -1,4 +1,4 @@
-//! Three panels: window and flight, round-trip times, the pacer's bucket.
+//! Three panels: window and flight, RTT, the pacer's bucket.
 
 use super::curves::Curves;
 use crate::panels::{
@@ -8,7 +8,7 @@ use crate::plot::axis::{Axis, Panel, Point};
 use crate::plot::picture::{Mark, Picture, Style};
 use std::alloc::{AllocError, Global};
 
-/// The picture of the curves of a run over controllers of this name, and of the window of another one over it.
+/// Returns the picture of the curves of a run with controllers of this name, and of the window of another one over it.
 pub fn draw(
     alloc: Global,
     controller: &str,
@@ -43,7 +43,7 @@ pub fn draw(
     picture.finish()
 }
 
-/// Time, whose numbers count from the first moment of the script.
+/// Returns the axis of time, whose numbers count from the first time of the script.
 fn time(curves: &Curves) -> Axis {
     let end = curves.end();
     Axis {
@@ -54,7 +54,7 @@ fn time(curves: &Curves) -> Axis {
     }
 }
 
-/// What the numbers of time count.
+/// Returns the unit of the axis of time.
 fn name_across(alloc: Global, time: &Axis) -> Result<String, AllocError> {
     let unit = name_of(time.unit);
     match time.zero {
@@ -63,7 +63,7 @@ fn name_across(alloc: Global, time: &Axis) -> Result<String, AllocError> {
     }
 }
 
-/// An axis up to a tenth above the highest of these points.
+/// Returns an axis up to a tenth above the highest of these points.
 fn over(points: &[Point], others: &[Point], unit: u64) -> Axis {
     let highest = highest(points).max(highest(others));
     up_to(highest.saturating_add(highest / 10).max(unit), unit)

@@ -1,4 +1,4 @@
-//! Which place a value has along an axis, and where the axis has its marks.
+//! The place of a value along an axis, and the places of its marks.
 ghost use Rattle.std.specs.Prelude.{◌≡◌, ◌≤◌, ◌+◌};
 
 /// The values that an axis shows.
@@ -8,8 +8,8 @@ pub struct Axis {
     pub least: u64,
     /// The value at its end.
     pub most: u64,
-    /// How many of the values make one of what its numbers count: 1,000,000 where nanoseconds are shown as
-    /// milliseconds. 0 is taken for 1.
+    /// How many of the values are one unit of its numbers: 1,000,000 if nanoseconds are shown as milliseconds. 0 counts
+    /// as 1.
     pub unit: u64,
     /// The value from which its numbers count.
     pub zero: u64,
@@ -18,15 +18,15 @@ pub struct Axis {
 /// A value on each of two axes.
 #[derive(Clone, Copy)]
 pub struct Point {
-    /// Across.
+    /// Horizontal.
     pub x: u64,
-    /// Up.
+    /// Vertical.
     pub y: u64,
 }
 
 impl Axis {
-    /// How far along a length a value stands: at 0 for the least, at its end for the most. A value outside stands at
-    /// the end that it passes.
+    /// Returns the place of a value along a length: 0 for the smallest, the end for the largest. A value outside is
+    /// placed at the end that it passes.
     pub fn place(&self, value: u64, length: u64) -> u64
         ensures { result ≤ length }
     {
@@ -42,15 +42,15 @@ impl Axis {
         u64::try_from(place).unwrap_or(length).min(length)
     }
 
-    /// The distance of two marks, where there are at most so many: 1, 2 or 5 times a power of ten of its unit.
+    /// Returns the distance of two marks, for at most this many: 1, 2 or 5 times a power of ten of its unit.
     pub fn step(&self, marks: u64) -> u64 {
         let unit = self.unit.max(1);
         let span = self.most.saturating_sub(self.least) / unit;
         round_up(span / marks.max(1)).saturating_mul(unit)
     }
 
-    /// The first mark, where two are so far apart: the least number of distances from its zero that lies within the
-    /// axis.
+    /// Returns the first mark, for marks at this distance: the smallest multiple of the distance from its zero that is
+    /// within the axis.
     pub fn first_mark(&self, step: u64) -> u64 {
         let step = step.max(1);
         let over = self.least.saturating_sub(self.zero) % step;
@@ -61,13 +61,13 @@ impl Axis {
         }
     }
 
-    /// What stands at a mark: how far it is from its zero, in its unit.
+    /// Returns the number at a mark: its distance from the zero, in the axis' unit.
     pub fn number(&self, value: u64) -> u64 {
         value.saturating_sub(self.zero) / self.unit.max(1)
     }
 }
 
-/// The least of 1, 2, 5, 10, 20, 50 .. that is no less than a number, up to 10^19.
+/// Returns the smallest of 1, 2, 5, 10, 20, 50 .. that is not below a number, up to 10^19.
 fn round_up(wanted: u64) -> u64 {
     let mut ten: u64 = 1;
     for _ in 0..19 {
@@ -79,7 +79,7 @@ fn round_up(wanted: u64) -> u64 {
     ten
 }
 
-/// The least of a power of ten, its double and its half of the next that is no less than a number.
+/// Returns the smallest of a power of ten, its double and half of the next one that is not below a number.
 fn reaches(wanted: u64, ten: u64) -> Option<u64> {
     [1, 2, 5]
         .into_iter()
@@ -91,9 +91,9 @@ fn reaches(wanted: u64, ten: u64) -> Option<u64> {
 /// picture.
 #[derive(Clone, Copy)]
 pub struct Panel {
-    /// Where it begins, from the left.
+    /// Its left edge.
     pub left: u16,
-    /// Where it begins, from above.
+    /// Its upper edge.
     pub top: u16,
     /// How wide it is.
     pub width: u16,
@@ -106,7 +106,7 @@ pub struct Panel {
 }
 
 impl Panel {
-    /// Where a value stands across: nothing is drawn beside the frame.
+    /// Returns the horizontal place of a value: nothing is drawn outside the frame.
     pub fn across(&self, value: u64) -> u64
         ensures not_before { self.now.left ≤ result }
         ensures not_behind { result ≤ self.now.left + self.now.width }
@@ -114,7 +114,7 @@ impl Panel {
         u64::from(self.left) + self.x.place(value, u64::from(self.width))
     }
 
-    /// Where a value stands from above: nothing is drawn above or below the frame.
+    /// Returns the vertical place of a value, from above: nothing is drawn outside the frame.
     pub fn down(&self, value: u64) -> u64
         ensures not_above { self.now.top ≤ result }
         ensures not_below { result ≤ self.now.top + self.now.height }
@@ -122,14 +122,14 @@ impl Panel {
         u64::from(self.top) + (u64::from(self.height) - self.y.place(value, u64::from(self.height)))
     }
 
-    /// The right edge.
+    /// Returns the right edge.
     pub fn right(&self) -> u64
         ensures { result ≡ self.now.left + self.now.width }
     {
         u64::from(self.left) + u64::from(self.width)
     }
 
-    /// The lower edge.
+    /// Returns the lower edge.
     pub fn bottom(&self) -> u64
         ensures { result ≡ self.now.top + self.now.height }
     {

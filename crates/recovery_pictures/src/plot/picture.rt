@@ -3,10 +3,10 @@
 use super::axis::{Panel, Point};
 use std::alloc::{AllocError, Global};
 
-/// How many marks an axis has at most.
+/// The most marks of an axis.
 const MARKS: u64 = 8;
 
-/// How a line is drawn. Lines differ by their strokes too, so that they are told apart in black and white.
+/// The style of a line. Lines differ by their strokes too, so that they can be distinguished in black and white.
 #[derive(Clone, Copy)]
 pub enum Style {
     /// A line, dark.
@@ -39,7 +39,7 @@ impl Style {
     }
 }
 
-/// What is drawn: a legend shows it beside its name.
+/// What is drawn: a legend shows it next to its name.
 #[derive(Clone, Copy)]
 pub enum Mark {
     /// A line or steps.
@@ -54,10 +54,10 @@ pub enum Mark {
     Bar,
 }
 
-/// How high a tick is, and the bar of a legend.
+/// The height of a tick, and of the bar in a legend.
 const TICK: u64 = 24;
 
-/// How high a bar is at least, so that it is seen.
+/// The minimum height of a bar, so that it is visible.
 const LOWEST: u64 = 8;
 
 /// How the points of a line are joined.
@@ -67,7 +67,7 @@ enum Joined {
     Stepped,
 }
 
-/// Where a text stands beside its place.
+/// The alignment of a text at its place.
 #[derive(Clone, Copy)]
 enum Anchor {
     Start,
@@ -85,17 +85,17 @@ impl Anchor {
     }
 }
 
-/// An SVG picture. Each call draws above what was drawn before. Where memory is refused, what is drawn is a part:
-/// `finish` tells it, and nobody who draws has to ask.
+/// An SVG picture. Each call draws above what was drawn before. If an allocation fails, the picture is incomplete:
+/// `finish` reports it, so that other calls need no result.
 #[derive(Drop)]
 pub struct Picture {
     text: String,
-    /// Whether memory was refused.
+    /// Whether an allocation failed.
     is_cut: bool,
 }
 
 impl Picture {
-    /// An empty picture of so many units, shown half as large in pixels, with a title.
+    /// Returns an empty picture of this size in units, shown half as large in pixels, with a title.
     pub fn new(alloc: Global, width: u16, height: u16, title: &str) -> Self {
         let mut picture = Picture {
             text: String::new(alloc),
@@ -106,7 +106,7 @@ impl Picture {
         picture
     }
 
-    /// A white sheet.
+    /// Draws a white sheet.
     fn sheet(&mut self, width: u16, height: u16) {
         let drawn = writeln!(
             self.text,
@@ -123,14 +123,14 @@ impl Picture {
         self.keep(drawn);
     }
 
-    /// Keeps whether memory was refused for what is drawn.
+    /// Records whether an allocation failed.
     fn keep(&mut self, drawn: Result<(), AllocError>) {
         if drawn.is_err() {
             self.is_cut = true;
         }
     }
 
-    /// The text of the picture, if memory was never refused.
+    /// Returns the text of the picture, if no allocation failed.
     pub fn finish(mut self) -> Result<String, AllocError> {
         let drawn = self.text.push_str("</svg>\n");
         self.keep(drawn);
@@ -141,7 +141,7 @@ impl Picture {
         }
     }
 
-    /// The frame of a panel, marks with their numbers, and what its axes show. Numbers are in the axes' units.
+    /// Draws the frame of a panel, marks with their numbers, and the names of its axes. Numbers are in the axes' units.
     pub fn axes(&mut self, panel: &Panel, x_name: &str, y_name: &str) {
         self.marks_across(panel);
         self.marks_down(panel);
@@ -160,31 +160,31 @@ impl Picture {
         );
     }
 
-    /// A line through points.
+    /// Draws a line through points.
     pub fn line(&mut self, panel: &Panel, points: &[Point], style: Style) {
         self.path(panel, points, Joined::Straight, style);
     }
 
-    /// A line through points that stays level until the next one.
+    /// Draws a line through points that stays level until the next one.
     pub fn steps(&mut self, panel: &Panel, points: &[Point], style: Style) {
         self.path(panel, points, Joined::Stepped, style);
     }
 
-    /// A dot at each point.
+    /// Draws a dot at each point.
     pub fn dots(&mut self, panel: &Panel, points: &[Point], style: Style) {
         for point in points {
             self.dot(panel.across(point.x), panel.down(point.y), style);
         }
     }
 
-    /// A ring at each point.
+    /// Draws a ring at each point.
     pub fn rings(&mut self, panel: &Panel, points: &[Point], style: Style) {
         for point in points {
             self.ring(panel.across(point.x), panel.down(point.y), style);
         }
     }
 
-    /// A bar from the lower edge to each point, however low that is.
+    /// Draws a bar from the lower edge to each point, however low that is.
     pub fn bars(&mut self, panel: &Panel, points: &[Point], style: Style) {
         for point in points {
             let bottom = panel.bottom();
@@ -194,15 +194,15 @@ impl Picture {
         }
     }
 
-    /// A short stroke at the lower edge for each value of the axis across.
+    /// Draws a short stroke at the lower edge for each value of the horizontal axis.
     pub fn ticks(&mut self, panel: &Panel, values: &[u64], style: Style) {
         for value in values {
             self.tick(panel.across(*value), panel.bottom(), style);
         }
     }
 
-    /// What a mark in a style stands for: the mark and its name above a panel, in the column of that number, counted
-    /// from the right.
+    /// Draws a legend: a mark in a style and its name above a panel, in the column of that number, counted from the
+    /// right.
     pub fn legend(&mut self, panel: &Panel, column: u16, name: &str, mark: Mark, style: Style) {
         let left = panel
             .right()
@@ -219,7 +219,7 @@ impl Picture {
         self.write(left + 70, height + 8, Anchor::Start, name);
     }
 
-    /// A level stroke from one place across to another.
+    /// Draws a level stroke from one horizontal place to another.
     fn stroke(&mut self, across: u64, to_across: u64, down: u64, style: Style) {
         let drawn = writeln!(
             self.text,
@@ -229,7 +229,7 @@ impl Picture {
         self.keep(drawn);
     }
 
-    /// A dot at a place.
+    /// Draws a dot at a place.
     fn dot(&mut self, across: u64, down: u64, style: Style) {
         let drawn = writeln!(
             self.text,
@@ -239,7 +239,7 @@ impl Picture {
         self.keep(drawn);
     }
 
-    /// A ring at a place.
+    /// Draws a ring at a place.
     fn ring(&mut self, across: u64, down: u64, style: Style) {
         let drawn = writeln!(
             self.text,
@@ -249,7 +249,7 @@ impl Picture {
         self.keep(drawn);
     }
 
-    /// A tick whose lower end is at a place.
+    /// Draws a tick whose lower end is at a place.
     fn tick(&mut self, across: u64, bottom: u64, style: Style) {
         let drawn = writeln!(
             self.text,
@@ -260,7 +260,7 @@ impl Picture {
         self.keep(drawn);
     }
 
-    /// A bar whose upper end is at a place.
+    /// Draws a bar whose upper end is at a place.
     fn bar(&mut self, across: u64, top: u64, height: u64, style: Style) {
         let drawn = writeln!(
             self.text,
@@ -270,7 +270,7 @@ impl Picture {
         self.keep(drawn);
     }
 
-    /// A line through points, each of which has another place than the one before.
+    /// Draws a line through points, each at another place than the one before.
     fn path(&mut self, panel: &Panel, points: &[Point], joined: Joined, style: Style) {
         let Some(first) = points.first() else {
             return;
@@ -299,7 +299,7 @@ impl Picture {
         self.keep(drawn);
     }
 
-    /// Goes on to a place.
+    /// Continues a line to a place.
     fn join(&mut self, joined: Joined, place: (u64, u64)) {
         let (across, down) = place;
         let drawn = match joined {
@@ -309,7 +309,7 @@ impl Picture {
         self.keep(drawn);
     }
 
-    /// Marks with their numbers below a panel.
+    /// Draws marks with their numbers below a panel.
     fn marks_across(&mut self, panel: &Panel) {
         let step = panel.x.step(MARKS);
         let mut value = panel.x.first_mark(step);
@@ -324,7 +324,7 @@ impl Picture {
         }
     }
 
-    /// Marks with their numbers left of a panel.
+    /// Draws marks with their numbers left of a panel.
     fn marks_down(&mut self, panel: &Panel) {
         let step = panel.y.step(MARKS);
         let mut value = panel.y.first_mark(step);
@@ -344,7 +344,7 @@ impl Picture {
         }
     }
 
-    /// A faint line from one place to another.
+    /// Draws a faint line from one place to another.
     fn grid(&mut self, across: u64, down: u64, to_across: u64, to_down: u64) {
         let drawn = writeln!(
             self.text,
@@ -353,7 +353,7 @@ impl Picture {
         self.keep(drawn);
     }
 
-    /// A number at a place.
+    /// Draws a number at a place.
     fn number(&mut self, across: u64, down: u64, anchor: Anchor, number: u64) {
         let drawn = writeln!(
             self.text,
@@ -363,7 +363,7 @@ impl Picture {
         self.keep(drawn);
     }
 
-    /// A text at a place.
+    /// Draws a text at a place.
     fn write(&mut self, across: u64, down: u64, anchor: Anchor, text: &str) {
         let drawn = write!(
             self.text,
@@ -376,7 +376,7 @@ impl Picture {
         self.keep(drawn);
     }
 
-    /// A text in which nothing is taken for a tag.
+    /// Appends a text in which nothing is parsed as a tag.
     fn escaped(&mut self, text: &str) {
         for letter in text.chars() {
             let drawn = match letter {

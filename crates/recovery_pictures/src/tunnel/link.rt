@@ -1,6 +1,6 @@
 //! A link, as far as it was measured.
 
-/// A measurement: whether datagrams of so many bytes arrive from then on.
+/// A measurement: whether datagrams of this size arrive from then on.
 #[derive(Clone, Copy)]
 pub struct Measured {
     /// In bytes.
@@ -10,7 +10,7 @@ pub struct Measured {
 }
 
 impl Measured {
-    /// What a line says: a size, a blank, and `yes` or `no`.
+    /// Parses a line: a size, a space, and `yes` or `no`.
     pub fn read(line: &str) -> Option<Measured> {
         let (size, arrives) = line.split_once(' ')?;
         let size = size.parse().ok()?;
@@ -35,12 +35,12 @@ pub struct Link {
 }
 
 impl Link {
-    /// A link of which nothing was measured: it carries what every path carries (RFC 9000, 14).
+    /// Returns a link that was not measured: it carries what every path carries (RFC 9000, 14).
     pub fn new() -> Link {
         Link { carried: 1200 }
     }
 
-    /// Takes a measurement for what all smaller datagrams do, where it arrived, and all larger ones, where it did not.
+    /// Applies a measurement: if the datagram arrived, smaller ones do; if not, larger ones do not.
     pub fn learn(&mut self, measured: Measured) {
         self.carried = if measured.arrives {
             self.carried.max(measured.size)
@@ -49,7 +49,7 @@ impl Link {
         };
     }
 
-    /// Whether a datagram of so many bytes arrives.
+    /// Returns whether a datagram of this size arrives.
     pub fn carries(self, size: u16) -> bool {
         size <= self.carried
     }

@@ -1,4 +1,4 @@
-//! Two panels: the search for the MTU above, the first burst below.
+//! Two panels: the MTU search above, the first burst below.
 
 use super::rounds::{LARGEST, Tunnel};
 use crate::panels::{MILLISECOND, SECOND, highest, lower, sheet, up_to, upper};
@@ -6,7 +6,7 @@ use crate::plot::axis::Axis;
 use crate::plot::picture::{Mark, Picture, Style};
 use std::alloc::{AllocError, Global};
 
-/// The picture of what happened in a tunnel.
+/// Returns the picture of what happened in a tunnel.
 pub fn draw(alloc: Global, tunnel: &Tunnel) -> Result<String, AllocError> {
     let mut picture = sheet(alloc, "The MTU of a path, and a burst that is paced");
     draw_search(&mut picture, tunnel);

@@ -1,4 +1,4 @@
-//! One end of a tunnel: rounds of probes and bursts, and what is drawn of them.
+//! One endpoint of a tunnel: rounds of probes and bursts, and what is drawn of them.
 
 use super::link::Link;
 use crate::plot::axis::Point;
@@ -9,7 +9,7 @@ use recovery_mtud::config::MtuDiscoveryConfig;
 use recovery_mtud::mtud::MtuDiscovery;
 use std::alloc::Global;
 
-/// What every path carries, in bytes (RFC 9000, 14).
+/// The datagram size that every path carries, in bytes (RFC 9000, 14).
 const LEAST: u16 = 1200;
 /// The largest size that is probed, in bytes.
 pub const LARGEST: u16 = 1452;
@@ -17,10 +17,10 @@ pub const LARGEST: u16 = 1452;
 const SMALL: u16 = 100;
 /// How many packets a burst has.
 const BURST: u64 = 24;
-/// How many bytes may be on their way.
+/// How many bytes may be in flight.
 const WINDOW: u64 = 24_000;
 
-/// A tunnel, and what happened in it. Moments are nanoseconds since it began, sizes bytes.
+/// A tunnel, and what happened in it. Times are nanoseconds since it began, sizes bytes.
 #[derive(Drop)]
 pub struct Tunnel {
     search: MtuDiscovery,
@@ -33,11 +33,11 @@ pub struct Tunnel {
     pub lost: Vec<Point>,
     /// The MTU in use.
     pub mtu: Vec<Point>,
-    /// The largest size that the search has not ruled out.
+    /// The largest size that the search has not excluded.
     pub bound: Vec<Point>,
-    /// The moments at which a black hole was found.
+    /// The times at which a black hole was detected.
     pub holes: Vec<u64>,
-    /// The first burst: how many bytes went out, moment by moment.
+    /// The first burst: how many bytes were sent by each time.
     pub burst: Vec<Point>,
     /// The size of the last probe that was lost, and how often in a row it was.
     losses: (u16, u8),
@@ -65,12 +65,12 @@ impl Tunnel {
         }
     }
 
-    /// When the last round ended, in nanoseconds.
+    /// Returns when the last round ended, in nanoseconds.
     pub fn now(&self) -> u64 {
         self.now.as_nanos()
     }
 
-    /// One round: a probe, if one is due, a burst, and a small packet. The next one begins five seconds later.
+    /// Runs one round: a probe, if one is due, a burst, and a small packet. The next one begins five seconds later.
     pub fn round(&mut self, link: Link) -> Result<(), NoMemory> {
         let is_first = self.mtu.is_empty();
         self.note()?;
@@ -86,7 +86,7 @@ impl Tunnel {
         Ok(())
     }
 
-    /// Notes the MTU in use, and what is ruled out: a size of which three probes in a row were lost (RFC 8899, 5.1.2).
+    /// Records the MTU in use, and what is excluded: a size of which three probes in a row were lost (RFC 8899, 5.1.2).
     fn note(&mut self) -> Result<(), NoMemory> {
         let mtu = self.here(self.search.current_mtu());
         self.mtu.push(mtu)?;
@@ -98,7 +98,7 @@ impl Tunnel {
         Ok(())
     }
 
-    /// A size at this moment.
+    /// Returns a size at the current time as a point.
     fn here(&self, size: u16) -> Point {
         Point {
             x: self.now.as_nanos(),
@@ -106,7 +106,7 @@ impl Tunnel {
         }
     }
 
-    /// The number of the next packet.
+    /// Returns the number of the next packet.
     fn next_number(&mut self) -> u64 {
         let number = self.number;
         self.number = number.saturating_add(1);
@@ -133,7 +133,7 @@ impl Tunnel {
         Ok(())
     }
 
-    /// Packets as large as the MTU in use, as the pacer lets them go.
+    /// Sends packets as large as the MTU in use, as the pacer allows.
     fn send_burst(&mut self, link: Link, is_first: bool) -> Result<(), NoMemory> {
         let size = self.search.current_mtu();
         for _ in 0..BURST {
@@ -157,7 +157,7 @@ impl Tunnel {
         Ok(())
     }
 
-    /// Adds so many bytes to what went out of the first burst at this moment.
+    /// Adds this many bytes to what was sent of the first burst at the current time.
     fn note_burst(&mut self, size: u16) -> Result<(), NoMemory> {
         let point = self.here(size);
         match self.burst.last_mut() {
@@ -167,7 +167,7 @@ impl Tunnel {
         Ok(())
     }
 
-    /// A small packet, which arrives: what is lost behind it is a burst of its own.
+    /// Sends a small packet, which arrives: what is lost after it is a burst of its own.
     fn keep_alive(&mut self) {
         let number = self.next_number();
         self.search.on_acked(SpaceId::Data, number, SMALL);

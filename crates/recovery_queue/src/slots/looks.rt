@@ -4,7 +4,7 @@ ghost use Rattle.std.specs.Prelude.{◌≡◌, ◌+◌, ◌<◌, length, slice_i
 use super::Slot;
 use std::collections::VecDeque;
 
-/// What reads slots: none is handed out but by `look`, so that the count is of all that were read.
+/// Reads slots. Only `look` returns one, so the count is of all slots that were read.
 #[derive(Drop)]
 pub struct Looks<'a, T> {
     slots: &'a VecDeque<Slot<T>>,
@@ -12,7 +12,7 @@ pub struct Looks<'a, T> {
 }
 
 impl<'a, T> Looks<'a, T> {
-    /// Reads these slots, none of them so far.
+    /// Returns a reader of these slots that has read none.
     #[inline(always)]
     pub fn over(slots: &'a VecDeque<Slot<T>>) -> Self
         ensures slots { result.slots.now ≡ slots.now }
@@ -21,14 +21,14 @@ impl<'a, T> Looks<'a, T> {
         Looks { slots, count: 0 }
     }
 
-    /// How many slots were read.
+    /// Returns how many slots were read.
     pub fn count(&self) -> u32
         ensures { result ≡ self.now.count }
     {
         self.count
     }
 
-    /// Reads the slot at a place.
+    /// Reads the slot at a position.
     #[inline(always)]
     pub fn look(&mut self, place: usize) -> &'a Slot<T>
         requires within { place < length self.old.slots.now.items }

@@ -1,4 +1,4 @@
-//! Readers and writers that stop, fail or give and take little at a time.
+//! Readers and writers that stop, fail or transfer little at a time.
 use super::{Run, assert_end, assert_read, holds};
 use recovery_replay::outcome::Outcome;
 use recovery_replay::replay::replay_and_tell;
@@ -9,13 +9,13 @@ use std::io::{ErrorKind, Read, Write};
 use std::process::Abort;
 use std::test::Fail;
 
-/// What is sent again, with a probe in between.
+/// Contents that are retransmitted, with a probe in between.
 const SCRIPT: &str =
     "send data 0 100 1 - 7 8\nqueue-probe data 0\ntake-pending data\nlost data 0\ntake-pending data\n";
 
 const ANSWERS: &str = "sent 0\nsendable no yes\nqueue 7 8\nlost\nqueue\n";
 
-/// Gives its bytes in small pieces, each after an interrupted read; then it fails or ends.
+/// Returns its bytes in small pieces, each after an interrupted read; then it fails or ends.
 #[derive(Drop)]
 struct Source<'a> {
     rest: &'a [u8],
@@ -52,8 +52,8 @@ impl Read for Source<'_> {
     }
 }
 
-/// Takes bytes in small pieces, each after an interrupted write, as long as it has room; then it fails, in one way, or
-/// takes none.
+/// Accepts bytes in small pieces, each after an interrupted write, as long as it has room; then it fails, in one way,
+/// or accepts none.
 #[derive(Drop)]
 struct Sink {
     taken: Vec<u8>,
@@ -100,7 +100,7 @@ impl Write for Sink {
     }
 }
 
-/// The first lines of a text.
+/// Returns the first lines of a text.
 fn first_lines(text: &[u8], count: usize) -> &[u8] {
     let mut seen = 0usize;
     for (index, byte) in text.iter().enumerate() {
@@ -124,7 +124,7 @@ fn line_feeds(text: &[u8]) -> usize {
     seen
 }
 
-/// Asserts how a run ends that reads a front of the script, which then ends or fails.
+/// Asserts the outcome of a run that reads a prefix of the script, which then ends or fails.
 fn assert_front(rt: &impl Abort, alloc: Global, front: &[u8], fails: bool) {
     let want = Run {
         answers: first_lines(ANSWERS.as_bytes(), line_feeds(front)),
@@ -137,8 +137,8 @@ fn assert_front(rt: &impl Abort, alloc: Global, front: &[u8], fails: bool) {
     }
 }
 
-/// Asserts how a run ends whose output takes some bytes of the answers, and then fails, and maybe no flush: where
-/// nobody reads them any more (a closed pipe), quietly.
+/// Asserts the outcome of a run whose output accepts some bytes of the answers, and then fails, and perhaps fails to
+/// flush. A closed pipe is no failure.
 fn assert_room(rt: &impl Abort, alloc: Global, front: &[u8], fails: bool, flush_fails: bool) {
     let is_cut = front.len() < ANSWERS.len();
     let is_broken = if is_cut { fails } else { flush_fails };
@@ -169,7 +169,7 @@ fn assert_written(rt: &impl Abort, alloc: Global, front: &[u8], mut output: Sink
     assert_end(rt, front.len(), outcome, &output.taken, &errors, &want);
 }
 
-/// How many bytes a line has, whether the read behind it fails, and what the run comes to.
+/// The bytes of a line, whether the read after it fails, and the result of the run.
 static LONG_LINES: [(usize, bool, u8, &str); 4] = [
     (4096, false, 2, "line 1: cannot be read\n"),
     (4097, false, 2, "line 1: cannot be read\n"),

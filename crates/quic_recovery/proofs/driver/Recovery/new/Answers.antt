@@ -47,7 +47,7 @@ returns-clause-state_after g c =
       loss_times = λ space. (made space).loss_time;
     }
 
--- by no event
+-- reached by no event
 pub returns-clause-came : goal.returns-clause-came
 returns-clause-came g c = record {
   replies = tt;

@@ -12,7 +12,7 @@ use Rattle.recovery_history.proofs.DriverLaws.{nothing_changes}
 use Rattle.quic_recovery.proofs.driver.Recovery.new_path.Goals.{then-fresh, else-fresh+in-Ok}
 use Rattle.quic_recovery.proofs.driver.Recovery.new_path.Goals as goal
 
--- no memory for a second controller
+-- the second controller could not be allocated
 pub returns-in-Err : goal.returns-in-Err
 returns-in-Err g c =
     let now = c.args.self.now in

@@ -6,7 +6,7 @@ use Rattle.std.proofs.lemmas.List.FromFn.{get_or-range_with_len, length-range_wi
 use Rattle.recovery_base.specs.declared.below.ids.IssuedCid.{IssuedCid}
 use Rattle.quic_recovery.proofs.driver.ids.go_on.Goals as goal
 
--- the number at a place of ids that go on
+-- the number at a position of consecutive IDs
 number_at : (first i : ℕ) (ids : List IssuedCid) (other : IssuedCid) → i < length ids
     → map (λ id. id.sequence) ids ≡ range_with_len first (length ids) → (get_or ids i other).sequence ≡ first + i
 number_at first i ids other inside run =

@@ -4,7 +4,7 @@ use Rattle.recovery_ids.specs.RemoteIds.{items_from}
 use Rattle.recovery_ids.specs.Window.{ids_in}
 use Rattle.recovery_ids.proofs.iter.CidIterIterator.next.Given as goal
 
--- only numbers for which nothing is held were passed over
+-- only numbers without an entry were passed over
 abbrev pub invariant-loop-self : goal.invariant-loop-self
 invariant-loop-self l = record {
   small : l.self-inside.window.now.start < 2 ^ 62;
