@@ -2,20 +2,25 @@
 """Reads the README and the documents as one who looks things up: each link leads to a file, and to the heading that it names; each name in
 backquotes stands in a source of what is described, and `A::b` where A is declared; each clause of run is named in the README and in
 docs/PROMISES.md, and a definition stands in the file that is named beside it; examples stand beside what they print, as in examples/; lines
-are no longer than others here, and all documents together are short. Names of others (the crate that this follows, the toolchain's own,
-patterns) are listed here, as long as a document has them."""
+are no longer than others here, and all documents together are short; code in fences stands in an example, and pages read well (tests/prose.py). Names
+of others (the crate that this follows, the toolchain's own, patterns) are listed here, as long as a document has them."""
 import os
 import pathlib
 import re
 import sys
+import textwrap
 from itertools import zip_longest
+
+import prose
 
 ROOT = pathlib.Path(__file__).resolve().parent.parent
 NAME = re.compile(r"[A-Za-z_][A-Za-z0-9_-]*")
 INPUT = re.compile(r"(tracked|local_ids)_\d+_")  # of bench/, which makes these names
-README_LINES = 130
+README_LINES = 100
 COLUMNS = 120  # of a line that is no row of a table
 MOST_BYTES = 205_000  # of all documents together
+FENCED = re.compile(r"^```(rust|c|text)\n(.*?)^```$", re.M | re.S)
+EXAMPLES = {"rust": ["rust/*/examples/*.rs", "docs/*.rs"], "c": ["rust/c/*.c"], "text": ["rust/*/examples/*.out", "rust/c/*.out", "docs/*.out"]}
 SHOWN = re.compile(r"^`(examples/\w+)\.txt`, and what it prints.*\n\n((?:    .*\n)+)", re.M)
 DEFINED = re.compile(r"^ *(?:(?:unfoldable|abbrev|pub|record|data) )*([^\s(:{]+) *[:({]", re.M)
 DECLARED = re.compile(r"\b(?:struct|enum|trait|type|mod) (\w+)|\bimpl(?:<.*?>)? (?:\w+(?:<.*?>)? for )?(\w+)")
@@ -138,14 +143,35 @@ def examples_in(file, text):
         yield [] if is_so else [f"{file}: {name}.txt is not shown with what it prints, as {name}.out has it"]
 
 
+def plain(text):
+    """Lines without common indentation and without spaces at their ends."""
+    return "\n".join(line.rstrip() for line in textwrap.dedent(text).strip("\n").split("\n"))
+
+
+def code_in(file, text):
+    """Each block in fences that stands in no example, which is compiled, or in nothing that one prints."""
+    for language, block in FENCED.findall(text):
+        wanted = block.strip("\n").split("\n")
+        sources = [it.read_text().split("\n") for glob in EXAMPLES[language] for it in sorted(ROOT.glob(glob))]
+        pieces = (lines[at : at + len(wanted)] for lines in sources for at in range(len(lines) - len(wanted) + 1) if wanted[0].strip() in lines[at])
+        if not any(plain("\n".join(it)) == plain(block) for it in pieces):
+            yield f"{file}: {wanted[0].strip()!r} and what follows stands so in none of {', '.join(EXAMPLES[language])}: show it as it is now"
+
+
+def prose_of(file, text):
+    """What reads badly on a page; those of the crates for cargo are not pages."""
+    if file.parts[0] != "rust":
+        yield from (f"{file}:{number}: {fault}" for number, fault in prose.faults(text))
+
+
 def misplaced():
     """Definitions that do not stand in the file that is named beside them: the first word of each row of the first table of docs/DEFINITIONS.md, and
-    that of each promise of docs/PROMISES.md."""
+    that of each row of docs/PROMISES.md."""
     files = [*ROOT.glob("crates/*/specs/**/*.antt")]
     defined = {(name, it.stem) for it in files for name in DEFINED.findall(it.read_text())}
     table = (ROOT / "docs" / "DEFINITIONS.md").read_text().split("\n## ")[1]
     rows = re.findall(r"^\|[^|]*\|[^|`]*`(\w+)`[^|]*\| ([\w, ;]+) \|$", table, re.M)
-    rows += re.findall(r"^- `\w+` \(`(\w+)`, `?([\w/]+)`?[;)]", (ROOT / "docs" / "PROMISES.md").read_text(), re.M)
+    rows += re.findall(r"^\| `\w+` \|.*\| `(\w+)`, ([\w/]+)(?:; [^|]*)? \|$", (ROOT / "docs" / "PROMISES.md").read_text(), re.M)
     for name, places in rows:
         stems = [it.rpartition("/")[2] for it in re.findall(r"[\w/]+", places)]
         if not any((name, stem) in defined for stem in stems):
@@ -167,12 +193,12 @@ def main():
     documents = {it: (ROOT / it).read_text() for it in files if is_document(it)}
     clauses, checks = clauses_of_run(), [list(misplaced()), list(too_long(documents.values()))]
     for file, text in documents.items():
-        found = list(faults_in(file, text, sources))
+        found = [*faults_in(file, text, sources), *code_in(file, text)]
         if str(file) in ("README.md", "docs/PROMISES.md"):
             found += [f"{file}: the clause `{it}` of run is not named" for it in clauses if f"`{it}`" not in text]
         if str(file) == "README.md" and text.count("\n") > README_LINES:
             found.append(f"{file}: {text.count(chr(10))} lines, and not at most {README_LINES}")
-        checks += [found, *examples_in(file, text)]
+        checks += [found, list(prose_of(file, text)), *examples_in(file, text)]
     for fault in [it for check in checks for it in check]:
         print(f"documents: {fault}", file=sys.stderr)
     failed = sum(map(bool, checks))
