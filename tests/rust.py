@@ -8,7 +8,7 @@ hostile ACK frames, and the programs in C and C++.
     tests/rust.py --library  proves the library and builds it, where it is older than its sources, and writes into it what it
                              was proved with
     tests/rust.py --write    writes the declarations, by the library's sources: rust/c/recovery_ffi.h, ffi.rs, event.rs and
-                             timer.rs of rust/quic-recovery/src, the table of docs/RUST.md and the library's layout.rt
+                             timer.rs of rust/quic-recovery/src, the table of docs/C.md and the library's layout.rt
 """
 import argparse
 import hashlib
@@ -30,7 +30,7 @@ KEPT = ROOT / "crates" / "recovery_engine"
 LIBRARY = CRATE / "out" / "librecovery_ffi.a"
 RUST = ROOT / "rust" / "quic-recovery"
 DECLARED = {"library": CRATE / "src" / "layout.rt", "rust": RUST / "src" / "ffi.rs", "events": RUST / "src" / "event.rs",
-            "timers": RUST / "src" / "timer.rs", "c": ROOT / "rust" / "c" / "recovery_ffi.h", "document": ROOT / "docs" / "RUST.md"}
+            "timers": RUST / "src" / "timer.rs", "c": ROOT / "rust" / "c" / "recovery_ffi.h", "document": ROOT / "docs" / "C.md"}
 PROGRAMS = ROOT / "docs" / "PROGRAMS.md"
 EVENTS = "recovery_events/src/event.rt"
 EVENT = ROOT / "crates" / EVENTS
@@ -456,7 +456,7 @@ def table():
 
 
 def documented_in_rust():
-    """docs/RUST.md, with its table written."""
+    """docs/C.md, with its table written."""
     before, mark, rest = DECLARED["document"].read_text().partition("<!-- this table is written by tests/rust.py --write -->\n")
     _, end, after = rest.partition("<!-- its end -->\n")
     return before + mark + "\n".join(table()) + "\n" + end + after
