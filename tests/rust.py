@@ -434,7 +434,7 @@ def timers_in_rust():
 
 
 def table():
-    """The events in Rust, with the exports that hand them in, and their answers as docs/PROGRAMS.md has those of lines."""
+    """The events in Rust by their answers, as docs/PROGRAMS.md has those of lines, with the exports that pass them."""
     lines = PROGRAMS.read_text().partition("| Line | Answers |\n")[2].partition("\n\n")[0]
     answers = dict(re.findall(r"^\| `([a-z-]+)[^|]*` \| ([^;|]*)", lines.replace("\\|", "/"), re.M))
     told = {}
@@ -444,15 +444,18 @@ def table():
         told[line] = list(dict.fromkeys(ONE.get(it, it) for it in names))
     docs = {re.search(r"the event `(\w+)`", " ".join(it[0]), re.I): it[1] for it in exports()}
     exported = {found.group(1): name for found, name in docs.items() if found}
-    yield "| Event | From C | Answers |"
-    yield "|---|---|---|"
+    rows = {}
     for event in variants(EVENTS, "Event"):
         if event not in exported:
             sys.exit(f"rust: {event} has no export in crates/recovery_ffi/src whose documentation says 'the event `{event}`'")
-        line = exported[event].replace("recovery_ffi_", "").replace("_", "-")
+        name = exported[event].replace("recovery_ffi_", "")
+        line = name.replace("_", "-")
         if line not in told:
             sys.exit(f"rust: docs/PROGRAMS.md has no row of the line {line}, which says what {event} is answered")
-        yield f"| `{event}` | `{exported[event]}` | {', '.join(f'`{it}`' for it in told[line])} |"
+        rows.setdefault(", ".join(f"`{it}`" for it in told[line]), []).append(f"`{event}` `{name}`")
+    yield "| Answers | Events, each with its function: `recovery_ffi_` and this |"
+    yield "|---|---|"
+    yield from (f"| {answers} | {'; '.join(events)} |" for answers, events in rows.items())
 
 
 def documented_in_rust():
