@@ -29,7 +29,6 @@ QUALIFIED = re.compile(r"([A-Z]\w+)(?:<[^>]*>)?::(?:\{([^}]*)\}|(\w+))")
 
 # names in backquotes that stand in no source: what the crate that this follows, Rust or the toolchain calls so, and parts of patterns
 OTHERS = {
-    "CONTRIBUTING.md": "plant",
     "DECISIONS.md": "circular_buffer",
     "DIFFERENCES.md": "first_packet crypto_stream tinyvec Trait f32 Retransmits ArrayRangeSet::default",
     "EMBEDDING.md": "rand_chacha Retransmits max_data handshake_done reset_stream max_stream_data Meta::default",

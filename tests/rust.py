@@ -452,7 +452,7 @@ def table():
         line = name.replace("_", "-")
         if line not in told:
             sys.exit(f"rust: docs/PROGRAMS.md has no row of the line {line}, which says what {event} is answered")
-        rows.setdefault(", ".join(f"`{it}`" for it in told[line]), []).append(f"`{event}` `{name}`")
+        rows.setdefault(", ".join(f"`{it}`" for it in told[line]), []).append(f"`{event}` (`{name}`)")
     yield "| Answers | Events, each with its function: `recovery_ffi_` and this |"
     yield "|---|---|"
     yield from (f"| {answers} | {'; '.join(events)} |" for answers, events in rows.items())
