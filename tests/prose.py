@@ -66,7 +66,7 @@ def sentences(text):
             starts.append((len(joined), number))
             joined += line.strip() + " "
         begin = 0
-        for end in [*re.finditer(r"(?<=[.!?])\s+(?=[A-Z`\[*\"(])", joined), re.search(r"\Z", joined)]:
+        for end in [*re.finditer(r"(?<=[.!?])\*{0,2}\s+(?=[A-Z`\[*\"(])", joined), re.search(r"\Z", joined)]:
             yield max(it for it in starts if it[0] <= begin)[1], joined[begin : end.start()].strip()
             begin = end.end()
 
