@@ -157,6 +157,15 @@ def code_in(file, text):
             yield f"{file}: {wanted[0].strip()!r} and what follows stands so in none of {', '.join(EXAMPLES[language])}: show it as it is now"
 
 
+def tables_in(file, text):
+    """Each table without a line below its head, as where an empty line parts it, and each row with more or fewer cells than the head."""
+    for table in re.findall(r"(?:^\|.*\n)+", re.sub(r"\\\|", "/", text), re.M):
+        head, *rows = table.splitlines()
+        if not rows or not re.fullmatch(r"[|-]+", rows[0]):
+            yield f"{file}: the table of {head!r} has no head"
+        yield from (f"{file}: {row!r} has not the cells of its head" for row in rows if row.count("|") != head.count("|"))
+
+
 def prose_of(file, text):
     """What reads badly on a page; those of the crates for cargo are not pages."""
     if file.parts[0] != "rust":
@@ -192,7 +201,7 @@ def main():
     documents = {it: (ROOT / it).read_text() for it in files if is_document(it)}
     clauses, checks = clauses_of_run(), [list(misplaced()), list(too_long(documents.values()))]
     for file, text in documents.items():
-        found = [*faults_in(file, text, sources), *code_in(file, text)]
+        found = [*faults_in(file, text, sources), *code_in(file, text), *tables_in(file, text)]
         if str(file) in ("README.md", "docs/PROMISES.md"):
             found += [f"{file}: the clause `{it}` of run is not named" for it in clauses if f"`{it}`" not in text]
         if str(file) == "README.md" and text.count("\n") > README_LINES:
