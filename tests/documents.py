@@ -33,7 +33,7 @@ OTHERS = {
     "DIFFERENCES.md": "first_packet crypto_stream tinyvec Trait f32 Retransmits ArrayRangeSet::default",
     "EMBEDDING.md": "rand_chacha Retransmits max_data handshake_done reset_stream max_stream_data Meta::default",
     "PROGRAMS.md": "rttvar",
-    "PROVING.md": "same-self- plant",
+    "PROVING.md": "same-self- plant reference",
 }
 TYPES = {"Box", "Pcg32"}  # declared elsewhere, and named with what they have
 
