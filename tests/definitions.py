@@ -1,7 +1,7 @@
 #!/usr/bin/env python3
 """Counts what a reader of Recovery::run has to read: the lines of the definitions that its promises (the fields of Keeps) and its other clauses rest
 on, name by name, without imports, blanks and comments; and the lines of each promise that is read off events and answers alone, whole files. The
-table of docs/DEFINITIONS.md names each file that run rests on, with the first sentence of what it says of itself.
+table of docs/DEFINITIONS.md names each file that run rests on.
 
     tests/definitions.py            counts, and reads the table
     tests/definitions.py --write    writes the table
@@ -99,23 +99,16 @@ def clauses():
         yield clause.split()[0], [names[word] for word in WORD.findall(clause) if word in names and word != "StepGuarantees"]
 
 
-def head(path):
-    """The first sentence of what a file says of itself."""
-    said = re.match(r"(?:--.*\n)*", path.read_text()).group(0)
-    text = " ".join(line[2:].strip() for line in said.splitlines())
-    return re.split(r"(?<=\.) (?=[A-Z])", text)[0]
-
-
 def table(places):
     """The files of these modules by their crates; those of specs/Promises are in docs/PROMISES.md."""
-    yield "| Crate | File | What it says |"
-    yield "|---|---|---|"
-    last = None
+    files = {}
     for place in sorted(places):
         _, crate, _, *inner = place.split(".")
         if inner[0] != "Promises":
-            yield f"| {f'`{crate}`' if crate != last else ''} | `{inner[-1]}` | {head((ROOT / 'crates' / crate / 'specs').joinpath(*inner).with_suffix('.antt'))} |"
-            last = crate
+            files.setdefault(crate, []).append(f"`{inner[-1]}`")
+    yield "| Crate | Files of its `specs/` |"
+    yield "|---|---|"
+    yield from (f"| `{crate}` | {', '.join(names)} |" for crate, names in files.items())
 
 
 def with_table(page, places):

@@ -2,20 +2,25 @@
 """Reads the README and the documents as one who looks things up: each link leads to a file, and to the heading that it names; each name in
 backquotes stands in a source of what is described, and `A::b` where A is declared; each clause of run is named in the README and in
 docs/PROMISES.md, and a definition stands in the file that is named beside it; examples stand beside what they print, as in examples/; lines
-are no longer than others here, and all documents together are short. Names of others (the crate that this follows, the toolchain's own,
-patterns) are listed here, as long as a document has them."""
+are no longer than others here, and all documents together are short; code in fences stands in an example, and pages read well (tests/prose.py). Names
+of others (the crate that this follows, the toolchain's own, patterns) are listed here, as long as a document has them."""
 import os
 import pathlib
 import re
 import sys
+import textwrap
 from itertools import zip_longest
+
+import prose
 
 ROOT = pathlib.Path(__file__).resolve().parent.parent
 NAME = re.compile(r"[A-Za-z_][A-Za-z0-9_-]*")
 INPUT = re.compile(r"(tracked|local_ids)_\d+_")  # of bench/, which makes these names
-README_LINES = 130
+README_LINES = 100
 COLUMNS = 120  # of a line that is no row of a table
 MOST_BYTES = 205_000  # of all documents together
+FENCED = re.compile(r"^```(rust|c|text)\n(.*?)^```$", re.M | re.S)
+EXAMPLES = {"rust": ["rust/*/examples/*.rs"], "c": ["rust/c/*.c"], "text": ["rust/*/examples/*.out", "rust/c/*.out"]}
 SHOWN = re.compile(r"^`(examples/\w+)\.txt`, and what it prints.*\n\n((?:    .*\n)+)", re.M)
 DEFINED = re.compile(r"^ *(?:(?:unfoldable|abbrev|pub|record|data) )*([^\s(:{]+) *[:({]", re.M)
 DECLARED = re.compile(r"\b(?:struct|enum|trait|type|mod) (\w+)|\bimpl(?:<.*?>)? (?:\w+(?:<.*?>)? for )?(\w+)")
@@ -24,12 +29,11 @@ QUALIFIED = re.compile(r"([A-Z]\w+)(?:<[^>]*>)?::(?:\{([^}]*)\}|(\w+))")
 
 # names in backquotes that stand in no source: what the crate that this follows, Rust or the toolchain calls so, and parts of patterns
 OTHERS = {
-    "CONTRIBUTING.md": "plant",
     "DECISIONS.md": "circular_buffer",
     "DIFFERENCES.md": "first_packet crypto_stream tinyvec Trait f32 Retransmits ArrayRangeSet::default",
     "EMBEDDING.md": "rand_chacha Retransmits max_data handshake_done reset_stream max_stream_data Meta::default",
     "PROGRAMS.md": "rttvar",
-    "PROVING.md": "same-self- plant",
+    "PROVING.md": "same-self- plant reference",
 }
 TYPES = {"Box", "Pcg32"}  # declared elsewhere, and named with what they have
 
@@ -138,14 +142,44 @@ def examples_in(file, text):
         yield [] if is_so else [f"{file}: {name}.txt is not shown with what it prints, as {name}.out has it"]
 
 
+def plain(text):
+    """Lines without common indentation and without spaces at their ends."""
+    return "\n".join(line.rstrip() for line in textwrap.dedent(text).strip("\n").split("\n"))
+
+
+def code_in(file, text):
+    """Each block in fences that stands in no example, which is compiled, or in nothing that one prints."""
+    for language, block in FENCED.findall(text):
+        wanted = block.strip("\n").split("\n")
+        sources = [it.read_text().split("\n") for glob in EXAMPLES[language] for it in sorted(ROOT.glob(glob))]
+        pieces = (lines[at : at + len(wanted)] for lines in sources for at in range(len(lines) - len(wanted) + 1) if wanted[0].strip() in lines[at])
+        if not any(plain("\n".join(it)) == plain(block) for it in pieces):
+            yield f"{file}: {wanted[0].strip()!r} and what follows stands so in none of {', '.join(EXAMPLES[language])}: show it as it is now"
+
+
+def tables_in(file, text):
+    """Each table without a line below its head, as where an empty line parts it, and each row with more or fewer cells than the head."""
+    for table in re.findall(r"(?:^\|.*\n)+", re.sub(r"\\\|", "/", text), re.M):
+        head, *rows = table.splitlines()
+        if not rows or not re.fullmatch(r"[|-]+", rows[0]):
+            yield f"{file}: the table of {head!r} has no head"
+        yield from (f"{file}: {row!r} has not the cells of its head" for row in rows if row.count("|") != head.count("|"))
+
+
+def prose_of(file, text):
+    """What reads badly on a page; those of the crates for cargo are not pages."""
+    if file.parts[0] != "rust":
+        yield from (f"{file}:{number}: {fault}" for number, fault in prose.faults(text))
+
+
 def misplaced():
     """Definitions that do not stand in the file that is named beside them: the first word of each row of the first table of docs/DEFINITIONS.md, and
-    that of each promise of docs/PROMISES.md."""
+    that of each row of docs/PROMISES.md."""
     files = [*ROOT.glob("crates/*/specs/**/*.antt")]
     defined = {(name, it.stem) for it in files for name in DEFINED.findall(it.read_text())}
     table = (ROOT / "docs" / "DEFINITIONS.md").read_text().split("\n## ")[1]
     rows = re.findall(r"^\|[^|]*\|[^|`]*`(\w+)`[^|]*\| ([\w, ;]+) \|$", table, re.M)
-    rows += re.findall(r"^- `\w+` \(`(\w+)`, `?([\w/]+)`?[;)]", (ROOT / "docs" / "PROMISES.md").read_text(), re.M)
+    rows += re.findall(r"^\| `\w+` \|.*\| `(\w+)`, ([\w/]+)(?:; [^|]*)? \|$", (ROOT / "docs" / "PROMISES.md").read_text(), re.M)
     for name, places in rows:
         stems = [it.rpartition("/")[2] for it in re.findall(r"[\w/]+", places)]
         if not any((name, stem) in defined for stem in stems):
@@ -167,12 +201,12 @@ def main():
     documents = {it: (ROOT / it).read_text() for it in files if is_document(it)}
     clauses, checks = clauses_of_run(), [list(misplaced()), list(too_long(documents.values()))]
     for file, text in documents.items():
-        found = list(faults_in(file, text, sources))
+        found = [*faults_in(file, text, sources), *code_in(file, text), *tables_in(file, text)]
         if str(file) in ("README.md", "docs/PROMISES.md"):
             found += [f"{file}: the clause `{it}` of run is not named" for it in clauses if f"`{it}`" not in text]
         if str(file) == "README.md" and text.count("\n") > README_LINES:
             found.append(f"{file}: {text.count(chr(10))} lines, and not at most {README_LINES}")
-        checks += [found, *examples_in(file, text)]
+        checks += [found, list(prose_of(file, text)), *examples_in(file, text)]
     for fault in [it for check in checks for it in check]:
         print(f"documents: {fault}", file=sys.stderr)
     failed = sum(map(bool, checks))

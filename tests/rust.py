@@ -8,7 +8,7 @@ hostile ACK frames, and the programs in C and C++.
     tests/rust.py --library  proves the library and builds it, where it is older than its sources, and writes into it what it
                              was proved with
     tests/rust.py --write    writes the declarations, by the library's sources: rust/c/recovery_ffi.h, ffi.rs, event.rs and
-                             timer.rs of rust/quic-recovery/src, the table of docs/RUST.md and the library's layout.rt
+                             timer.rs of rust/quic-recovery/src, the table of docs/C.md and the library's layout.rt
 """
 import argparse
 import hashlib
@@ -30,7 +30,7 @@ KEPT = ROOT / "crates" / "recovery_engine"
 LIBRARY = CRATE / "out" / "librecovery_ffi.a"
 RUST = ROOT / "rust" / "quic-recovery"
 DECLARED = {"library": CRATE / "src" / "layout.rt", "rust": RUST / "src" / "ffi.rs", "events": RUST / "src" / "event.rs",
-            "timers": RUST / "src" / "timer.rs", "c": ROOT / "rust" / "c" / "recovery_ffi.h", "document": ROOT / "docs" / "RUST.md"}
+            "timers": RUST / "src" / "timer.rs", "c": ROOT / "rust" / "c" / "recovery_ffi.h", "document": ROOT / "docs" / "C.md"}
 PROGRAMS = ROOT / "docs" / "PROGRAMS.md"
 EVENTS = "recovery_events/src/event.rt"
 EVENT = ROOT / "crates" / EVENTS
@@ -232,7 +232,7 @@ def declared_in_rust():
 
 def declared_in_c():
     yield "// What crosses to the proved library and what it exports: written by tests/rust.py --write from the sources of the library,"
-    yield "// and compared with them by its tests. docs/RUST.md says what a caller keeps. A handle begins as all zeros."
+    yield "// and compared with them by its tests. docs/C.md says what a caller must ensure. A handle begins as all zeros."
     yield "#ifndef RECOVERY_FFI_H"
     yield "#define RECOVERY_FFI_H"
     yield ""
@@ -434,7 +434,7 @@ def timers_in_rust():
 
 
 def table():
-    """The events in Rust, with the exports that hand them in, and their answers as docs/PROGRAMS.md has those of lines."""
+    """The events in Rust by their answers, as docs/PROGRAMS.md has those of lines, with the exports that pass them."""
     lines = PROGRAMS.read_text().partition("| Line | Answers |\n")[2].partition("\n\n")[0]
     answers = dict(re.findall(r"^\| `([a-z-]+)[^|]*` \| ([^;|]*)", lines.replace("\\|", "/"), re.M))
     told = {}
@@ -444,19 +444,22 @@ def table():
         told[line] = list(dict.fromkeys(ONE.get(it, it) for it in names))
     docs = {re.search(r"the event `(\w+)`", " ".join(it[0]), re.I): it[1] for it in exports()}
     exported = {found.group(1): name for found, name in docs.items() if found}
-    yield "| Event | From C | Answers |"
-    yield "|---|---|---|"
+    rows = {}
     for event in variants(EVENTS, "Event"):
         if event not in exported:
             sys.exit(f"rust: {event} has no export in crates/recovery_ffi/src whose documentation says 'the event `{event}`'")
-        line = exported[event].replace("recovery_ffi_", "").replace("_", "-")
+        name = exported[event].replace("recovery_ffi_", "")
+        line = name.replace("_", "-")
         if line not in told:
             sys.exit(f"rust: docs/PROGRAMS.md has no row of the line {line}, which says what {event} is answered")
-        yield f"| `{event}` | `{exported[event]}` | {', '.join(f'`{it}`' for it in told[line])} |"
+        rows.setdefault(", ".join(f"`{it}`" for it in told[line]), []).append(f"`{event}` (`{name}`)")
+    yield "| Answers | Events, each with its function: `recovery_ffi_` and this |"
+    yield "|---|---|"
+    yield from (f"| {answers} | {'; '.join(events)} |" for answers, events in rows.items())
 
 
 def documented_in_rust():
-    """docs/RUST.md, with its table written."""
+    """docs/C.md, with its table written."""
     before, mark, rest = DECLARED["document"].read_text().partition("<!-- this table is written by tests/rust.py --write -->\n")
     _, end, after = rest.partition("<!-- its end -->\n")
     return before + mark + "\n".join(table()) + "\n" + end + after
@@ -559,6 +562,8 @@ def cargo(folder):
     said = ran("little memory in Rust", [examples / "memory"], scarce=SCARCE)
     expect("memory is refused, and all goes on", bool(said) and "out of memory" in said and "goes on" in said, said or "")
     ran("a second of random events", [examples / "fuzz", "1"])
+    said = ran("the tutorial", [examples / "tutorial"])
+    expect("it prints what docs/TUTORIAL.md shows", said == (RUST / "examples" / "tutorial.out").read_text(), said or "")
 
 
 def hostile(folder):

@@ -1,5 +1,5 @@
 // What crosses to the proved library and what it exports: written by tests/rust.py --write from the sources of the library,
-// and compared with them by its tests. docs/RUST.md says what a caller keeps. A handle begins as all zeros.
+// and compared with them by its tests. docs/C.md says what a caller must ensure. A handle begins as all zeros.
 #ifndef RECOVERY_FFI_H
 #define RECOVERY_FFI_H
 

@@ -45,7 +45,7 @@ has_eliciting packets = list_any (λ entry. entry.1.ack_eliciting) packets
 -- ---- spans
 
 module _ {K P M : Type 0} (recovery : RecoveryState K P M) where
-  -- the RTT estimate that timers go by: before the first sample of the path in use, the initial RTT that the caller set,
+  -- the RTT estimate that timers use: before the first sample of the path in use, the initial RTT that the caller set,
   -- if it set one (RFC 9002, 6.2.2)
   abbrev pub rtt_in : Variables → Rtt
   rtt_in variables = rtt_or variables.initial_rtt recovery.paths.current.state.rtt

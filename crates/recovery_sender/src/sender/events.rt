@@ -275,9 +275,9 @@ where
 
     /// Sets the RTT that timers use before the first RTT sample of the path in use, in place of that of the settings
     /// (RFC 9002, 6.2.2): for example that of an earlier connection to the same peer, or the time that a Retry took.
-    /// Probe timeout, loss delay and timer follow at once. The pacer uses the settings until the first sample; its
-    /// bucket holds the initial window, whatever the RTT. If the RTT of the path begins anew ([`Event::NewPath`] that is
-    /// fresh, [`Event::ResetPath`]), the settings count again. It costs what is tracked below the largest acknowledged.
+    /// Probe timeout, loss delay and timer follow at once; the pacer uses the settings until the first sample. If the
+    /// RTT of the path begins anew ([`Event::NewPath`] that is fresh, [`Event::ResetPath`]), the settings count again.
+    /// It costs what is tracked below the largest acknowledged.
     pub fn set_initial_rtt(&mut self, rtt: Duration)
         ensures { ChangesRtt (record self.old.variables { initial_rtt = Some rtt }) self.old
             self.new }

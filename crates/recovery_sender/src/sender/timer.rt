@@ -229,8 +229,8 @@ where
         self.variables.pto(self.rtt().pto_base(), space)
     }
 
-    /// The RTT estimate that timers go by: before the first sample of the path in use, the initial RTT that the caller
-    /// set, if it set one (RFC 9002, 6.2.2).
+    /// Returns the RTT estimate that timers use: before the first sample of the path in use, the initial RTT that the
+    /// caller set, if it set one (RFC 9002, 6.2.2).
     #[inline(always)]
     pub(super) fn rtt(&self) -> RttEstimator
         ensures { result ≡ rtt_in (state_in self.now) self.now.variables }
