@@ -123,10 +123,12 @@ def streams():
 
 
 def unproved():
-    """A copy of the repository in which nothing was built."""
+    """A copy of the repository in which nothing was built, and nothing is prebuilt; its sources run by the toolchain."""
+    if tree.is_toolchain_missing():
+        return
     with tempfile.TemporaryDirectory() as folder:
         fresh = pathlib.Path(folder, "fresh")
-        shutil.copytree(ROOT, fresh, ignore=shutil.ignore_patterns("out", ".git"))
+        shutil.copytree(ROOT, fresh, ignore=shutil.ignore_patterns("out", ".git", "prebuilt"))
         began = time.time()
         status, output, errors = ran([fresh / "recovery-replay"], LINE + b"bad\n")
         expect("unproved sources", (status, output, UNPROVED.sub(b"", errors)), (2, ANSWER, b"line 2: cannot be read\n"))
