@@ -126,6 +126,8 @@ def answers(place):
     for crate, name in tree.LAUNCHERS.items():
         usage = (ROOT / "crates" / crate / "help.txt").read_text()
         expect(f"{name} --help", place.ran([f"./{name}", "--help"]), (0, usage, ""))
+        expect(f"{name} --version", place.ran([f"./{name}", "--version"]), (0, f"{name} {(ROOT / 'VERSION').read_text()}", ""))
+    expect("the crate and the programs have one version", (ROOT / "VERSION").read_text().split()[0], version())
     for words in ["./prove"], ["./dist"], ["./dist", "--compare"]:
         expect(f"{' '.join(words)} says what it needs", place.ran(words), (1, "", f"{words[0][2:]}: {tree.MISSING}\n"))
 
