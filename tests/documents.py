@@ -42,7 +42,7 @@ def files_here():
     """All files but those that are built, which may come and go while this runs."""
     found = []
     for folder, inside, files in os.walk(ROOT):
-        inside[:] = [it for it in inside if it not in ("out", "target", ".git", "__pycache__")]
+        inside[:] = [it for it in inside if it not in ("out", "target", ".git", "__pycache__", "prebuilt", "native")]
         found += ((pathlib.Path(folder) / it).relative_to(ROOT) for it in files)
     return sorted(found)
 

@@ -1,7 +1,9 @@
 #!/usr/bin/env python3
 """./prove, ./check and the launchers as a user meets them, with a stand-in for the toolchain, in copies of the tree in which nothing
 was built: two at once, an interrupt, no toolchain, a tree that cannot be written, another logic, a program that is missing, there, or
-older than its sources, answers that are too long, a pipe that nobody reads, and how long ./prove says that it takes."""
+older than its sources, one that is prebuilt, answers that are too long, a pipe that nobody reads, and how long ./prove says that it
+takes."""
+import hashlib
 import importlib.machinery
 import importlib.util
 import os
@@ -18,11 +20,8 @@ import tree
 from tree import ROOT
 
 tests = tree.Tests("launchers")
-LAUNCHERS = {
-    "recovery-replay": "recovery_program", "recovery-trace": "recovery_trace", "recovery-sender": "recovery_sender_program",
-    "recovery-pictures": "recovery_pictures", "recovery-link": "recovery_link",
-}
-TOOLS = "awk bash cat dirname env find grep head mkdir mktemp readlink rm sh sleep touch".split()
+LAUNCHERS = {name: crate for crate, name in tree.LAUNCHERS.items()}
+TOOLS = "awk bash cat dirname env find grep head mkdir mktemp readlink rm sh sha256sum sleep sort touch xargs".split()
 MISSING = f"the Rattle toolchain is missing: its command rt ({tree.logic()}) is not on the PATH\n"
 SECONDS = 300  # by which all that is waited for has happened
 
@@ -59,12 +58,17 @@ esac
 """
 
 
+# a word that each of them knows, and whether they give help behind it, as the programs do
+WITH_HELP = {"recovery-replay": ("7", False), "recovery-trace": ("7", True), "recovery-sender": ("established", False),
+             "recovery-pictures": ("tunnel", True), "recovery-link": ("loss=1%", False)}
+
+
 class Place:
     """A copy of the tree, and a folder of programs with the stand-in among them."""
 
     def __init__(self, folder):
         self.root, self.tools, self.started = folder / "tree", folder / "tools", folder / "started"
-        shutil.copytree(ROOT, self.root, ignore=shutil.ignore_patterns("out", ".git", "__pycache__"))
+        shutil.copytree(ROOT, self.root, ignore=shutil.ignore_patterns("out", ".git", "__pycache__", "prebuilt"))
         self.tools.mkdir()
         for name in TOOLS:
             (self.tools / name).symlink_to(shutil.which(name))
@@ -182,15 +186,24 @@ def interrupted(place):
 def without_toolchain(place):
     place.toolchain.unlink()
     tests.expect("./prove without rt", place.ran("./prove"), (1, "", f"prove: {MISSING}"))
+    for it in [it for it in (place.root / "tests").glob("*.py") if it.name != "tree.py"]:
+        it.write_text(f"#!/bin/sh\necho '{it.stem}: 1 passed, 0 failed'\n")
     status, output, said = place.ran("./check")
-    tests.expect("./check without rt", (status, output, MISSING in said), (1, "0 passed, 1 failed\n", True))
+    readings = len(module_of("check").READINGS)
+    tests.expect("./check without rt", (status, output), (1, f"{readings} passed, 2 failed\n"))
+    tests.expect("it says so at once", MISSING[:-1] in said.splitlines()[0], True)
+    tests.expect("it says what is left out", "the tests of the programs are left out: there is no prebuilt/" in said, True)
+    tests.expect("./dist without rt", place.ran("./dist"), (1, "", f"dist: {MISSING}"))
     for name, crate in LAUNCHERS.items():
         usage = (place.root / "crates" / crate / "help.txt").read_text()
         tests.expect(f"{name} without rt", place.ran(f"./{name}"), (1, "", f"{name}: not proved yet, and {MISSING}"))
         tests.expect(f"{name} --help without rt", place.ran(f"./{name}", "--help"), (0, usage, ""))
         version = (0, f"{name} {(ROOT / 'VERSION').read_text()}", "")
         tests.expect(f"{name} --version without rt", place.ran(f"./{name}", "--version"), version)
-        tests.expect(f"{name} without rt, on a word that it does not know", place.ran(f"./{name}", "--nothing"), (2, "", usage.splitlines(True)[0]))
+        wrong = (2, "", usage.splitlines(True)[0])
+        tests.expect(f"{name} without rt, on a word that it does not know", place.ran(f"./{name}", "--nothing"), wrong)
+        word, given = WITH_HELP[name]
+        tests.expect(f"{name} {word} --help without rt", place.ran(f"./{name}", word, "--help"), (0, usage, "") if given else wrong)
     for name in "./prove", "./check":
         status, output, said = place.ran(name, "--help")
         tests.expect(f"{name} --help", (status, output.startswith(f"usage: {name[2:]} "), said), (0, True, ""))
@@ -249,6 +262,52 @@ def launched(place, name, crate):
         touch(place.root / path, 0)
 
 
+def checksum(text):
+    return hashlib.sha256(text).hexdigest()
+
+
+def sum_of(root, crate):
+    """The checksum of a crate's sources: of the lines of sha256sum, sorted by the files."""
+    files = (it for name in tree.made_of(crate) for part in ("src", "specs", "proofs") for it in (root / "crates" / name / part).rglob("*") if it.is_file())
+    named = sorted((os.fsencode(it.relative_to(root)), it) for it in files)
+    return checksum(b"".join(f"{checksum(it.read_bytes())}  ".encode() + name + b"\n" for name, it in named))
+
+
+def prebuilt(place, name, crate):
+    """A prebuilt program runs exactly if it is the listed one, and was built from exactly the sources here."""
+    at = place.root / "prebuilt" / tree.TARGET
+    program = at / "bin" / name
+    program.parent.mkdir(parents=True, exist_ok=True)
+    program.write_text('#!/bin/sh\necho "the prebuilt program ran: $*"\nexit 4\n')
+    program.chmod(0o755)
+    (at / "PROVED").write_text(f"sources {crate} {sum_of(place.root, crate)}\n")
+    (at / "SHA256SUMS").write_text(f"{checksum(program.read_bytes())}  bin/{name}\n")
+    words = {"recovery-replay": ["7", "24000"], "recovery-trace": ["--controller", "cubic", "7"], "recovery-sender": ["established"],
+             "recovery-link": ["loss=1%", "--qlog"], "recovery-pictures": ["tunnel"]}[name]
+    ran = lambda *words: place.ran(f"./{name}", *words)
+    runs = (4, f"the prebuilt program ran: {' '.join(words)}\n", "")
+    unproved = lambda why: (2, f"the sources ran: {' '.join(words)}\n", f"{notice(name, crate, why)}line 2: told\n")
+    tests.expect(f"{name}: prebuilt", ran(*words), runs)
+    tests.expect(f"{name}: prebuilt, --help", ran("--help")[:2], (4, "the prebuilt program ran: --help\n"))
+    touch(place.root / "crates" / crate / "src" / "main.rt", 20)
+    tests.expect(f"{name}: prebuilt, and a file of the same text is newer", ran(*words), runs)
+    touch(place.root / "crates" / crate / "src" / "main.rt", 0)
+    place.toolchain.rename(place.tools / "hidden")
+    tests.expect(f"{name}: prebuilt, without rt", ran(*words), runs)
+    source = place.root / "crates" / "recovery_base" / "src" / "time.rt"
+    text = source.read_bytes()
+    source.write_bytes(text + b"// changed\n")
+    other = f"prebuilt/{tree.TARGET}/bin/{name} was built from other sources than those here"
+    tests.expect(f"{name}: a changed source, without rt", ran(*words), (1, "", f"{name}: {other}, and {MISSING}"))
+    (place.tools / "hidden").rename(place.toolchain)
+    tests.expect(f"{name}: a changed source", ran(*words), unproved(other))
+    source.write_bytes(text)
+    program.write_bytes(program.read_bytes() + b"#")
+    tests.expect(f"{name}: a changed program", ran(*words), unproved(f"prebuilt/{tree.TARGET}/bin/{name} is not the file that SHA256SUMS lists"))
+    shutil.rmtree(at.parent)
+    tests.expect(f"{name}: no longer prebuilt", ran(*words), unproved("not proved yet"))
+
+
 def nobody_reads(place):
     """A pipe whose reader is gone before anything is written to it."""
     for words in (["./recovery-replay", "--help"], 0), (["./prove", "--help"], 0), (["./check", "--version"], 0), (["./recovery-trace"], 2):
@@ -269,6 +328,7 @@ def main():
         place = Place(pathlib.Path(folder).resolve())
         nobody_reads(place)
         for name, crate in LAUNCHERS.items():
+            prebuilt(place, name, crate)
             launched(place, name, crate)
     tests.end()
 

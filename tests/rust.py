@@ -5,8 +5,7 @@ hostile ACK frames, and the programs in C and C++.
 
     tests/rust.py            passes all of it; where the library is not built, it is proved and built first, with all that it stands on
     tests/rust.py --declared passes what needs no library: the declarations, the toolchain's logic, rustfmt, cargo check and cargo doc
-    tests/rust.py --library  proves the library and builds it, where it is older than its sources, and writes into it what it
-                             was proved with
+    tests/rust.py --library  proves the library and builds it, if it is older than its sources, and writes its verdict beside it
     tests/rust.py --write    writes the declarations, by the library's sources: rust/c/recovery_ffi.h, ffi.rs, event.rs and
                              timer.rs of rust/quic-recovery/src, the table of docs/C.md and the library's layout.rt
 """
@@ -28,6 +27,7 @@ CRATE = ROOT / "crates" / "recovery_ffi"
 STACK = ROOT / "crates" / "recovery_stack"  # what stands behind the exports
 KEPT = ROOT / "crates" / "recovery_engine"
 LIBRARY = CRATE / "out" / "librecovery_ffi.a"
+VERDICT = CRATE / "out" / "verdict"  # the toolchain's line, and the line that it ended the library's proof with
 RUST = ROOT / "rust" / "quic-recovery"
 DECLARED = {"library": CRATE / "src" / "layout.rt", "rust": RUST / "src" / "ffi.rs", "events": RUST / "src" / "event.rs",
             "timers": RUST / "src" / "timer.rs", "c": ROOT / "rust" / "c" / "recovery_ffi.h", "document": ROOT / "docs" / "C.md"}
@@ -66,13 +66,47 @@ BESIDE = {
     ],
 }
 LOGIC = ROOT / "LOGIC"
-MARK = "recovery_ffi was proved with "  # what the library says of itself; rust/quic-recovery/build.rs reads it
 SCARCE = 64 << 20  # bytes of address space for what is run with little memory
 NUMBERS = {"u8": "uint8_t", "u16": "uint16_t", "u32": "uint32_t", "u64": "uint64_t", "usize": "size_t", "bool": "bool"}
 
 # what a word of an answer's line says, and which answer a word is
 TOLD = {"yes": "flag", "no": "flag"}
 ONE = {"AckedProbe": "Acked", "LostProbe": "Lost"}
+
+# what a reply's `flag`, `first`, `second`, `other` and `size` are, by its kind: their names in C, and what each says
+REPLIES = {
+    "NEW": [("arm", "flag", "Whether to start the timer for a late ACK.")],
+    "SENT": [("number", "first", "The number of the packet."),
+             ("has_forgotten", "flag", "Whether a packet that elicits no ACK is no longer tracked."),
+             ("forgotten", "second", "The number of that packet.")],
+    "ACKED": [("is_probe", "flag", "Whether the packet was the probe of the path's MTU.")],
+    "LOST": [("is_probe", "flag", "Whether the packet was the probe of the path's MTU.")],
+    "RETIRE": [("some", "flag", "Whether numbers of the peer's ids are to be retired."),
+               ("start", "first", "The first of these numbers."),
+               ("end", "second", "One above the last of these numbers.")],
+    "FLAG": [("value", "flag", "Yes or no, as the event asks.")],
+    "TIMEOUT": [("some", "flag", "Whether a timer is set."),
+                ("nanos", "first", "When the earliest of them expires, in nanoseconds.")],
+    "IN_FLIGHT": [("bytes", "first", "The bytes in flight."),
+                  ("ack_eliciting", "second", "How many packets in flight elicit an ACK.")],
+    "DELAYED": [("until", "first", "Until when the pacer delays the datagram, in nanoseconds.")],
+    "PROBE": [("number", "first", "The number of the probe's packet."),
+              ("size", "size", "The size of the probe's datagram, in bytes.")],
+    "BLACK_HOLE": [("found", "flag", "Whether a black hole is reported.")],
+    "SENDABLE": [("acks", "flag", "Whether an ACK is to be sent."),
+                 ("other", "other", "Whether something else is to be sent.")],
+    "ACKNOWLEDGED": [("count", "first", "How many packets the frame newly acknowledges."),
+                     ("lost", "second", "How many packets are declared lost."),
+                     ("has_more", "flag", "Whether `recovery_ffi_last_outcome` says more than these two numbers.")],
+    "LOSSES": [("space", "first", "The space of the packets, for a timeout.")],
+    "PROBES": [("space", "first", "The space to probe in."),
+               ("count", "second", "How many probes are due, 1 or 2.")],
+    "NEEDS_ROOM": [("packets", "first", "How many words of packets need room."),
+                   ("lost", "second", "How many lost numbers need room.")],
+    "REFUSED": [("fault", "first", "The fault, if the error is `RECOVERY_REFUSAL_ECN`.")],
+}
+BARE = set("DUPLICATE TRANSMITTED BLOCKED READY NO_PROBE QUEUE DONE FULL NOTHING".split())  # answers that hold no more
+IN_C = {"flag": "bool", "other": "bool", "size": "uint16_t", "first": "uint64_t", "second": "uint64_t"}
 
 # what each group of numbers says
 GROUPS = {
@@ -230,6 +264,52 @@ def declared_in_rust():
     yield "}"
 
 
+def sentence(docs):
+    """What a number says, as the text of an error: the first sentence of its documentation, up to what follows in brackets or behind a colon."""
+    said = re.split(r" \(|: |, in these words|\.$|\. ", " ".join(docs))[0]
+    return said[0].lower() + said[1:]
+
+
+def texts_in_c():
+    """Functions that say the texts of numbers."""
+    told = dict(tree.refusals())
+    ecn = next(name for name, said in told.items() if "{0}" in said)
+    texts = {snake(name): said for name, said in told.items() if name != ecn}
+    groups = constants()
+    refusals = [(name, texts.get(name) or sentence(docs)) for name, _, docs in groups["REFUSAL"]]
+    functions = [
+        ("recovery_ffi_text", "refusal", "REFUSAL", refusals, [
+            "The text of an error: of `refusal` of a reply. Of one by ECN `recovery_ffi_fault_text` says more."]),
+        ("recovery_ffi_fault_text", "fault", "FAULT", fault_texts().items(), ["The text of a fault of ECN: `recovery_refused_fault` of a reply."]),
+        ("recovery_ffi_new_text", "code", "NEW", [(name, sentence(docs)) for name, _, docs in groups["NEW"]], ["The text of what `recovery_ffi_new` returns."]),
+    ]
+    for name, given, group, arms, docs in functions:
+        yield ""
+        yield from (f"// {it}" for it in docs)
+        yield f"static inline const char *{name}({'uint64_t' if group == 'FAULT' else 'uint8_t'} {given}) {{"
+        yield f"    switch ({given}) {{"
+        if group == "REFUSAL":
+            yield '    case RECOVERY_OK: return "no error";'
+        yield from (f'    case RECOVERY_{group}_{it}: return "{said}";' for it, said in arms)
+        yield '    default: return "a number that this header does not name";'
+        yield "    }"
+        yield "}"
+
+
+def readers_in_c():
+    """What a reply says, by its kind: a function for each."""
+    known = {name for name, _, _ in constants()["ANSWER"]}
+    if known != BARE | set(REPLIES):
+        sys.exit(f"rust: REPLIES and BARE of tests/rust.py do not have the answers of numbers.rt: {', '.join(sorted(known ^ (BARE | set(REPLIES))))}")
+    yield ""
+    yield "// What a reply says, by names: each of these reads a reply of the kind that it names, and of no other."
+    for kind, fields in REPLIES.items():
+        yield ""
+        for name, field, docs in fields:
+            yield f"// {docs}"
+            yield f"static inline {IN_C[field]} recovery_{kind.lower()}_{name}(struct recovery_encoded_reply reply) {{ return reply.{field}; }}"
+
+
 def declared_in_c():
     yield "// What crosses to the proved library and what it exports: written by tests/rust.py --write from the sources of the library,"
     yield "// and compared with them by its tests. docs/C.md says what a caller must ensure. A handle begins as all zeros."
@@ -243,6 +323,9 @@ def declared_in_c():
     yield "#ifdef __cplusplus"
     yield 'extern "C" {'
     yield "#endif"
+    yield ""
+    yield "// No error: what `recovery_ffi_new` and its like return, and `refusal` of a reply, unless something is wrong."
+    yield "enum recovery_ok { RECOVERY_OK = 0 };"
     for group, found in constants().items():
         yield ""
         yield f"// {GROUPS[group]}"
@@ -267,6 +350,8 @@ def declared_in_c():
         given = ", ".join(word for it, kind in parameters for word in crossing(it, kind, True))
         result = NUMBERS.get(result) or (struct_in_c(result) if result else "void")
         yield f"{result} {name}({given or 'void'});"
+    yield from texts_in_c()
+    yield from readers_in_c()
     yield ""
     yield "// Does nothing; a library of another layout does not have it, and a program with this header does not link with that one."
     yield f'void recovery_ffi_layout(void) __asm__("recovery_ffi_layout_{checksum()}");'
@@ -329,12 +414,17 @@ def shown(name, arms):
     yield "}"
 
 
-def faults_in_rust():
-    """What is wrong with counts of ECN, with the texts by which the library knows it."""
+def fault_texts():
+    """The texts by which the library knows what is wrong with counts of ECN."""
     text = (KEPT / "src" / "spelling.rt").read_text()
     told = {name: said for said, name in re.findall(r'text == "([^"]+)" \{\s+FAULT_(\w+)', text)}
-    found = constants()["FAULT"]
-    told[found[-1][0]] = CORRUPTED
+    told[constants()["FAULT"][-1][0]] = CORRUPTED
+    return told
+
+
+def faults_in_rust():
+    """What is wrong with counts of ECN."""
+    found, told = constants()["FAULT"], fault_texts()
     camel = {name: "".join(it.capitalize() for it in name.split("_")) for name, _, _ in found}
     yield "/// What is wrong with the peer's counts of ECN (RFC 9000, 13.4.2.1)."
     yield "#[derive(Clone, Copy, Debug, PartialEq, Eq, Hash)]"
@@ -484,13 +574,16 @@ def declarations():
 def compiled():
     """Builds the library over what the crates below it were built as, which proves it; the gate leaves those."""
     at = tree.kit()
-    words = [at / "bin" / "rattle", "build", *tree.words_of(CRATE.name, "--crate-type", "staticlib")]
+    words = [at / "bin" / "rattle", "build", *tree.words_of(CRATE.name, "--crate-type", "staticlib", *tree.BASELINE)]
     words += ["--toolchain", at / "toolchain", "--backend", "llvm", "-o", LIBRARY]
     LIBRARY.parent.mkdir(exist_ok=True)
     build = subprocess.run(words, cwd=CRATE, stdin=subprocess.DEVNULL, stdout=subprocess.PIPE, stderr=subprocess.STDOUT, text=True)
-    if build.returncode:
+    verdict = re.findall(r"^logic=proved .*$", build.stdout, re.M)
+    if build.returncode or len(verdict) != 1:
         print(build.stdout, file=sys.stderr)
-    return build.returncode == 0
+        return False
+    VERDICT.write_text(f"{toolchain()}\n{verdict[0]}\n")
+    return True
 
 
 def toolchain():
@@ -498,35 +591,21 @@ def toolchain():
     return subprocess.run(["rt", "version"], stdin=subprocess.DEVNULL, stdout=subprocess.PIPE, text=True, check=True).stdout.split("\n")[0]
 
 
-def note():
-    """Writes into the library what it was proved with just now: as an object that holds a comment alone, and no program needs."""
-    said = f'.ident "{MARK}{toolchain()}"\n.section .note.GNU-stack,"",@progbits\n'
-    with tempfile.TemporaryDirectory() as made:
-        member = pathlib.Path(made, "proved_with.o")
-        compiler = next((it for it in ("cc", "clang") if shutil.which(it)), "cc")
-        subprocess.run([compiler, "-c", "-x", "assembler", "-", "-o", member], input=said, text=True, check=True)
-        subprocess.run(["ar", "rc", LIBRARY, member], check=True)
-
-
-def noted():
-    """What the library says that it was proved with; nothing where it was built, or built anew, without this script."""
-    found = re.search(re.escape(MARK).encode() + rb"([^\0]*)\0", LIBRARY.read_bytes()) if LIBRARY.exists() else None
-    return found.group(1).decode() if found else ""
+def is_built():
+    """Whether the library is newer than its sources, and its verdict, by this toolchain, newer than the library."""
+    if not (LIBRARY.is_file() and VERDICT.is_file() and VERDICT.read_text().startswith(f"{toolchain()}\n")):
+        return False
+    return VERDICT.stat().st_mtime >= LIBRARY.stat().st_mtime and all(tree.is_newer(LIBRARY, it) for it in (CRATE.name, *tree.below(CRATE.name)))
 
 
 def built():
-    """The library is there, with what it was proved with; it is proved and built where it is not, with all that it stands on where that is not
-    there either."""
-    stands_on = tree.below(CRATE.name)
-    if noted() == toolchain() and all(tree.is_newer(LIBRARY, it) for it in (CRATE.name, *stands_on)):
+    """The library is there, with its verdict; it is proved and built if it is not, with all that it stands on if that is not there either."""
+    if is_built():
         return True
-    if all(tree.is_newer(tree.rlib(it), it) for it in stands_on):
-        is_built = compiled()
-    else:
-        is_built = subprocess.run([ROOT / "prove", CRATE.name], stdin=subprocess.DEVNULL).returncode == 0
-    if is_built:
-        note()
-    return is_built
+    if not all(tree.is_newer(tree.rlib(it), it) for it in tree.below(CRATE.name)):
+        if subprocess.run([ROOT / "prove", CRATE.name], stdin=subprocess.DEVNULL).returncode:
+            return False
+    return compiled()
 
 
 # ---- what stands on it
@@ -576,13 +655,13 @@ def without_library():
     """Where there is no library the crate is checked and documented, and says what a program needs to link."""
     with tempfile.TemporaryDirectory() as target, tempfile.TemporaryDirectory() as empty:
         how = cargo_with(empty, CARGO_TARGET_DIR=target)
-        missing = f"{LIBRARY.name} is missing"
+        missing = f"no program links: QUIC_RECOVERY_LIB names {empty}, which has neither libquic_recovery.a nor both {LIBRARY.name} and liblibc_c.a"
         check = subprocess.run(["cargo", "check", "--all-targets", "--offline"], stderr=subprocess.PIPE, text=True, **how)
         expect("cargo check without the library", check.returncode == 0 and missing in check.stderr, check.stderr)
         ran("cargo doc without the library", ["cargo", "doc", "--no-deps", "--offline"], **how)
         ran("hostile ACK frames fit the crate", [ROOT / "bench" / "frames.py", "--check"], **how)
         said = ran("no program links without it", ["cargo", "build", "--example", "memory", "--offline"], fails=True, **how)
-        expect("the remedy is named", said is not None and "tests/rust.py --library" in said, said or "")
+        expect("the reason is named", said is not None and missing in said, said or "")
 
 
 def older(folder, made):
@@ -594,7 +673,8 @@ def older(folder, made):
     expect("the layout is named in C", said is not None and here.decode() in said, said or "")
     how = cargo_with(made, CARGO_TARGET_DIR=str(made / "target"))
     said = ran("a library of another layout under Rust", ["cargo", "build", "--example", "memory", "--offline"], fails=True, **how)
-    expect("the layout is named in Rust", said is not None and here.decode() in said, said or "")
+    wanted = f"{LIBRARY.name} is of another version of this crate, for it lacks the symbol {here.decode()}"
+    expect("the layout is named in Rust", said is not None and wanted in said, said or "")
 
 
 def frames(folder):

@@ -16,7 +16,7 @@ from tree import ROOT
 PROGRAM = ROOT / "crates" / "recovery_sender_program" / "out" / "recovery_sender_program"
 FILES = ROOT / "tests" / "sender"
 GOOD, ANSWER = "confirmed", "done timer none"
-USAGE = "usage: recovery-sender client|server|established [SEED [WINDOW [PACKETS NUMERATOR DENOMINATOR PERIODS]]]\n"
+USAGE = "usage: recovery-sender client|server|established [SEED [cubic|WINDOW [PACKETS NUMERATOR DENOMINATOR PERIODS]]]\n"
 
 # arguments, with status, output and errors over one good line
 ARGUMENTS = [
@@ -26,7 +26,7 @@ ARGUMENTS = [
     (["client", "-", "cubic"], 0, f"{ANSWER}\n", ""),
     (["server", "1", "-"], 0, f"{ANSWER}\n", ""),
     (["established", "-", "-", "4294967295", "0", "1", "0"], 0, f"{ANSWER}\n", ""),
-    (["--version"], 0, "recovery-sender 0.11.19\n", ""),
+    (["--version"], 0, "recovery-sender 0.2.0 after quinn-proto 0.11.19\n", ""),
     ([], 2, "", USAGE),
     (["7"], 2, "", USAGE),
     (["Server"], 2, "", USAGE),

@@ -15,6 +15,14 @@ ROOT = pathlib.Path(__file__).resolve().parent.parent
 LOCK = ROOT / "out" / "lock"
 WORKS_IN = "QUIC_RECOVERY_WORKS_IN"  # the tree that whoever started this works in alone
 SHOWN = 1000  # characters of what a test found and wanted
+BASELINE = ["--cpu", "x86-64"]  # of the static library: it does not check on which processor it runs, as a program does
+
+
+LAUNCHERS = {
+    "recovery_program": "recovery-replay", "recovery_trace": "recovery-trace", "recovery_sender_program": "recovery-sender",
+    "recovery_link": "recovery-link", "recovery_pictures": "recovery-pictures",
+}
+TARGET = "x86_64-unknown-linux-gnu"  # what is prebuilt
 
 
 class Unfit(Exception):
@@ -116,10 +124,31 @@ def logic():
     return (ROOT / "LOGIC").read_text().strip()
 
 
+MISSING = f"the Rattle toolchain is missing: its command rt ({logic()}) is not on the PATH"
+
+
+def is_toolchain_missing():
+    return not shutil.which("rt")
+
+
+def asked(function, *words):
+    """What a function of `launch` says; if it fails, the exception has what it said of that."""
+    said = subprocess.run(["bash", "-c", f'. "$0" && {function} "$@"', ROOT / "launch", *words], stdin=subprocess.DEVNULL, stdout=subprocess.PIPE,
+                          stderr=subprocess.PIPE, text=True)
+    if said.returncode:
+        raise Unfit(said.stderr.strip() or f"launch: {function} failed")
+    return said.stdout.strip()
+
+
+def prebuilt(crate, file):
+    """The path of a prebuilt file of a crate, which is the listed one, and was built from exactly the sources here."""
+    return pathlib.Path(asked("prebuilt", TARGET, crate, file))
+
+
 def other_logic():
     """A warning where the toolchain's logic is another than the one that the proofs are written for, else nothing."""
-    if not shutil.which("rt"):
-        raise Unfit(f"the Rattle toolchain is missing: its command rt ({logic()}) is not on the PATH")
+    if is_toolchain_missing():
+        raise Unfit(MISSING)
     said = subprocess.run(["rt", "version"], stdin=subprocess.DEVNULL, stdout=subprocess.PIPE, stderr=subprocess.STDOUT, text=True).stdout
     found = re.search(r"\blogic \w+", said)
     if found and found[0] == logic():

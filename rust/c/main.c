@@ -13,18 +13,19 @@ int main(void) {
     struct recovery_settings settings = recovery_ffi_default_settings();
     struct recovery_address remote = {.octets = {192, 0, 2, 1}, .port = 4433};
     uint8_t id[8] = {255, 255, 255, 255, 255, 255, 255, 255};
-    if (recovery_ffi_new(&recovery, &settings, &remote, id, sizeof id, 0) != RECOVERY_NEW_MADE) {
-        printf("no recovery was made\n");
+    uint8_t code = recovery_ffi_new(&recovery, &settings, &remote, id, sizeof id, 0);
+    if (code != RECOVERY_OK) {
+        printf("no recovery was made: %s\n", recovery_ffi_new_text(code));
         return 1;
     }
     uint64_t items[2] = {7, 8};
     struct recovery_encoded_reply sent = recovery_ffi_send(&recovery, RECOVERY_SPACE_DATA, 0, 1200, true, false, 0, items, 2);
-    printf("sent %d, as number %" PRIu64 "\n", sent.kind == RECOVERY_ANSWER_SENT, sent.first);
+    printf("sent %d, as number %" PRIu64 "\n", sent.kind == RECOVERY_ANSWER_SENT, recovery_sent_number(sent));
     tell(&recovery);
-    struct recovery_encoded_reply lost = recovery_ffi_lost(&recovery, RECOVERY_SPACE_DATA, sent.first);
+    struct recovery_encoded_reply lost = recovery_ffi_lost(&recovery, RECOVERY_SPACE_DATA, recovery_sent_number(sent));
     printf("lost %d\n", lost.kind == RECOVERY_ANSWER_LOST);
-    struct recovery_encoded_reply again = recovery_ffi_lost(&recovery, RECOVERY_SPACE_DATA, sent.first);
-    printf("lost again: refused %d, by number %u\n", again.kind == RECOVERY_ANSWER_REFUSED, again.refusal);
+    struct recovery_encoded_reply again = recovery_ffi_lost(&recovery, RECOVERY_SPACE_DATA, recovery_sent_number(sent));
+    printf("lost again: error %u, %s\n", again.refusal, recovery_ffi_text(again.refusal));
     if (recovery_ffi_take_pending(&recovery, RECOVERY_SPACE_DATA).kind == RECOVERY_ANSWER_QUEUE) {
         uint64_t taken[8];
         size_t count = recovery_ffi_last_items(&recovery, taken, 8);

@@ -10,8 +10,9 @@ public:
     explicit Recovery(const recovery_address &remote) {
         const recovery_settings settings = recovery_ffi_default_settings();
         const std::uint8_t id[8] = {1};
-        if (recovery_ffi_new(&handle, &settings, &remote, id, sizeof id, 0) != RECOVERY_NEW_MADE) {
-            throw std::runtime_error("no recovery was made");
+        const std::uint8_t code = recovery_ffi_new(&handle, &settings, &remote, id, sizeof id, 0);
+        if (code != RECOVERY_OK) {
+            throw std::runtime_error(recovery_ffi_new_text(code));
         }
     }
     Recovery(const Recovery &) = delete;

@@ -132,9 +132,30 @@ static void senders(struct recovery_handle *alone) {
     refused("a datagram of none", recovery_ffi_sender_transmit(&sender, 0, 1200, 2, true), RECOVERY_REFUSAL_NO_RECOVERY);
 }
 
+static bool says(const char *text, const char *wanted) {
+    return strcmp(text, wanted) == 0;
+}
+
+// No error is 0, and each error has a text.
+static void texts(void) {
+    expect("no error is 0", RECOVERY_OK == 0 && RECOVERY_NEW_MADE == 0 && RECOVERY_NEW_NO_MEMORY != 0);
+    expect("it has a text", says(recovery_ffi_text(RECOVERY_OK), "no error"));
+    expect("no memory", says(recovery_ffi_text(RECOVERY_REFUSAL_NO_MEMORY), "out of memory"));
+    expect("not tracked", says(recovery_ffi_text(RECOVERY_REFUSAL_NOT_TRACKED), "the packet is not tracked"));
+    expect("no recovery", says(recovery_ffi_text(RECOVERY_REFUSAL_NO_RECOVERY), "the handle holds no recovery"));
+    expect("a fault", says(recovery_ffi_fault_text(RECOVERY_FAULT_BLEACHED), "ECN bleaching"));
+    expect("a window of zero", says(recovery_ffi_new_text(RECOVERY_NEW_ZERO_WINDOW), "the initial window is zero"));
+    const char *unknown = recovery_ffi_text(200);
+    expect("another number", says(unknown, recovery_ffi_new_text(200)) && says(unknown, recovery_ffi_fault_text(200)));
+    for (unsigned refusal = RECOVERY_REFUSAL_NO_MEMORY; refusal <= RECOVERY_REFUSAL_CONFLICT; refusal++) {
+        expect("an error of events has a text", !says(recovery_ffi_text((uint8_t)refusal), unknown));
+    }
+}
+
 int main(void) {
     struct recovery_handle recovery = {0};
     nothing(&recovery);
+    texts();
     settings();
     expect("one is made", made(&recovery, recovery_ffi_default_settings(), 8) == RECOVERY_NEW_MADE);
     expect("none is made over it", made(&recovery, recovery_ffi_default_settings(), 8) == RECOVERY_NEW_HELD);

@@ -11,6 +11,9 @@
 extern "C" {
 #endif
 
+// No error: what `recovery_ffi_new` and its like return, and `refusal` of a reply, unless something is wrong.
+enum recovery_ok { RECOVERY_OK = 0 };
+
 // What an event is answered: `kind` of a reply.
 enum recovery_answer {
     // The packet is new.
@@ -151,10 +154,10 @@ enum recovery_ecn {
 
 // What comes of `recovery_ffi_new`.
 enum recovery_new {
-    // There was no memory.
-    RECOVERY_NEW_NO_MEMORY = 0,
     // A recovery was made.
-    RECOVERY_NEW_MADE = 1,
+    RECOVERY_NEW_MADE = 0,
+    // There was no memory.
+    RECOVERY_NEW_NO_MEMORY = 1,
     // The handle holds a recovery already.
     RECOVERY_NEW_HELD = 2,
     // The id of the peer has more than 20 bytes.
@@ -885,8 +888,148 @@ struct recovery_encoded_reply recovery_ffi_stop_timer(struct recovery_handle *ha
 // When does the next timer expire? The event `NextTimeout`.
 struct recovery_encoded_reply recovery_ffi_next_timeout(struct recovery_handle *handle);
 
+// The text of an error: of `refusal` of a reply. Of one by ECN `recovery_ffi_fault_text` says more.
+static inline const char *recovery_ffi_text(uint8_t refusal) {
+    switch (refusal) {
+    case RECOVERY_OK: return "no error";
+    case RECOVERY_REFUSAL_NO_MEMORY: return "out of memory";
+    case RECOVERY_REFUSAL_NUMBER_TOO_LARGE: return "a number is 2^62 or more";
+    case RECOVERY_REFUSAL_NUMBERS_EXHAUSTED: return "no packet number is left";
+    case RECOVERY_REFUSAL_NOT_TRACKED: return "the packet is not tracked";
+    case RECOVERY_REFUSAL_SPACE_DISCARDED: return "the space is discarded";
+    case RECOVERY_REFUSAL_NO_SUCH_PATH: return "there is no such path";
+    case RECOVERY_REFUSAL_SEARCHING: return "the MTU is searched for";
+    case RECOVERY_REFUSAL_ZERO_MTU: return "the size is zero";
+    case RECOVERY_REFUSAL_OVERFLOW: return "a counter passes 2^64 - 1";
+    case RECOVERY_REFUSAL_RETIRED: return "the connection id was already retired";
+    case RECOVERY_REFUSAL_EXCEEDS_LIMIT: return "the connection id exceeds the limit";
+    case RECOVERY_REFUSAL_BAD_RETIRE_PRIOR_TO: return "retire-prior-to exceeds the number of the frame";
+    case RECOVERY_REFUSAL_CIDS_NOT_IN_USE: return "connection ids are not in use";
+    case RECOVERY_REFUSAL_UNISSUED_CID: return "the connection id was not issued";
+    case RECOVERY_REFUSAL_DELAY_TOO_SMALL: return "the requested delay is too small";
+    case RECOVERY_REFUSAL_SKIPPED_ACKED: return "a skipped packet number is acknowledged";
+    case RECOVERY_REFUSAL_ECN: return "the peer's counts of ECN cannot be right";
+    case RECOVERY_REFUSAL_NOT_INITIAL_ID: return "the initial id is not active";
+    case RECOVERY_REFUSAL_BAD_RANGE: return "the range of numbers is wrong";
+    case RECOVERY_REFUSAL_CONFLICT: return "the connection id conflicts with the one that is held";
+    case RECOVERY_REFUSAL_UNSENT: return "a number was acknowledged that was never sent";
+    case RECOVERY_REFUSAL_DECIDED: return "the event is one that the sender decides itself";
+    case RECOVERY_REFUSAL_NO_SENDER: return "the handle holds a recovery that stands alone, without a sender";
+    case RECOVERY_REFUSAL_NO_RECOVERY: return "the handle holds no recovery";
+    case RECOVERY_REFUSAL_BAD_ARGUMENT: return "an argument lies out of its range";
+    default: return "a number that this header does not name";
+    }
+}
+
+// The text of a fault of ECN: `recovery_refused_fault` of a reply.
+static inline const char *recovery_ffi_fault_text(uint64_t fault) {
+    switch (fault) {
+    case RECOVERY_FAULT_ECT0_FALLS: return "peer ECT(0) count regression";
+    case RECOVERY_FAULT_ECT1_FALLS: return "peer ECT(1) count regression";
+    case RECOVERY_FAULT_CE_FALLS: return "peer CE count regression";
+    case RECOVERY_FAULT_BLEACHED: return "ECN bleaching";
+    case RECOVERY_FAULT_CORRUPTED: return "ECN corruption";
+    default: return "a number that this header does not name";
+    }
+}
+
+// The text of what `recovery_ffi_new` returns.
+static inline const char *recovery_ffi_new_text(uint8_t code) {
+    switch (code) {
+    case RECOVERY_NEW_MADE: return "a recovery was made";
+    case RECOVERY_NEW_NO_MEMORY: return "there was no memory";
+    case RECOVERY_NEW_HELD: return "the handle holds a recovery already";
+    case RECOVERY_NEW_CID_TOO_LONG: return "the id of the peer has more than 20 bytes";
+    case RECOVERY_NEW_TOO_MANY_ISSUED: return "more than 2^62 ids were issued at the start";
+    case RECOVERY_NEW_SKIP_TOO_LARGE: return "the first skip is 64 or more";
+    case RECOVERY_NEW_ZERO_MTU: return "an MTU is zero";
+    case RECOVERY_NEW_ZERO_WINDOW: return "the initial window is zero";
+    case RECOVERY_NEW_ZERO_DENOMINATOR: return "the denominator of the loss reduction factor, or of the time threshold, is zero";
+    case RECOVERY_NEW_UNKNOWN_CONTROLLER: return "there is no such controller";
+    case RECOVERY_NEW_UNKNOWN_SKIPS: return "there is no such way to skip numbers";
+    default: return "a number that this header does not name";
+    }
+}
+
+// What a reply says, by names: each of these reads a reply of the kind that it names, and of no other.
+
+// Whether to start the timer for a late ACK.
+static inline bool recovery_new_arm(struct recovery_encoded_reply reply) { return reply.flag; }
+
+// The number of the packet.
+static inline uint64_t recovery_sent_number(struct recovery_encoded_reply reply) { return reply.first; }
+// Whether a packet that elicits no ACK is no longer tracked.
+static inline bool recovery_sent_has_forgotten(struct recovery_encoded_reply reply) { return reply.flag; }
+// The number of that packet.
+static inline uint64_t recovery_sent_forgotten(struct recovery_encoded_reply reply) { return reply.second; }
+
+// Whether the packet was the probe of the path's MTU.
+static inline bool recovery_acked_is_probe(struct recovery_encoded_reply reply) { return reply.flag; }
+
+// Whether the packet was the probe of the path's MTU.
+static inline bool recovery_lost_is_probe(struct recovery_encoded_reply reply) { return reply.flag; }
+
+// Whether numbers of the peer's ids are to be retired.
+static inline bool recovery_retire_some(struct recovery_encoded_reply reply) { return reply.flag; }
+// The first of these numbers.
+static inline uint64_t recovery_retire_start(struct recovery_encoded_reply reply) { return reply.first; }
+// One above the last of these numbers.
+static inline uint64_t recovery_retire_end(struct recovery_encoded_reply reply) { return reply.second; }
+
+// Yes or no, as the event asks.
+static inline bool recovery_flag_value(struct recovery_encoded_reply reply) { return reply.flag; }
+
+// Whether a timer is set.
+static inline bool recovery_timeout_some(struct recovery_encoded_reply reply) { return reply.flag; }
+// When the earliest of them expires, in nanoseconds.
+static inline uint64_t recovery_timeout_nanos(struct recovery_encoded_reply reply) { return reply.first; }
+
+// The bytes in flight.
+static inline uint64_t recovery_in_flight_bytes(struct recovery_encoded_reply reply) { return reply.first; }
+// How many packets in flight elicit an ACK.
+static inline uint64_t recovery_in_flight_ack_eliciting(struct recovery_encoded_reply reply) { return reply.second; }
+
+// Until when the pacer delays the datagram, in nanoseconds.
+static inline uint64_t recovery_delayed_until(struct recovery_encoded_reply reply) { return reply.first; }
+
+// The number of the probe's packet.
+static inline uint64_t recovery_probe_number(struct recovery_encoded_reply reply) { return reply.first; }
+// The size of the probe's datagram, in bytes.
+static inline uint16_t recovery_probe_size(struct recovery_encoded_reply reply) { return reply.size; }
+
+// Whether a black hole is reported.
+static inline bool recovery_black_hole_found(struct recovery_encoded_reply reply) { return reply.flag; }
+
+// Whether an ACK is to be sent.
+static inline bool recovery_sendable_acks(struct recovery_encoded_reply reply) { return reply.flag; }
+// Whether something else is to be sent.
+static inline bool recovery_sendable_other(struct recovery_encoded_reply reply) { return reply.other; }
+
+// How many packets the frame newly acknowledges.
+static inline uint64_t recovery_acknowledged_count(struct recovery_encoded_reply reply) { return reply.first; }
+// How many packets are declared lost.
+static inline uint64_t recovery_acknowledged_lost(struct recovery_encoded_reply reply) { return reply.second; }
+// Whether `recovery_ffi_last_outcome` says more than these two numbers.
+static inline bool recovery_acknowledged_has_more(struct recovery_encoded_reply reply) { return reply.flag; }
+
+// The space of the packets, for a timeout.
+static inline uint64_t recovery_losses_space(struct recovery_encoded_reply reply) { return reply.first; }
+
+// The space to probe in.
+static inline uint64_t recovery_probes_space(struct recovery_encoded_reply reply) { return reply.first; }
+// How many probes are due, 1 or 2.
+static inline uint64_t recovery_probes_count(struct recovery_encoded_reply reply) { return reply.second; }
+
+// How many words of packets need room.
+static inline uint64_t recovery_needs_room_packets(struct recovery_encoded_reply reply) { return reply.first; }
+// How many lost numbers need room.
+static inline uint64_t recovery_needs_room_lost(struct recovery_encoded_reply reply) { return reply.second; }
+
+// The fault, if the error is `RECOVERY_REFUSAL_ECN`.
+static inline uint64_t recovery_refused_fault(struct recovery_encoded_reply reply) { return reply.first; }
+
 // Does nothing; a library of another layout does not have it, and a program with this header does not link with that one.
-void recovery_ffi_layout(void) __asm__("recovery_ffi_layout_59e0df3d");
+void recovery_ffi_layout(void) __asm__("recovery_ffi_layout_3910e5f9");
 __attribute__((used)) static void (*const recovery_ffi_has_this_layout)(void) = recovery_ffi_layout;
 
 #ifdef __cplusplus

@@ -57,7 +57,7 @@ static void take_lost(struct link *it) {
 static void send(struct link *it, const uint64_t *items, size_t count) {
     struct recovery_encoded_reply sent = recovery_ffi_send(&it->sender, space, it->now, SIZE, true, false, 0, items, count);
     if (sent.kind == RECOVERY_ANSWER_SENT && !is_lost(it)) {
-        it->packets[it->packets_to++ % MOST] = (struct packet){it->now + DELAY, sent.first};
+        it->packets[it->packets_to++ % MOST] = (struct packet){it->now + DELAY, recovery_sent_number(sent)};
     }
 }
 
@@ -67,7 +67,7 @@ static void send_waiting(struct link *it) {
     while (it->waiting_from < it->waiting_to) {
         struct recovery_encoded_reply goes = recovery_ffi_sender_transmit(&it->sender, it->now, SIZE, space, true);
         if (goes.kind == RECOVERY_ANSWER_DELAYED) {
-            it->wakes = goes.first;
+            it->wakes = recovery_delayed_until(goes);
         }
         if (goes.kind != RECOVERY_ANSWER_TRANSMITTED) {
             return;
@@ -109,7 +109,7 @@ static void acknowledge(struct link *it, const struct ack *ack) {
     }
     uint64_t told[2 * ITEMS];
     size_t count = recovery_ffi_told_packets(&it->sender, told, 2 * ITEMS);
-    for (size_t at = 0; reply.first > 0 && at < count; at += 2 + told[at + 1]) {
+    for (size_t at = 0; recovery_acknowledged_count(reply) > 0 && at < count; at += 2 + told[at + 1]) {
         for (size_t item = 0; item < told[at + 1]; item++) {
             uint64_t done = told[at + 2 + item];
             it->left -= !it->acked[done];
@@ -121,7 +121,7 @@ static void acknowledge(struct link *it, const struct ack *ack) {
 
 static void expire(struct link *it) {
     struct recovery_encoded_reply due = recovery_ffi_sender_on_timeout(&it->sender, it->now);
-    for (uint64_t at = 0; due.kind == RECOVERY_ANSWER_PROBES && at < due.second; at++) {
+    for (uint64_t at = 0; due.kind == RECOVERY_ANSWER_PROBES && at < recovery_probes_count(due); at++) {
         uint64_t items[ITEMS];
         if (recovery_ffi_sender_transmit(&it->sender, it->now, SIZE, space, true).kind != RECOVERY_ANSWER_TRANSMITTED
             || recovery_ffi_sender_probe(&it->sender, space, false).kind != RECOVERY_ANSWER_QUEUE) {
@@ -156,8 +156,8 @@ static void step(struct link *it) {
     send_waiting(it);
 }
 
-// A client whose handshake is over: it was confirmed, and the first two spaces are discarded (RFC 9001, 4.9).
-static bool connect_ends(struct link *it, uint64_t percent) {
+// A client whose handshake is over. What `recovery_ffi_sender_established` returns: RECOVERY_OK, or the number of what is wrong.
+static uint8_t connect_ends(struct link *it, uint64_t percent) {
     struct recovery_settings settings = recovery_ffi_default_settings();
     struct recovery_address remote = {.octets = {192, 0, 2, 1}, .port = 4433};
     uint8_t id[8] = {255, 255, 255, 255, 255, 255, 255, 255};
@@ -166,16 +166,14 @@ static bool connect_ends(struct link *it, uint64_t percent) {
     it->dice = percent + 1;
     it->left = ITEMS;
     it->now = 1;
-    return recovery_ffi_sender_new(&it->sender, true, &settings, &remote, id, sizeof id, it->now) == RECOVERY_NEW_MADE
-        && recovery_ffi_sender_handshake_confirmed(&it->sender).kind == RECOVERY_ANSWER_DONE
-        && recovery_ffi_sender_discard(&it->sender, RECOVERY_SPACE_INITIAL, it->now).kind == RECOVERY_ANSWER_DONE
-        && recovery_ffi_sender_discard(&it->sender, RECOVERY_SPACE_HANDSHAKE, it->now).kind == RECOVERY_ANSWER_DONE;
+    return recovery_ffi_sender_established(&it->sender, true, &settings, &remote, id, sizeof id, it->now);
 }
 
 int main(void) {
     for (uint64_t percent = 0; percent <= 30; percent += 10) {
-        if (!connect_ends(&ends, percent)) {
-            printf("no sender was made\n");
+        uint8_t code = connect_ends(&ends, percent);
+        if (code != RECOVERY_OK) {
+            printf("no sender was made: %s\n", recovery_ffi_new_text(code));
             return 1;
         }
         for (uint64_t item = 0; item < ITEMS; item++) {

@@ -86,10 +86,10 @@ pub const ECN_MARKED: u8 = 1;
 /// The check failed: packets are marked no more on the path.
 pub const ECN_FAILED: u8 = 2;
 
-/// There was no memory.
-pub const NEW_NO_MEMORY: u8 = 0;
 /// A recovery was made.
-pub const NEW_MADE: u8 = 1;
+pub const NEW_MADE: u8 = 0;
+/// There was no memory.
+pub const NEW_NO_MEMORY: u8 = 1;
 /// The handle holds a recovery already.
 pub const NEW_HELD: u8 = 2;
 /// The id of the peer has more than 20 bytes.

@@ -1,7 +1,7 @@
 //! The program's texts.
 
 /// What `--version` writes.
-pub const VERSION: &str = "recovery-link 0.11.19\n";
+pub const VERSION: &str = "recovery-link 0.2.0 after quinn-proto 0.11.19\n";
 
 /// What `--help` writes.
 pub const HELP: &str = "\

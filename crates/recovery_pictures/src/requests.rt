@@ -4,7 +4,7 @@ use crate::start::Window;
 use recovery_script_syntax::words::number_in;
 
 /// What `--version` writes.
-pub const VERSION: &str = "recovery-pictures 0.11.19\n";
+pub const VERSION: &str = "recovery-pictures 0.2.0 after quinn-proto 0.11.19\n";
 
 /// What `--help` writes.
 pub const HELP: &str = "\

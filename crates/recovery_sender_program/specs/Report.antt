@@ -6,7 +6,7 @@ use Rattle.recovery_replay.specs.Outcomes.{outcome_text}
 
 abbrev pub usage : List ℕ
 usage = codes "usage: recovery-sender client|server|established "
-    ++ codes "[SEED [WINDOW [PACKETS NUMERATOR DENOMINATOR PERIODS]]]\n"
+    ++ codes "[SEED [cubic|WINDOW [PACKETS NUMERATOR DENOMINATOR PERIODS]]]\n"
 
 abbrev pub error_text : Outcome → List ℕ
 error_text = outcome_text (codes "sender") usage

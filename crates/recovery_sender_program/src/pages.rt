@@ -1,10 +1,10 @@
 //! The program's texts.
 /// What `--version` writes.
-pub const VERSION: &str = "recovery-sender 0.11.19\n";
+pub const VERSION: &str = "recovery-sender 0.2.0 after quinn-proto 0.11.19\n";
 
 /// What `--help` writes.
 pub const HELP: &str = "\
-usage: recovery-sender client|server|established [SEED [WINDOW [PACKETS NUMERATOR DENOMINATOR PERIODS]]]
+usage: recovery-sender client|server|established [SEED [cubic|WINDOW [PACKETS NUMERATOR DENOMINATOR PERIODS]]]
 Answers the calls of a sender one at a time: reads a line, writes its answer with the timer for losses, reads the next.
 
   client|server  which end of the connection sends, from the start of its handshake

@@ -12,7 +12,7 @@ const NAME: &str = "sender";
 
 /// The usage of the program.
 const USAGE: &str = "usage: recovery-sender client|server|established \
-    [SEED [WINDOW [PACKETS NUMERATOR DENOMINATOR PERIODS]]]\n";
+    [SEED [cubic|WINDOW [PACKETS NUMERATOR DENOMINATOR PERIODS]]]\n";
 
 /// Writes the error text.
 pub fn report<E: Write>(outcome: Outcome, errors: &mut E) -> io::Result<()>

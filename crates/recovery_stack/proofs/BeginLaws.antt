@@ -16,13 +16,13 @@ taken : (bytes id : List ℕ) → Some id ≡ cid bytes → (nat_lt 20 (length b
 taken bytes id is = grind (arith, nat_tests, is)
 
 pub new_made : (form : Form) (settings : Settings) (given : Address) (bytes id : List ℕ) (now fault : ℕ)
-    (held new : Option Stack) → false ≡ is_some held → Some id ≡ cid bytes → fault ≡ settings_fault settings → fault ≡ 1
-    → Made form settings given id now new → NewOr form 1 settings given bytes now held new
+    (held new : Option Stack) → false ≡ is_some held → Some id ≡ cid bytes → fault ≡ settings_fault settings → fault ≡ 0
+    → Made form settings given id now new → NewOr form 0 settings given bytes now held new
 new_made form settings given bytes id now fault (Some stack) new free is wrong one made = absurd (cc)
 new_made form settings given bytes id now fault None new free is wrong one made =
     let t = taken bytes id is in
-    let none : settings_fault settings ≡ 1 = sym wrong ∙ one in
-    let nothing : new_fault settings bytes ≡ 1 =
-    subst (λ test. (if test then NEW_CID_TOO_LONG else settings_fault settings) ≡ 1) (sym t.0) none in
+    let none : settings_fault settings ≡ 0 = sym wrong ∙ one in
+    let nothing : new_fault settings bytes ≡ 0 =
+    subst (λ test. (if test then NEW_CID_TOO_LONG else settings_fault settings) ≡ 0) (sym t.0) none in
     let same : Made form settings given bytes now new = subst (λ it. Made form settings given it now new) t.1 made in
     inl (nothing, refl, same)

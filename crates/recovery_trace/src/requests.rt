@@ -7,7 +7,7 @@ pub const USAGE: &str =
     "usage: recovery-trace [--state|--qlog] [--strict] [--controller NAME] [SEED [WINDOW]]\n";
 
 /// What `--version` writes.
-pub const VERSION: &str = "recovery-trace 0.11.19\n";
+pub const VERSION: &str = "recovery-trace 0.2.0 after quinn-proto 0.11.19\n";
 
 /// What `--help` writes after the usage.
 pub const HELP: &str = "\
@@ -97,9 +97,9 @@ fn with_seed(choice: Choice, word: &[u8]) -> Option<Choice> {
     })
 }
 
-/// Adds a window to the choices, if the word is one, a number above zero, and no other controllers are named.
-fn with_window(choice: Choice, word: &[u8]) -> Option<Choice> {
-    if let Controllers::Cubic = choice.controllers {
+/// Adds a window to the choices, if the word is a number above zero and no controllers were named.
+fn with_window(choice: Choice, is_named: bool, word: &[u8]) -> Option<Choice> {
+    if is_named {
         return None;
     }
     match number_in(word)? {
@@ -111,8 +111,11 @@ fn with_window(choice: Choice, word: &[u8]) -> Option<Choice> {
     }
 }
 
-/// Adds the named controllers to the choices, if the name is known and there is no window.
-fn with_name(choice: Choice, word: &[u8]) -> Option<Choice> {
+/// Adds the named controllers to the choices, if the name is known, there is no window, and none were named before.
+fn with_name(choice: Choice, is_named: bool, word: &[u8]) -> Option<Choice> {
+    if is_named {
+        return None;
+    }
     if let Controllers::Fixed(_) = choice.controllers {
         return None;
     }
@@ -128,10 +131,15 @@ fn with_name(choice: Choice, word: &[u8]) -> Option<Choice> {
 }
 
 /// Adds a positional argument to the choices.
-fn with_word(choice: Choice, place: Place, word: &[u8]) -> Option<(Choice, Place)> {
+fn with_word(
+    choice: Choice,
+    place: Place,
+    is_named: bool,
+    word: &[u8],
+) -> Option<(Choice, Place)> {
     match place {
         Place::Seed => Some((with_seed(choice, word)?, Place::Window)),
-        Place::Window => Some((with_window(choice, word)?, Place::End)),
+        Place::Window => Some((with_window(choice, is_named, word)?, Place::End)),
         Place::End => None,
     }
 }
@@ -147,12 +155,14 @@ pub fn request_of(words: &[String]) -> Request {
     };
     let mut place = Place::Seed;
     let mut is_name = false;
+    let mut is_named = false;
     for word in words {
         match word.as_bytes() {
-            name if is_name => match with_name(choice, name) {
+            name if is_name => match with_name(choice, is_named, name) {
                 Some(with) => {
                     choice = with;
                     is_name = false;
+                    is_named = true;
                 }
                 None => return Request::Unknown,
             },
@@ -162,7 +172,7 @@ pub fn request_of(words: &[String]) -> Request {
             b"--qlog" => choice.shows = Shown::Qlog,
             b"--strict" => choice.is_strict = true,
             b"--controller" => is_name = true,
-            word => match with_word(choice, place, word) {
+            word => match with_word(choice, place, is_named, word) {
                 Some((with, next)) => {
                     choice = with;
                     place = next;

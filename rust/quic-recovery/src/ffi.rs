@@ -127,10 +127,10 @@ pub const ECN_MARKED: u8 = 1;
 /// The check failed: packets are marked no more on the path.
 pub const ECN_FAILED: u8 = 2;
 
-/// There was no memory.
-pub const NEW_NO_MEMORY: u8 = 0;
 /// A recovery was made.
-pub const NEW_MADE: u8 = 1;
+pub const NEW_MADE: u8 = 0;
+/// There was no memory.
+pub const NEW_NO_MEMORY: u8 = 1;
 /// The handle holds a recovery already.
 pub const NEW_HELD: u8 = 2;
 /// The id of the peer has more than 20 bytes.
@@ -578,7 +578,7 @@ pub struct IdsView {
 
 unsafe extern "C" {
     /// Does nothing; a library of another layout does not have it.
-    #[link_name = "recovery_ffi_layout_59e0df3d"]
+    #[link_name = "recovery_ffi_layout_3910e5f9"]
     pub fn recovery_ffi_layout();
 
     /// Makes a recovery, whose peer is at this address and has this id of at most 20 bytes. The answer is `NEW_MADE`, or

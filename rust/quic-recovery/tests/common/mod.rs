@@ -333,10 +333,11 @@ pub fn root() -> PathBuf {
     Path::new(env!("CARGO_MANIFEST_DIR")).join("../..")
 }
 
-/// The proved program, where it was built.
+/// The proved program: the one that `./prove` built, else the prebuilt one.
 pub fn program() -> Option<PathBuf> {
-    let program = root().join("crates/recovery_program/out/recovery_program");
-    program.is_file().then_some(program)
+    let built = root().join("crates/recovery_program/out/recovery_program");
+    let prebuilt = root().join("prebuilt/x86_64-unknown-linux-gnu/bin/recovery-replay");
+    [built, prebuilt].into_iter().find(|it| it.is_file())
 }
 
 /// What the program answers to lines, with this seed and this window.

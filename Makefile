@@ -1,0 +1,56 @@
+# Installs the prebuilt library and programs, with the header and what pkg-config and CMake read. It compiles nothing: neither the
+# toolchain nor a compiler is needed.
+#
+#     make install PREFIX=/usr/local [DESTDIR=..]
+#     make uninstall PREFIX=/usr/local [DESTDIR=..]
+#     make package                       a crate for `cargo publish`, with the library in it
+TARGET     ?= x86_64-unknown-linux-gnu
+PREFIX     ?= /usr/local
+LIBDIR     ?= $(PREFIX)/lib
+INCLUDEDIR ?= $(PREFIX)/include
+BINDIR     ?= $(PREFIX)/bin
+INSTALL    ?= install
+CARGO      ?= cargo
+
+VERSION := $(shell sed -n 's/^version = "\(.*\)"$$/\1/p' rust/quic-recovery/Cargo.toml)
+SONAME  := libquic_recovery.so.$(basename $(VERSION))
+FROM    := prebuilt/$(TARGET)
+CRATE   := rust/quic-recovery
+LIBRARY  = $(DESTDIR)$(LIBDIR)
+CONFIG   = $(LIBRARY)/cmake/quic-recovery
+PROGRAMS = recovery-replay recovery-trace recovery-sender recovery-link recovery-pictures
+FILL     = sed -e 's|@PREFIX@|$(PREFIX)|g' -e 's|@LIBDIR@|$(LIBDIR)|g' -e 's|@INCLUDEDIR@|$(INCLUDEDIR)|g' -e 's|@VERSION@|$(VERSION)|g' -e 's|@SONAME@|$(SONAME)|g'
+
+.PHONY: all verify install uninstall package
+all: verify
+
+# each prebuilt file is the listed one, and was built from the sources here
+verify:
+	@test -r $(FROM)/SHA256SUMS || { echo 'make: there is no $(FROM): ./dist writes it, and needs the toolchain' >&2; exit 1; }
+	@cd $(FROM) && sha256sum --quiet --strict -c SHA256SUMS || { echo 'make: a file of $(FROM) is not the one that SHA256SUMS lists' >&2; exit 1; }
+	@bash -c '. ./launch && prebuilt "$$@" >/dev/null' make $(TARGET) recovery_ffi libquic_recovery.a
+
+install: verify
+	$(INSTALL) -d $(LIBRARY)/pkgconfig $(CONFIG) $(DESTDIR)$(INCLUDEDIR) $(DESTDIR)$(BINDIR)
+	$(INSTALL) -m 644 rust/c/recovery_ffi.h $(DESTDIR)$(INCLUDEDIR)/
+	$(INSTALL) -m 644 $(FROM)/libquic_recovery.a $(LIBRARY)/
+	$(INSTALL) -m 755 $(FROM)/libquic_recovery.so.$(VERSION) $(LIBRARY)/
+	ln -sf libquic_recovery.so.$(VERSION) $(LIBRARY)/$(SONAME)
+	ln -sf $(SONAME) $(LIBRARY)/libquic_recovery.so
+	$(FILL) packaging/quic-recovery.pc.in > $(LIBRARY)/pkgconfig/quic-recovery.pc
+	$(FILL) packaging/quic-recovery-static.pc.in > $(LIBRARY)/pkgconfig/quic-recovery-static.pc
+	$(FILL) packaging/quic-recovery-config.cmake.in > $(CONFIG)/quic-recovery-config.cmake
+	$(FILL) packaging/quic-recovery-config-version.cmake.in > $(CONFIG)/quic-recovery-config-version.cmake
+	chmod 644 $(LIBRARY)/pkgconfig/quic-recovery*.pc $(CONFIG)/*.cmake
+	$(INSTALL) -m 755 $(addprefix $(FROM)/bin/,$(PROGRAMS)) $(DESTDIR)$(BINDIR)/
+
+uninstall:
+	rm -f $(DESTDIR)$(INCLUDEDIR)/recovery_ffi.h $(LIBRARY)/libquic_recovery.a $(LIBRARY)/libquic_recovery.so.$(VERSION) $(LIBRARY)/$(SONAME)
+	rm -f $(LIBRARY)/libquic_recovery.so $(LIBRARY)/pkgconfig/quic-recovery.pc $(LIBRARY)/pkgconfig/quic-recovery-static.pc
+	rm -f $(CONFIG)/quic-recovery-config.cmake $(CONFIG)/quic-recovery-config-version.cmake $(addprefix $(DESTDIR)$(BINDIR)/,$(PROGRAMS))
+	-rmdir $(CONFIG) 2>/dev/null
+
+package: verify
+	mkdir -p $(CRATE)/native/$(TARGET)
+	cp $(FROM)/libquic_recovery.a $(FROM)/PROVED $(CRATE)/native/$(TARGET)/
+	cd $(CRATE) && $(CARGO) package $(CARGOFLAGS)
