@@ -908,7 +908,7 @@ static inline const char *recovery_ffi_text(uint8_t refusal) {
     case RECOVERY_REFUSAL_UNISSUED_CID: return "the connection id was not issued";
     case RECOVERY_REFUSAL_DELAY_TOO_SMALL: return "the requested delay is too small";
     case RECOVERY_REFUSAL_SKIPPED_ACKED: return "a skipped packet number is acknowledged";
-    case RECOVERY_REFUSAL_ECN: return "the peer's counts of ECN cannot be right";
+    case RECOVERY_REFUSAL_ECN: return "the peer's ECN counts fail the check of RFC 9000, 13.4.2.1";
     case RECOVERY_REFUSAL_NOT_INITIAL_ID: return "the initial id is not active";
     case RECOVERY_REFUSAL_BAD_RANGE: return "the range of numbers is wrong";
     case RECOVERY_REFUSAL_CONFLICT: return "the connection id conflicts with the one that is held";
