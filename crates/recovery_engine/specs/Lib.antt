@@ -1,4 +1,5 @@
 pub mod Replies
 pub mod Controllers
 pub mod Kept
+pub mod SenderViews
 pub mod Sending

@@ -1,5 +1,5 @@
 -- What a call of a sender comes to, in numbers.
-use Rattle.std.specs.Prelude.{◌≡◌, ◌⊎◌, ℕ, ◌+◌, ◌<◌, ◌≤◌, ◌||◌, not, Bool, true, false, List, [], length, map, Option, None, is_some, Result, Ok, Err, IfOk, OnOk, OnErr, ◌∷◌}
+use Rattle.std.specs.Prelude.{◌≡◌, ◌⊎◌, ℕ, ◌+◌, ◌<◌, ◌≤◌, ◌||◌, not, Bool, true, false, List, [], length, map, Option, None, Some, is_some, Result, Ok, Err, IfOk, OnOk, OnErr, ◌∷◌}
 use Rattle.std.specs.Option.{option_map_or}
 use Rattle.std.specs.Vec.{vec_capacity}
 use Rattle.recovery_base.specs.declared.below.SpaceId.{SpaceId}
@@ -9,7 +9,7 @@ use Rattle.recovery_spaces.specs.Packets.{Packets}
 use Rattle.recovery_sender.specs.RetransmitAll.{DeclaresAllLost}
 use Rattle.recovery_sender.specs.Acking.{AckResult, IsAckAcceptable}
 use Rattle.recovery_losses.specs.Variables.{begun_anew, is_probe_due}
-use Rattle.recovery_sender.specs.Calls.{bytes_in_flight, challenged, discard_reply, is_checked, transmit_reply, transmit_steps, window_of, ProbeResult}
+use Rattle.recovery_sender.specs.Calls.{ChangesRtt, bytes_in_flight, challenged, discard_reply, is_checked, transmit_reply, transmit_steps, window_of, ProbeResult}
 use Rattle.recovery_sender.specs.Senders.{state_in}
 use Rattle.recovery_sender.specs.Spaces.{packets_in}
 use Rattle.recovery_sender.specs.Steps as Steps
@@ -38,7 +38,7 @@ use Rattle.recovery_engine.specs.declared.numbers.TheConstants.{ANSWER_ACKNOWLED
 use Rattle.recovery_engine.specs.declared.sending.AckRange.{AckRange}
 use Rattle.recovery_engine.specs.declared.sending.AckRoom.{AckRoom}
 use Rattle.recovery_engine.specs.declared.sending.Call.{Call}
-use Rattle.recovery_engine.specs.declared.sending.Call.TheVariants.{Transmit, TakeAck, Expire, Discard, RetransmitAll, HandshakeKeys, HandshakeConfirmed, PeerDelay, Challenge}
+use Rattle.recovery_engine.specs.declared.sending.Call.TheVariants.{Transmit, TakeAck, Expire, Discard, RetransmitAll, HandshakeKeys, HandshakeConfirmed, PeerDelay, InitialRtt, Challenge}
 use Rattle.recovery_engine.specs.declared.sending.Sending.{Sending}
 use Rattle.recovery_engine.specs.declared.sending.LastOutcome.{LastOutcome}
 use Rattle.recovery_engine.specs.declared.sending.OutcomeView.{OutcomeView}
@@ -233,6 +233,11 @@ confirmed variables = record variables { is_handshake_confirmed = true; is_addre
 abbrev pub delayed_by : ℕ → Variables → Variables
 delayed_by span variables = record variables { max_ack_delay = span }
 
+-- timers use this RTT before the first sample of the path in use (RFC 9002, 6.2.2)
+pub record InitialRttReply (rtt : ℕ) (old : Sending) (spelling : EncodedReply) (new : Sending) : Type 0 where
+  pub does : ChangesRtt (record old.sender.variables { initial_rtt = Some rtt }) old.sender new.sender
+  pub spells : spelling ≡ plain ANSWER_DONE
+
 -- a challenge of the path in use is open, or none (RFC 9000, 8.2.1)
 pub record ChallengeReply (content : Option ℕ) (pending : Bool) (old : Sending) (spelling : EncodedReply)
     (new : Sending) : Type 0
@@ -255,6 +260,7 @@ SenderCallReply (RetransmitAll space now) given old spelling new = RetransmitAll
 SenderCallReply HandshakeKeys given old spelling new = UpdatesVariables keyed old spelling new
 SenderCallReply HandshakeConfirmed given old spelling new = UpdatesVariables confirmed old spelling new
 SenderCallReply (PeerDelay span) given old spelling new = UpdatesVariables (delayed_by span) old spelling new
+SenderCallReply (InitialRtt rtt) given old spelling new = InitialRttReply rtt old spelling new
 SenderCallReply (Challenge challenge pending) given old spelling new = ChallengeReply challenge pending old spelling new
 
 -- ---- of what is kept

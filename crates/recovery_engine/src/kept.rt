@@ -9,10 +9,12 @@ ghost use Rattle.recovery_sender.specs.Calls.{IsPassedThrough, EventResult};
 ghost use Rattle.recovery_engine.specs.Kept.{by_sender, numbers_told, packets_told, parts_kept, pto_count_of, EventOutcome, IsFreshAlone, IsFreshEstablished, IsFreshSender, IsFresh, AcceptsEvent, MarksKept};
 ghost use Rattle.recovery_engine.specs.Sending.{told_view, ProbeUnlessNoSender, UnlessNoSender};
 ghost use Rattle.recovery_engine.specs.Replies.{IsWritten};
+ghost use Rattle.recovery_engine.specs.SenderViews.{sender_view_of};
 
 use crate::controllers::ChosenConfig;
 use crate::sending::{AckRange, Call, OutcomeView, Sending};
 use crate::spelling::{EncodedReply, copy_numbers};
+use crate::views::SenderView;
 use quic_recovery::{LiveRecovery, Recovery};
 use rand_pcg::Pcg32;
 use recovery_base::below::{NoMemory, SpaceId};
@@ -174,6 +176,16 @@ impl Engine {
         match self {
             Engine::Alone(_) => 0,
             Engine::Sends(sending) => sending.sender.variables().pto_count,
+        }
+    }
+
+    /// What the timer of a sender waits for, and what room is left.
+    pub fn sender_view(&self) -> SenderView
+        ensures { result ≡ sender_view_of self.now }
+    {
+        match self {
+            Engine::Alone(_) => SenderView::none(),
+            Engine::Sends(sending) => SenderView::of(&sending.sender),
         }
     }
 

@@ -8,3 +8,4 @@ pub mod kept;
 pub mod numbers;
 pub mod sending;
 pub mod spelling;
+pub mod views;

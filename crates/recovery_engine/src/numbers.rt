@@ -86,6 +86,19 @@ pub const ECN_MARKED: u8 = 1;
 /// The check failed: packets are marked no more on the path.
 pub const ECN_FAILED: u8 = 2;
 
+/// Nothing: no ack-eliciting packet is in flight that is probed for, or there is no sender.
+pub const AWAITS_NOTHING: u8 = 0;
+/// The time at which packets of a space may be lost.
+pub const AWAITS_LOSSES: u8 = 1;
+/// The probe timeout of a space.
+pub const AWAITS_PROBES: u8 = 2;
+/// The probe timeout that ends a deadlock of the handshake (RFC 9002, 6.2.2.1).
+pub const AWAITS_DEADLOCK_PROBE: u8 = 3;
+/// The next datagram from the peer: the amplification limit lets no byte out (RFC 9000, 8.1).
+pub const AWAITS_PEER: u8 = 4;
+/// The confirmation of the handshake: only 1-RTT packets are in flight (RFC 9002, 6.2.1).
+pub const AWAITS_CONFIRMATION: u8 = 5;
+
 /// A recovery was made.
 pub const NEW_MADE: u8 = 0;
 /// There was no memory.

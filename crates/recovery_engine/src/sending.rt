@@ -5,7 +5,7 @@ ghost use Rattle.recovery_sender.specs.Senders.{state_in};
 ghost use Rattle.recovery_sender.specs.Spaces.{packets_in};
 ghost use Rattle.recovery_engine.specs.Kept.{items_of, numbers_of, packets_listed, IsEmptyOutcome, HasLossesOnly};
 ghost use Rattle.recovery_engine.specs.Replies.{plain};
-ghost use Rattle.recovery_engine.specs.Sending.{acknowledged_spelled, confirmed, delayed_by, ecn_number, is_quiet, keyed, lost_alone, no_told, losses_spelled, range_given, refused_spelled, room_spelled, timeout_spelled, tells_more, told_shown, transmission_spelled, AckReply, ChallengeReply, DiscardReply, HasRoomFor, ProbeReply, TimeoutReply, RetransmitAllReply, UpdatesVariables, SenderCallReply, AckFrameReply, TransmitReply};
+ghost use Rattle.recovery_engine.specs.Sending.{acknowledged_spelled, confirmed, delayed_by, ecn_number, is_quiet, keyed, lost_alone, no_told, losses_spelled, range_given, refused_spelled, room_spelled, timeout_spelled, tells_more, told_shown, transmission_spelled, AckReply, ChallengeReply, DiscardReply, HasRoomFor, InitialRttReply, ProbeReply, TimeoutReply, RetransmitAllReply, UpdatesVariables, SenderCallReply, AckFrameReply, TransmitReply};
 
 use crate::kept::ItemSender;
 use crate::numbers::{
@@ -101,6 +101,8 @@ pub enum Call {
     HandshakeConfirmed,
     /// The peer delays its ACKs at most so long.
     PeerDelay(Duration),
+    /// The RTT before the first sample of the path in use.
+    InitialRtt(Duration),
     /// A PATH_CHALLENGE frame is open on the path in use, or none, and one is to be sent, or none.
     Challenge {
         challenge: Option<u64>,
@@ -414,6 +416,7 @@ impl Sending {
             Call::HandshakeKeys => self.handshake_keys(),
             Call::HandshakeConfirmed => self.handshake_confirmed(),
             Call::PeerDelay(span) => self.peer_delay(span),
+            Call::InitialRtt(rtt) => self.initial_rtt(rtt),
             Call::Challenge { challenge, pending } => self.challenge(challenge, pending),
         }
     }
@@ -579,6 +582,13 @@ impl Sending {
         ensures { UpdatesVariables (delayed_by span) self.old result self.new }
     {
         self.sender.set_peer_max_ack_delay(span);
+        EncodedReply::plain(ANSWER_DONE)
+    }
+
+    fn initial_rtt(&mut self, rtt: Duration) -> EncodedReply
+        ensures { InitialRttReply rtt self.old result self.new }
+    {
+        self.sender.set_initial_rtt(rtt);
         EncodedReply::plain(ANSWER_DONE)
     }
 

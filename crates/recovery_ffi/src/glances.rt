@@ -5,9 +5,9 @@ ghost use Rattle.recovery_ids.specs.CidQueue.{active_of};
 ghost use Rattle.recovery_stack.specs.Answers.{ReadsHandle};
 ghost use Rattle.recovery_engine.specs.Kept.{parts_kept};
 ghost use Rattle.recovery_stack.specs.Views.{space_named};
-ghost use Rattle.recovery_stack.specs.Stats.{no_rtt, no_tracked, no_window, rtt_shown, tracked_in, window_shown, HasInFlight};
+ghost use Rattle.recovery_stack.specs.Stats.{no_number, no_rtt, no_tracked, no_window, rtt_shown, tracked_in, window_shown, HasInFlight, ShowsSmallest};
 
-use recovery_stack::glances::{RttView, TrackedView, WindowView};
+use recovery_stack::glances::{NumberView, RttView, TrackedView, WindowView};
 use recovery_stack::handle::Handle;
 use std::alloc::Global;
 
@@ -46,6 +46,20 @@ pub extern "C" fn recovery_ffi_has_in_flight(alloc: Global, handle: &mut Handle,
         (result ≡ false) }
 {
     handle.has_in_flight(alloc, space)
+}
+
+/// The smallest packet number that a space tracks, by which a stack may choose the length of packet numbers (RFC 9000,
+/// 17.1): all smaller ones are acknowledged, lost, forgotten or discarded. It costs a logarithm.
+#[unsafe(no_mangle)]
+pub extern "C" fn recovery_ffi_smallest_tracked(
+    alloc: Global,
+    handle: &mut Handle,
+    space: u8,
+) -> NumberView
+    ensures { ReadsHandle handle.old.slot.held handle.new.slot.held (λ stack.
+        ShowsSmallest (space_named space (parts_kept stack.kept)) result) (result ≡ no_number) }
+{
+    handle.smallest_tracked(alloc, space)
 }
 
 /// How many packets a space tracks, and when a sender declares the next of them lost by its age.

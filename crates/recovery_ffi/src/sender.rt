@@ -9,12 +9,14 @@ ghost use Rattle.recovery_stack.specs.SenderCalls.{frame_given, room_given, Call
 ghost use Rattle.recovery_engine.specs.declared.kept.Form.TheVariants.{Handshaking, Established};
 ghost use Rattle.recovery_engine.specs.Sending.{no_told, told_view};
 ghost use Rattle.recovery_engine.specs.Replies.{IsWritten};
-ghost use Rattle.recovery_engine.specs.declared.sending.Call.TheVariants.{Transmit, Expire, Discard, RetransmitAll, HandshakeKeys, HandshakeConfirmed, PeerDelay, Challenge};
+ghost use Rattle.recovery_engine.specs.SenderViews.{no_sender_view, sender_view_of};
+ghost use Rattle.recovery_engine.specs.declared.sending.Call.TheVariants.{Transmit, Expire, Discard, RetransmitAll, HandshakeKeys, HandshakeConfirmed, PeerDelay, InitialRtt, Challenge};
 
 use recovery_base::time::Instant;
 use recovery_engine::kept::Form;
 use recovery_engine::sending::{AckRange, Call, OutcomeView};
 use recovery_engine::spelling::EncodedReply;
+use recovery_engine::views::SenderView;
 use recovery_stack::codes::{Address, maybe, space_coded, span};
 use recovery_stack::handle::Handle;
 use recovery_stack::making::begin;
@@ -259,6 +261,35 @@ pub extern "C" fn recovery_ffi_sender_peer_delay(
         Some(span) => handle.call_sender(alloc, Call::PeerDelay(span)),
         None => EncodedReply::bad_argument(),
     }
+}
+
+/// Sets the RTT that timers use before the first RTT sample of the path in use, in place of that of the settings (RFC
+/// 9002, 6.2.2): `ANSWER_DONE`. A new path whose RTT begins anew goes by the settings again. There are fewer than 10^9
+/// nanoseconds.
+#[unsafe(no_mangle)]
+pub extern "C" fn recovery_ffi_sender_initial_rtt(
+    alloc: Global,
+    handle: &mut Handle,
+    secs: u64,
+    nanos: u32,
+) -> EncodedReply
+    ensures { CallsSenderTo (span secs nanos) (λ span. InitialRtt span)
+        handle.old.slot.held result handle.new.slot.held }
+{
+    match span(secs, nanos) {
+        Some(span) => handle.call_sender(alloc, Call::InitialRtt(span)),
+        None => EncodedReply::bad_argument(),
+    }
+}
+
+/// What the timer for losses waits for, or why it is not set, and how many bytes the window and the amplification limit
+/// still let out on the path in use. All is 0 if there is no sender.
+#[unsafe(no_mangle)]
+pub extern "C" fn recovery_ffi_sender_view(alloc: Global, handle: &mut Handle) -> SenderView
+    ensures { ReadsHandle handle.old.slot.held handle.new.slot.held (λ stack.
+        result ≡ sender_view_of stack.kept) (result ≡ no_sender_view) }
+{
+    handle.sender_view(alloc)
 }
 
 /// A PATH_CHALLENGE frame with this content is open on the path in use, where `is_open`, and one is to be sent, where

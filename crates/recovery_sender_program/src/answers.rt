@@ -154,6 +154,7 @@ fn push_reply(
     match reply {
         CallReplyValue::Transmission(transmission) => push_transmission(text, transmission),
         CallReplyValue::Acknowledged(acknowledged) => push_acknowledged(text, &acknowledged),
+        CallReplyValue::Newly(newly) => push_numbers(text, &newly.numbers),
         CallReplyValue::Timeout(timeout) => push_timeout(text, &timeout),
         CallReplyValue::Probe(queue) => push_answer(alloc, text, &Ok(Answer::Queue(queue))),
         CallReplyValue::Retransmitted(all) => push_retransmitted(text, &all),

@@ -1,5 +1,5 @@
 -- What of a recovery can be read in a few instructions, in numbers.
-use Rattle.std.specs.Prelude.{false, length, is_some, Option, None, Some}
+use Rattle.std.specs.Prelude.{◌≡◌, ℕ, true, false, length, is_some, Option, None, Some}
 use Rattle.std.specs.Option.{option_map_or}
 use Rattle.recovery_congestion.specs.Rtt.{rtt_get, pto_base_of}
 use Rattle.recovery_spaces.specs.Packets.{HasSize}
@@ -9,6 +9,8 @@ use Rattle.recovery_paths.specs.PathStates.{Path}
 use Rattle.recovery_stack.specs.Codes.{nanos_shown}
 use Rattle.recovery_engine.specs.Controllers.{window_of}
 use Rattle.recovery_engine.specs.declared.controllers.Chosen.{Chosen}
+use Rattle.recovery_sender.specs.RetransmitAll.{HasNoneFrom, IsLeastFrom}
+use Rattle.recovery_stack.specs.declared.glances.NumberView.{NumberView}
 use Rattle.recovery_stack.specs.declared.glances.RttView.{RttView}
 use Rattle.recovery_stack.specs.declared.glances.TrackedView.{TrackedView}
 use Rattle.recovery_stack.specs.declared.glances.WindowView.{WindowView}
@@ -43,3 +45,23 @@ tracked_in (Some space) = record {
   loss_time = option_map_or (λ time. time) space.loss_time 0;
   has_loss_time = is_some space.loss_time;
 }
+
+-- ---- the smallest number that a space tracks
+
+abbrev pub number_shown : Option ℕ → NumberView
+number_shown None = record { number = 0; is_some = false }
+number_shown (Some number) = record { number = number; is_some = true }
+
+abbrev pub no_number : NumberView
+no_number = number_shown None
+
+-- it is the smallest, if there is a space and it tracks a packet
+abbrev pub IsSmallestIn : {P M : Type 0} → Option (Space P M) → Option ℕ → Type 0
+IsSmallestIn None number = number ≡ None
+IsSmallestIn (Some space) None = HasNoneFrom (packets_of space) 0
+IsSmallestIn (Some space) (Some number) = IsLeastFrom (packets_of space) 0 number
+
+pub record ShowsSmallest {P M : Type 0} (space : Option (Space P M)) (view : NumberView) : Type 0 where
+  pub number : Option ℕ
+  pub smallest : IsSmallestIn space number
+  pub shown : view ≡ number_shown number

@@ -5,7 +5,7 @@ ghost use Rattle.recovery_ids.specs.CidQueue.{active_of};
 ghost use Rattle.recovery_stack.specs.Answers.{ReadsHandle};
 ghost use Rattle.recovery_engine.specs.Kept.{parts_kept};
 ghost use Rattle.recovery_stack.specs.Views.{space_named};
-ghost use Rattle.recovery_stack.specs.Stats.{no_rtt, no_tracked, no_window, rtt_shown, tracked_in, window_shown, HasInFlight};
+ghost use Rattle.recovery_stack.specs.Stats.{no_number, no_rtt, no_tracked, no_window, number_shown, rtt_shown, tracked_in, window_shown, HasInFlight, IsSmallestIn, ShowsSmallest};
 
 use crate::codes::nanos_shown;
 use crate::handle::Handle;
@@ -45,6 +45,27 @@ pub struct TrackedView {
     pub loss_time: u64,
     /// Whether there is such a time.
     pub has_loss_time: bool,
+}
+
+/// A packet number, if there is one.
+#[repr(C)]
+#[derive(Clone, Copy)]
+pub struct NumberView {
+    /// The number; 0 if there is none.
+    pub number: u64,
+    /// Whether there is one.
+    pub is_some: bool,
+}
+
+impl NumberView {
+    fn of(number: Option<u64>) -> NumberView
+        ensures { result ≡ number_shown number }
+    {
+        NumberView {
+            number: number.unwrap_or(0),
+            is_some: number.is_some(),
+        }
+    }
 }
 
 impl TrackedView {
@@ -110,6 +131,14 @@ impl Stack {
             Some(space) => space.sent_packets.has_size(),
             None => false,
         }
+    }
+
+    fn smallest_tracked(&self, space: u8) -> Option<u64>
+        ensures { IsSmallestIn (space_named space (parts_kept self.now.kept)) result }
+    {
+        let space = self.named(space)?;
+        let (number, _) = space.sent_packets.tracked_from(0)?;
+        Some(number)
     }
 
     fn tracked(&self, space: u8) -> TrackedView
@@ -180,6 +209,20 @@ impl Handle {
         let has = stack.has_in_flight(space);
         self.put(stack);
         has
+    }
+
+    /// The smallest packet number that a space tracks; none if there is no such space, or if it is discarded.
+    pub fn smallest_tracked(&mut self, alloc: Global, space: u8) -> NumberView
+        ensures { ReadsHandle self.old.slot.held self.new.slot.held (λ stack.
+            ShowsSmallest (space_named space (parts_kept stack.kept)) result)
+            (result ≡ no_number) }
+    {
+        let Some(stack) = self.take(alloc) else {
+            return NumberView::of(None);
+        };
+        let number = stack.smallest_tracked(space);
+        self.put(stack);
+        NumberView::of(number)
     }
 
     /// What a space tracks.

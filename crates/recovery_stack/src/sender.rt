@@ -2,6 +2,7 @@
 ghost use Rattle.std.specs.Prelude.{◌≡◌};
 ghost use Rattle.recovery_engine.specs.Kept.{numbers_told, packets_told, pto_count_of};
 ghost use Rattle.recovery_engine.specs.Replies.{IsWritten};
+ghost use Rattle.recovery_engine.specs.SenderViews.{no_sender_view, sender_view_of};
 ghost use Rattle.recovery_engine.specs.Sending.{no_told, told_view};
 ghost use Rattle.recovery_stack.specs.Answers.{ReadsHandle};
 ghost use Rattle.recovery_stack.specs.SenderCalls.{ack_given, frame_given, room_given, AsksAck};
@@ -13,6 +14,7 @@ use recovery_base::below::{EcnCounts, SpaceId};
 use recovery_base::time::Instant;
 use recovery_engine::sending::{AckRange, AckRoom, Call, OutcomeView};
 use recovery_engine::spelling::EncodedReply;
+use recovery_engine::views::SenderView;
 use recovery_losses::{Ack, Side};
 use std::alloc::Global;
 
@@ -132,6 +134,19 @@ impl Handle {
         let count = stack.kept.pto_count();
         self.put(stack);
         count
+    }
+
+    /// What the timer of the sender waits for, and what room is left on the path in use; nothing if there is no sender.
+    pub fn sender_view(&mut self, alloc: Global) -> SenderView
+        ensures { ReadsHandle self.old.slot.held self.new.slot.held (λ stack.
+            result ≡ sender_view_of stack.kept) (result ≡ no_sender_view) }
+    {
+        let Some(stack) = self.take(alloc) else {
+            return SenderView::none();
+        };
+        let view = stack.kept.sender_view();
+        self.put(stack);
+        view
     }
 
     /// The last outcome; an empty one before the first, or if there is no sender.
