@@ -114,6 +114,7 @@ GROUPS = {
     "REFUSAL": "Why it is refused: `refusal` of a reply.",
     "FAULT": "What is wrong with the peer's counts of ECN (RFC 9000, 13.4.2.1): `first` of a reply that is refused by ECN.",
     "ECN": "What the counts of ECN of an ACK frame come to for a sender (RFC 9000, 13.4.2.1).",
+    "AWAITS": "What the timer for losses of a sender waits for: `awaits` of a sender's view.",
     "NEW": "What comes of `recovery_ffi_new`.",
     "CONTROLLER": "Which congestion controller paths have.",
     "SKIPS": "How packet numbers are skipped (RFC 9000, 21.4).",

@@ -152,6 +152,22 @@ enum recovery_ecn {
     RECOVERY_ECN_FAILED = 2,
 };
 
+// What the timer for losses of a sender waits for: `awaits` of a sender's view.
+enum recovery_awaits {
+    // Nothing: no ack-eliciting packet is in flight that is probed for, or there is no sender.
+    RECOVERY_AWAITS_NOTHING = 0,
+    // The time at which packets of a space may be lost.
+    RECOVERY_AWAITS_LOSSES = 1,
+    // The probe timeout of a space.
+    RECOVERY_AWAITS_PROBES = 2,
+    // The probe timeout that ends a deadlock of the handshake (RFC 9002, 6.2.2.1).
+    RECOVERY_AWAITS_DEADLOCK_PROBE = 3,
+    // The next datagram from the peer: the amplification limit lets no byte out (RFC 9000, 8.1).
+    RECOVERY_AWAITS_PEER = 4,
+    // The confirmation of the handshake: only 1-RTT packets are in flight (RFC 9002, 6.2.1).
+    RECOVERY_AWAITS_CONFIRMATION = 5,
+};
+
 // What comes of `recovery_ffi_new`.
 enum recovery_new {
     // A recovery was made.
@@ -282,6 +298,14 @@ struct recovery_tracked_view {
     uint64_t loss_time;
     // Whether there is such a time.
     bool has_loss_time;
+};
+
+// A packet number, if there is one.
+struct recovery_number_view {
+    // The number; 0 if there is none.
+    uint64_t number;
+    // Whether there is one.
+    bool is_some;
 };
 
 // What a caller holds a recovery by. It begins as all zeros, which holds none; from then on it is the library's own.
@@ -489,6 +513,22 @@ struct recovery_encoded_reply {
     uint64_t second;
 };
 
+// What the timer for losses of a sender waits for, and what room is left on the path in use.
+struct recovery_sender_view {
+    // How many bytes more fit into the congestion window (RFC 9002, 7).
+    uint64_t window_room;
+    // How many bytes the amplification limit still lets out, if `is_limited` (RFC 9000, 8.1); else `u64::MAX`.
+    uint64_t amplification_room;
+    // When the timer for losses expires, in nanoseconds; 0 if it is not set.
+    uint64_t timer;
+    // What it waits for, such as `RECOVERY_AWAITS_LOSSES`, or why it is not set, such as `RECOVERY_AWAITS_PEER`.
+    uint8_t awaits;
+    // The space for which it is set; 0 if it is not set.
+    uint8_t space;
+    // Whether the amplification limit binds the path: its address is not validated.
+    bool is_limited;
+};
+
 // What is kept for a path: times in nanoseconds, which stop at `u64::MAX`, and sizes in bytes.
 struct recovery_path_view {
     // How many bytes may be in flight (RFC 9002, 7).
@@ -614,6 +654,10 @@ uint64_t recovery_ffi_active_id(struct recovery_handle *handle);
 
 // Whether a packet that counts in flight is tracked in a space (RFC 9002, 2), by whichever path it went.
 bool recovery_ffi_has_in_flight(struct recovery_handle *handle, uint8_t space);
+
+// The smallest packet number that a space tracks, by which a stack may choose the length of packet numbers (RFC 9000,
+// 17.1): all smaller ones are acknowledged, lost, forgotten or discarded. It costs a logarithm.
+struct recovery_number_view recovery_ffi_smallest_tracked(struct recovery_handle *handle, uint8_t space);
 
 // How many packets a space tracks, and when a sender declares the next of them lost by its age.
 struct recovery_tracked_view recovery_ffi_tracked(struct recovery_handle *handle, uint8_t space);
@@ -853,6 +897,15 @@ struct recovery_encoded_reply recovery_ffi_sender_handshake_confirmed(struct rec
 // fewer than 10^9 nanoseconds.
 struct recovery_encoded_reply recovery_ffi_sender_peer_delay(struct recovery_handle *handle, uint64_t secs, uint32_t nanos);
 
+// Sets the RTT that timers use before the first RTT sample of the path in use, in place of that of the settings (RFC
+// 9002, 6.2.2): `RECOVERY_ANSWER_DONE`. A new path whose RTT begins anew goes by the settings again. There are fewer than 10^9
+// nanoseconds.
+struct recovery_encoded_reply recovery_ffi_sender_initial_rtt(struct recovery_handle *handle, uint64_t secs, uint32_t nanos);
+
+// What the timer for losses waits for, or why it is not set, and how many bytes the window and the amplification limit
+// still let out on the path in use. All is 0 if there is no sender.
+struct recovery_sender_view recovery_ffi_sender_view(struct recovery_handle *handle);
+
 // A PATH_CHALLENGE frame with this content is open on the path in use, where `is_open`, and one is to be sent, where
 // `pending` (RFC 9000, 8.2.1): `RECOVERY_ANSWER_DONE`. While one is open the window does not grow: what is acknowledged may
 // have gone by the path before it (RFC 9000, 9.4).
@@ -1029,7 +1082,7 @@ static inline uint64_t recovery_needs_room_lost(struct recovery_encoded_reply re
 static inline uint64_t recovery_refused_fault(struct recovery_encoded_reply reply) { return reply.first; }
 
 // Does nothing; a library of another layout does not have it, and a program with this header does not link with that one.
-void recovery_ffi_layout(void) __asm__("recovery_ffi_layout_3910e5f9");
+void recovery_ffi_layout(void) __asm__("recovery_ffi_layout_75e3d1fc");
 __attribute__((used)) static void (*const recovery_ffi_has_this_layout)(void) = recovery_ffi_layout;
 
 #ifdef __cplusplus

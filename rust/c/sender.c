@@ -83,6 +83,12 @@ int main(void) {
         uint64_t now = number * 1000000, item = number + 1;
         tell(&sender, recovery_ffi_send(&sender, space, now, 1000, true, false, 0, &item, 1));
     }
+    // With a smaller initial RTT the timer expires sooner (RFC 9002, 6.2.2).
+    tell(&sender, recovery_ffi_sender_initial_rtt(&sender, 0, 100000000));
+    struct recovery_sender_view view = recovery_ffi_sender_view(&sender);
+    struct recovery_number_view smallest = recovery_ffi_smallest_tracked(&sender, space);
+    printf("the timer awaits %u in space %u, %" PRIu64 " bytes fit into the window, %s limit, from number %" PRIu64 "\n", view.awaits,
+           view.space, view.window_room, view.is_limited ? "a" : "no", smallest.number);
     struct recovery_ack_frame frame = {.delay_secs = 0};
     struct recovery_ack_range ranges[1] = {{.first = 3, .last = 3}};
     frame.is_limited = true;

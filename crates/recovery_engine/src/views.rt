@@ -10,7 +10,7 @@ use crate::numbers::{
 };
 use crate::spelling::space_number;
 use recovery_losses::Due;
-use recovery_sender::sender::TimerState;
+use recovery_sender::TimerState;
 
 /// What the timer for losses of a sender waits for, and what room is left on the path in use.
 #[repr(C)]
@@ -22,7 +22,7 @@ pub struct SenderView {
     pub amplification_room: u64,
     /// When the timer for losses expires, in nanoseconds; 0 if it is not set.
     pub timer: u64,
-    /// What it waits for: `AWAITS_LOSSES`, `AWAITS_PROBES` or `AWAITS_DEADLOCK_PROBE` if it is set, else why it is not.
+    /// What it waits for, such as `AWAITS_LOSSES`, or why it is not set, such as `AWAITS_PEER`.
     pub awaits: u8,
     /// The space for which it is set; 0 if it is not set.
     pub space: u8,

@@ -9,12 +9,13 @@ mod runs;
 pub mod sender;
 
 pub use caller::Caller;
-pub use calls::{Asking, Call, CallRecord, CallReplyValue, Datagram, Frame};
+pub use calls::{Asked, Asking, Call, CallRecord, CallReplyValue, Datagram, Frame};
 pub use runs::{run, run_over};
 pub use sender::{
     Acknowledged, EcnOutcome, Losses, NewlyAcked, Retransmitted, Sender, SenderError, Timeout,
-    Transmission, passes,
+    TimerState, Transmission, passes,
 };
 
-// For users outside this repository, as `recovery_embedding` shows: the types of another crate that its calls take.
-pub use recovery_losses::{Ack, Side};
+// For users outside this repository, as `recovery_embedding` shows: the types of another crate that its calls take
+// or return.
+pub use recovery_losses::{Ack, Due, Side};

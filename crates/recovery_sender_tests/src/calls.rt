@@ -6,9 +6,10 @@ use rand_pcg::Pcg32;
 use recovery_base::below::SpaceId;
 use recovery_base::time::Duration;
 use recovery_congestion::congestion::NewRenoConfig;
-use recovery_losses::{Ack, Side};
+use recovery_losses::{Ack, Due, Side};
 use recovery_sender::{
-    Acknowledged, Losses, Retransmitted, Sender, SenderError, Timeout, Transmission, passes,
+    Acknowledged, Losses, Retransmitted, Sender, SenderError, Timeout, TimerState, Transmission,
+    passes,
 };
 use std::alloc::Global;
 use std::process::Abort;
@@ -26,6 +27,11 @@ enum Call {
     Keys,
     Confirmed,
     PeerMaxAckDelay(u64),
+    InitialRtt(u64),
+    /// The room in the window and under the amplification limit, and the smallest number that a space tracks.
+    Rooms(SpaceId),
+    /// What the timer waits for.
+    State,
     Discard(u64, SpaceId),
     RetransmitAll(u64, SpaceId),
     Received(SpaceId, u64),
@@ -52,6 +58,13 @@ enum Said {
     /// This many probes are due.
     ProbesDue(u8),
     Nothing,
+    Rooms(u64, Option<u64>, Option<u64>),
+    Idle,
+    AwaitsLosses,
+    AwaitsProbes(SpaceId),
+    AwaitsDeadlockProbe,
+    AwaitsPeer,
+    AwaitsConfirmation,
     Other,
     SenderError(u64),
     Unsent,
@@ -172,7 +185,25 @@ fn play(sender: &mut Reno, given: Call) -> Said {
             let reply = sender.on_timeout(at(now));
             timed_out(&reply)
         }
+        Call::Rooms(space) => Said::Rooms(
+            sender.window_room(),
+            sender.amplification_room(),
+            sender.smallest_tracked(space),
+        ),
+        Call::State => awaited(sender),
         other => tell(sender, other),
+    }
+}
+
+/// What the timer waits for, or why it is not set.
+fn awaited(sender: &Reno) -> Said {
+    match sender.timer_state() {
+        TimerState::Set(_, Due::Losses(_)) => Said::AwaitsLosses,
+        TimerState::Set(_, Due::Probes(space)) => Said::AwaitsProbes(space),
+        TimerState::Set(_, Due::AntiDeadlock(_)) => Said::AwaitsDeadlockProbe,
+        TimerState::Blocked => Said::AwaitsPeer,
+        TimerState::Unconfirmed => Said::AwaitsConfirmation,
+        TimerState::Idle => Said::Idle,
     }
 }
 
@@ -192,6 +223,7 @@ fn tell(sender: &mut Reno, given: Call) -> Said {
         Call::Keys => sender.on_handshake_keys(),
         Call::Confirmed => sender.on_handshake_confirmed(),
         Call::PeerMaxAckDelay(nanos) => sender.set_peer_max_ack_delay(Duration::from_nanos(nanos)),
+        Call::InitialRtt(nanos) => sender.set_initial_rtt(Duration::from_nanos(nanos)),
         _ => return Said::Other,
     }
     Said::Done
@@ -254,6 +286,58 @@ fn a_server(rt: HostRuntime) {
             Some(1_010_000_000),
         ),
         (Call::Received(data, 0), Said::New, Some(1_010_000_000)),
+    ];
+    run(&rt, rt.alloc(), Side::Server, rows);
+}
+
+/// What a stack reads of a server: the amplification limit is three times what was received (RFC 9000, 8.1). Before the
+/// first RTT sample the probe timeout is three times the initial RTT (RFC 9002, 6.2.1 and 6.2.2): 300 ms of 100 ms, and
+/// of 200 ms 600 ms, and the peer's delay of 25 ms in the space of 1-RTT packets.
+#[test]
+fn what_is_read(rt: HostRuntime) {
+    let (initial, data) = (SpaceId::Initial, SpaceId::Data);
+    let (first, second) = (Some(300_000_000), Some(600_000_000));
+    let rows = [
+        (Call::State, Said::AwaitsPeer, None),
+        (
+            Call::Rooms(initial),
+            Said::Rooms(12_000, Some(0), None),
+            None,
+        ),
+        (Call::Datagram(400), Said::Done, None),
+        (
+            Call::Rooms(initial),
+            Said::Rooms(12_000, Some(1200), None),
+            None,
+        ),
+        (Call::State, Said::Idle, None),
+        (Call::InitialRtt(100_000_000), Said::Done, None),
+        (
+            Call::Transmit(0, 1200, initial, true),
+            Said::Transmitted,
+            None,
+        ),
+        (Call::Send(0, 1200, initial), Said::Sent(0), None),
+        (
+            Call::Rooms(initial),
+            Said::Rooms(10_800, Some(0), Some(0)),
+            None,
+        ),
+        (Call::State, Said::AwaitsPeer, None),
+        (Call::Datagram(1), Said::Done, first),
+        (Call::State, Said::AwaitsProbes(initial), first),
+        (Call::InitialRtt(200_000_000), Said::Done, second),
+        (Call::Validated, Said::Done, second),
+        (
+            Call::Rooms(data),
+            Said::Rooms(10_800, None, None),
+            second,
+        ),
+        (Call::Discard(0, initial), Said::Done, None),
+        (Call::Send(0, 1000, data), Said::Sent(0), None),
+        (Call::State, Said::AwaitsConfirmation, None),
+        (Call::Confirmed, Said::Done, Some(625_000_000)),
+        (Call::State, Said::AwaitsProbes(data), Some(625_000_000)),
     ];
     run(&rt, rt.alloc(), Side::Server, rows);
 }

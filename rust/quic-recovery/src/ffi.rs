@@ -127,6 +127,19 @@ pub const ECN_MARKED: u8 = 1;
 /// The check failed: packets are marked no more on the path.
 pub const ECN_FAILED: u8 = 2;
 
+/// Nothing: no ack-eliciting packet is in flight that is probed for, or there is no sender.
+pub const AWAITS_NOTHING: u8 = 0;
+/// The time at which packets of a space may be lost.
+pub const AWAITS_LOSSES: u8 = 1;
+/// The probe timeout of a space.
+pub const AWAITS_PROBES: u8 = 2;
+/// The probe timeout that ends a deadlock of the handshake (RFC 9002, 6.2.2.1).
+pub const AWAITS_DEADLOCK_PROBE: u8 = 3;
+/// The next datagram from the peer: the amplification limit lets no byte out (RFC 9000, 8.1).
+pub const AWAITS_PEER: u8 = 4;
+/// The confirmation of the handshake: only 1-RTT packets are in flight (RFC 9002, 6.2.1).
+pub const AWAITS_CONFIRMATION: u8 = 5;
+
 /// A recovery was made.
 pub const NEW_MADE: u8 = 0;
 /// There was no memory.
@@ -252,6 +265,16 @@ pub struct TrackedView {
     pub loss_time: u64,
     /// Whether there is such a time.
     pub has_loss_time: bool,
+}
+
+/// A packet number, if there is one.
+#[repr(C)]
+#[derive(Clone, Copy, Debug, PartialEq, Eq)]
+pub struct NumberView {
+    /// The number; 0 if there is none.
+    pub number: u64,
+    /// Whether there is one.
+    pub is_some: bool,
 }
 
 /// What a caller holds a recovery by. It begins as all zeros, which holds none; from then on it is the library's own.
@@ -477,6 +500,24 @@ pub struct EncodedReply {
     pub second: u64,
 }
 
+/// What the timer for losses of a sender waits for, and what room is left on the path in use.
+#[repr(C)]
+#[derive(Clone, Copy, Debug, PartialEq, Eq)]
+pub struct SenderView {
+    /// How many bytes more fit into the congestion window (RFC 9002, 7).
+    pub window_room: u64,
+    /// How many bytes the amplification limit still lets out, if `is_limited` (RFC 9000, 8.1); else `u64::MAX`.
+    pub amplification_room: u64,
+    /// When the timer for losses expires, in nanoseconds; 0 if it is not set.
+    pub timer: u64,
+    /// What it waits for, such as `AWAITS_LOSSES`, or why it is not set, such as `AWAITS_PEER`.
+    pub awaits: u8,
+    /// The space for which it is set; 0 if it is not set.
+    pub space: u8,
+    /// Whether the amplification limit binds the path: its address is not validated.
+    pub is_limited: bool,
+}
+
 /// What is kept for a path: times in nanoseconds, which stop at `u64::MAX`, and sizes in bytes.
 #[repr(C)]
 #[derive(Clone, Copy, Debug, PartialEq, Eq)]
@@ -578,7 +619,7 @@ pub struct IdsView {
 
 unsafe extern "C" {
     /// Does nothing; a library of another layout does not have it.
-    #[link_name = "recovery_ffi_layout_3910e5f9"]
+    #[link_name = "recovery_ffi_layout_75e3d1fc"]
     pub fn recovery_ffi_layout();
 
     /// Makes a recovery, whose peer is at this address and has this id of at most 20 bytes. The answer is `NEW_MADE`, or
@@ -630,6 +671,10 @@ unsafe extern "C" {
 
     /// Whether a packet that counts in flight is tracked in a space (RFC 9002, 2), by whichever path it went.
     pub fn recovery_ffi_has_in_flight(handle: *mut Handle, space: u8) -> bool;
+
+    /// The smallest packet number that a space tracks, by which a stack may choose the length of packet numbers (RFC 9000,
+    /// 17.1): all smaller ones are acknowledged, lost, forgotten or discarded. It costs a logarithm.
+    pub fn recovery_ffi_smallest_tracked(handle: *mut Handle, space: u8) -> NumberView;
 
     /// How many packets a space tracks, and when a sender declares the next of them lost by its age.
     pub fn recovery_ffi_tracked(handle: *mut Handle, space: u8) -> TrackedView;
@@ -1007,6 +1052,19 @@ unsafe extern "C" {
         secs: u64,
         nanos: u32,
     ) -> EncodedReply;
+
+    /// Sets the RTT that timers use before the first RTT sample of the path in use, in place of that of the settings (RFC
+    /// 9002, 6.2.2): `ANSWER_DONE`. A new path whose RTT begins anew goes by the settings again. There are fewer than 10^9
+    /// nanoseconds.
+    pub fn recovery_ffi_sender_initial_rtt(
+        handle: *mut Handle,
+        secs: u64,
+        nanos: u32,
+    ) -> EncodedReply;
+
+    /// What the timer for losses waits for, or why it is not set, and how many bytes the window and the amplification limit
+    /// still let out on the path in use. All is 0 if there is no sender.
+    pub fn recovery_ffi_sender_view(handle: *mut Handle) -> SenderView;
 
     /// A PATH_CHALLENGE frame with this content is open on the path in use, where `is_open`, and one is to be sent, where
     /// `pending` (RFC 9000, 8.2.1): `ANSWER_DONE`. While one is open the window does not grow: what is acknowledged may

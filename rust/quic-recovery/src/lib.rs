@@ -71,7 +71,7 @@ pub use pacing::Pacer;
 pub use recovery::{IdStats, PacerStats, PathStats, Recovery, RttEstimate, SpaceStats};
 pub use sender::{
     Ack, Acknowledged, EcnOutcome, Losses, MtuProbe, Packets, Retransmitted, Sender, SenderError,
-    Sent, Side, Timeout, Transmission,
+    Sent, Side, Timeout, TimerState, Transmission,
 };
 pub use timer::Timer;
 pub use types::{

@@ -232,6 +232,39 @@ pub enum Timeout {
     },
 }
 
+/// What the timer for losses waits for, or why it is not set (RFC 9002, 6.2 and A.8).
+#[derive(Clone, Copy, Debug, PartialEq, Eq, Hash)]
+pub enum TimerState {
+    /// The time at which packets of a space may be lost.
+    Losses {
+        /// The space.
+        space: SpaceId,
+        /// When the timer expires.
+        at: Instant,
+    },
+    /// The probe timeout of a space.
+    Probes {
+        /// The space.
+        space: SpaceId,
+        /// When the timer expires.
+        at: Instant,
+    },
+    /// The probe timeout that ends a deadlock of the handshake (RFC 9002, 6.2.2.1).
+    DeadlockProbe {
+        /// The space of the probe.
+        space: SpaceId,
+        /// When the timer expires.
+        at: Instant,
+    },
+    /// The next datagram from the peer: the amplification limit lets no byte out (RFC 9000, 8.1).
+    Blocked,
+    /// The confirmation of the handshake: only 1-RTT packets are in flight, which are not probed for before (RFC 9002,
+    /// 6.2.1). If the handshake is confirmed, [`Sender::on_handshake_confirmed`] was not called.
+    Unconfirmed,
+    /// Nothing: no ack-eliciting packet is in flight that is probed for.
+    Idle,
+}
+
 /// The sending half of a connection (RFC 9002, Appendices A and B): which packets are lost, when to probe, and whether a
 /// datagram may go out. It holds one [`Recovery`], of which all can be read, and decides what that leaves to the layer
 /// above. One call takes an ACK frame, one the timer.
@@ -312,6 +345,60 @@ impl Sender {
     /// When the timer for losses is due, as the last call left it (RFC 9002, A.8).
     pub fn timer(&self) -> Option<Instant> {
         self.recovery.timer(Timer::LossDetection)
+    }
+
+    /// Returns what the timer for losses waits for, or why it is not set: the first thing to read if a transfer waits.
+    ///
+    /// ```no_run
+    /// # use quic_recovery::*;
+    /// # fn on_stall(sender: &Sender) {
+    /// match sender.timer_state() {
+    ///     TimerState::Unconfirmed => println!("call on_handshake_confirmed"),
+    ///     TimerState::Blocked => println!("the peer's address is not validated"),
+    ///     state => println!("{state:?}"),
+    /// }
+    /// # }
+    /// ```
+    pub fn timer_state(&self) -> TimerState {
+        let view = self.view();
+        let space = SpaceId::VALUES[usize::from(view.space)];
+        let at = Instant::from_nanos(view.timer);
+        match view.awaits {
+            ffi::AWAITS_LOSSES => TimerState::Losses { space, at },
+            ffi::AWAITS_PROBES => TimerState::Probes { space, at },
+            ffi::AWAITS_DEADLOCK_PROBE => TimerState::DeadlockProbe { space, at },
+            ffi::AWAITS_PEER => TimerState::Blocked,
+            ffi::AWAITS_CONFIRMATION => TimerState::Unconfirmed,
+            ffi::AWAITS_NOTHING => TimerState::Idle,
+            other => unreachable!("no timer waits for {other}"),
+        }
+    }
+
+    /// Returns how many bytes more fit into the congestion window of the path in use (RFC 9002, 7). A datagram that
+    /// counts in flight and is larger is [`Transmission::Full`].
+    pub fn window_room(&self) -> u64 {
+        self.view().window_room
+    }
+
+    /// Returns how many bytes the amplification limit still lets out on the path in use (RFC 9000, 8.1); `None` if its
+    /// address is validated, so that no limit binds it.
+    pub fn amplification_room(&self) -> Option<u64> {
+        let view = self.view();
+        view.is_limited.then_some(view.amplification_room)
+    }
+
+    /// Returns the smallest packet number that a space tracks, if any: all smaller ones are acknowledged, lost,
+    /// forgotten or discarded. A stack chooses the length of packet numbers by it (RFC 9000, 17.1).
+    pub fn smallest_tracked(&self, space: SpaceId) -> Option<u64> {
+        // SAFETY: the handle holds a recovery, and no other call runs.
+        let view =
+            unsafe { ffi::recovery_ffi_smallest_tracked(self.recovery.handle(), space as u8) };
+        view.is_some.then_some(view.number)
+    }
+
+    fn view(&self) -> ffi::SenderView {
+        // SAFETY: the handle holds a recovery, and no other call runs.
+        unsafe { ffi::recovery_ffi_sender_view(self.recovery.handle()) }
     }
 
     /// How many probe timeouts expired in a row, by which the next one is doubled (RFC 9002, 6.2.1).
@@ -576,6 +663,16 @@ impl Sender {
         let (secs, nanos) = (span.as_secs(), span.subsec_nanos());
         // SAFETY: the handle holds a recovery, and `self` is borrowed alone.
         unsafe { ffi::recovery_ffi_sender_peer_delay(self.recovery.handle(), secs, nanos) };
+    }
+
+    /// Sets the RTT that timers use before the first RTT sample of the path in use, in place of that of the settings (RFC
+    /// 9002, 6.2.2): for example that of an earlier connection to the same peer, or the time that a Retry took. Probe
+    /// timeout and loss delay follow at once; the pacer uses the settings until the first sample. A new path whose RTT
+    /// begins anew goes by the settings again.
+    pub fn set_initial_rtt(&mut self, rtt: Duration) {
+        let (secs, nanos) = (rtt.as_secs(), rtt.subsec_nanos());
+        // SAFETY: the handle holds a recovery, and `self` is borrowed alone.
+        unsafe { ffi::recovery_ffi_sender_initial_rtt(self.recovery.handle(), secs, nanos) };
     }
 
     /// A PATH_CHALLENGE frame with this data is open on the path in use, or none is, and whether one is to be sent (RFC 9000,

@@ -536,3 +536,47 @@ fn moves() {
     let other = std::thread::spawn(move || sender.timer()).join().unwrap();
     assert_eq!(other, timer);
 }
+
+/// What a stack reads of a server: at most three times the bytes received (RFC 9000, 8.1), ten datagrams in the window (RFC 9002,
+/// 7.2), and a probe timeout of three times the initial RTT (RFC 9002, 6.2.2), with the peer's delay for 1-RTT packets.
+#[test]
+fn rooms_and_the_timer() {
+    let mut sender =
+        Sender::new(Side::Server, &config(None, None), at(0)).expect("there is memory");
+    assert_eq!(sender.timer_state(), TimerState::Blocked);
+    assert_eq!(sender.amplification_room(), Some(0));
+    sender.on_datagram(400).expect("it fits");
+    assert_eq!(
+        (sender.amplification_room(), sender.window_room()),
+        (Some(1200), 12_000)
+    );
+    sender.set_initial_rtt(Duration::from_millis(100));
+    assert_eq!(sender.timer_state(), TimerState::Idle);
+    sender
+        .send(SpaceId::Initial, at(0), 1200, true, None, &[])
+        .expect("it goes");
+    assert_eq!(sender.smallest_tracked(SpaceId::Initial), Some(0));
+    assert_eq!(sender.smallest_tracked(SpaceId::Data), None);
+    assert_eq!(sender.window_room(), 10_800);
+    let (space, expires) = (SpaceId::Initial, at(300));
+    assert_eq!(
+        sender.timer_state(),
+        TimerState::Probes { space, at: expires }
+    );
+    sender.on_address_validated();
+    assert_eq!(sender.amplification_room(), None);
+    sender
+        .discard(SpaceId::Initial, at(0))
+        .expect("it is not discarded yet");
+    sender
+        .send(SpaceId::Data, at(0), 1000, true, None, &[])
+        .expect("it goes");
+    assert_eq!(sender.timer_state(), TimerState::Unconfirmed);
+    sender.on_handshake_confirmed();
+    let (space, expires) = (SpaceId::Data, at(325));
+    assert_eq!(
+        sender.timer_state(),
+        TimerState::Probes { space, at: expires }
+    );
+    assert_eq!(sender.timer(), Some(expires));
+}
