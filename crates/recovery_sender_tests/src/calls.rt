@@ -328,11 +328,7 @@ fn what_is_read(rt: HostRuntime) {
         (Call::State, Said::AwaitsProbes(initial), first),
         (Call::InitialRtt(200_000_000), Said::Done, second),
         (Call::Validated, Said::Done, second),
-        (
-            Call::Rooms(data),
-            Said::Rooms(10_800, None, None),
-            second,
-        ),
+        (Call::Rooms(data), Said::Rooms(10_800, None, None), second),
         (Call::Discard(0, initial), Said::Done, None),
         (Call::Send(0, 1000, data), Said::Sent(0), None),
         (Call::State, Said::AwaitsConfirmation, None),
