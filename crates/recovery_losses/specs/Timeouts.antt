@@ -15,8 +15,8 @@ abbrev pub scaled_by : ℕ × ℕ → ℕ → ℕ
 scaled_by fraction span =
     if fraction.1 == 0 then span else min (span * fraction.0) largest_product / fraction.1
 
--- the larger RTT times the time threshold (a fraction), at least that RTT and at least a millisecond: a packet is not
--- lost before its ACK can arrive (kTimeThreshold and kGranularity, 6.1.2)
+-- The larger RTT times the time threshold, a fraction (kTimeThreshold, 6.1.2). The result is not below that RTT, since
+-- a packet is not lost before its ACK can arrive, nor below a millisecond (kGranularity).
 abbrev pub loss_delay_of : ℕ × ℕ → ℕ → ℕ → ℕ
 loss_delay_of threshold smoothed latest = let rtt = max smoothed latest in
     up_to_longest (max (max rtt (scaled_by threshold rtt)) timer_granularity)

@@ -29,8 +29,8 @@ fresh side thresholds now = record {
   initial_rtt = None;
 }
 
--- the thresholds of the settings; 0 counts as 1: with a packet threshold of 0 a packet would be lost with its own ACK,
--- with a persistent congestion threshold of 0 any two packets would do (RFC 9002, 6.1.1 and 7.6.1)
+-- The thresholds of the settings; 0 counts as 1. With a packet threshold of 0 a packet would be lost with its own ACK,
+-- with a persistent congestion threshold of 0 any two packets would do (RFC 9002, 6.1.1 and 7.6.1).
 abbrev pub thresholds_of : ℕ → ℕ × ℕ → ℕ → Thresholds
 thresholds_of packets time persistent = record {
   packets = max packets 1;
