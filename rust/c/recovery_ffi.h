@@ -1,4 +1,4 @@
-// What crosses to the proved library and what it exports: written by tests/rust.py --write from the sources of the library,
+// The declarations of the proved library and its exports: written by tests/rust.py --write from the sources of the library,
 // and compared with them by its tests. docs/C.md says what a caller must ensure. A handle begins as all zeros.
 #ifndef RECOVERY_FFI_H
 #define RECOVERY_FFI_H
@@ -11,14 +11,14 @@
 extern "C" {
 #endif
 
-// No error: what `recovery_ffi_new` and its like return, and `refusal` of a reply, unless something is wrong.
+// No error: the result of `recovery_ffi_new` and of similar functions, and the `refusal` of a reply, if nothing is wrong.
 enum recovery_ok { RECOVERY_OK = 0 };
 
-// What an event is answered: `kind` of a reply.
+// The answers: `kind` of a reply.
 enum recovery_answer {
     // The packet is new.
     RECOVERY_ANSWER_NEW = 0,
-    // The packet may have come before: it is to be dropped.
+    // The packet is a duplicate, or too old to tell: drop it.
     RECOVERY_ANSWER_DUPLICATE = 1,
     // The packet is sent.
     RECOVERY_ANSWER_SENT = 2,
@@ -26,11 +26,11 @@ enum recovery_answer {
     RECOVERY_ANSWER_ACKED = 3,
     // The packet is lost, and no longer tracked.
     RECOVERY_ANSWER_LOST = 4,
-    // Which numbers of the peer's ids are to be retired.
+    // Which of the peer's connection IDs to retire.
     RECOVERY_ANSWER_RETIRE = 5,
     // Yes or no, as the event asks.
     RECOVERY_ANSWER_FLAG = 6,
-    // The least moment that a timer is set to, if any.
+    // The earliest running timer, if any.
     RECOVERY_ANSWER_TIMEOUT = 7,
     // What is in flight on a path.
     RECOVERY_ANSWER_IN_FLIGHT = 8,
@@ -38,40 +38,40 @@ enum recovery_answer {
     RECOVERY_ANSWER_TRANSMITTED = 9,
     // The datagram is not transmitted, by the amplification limit.
     RECOVERY_ANSWER_BLOCKED = 10,
-    // The bytes are not to be transmitted yet, by the pacer.
+    // The pacer delays the bytes.
     RECOVERY_ANSWER_DELAYED = 11,
-    // The bytes may be transmitted now, as far as the pacer goes.
+    // The pacer permits the bytes now.
     RECOVERY_ANSWER_READY = 12,
-    // A probe of the path's MTU goes out.
+    // An MTU probe of the path is sent.
     RECOVERY_ANSWER_PROBE = 13,
-    // No probe of the path's MTU is due.
+    // No MTU probe of the path is due.
     RECOVERY_ANSWER_NO_PROBE = 14,
     // Whether a black hole was reported.
     RECOVERY_ANSWER_BLACK_HOLE = 15,
     // What can be sent.
     RECOVERY_ANSWER_SENDABLE = 16,
-    // What is to be sent again.
+    // A retransmission queue.
     RECOVERY_ANSWER_QUEUE = 17,
     // The event has no other answer.
     RECOVERY_ANSWER_DONE = 18,
-    // The window has no room for the datagram of a sender. The answers that senders alone give lie above those of events,
-    // so that further ones of these do not move them.
+    // The window has no room for a sender's datagram. The answers of senders alone are above those of events, so that new
+    // answers of events do not move them.
     RECOVERY_ANSWER_FULL = 128,
-    // An ACK frame of a sender is taken.
+    // A sender processed an ACK frame.
     RECOVERY_ANSWER_ACKNOWLEDGED = 129,
     // No timer of the sender is due.
     RECOVERY_ANSWER_NOTHING = 130,
-    // Packets were looked for that are lost, in the space that `first` names for a timeout.
+    // A loss detection pass was made; for a timeout, `first` is its space.
     RECOVERY_ANSWER_LOSSES = 131,
-    // Probes are to be sent.
+    // Probes are due.
     RECOVERY_ANSWER_PROBES = 132,
     // The caller has too little room for what an ACK frame results in: nothing is done.
     RECOVERY_ANSWER_NEEDS_ROOM = 133,
-    // The event is refused. It lies far from the answers, so that further ones do not move it.
+    // The call fails. The number is far from the answers, so that new ones do not move it.
     RECOVERY_ANSWER_REFUSED = 255,
 };
 
-// Why it is refused: `refusal` of a reply.
+// The errors: `refusal` of a reply.
 enum recovery_refusal {
     // An allocation failed.
     RECOVERY_REFUSAL_NO_MEMORY = 1,
@@ -114,55 +114,71 @@ enum recovery_refusal {
     RECOVERY_REFUSAL_BAD_RANGE = 19,
     // The peer's ID number is held with another ID, or with another token (RFC 9000, 19.15).
     RECOVERY_REFUSAL_CONFLICT = 20,
-    // A number was acknowledged that was never sent (RFC 9000, 13.1): of a sender alone. The errors of senders lie above
-    // those of events, so that further ones of these do not meet them.
+    // A number was acknowledged that was never sent (RFC 9000, 13.1): of a sender alone. The errors of senders are above
+    // those of events, so that new errors of events do not meet them.
     RECOVERY_REFUSAL_UNSENT = 128,
-    // The event is one that the sender decides itself: it is not handed in around it.
+    // Only the sender itself makes this event; a caller cannot.
     RECOVERY_REFUSAL_DECIDED = 252,
-    // The handle holds a recovery that stands alone, without a sender.
+    // The handle holds a bare recovery, without a sender.
     RECOVERY_REFUSAL_NO_SENDER = 253,
     // The handle holds no recovery.
     RECOVERY_REFUSAL_NO_RECOVERY = 254,
-    // An argument lies out of its range: a space or a timer that there is not, an id of more than 20 bytes, a number of a
-    // frame of 2^62 or more, nanoseconds of a second or more.
+    // An argument is out of range: a space or timer that does not exist, a connection ID of more than 20 bytes, a frame's
+    // number of 2^62 or more, or nanoseconds of 10^9 or more.
     RECOVERY_REFUSAL_BAD_ARGUMENT = 255,
 };
 
-// What is wrong with the peer's counts of ECN (RFC 9000, 13.4.2.1): `first` of a reply that is refused by ECN.
+// What is wrong with the peer's ECN counts (RFC 9000, 13.4.2.1): `first` of a reply with the ECN error.
 enum recovery_fault {
-    // The count of ECT(0) fell.
+    // The count of ECT(0) decreased.
     RECOVERY_FAULT_ECT0_FALLS = 0,
-    // The count of ECT(1) fell.
+    // The count of ECT(1) decreased.
     RECOVERY_FAULT_ECT1_FALLS = 1,
-    // The count of ECN-CE fell.
+    // The count of ECN-CE decreased.
     RECOVERY_FAULT_CE_FALLS = 2,
-    // Packets that are newly acknowledged are in no count.
+    // The counts do not include newly acknowledged packets.
     RECOVERY_FAULT_BLEACHED = 3,
-    // Packets were counted that were not sent so.
+    // The counts include packets that were not sent with this marking.
     RECOVERY_FAULT_CORRUPTED = 4,
 };
 
-// What the counts of ECN of an ACK frame come to for a sender (RFC 9000, 13.4.2.1).
+// The outcome of an ACK frame's ECN counts for a sender (RFC 9000, 13.4.2.1).
 enum recovery_ecn {
-    // Nothing, or the frame has no counts of ECN.
+    // No congestion. If the frame has no ECN counts, packets are no longer marked on the path.
     RECOVERY_ECN_QUIET = 0,
-    // More packets were marked: there is congestion (RFC 9002, 7.1).
+    // More packets were marked with CE: congestion (RFC 9002, 7.1).
     RECOVERY_ECN_MARKED = 1,
-    // The check failed: packets are marked no more on the path.
+    // Validation failed: packets are no longer marked on the path.
     RECOVERY_ECN_FAILED = 2,
 };
 
-// What comes of `recovery_ffi_new`.
+// The purpose of a sender's loss detection timer: `awaits` of a sender's view.
+enum recovery_awaits {
+    // Nothing: no ack-eliciting packet is in flight that is probed for, or there is no sender.
+    RECOVERY_AWAITS_NOTHING = 0,
+    // The time at which packets of a space may be lost.
+    RECOVERY_AWAITS_LOSSES = 1,
+    // The probe timeout of a space.
+    RECOVERY_AWAITS_PROBES = 2,
+    // The probe timeout that ends a deadlock of the handshake (RFC 9002, 6.2.2.1).
+    RECOVERY_AWAITS_DEADLOCK_PROBE = 3,
+    // The next datagram from the peer: the amplification limit permits no byte (RFC 9000, 8.1).
+    RECOVERY_AWAITS_PEER = 4,
+    // The confirmation of the handshake: only 1-RTT packets are in flight (RFC 9002, 6.2.1).
+    RECOVERY_AWAITS_CONFIRMATION = 5,
+};
+
+// The results of `recovery_ffi_new`.
 enum recovery_new {
     // A recovery was made.
     RECOVERY_NEW_MADE = 0,
-    // There was no memory.
+    // Allocation failed.
     RECOVERY_NEW_NO_MEMORY = 1,
     // The handle holds a recovery already.
     RECOVERY_NEW_HELD = 2,
-    // The id of the peer has more than 20 bytes.
+    // The peer's connection ID has more than 20 bytes.
     RECOVERY_NEW_CID_TOO_LONG = 3,
-    // More than 2^62 ids were issued at the start.
+    // More than 2^62 connection IDs were issued at the start.
     RECOVERY_NEW_TOO_MANY_ISSUED = 4,
     // The first skip is 64 or more.
     RECOVERY_NEW_SKIP_TOO_LARGE = 5,
@@ -172,9 +188,9 @@ enum recovery_new {
     RECOVERY_NEW_ZERO_WINDOW = 7,
     // The denominator of the loss reduction factor, or of the time threshold, is zero.
     RECOVERY_NEW_ZERO_DENOMINATOR = 8,
-    // There is no such controller.
+    // The controller does not exist.
     RECOVERY_NEW_UNKNOWN_CONTROLLER = 9,
-    // There is no such way to skip numbers.
+    // The kind of skips does not exist.
     RECOVERY_NEW_UNKNOWN_SKIPS = 10,
 };
 
@@ -182,7 +198,7 @@ enum recovery_new {
 enum recovery_controller {
     // NewReno (RFC 9002, 7).
     RECOVERY_CONTROLLER_NEW_RENO = 0,
-    // A window that stays the one at first.
+    // A fixed window: always the initial one.
     RECOVERY_CONTROLLER_FIXED = 1,
     // CUBIC (RFC 9438).
     RECOVERY_CONTROLLER_CUBIC = 2,
@@ -192,9 +208,9 @@ enum recovery_controller {
 enum recovery_skips {
     // No number is skipped.
     RECOVERY_SKIPS_DISABLED = 0,
-    // As drawn with the seed.
+    // Skips are drawn with the seed.
     RECOVERY_SKIPS_DRAWN = 1,
-    // From the first skip on, those behind it as drawn with the seed.
+    // The first skip is given, and the following ones are drawn with the seed.
     RECOVERY_SKIPS_STARTING = 2,
 };
 
@@ -208,7 +224,7 @@ enum recovery_space {
     RECOVERY_SPACE_DATA = 2,
 };
 
-// What a timer is for.
+// The timers of a connection.
 enum recovery_timer {
     // When to declare packets lost or to send a probe (RFC 9002, 6.2 and A.8).
     RECOVERY_TIMER_LOSS_DETECTION = 0,
@@ -282,6 +298,14 @@ struct recovery_tracked_view {
     uint64_t loss_time;
     // Whether there is such a time.
     bool has_loss_time;
+};
+
+// A packet number, if there is one.
+struct recovery_number_view {
+    // The number; 0 if there is none.
+    uint64_t number;
+    // Whether there is one.
+    bool is_some;
 };
 
 // What a caller holds a recovery by. It begins as all zeros, which holds none; from then on it is the library's own.
@@ -379,20 +403,20 @@ struct recovery_ack_range {
     uint64_t last;
 };
 
-// The last outcome: of an ACK frame, of a timeout that searched for losses, or of a space whose packets were all
-// declared lost.
+// The last outcome: of an ACK frame, of a timeout that made a loss detection pass, or of a space whose packets were
+// all declared lost.
 struct recovery_outcome_view {
     // How many numbers the frame newly acknowledged; else 0.
     uint64_t acked;
-    // How many numbers were found lost, without that of the MTU's probe.
+    // How many numbers were declared lost, without that of the MTU probe.
     uint64_t lost;
-    // The number of the MTU's probe, where that was lost: no sign of congestion (RFC 9000, 14.4).
+    // The number of the MTU probe, if it was lost: this does not indicate congestion (RFC 9000, 14.4).
     uint64_t probe;
-    // The bytes lost on the path in use, where there was congestion (RFC 9002, 7.3.2).
+    // The bytes lost on the path in use, if there was congestion (RFC 9002, 7.3.2).
     uint64_t congestion;
-    // What the frame's counts of ECN came to (RFC 9000, 13.4.2.1).
+    // The outcome of the frame's ECN counts (RFC 9000, 13.4.2.1).
     uint8_t ecn;
-    // Whether the MTU's probe was lost.
+    // Whether the MTU probe was lost.
     bool has_probe;
     // Whether there was congestion.
     bool has_congestion;
@@ -464,29 +488,45 @@ struct recovery_settings {
     bool searches;
 };
 
-// What an event was replied, in numbers.
+// The reply to an event, in numbers.
 struct recovery_encoded_reply {
-    // Which answer, or that it was refused.
+    // Which answer, or that the call failed.
     uint8_t kind;
-    // The number of the refusal, or 0; of one by ECN `first` is the number of the fault.
+    // The number of the error, or 0. For an ECN error, `first` is the number of the fault.
     uint8_t refusal;
-    // New: whether to start the timer for a late ACK. Sent: whether a silent packet was forgotten for it. Acked, lost:
-    // whether it was the probe of the path's MTU. Retire: whether numbers are to be retired. Flag: yes or no. Timeout:
-    // whether a timer is set. Black hole: whether one was reported. Sendable: whether an ACK is to be sent.
-    // Acknowledged: whether the outcome has more than the two numbers. Otherwise false.
+    // New: whether to start the ACK delay timer. Sent: whether a non-ack-eliciting packet was forgotten for it. Acked,
+    // lost: whether it was the path's MTU probe. Retire: whether any connection IDs are to be retired. Flag: yes or
+    // no. Timeout: whether a timer is running. Black hole: whether one was reported. Sendable: whether an ACK is to be
+    // sent. Acknowledged: whether the outcome has more than the two counts. Otherwise false.
     bool flag;
-    // Sendable: whether there is something else to be sent. Otherwise false.
+    // Sendable: whether there is something else to send. Otherwise false.
     bool other;
     // Probe: its size in bytes. Otherwise 0.
     uint16_t size;
-    // Sent, probe: the number that it was given. Retire: the first number. Timeout, delayed: the moment, in
-    // nanoseconds. In flight: the bytes. Acknowledged: how many numbers are so newly. Needs room: how many words of
+    // Sent, probe: the packet number. Retire: the first sequence number. Timeout, delayed: the time, in nanoseconds.
+    // In flight: the bytes. Acknowledged: how many numbers are newly acknowledged. Needs room: how many words of
     // packets. Losses of a timeout, probes: the space. Otherwise 0.
     uint64_t first;
-    // Sent: the number that was forgotten. Retire: one above the last number. In flight: how many packets elicit an
-    // ACK. Acknowledged: how many numbers are lost. Needs room: how many lost numbers. Probes: how many are due.
-    // Otherwise 0.
+    // Sent: the packet number that was forgotten. Retire: one above the last sequence number. In flight: how many
+    // packets are ack-eliciting. Acknowledged: how many numbers are lost. Needs room: how many lost numbers. Probes:
+    // how many are due. Otherwise 0.
     uint64_t second;
+};
+
+// The purpose of a sender's loss detection timer, and the room that is left on the path in use.
+struct recovery_sender_view {
+    // How many bytes more fit into the congestion window (RFC 9002, 7).
+    uint64_t window_room;
+    // How many more bytes the amplification limit permits, if `is_limited` (RFC 9000, 8.1); else `u64::MAX`.
+    uint64_t amplification_room;
+    // When the loss detection timer expires, in nanoseconds; 0 if it is not set.
+    uint64_t timer;
+    // Its purpose, such as `RECOVERY_AWAITS_LOSSES`, or why it is not set, such as `RECOVERY_AWAITS_PEER`.
+    uint8_t awaits;
+    // The space for which it is set; 0 if it is not set.
+    uint8_t space;
+    // Whether the amplification limit applies to the path: its address is not validated.
+    bool is_limited;
 };
 
 // What is kept for a path: times in nanoseconds, which stop at `u64::MAX`, and sizes in bytes.
@@ -614,6 +654,10 @@ uint64_t recovery_ffi_active_id(struct recovery_handle *handle);
 
 // Whether a packet that counts in flight is tracked in a space (RFC 9002, 2), by whichever path it went.
 bool recovery_ffi_has_in_flight(struct recovery_handle *handle, uint8_t space);
+
+// The smallest packet number that a space tracks, by which a stack may choose the length of packet numbers (RFC 9000,
+// 17.1): all smaller ones are acknowledged, lost, forgotten or discarded. It costs a logarithm.
+struct recovery_number_view recovery_ffi_smallest_tracked(struct recovery_handle *handle, uint8_t space);
 
 // How many packets a space tracks, and when a sender declares the next of them lost by its age.
 struct recovery_tracked_view recovery_ffi_tracked(struct recovery_handle *handle, uint8_t space);
@@ -853,6 +897,15 @@ struct recovery_encoded_reply recovery_ffi_sender_handshake_confirmed(struct rec
 // fewer than 10^9 nanoseconds.
 struct recovery_encoded_reply recovery_ffi_sender_peer_delay(struct recovery_handle *handle, uint64_t secs, uint32_t nanos);
 
+// Sets the RTT that timers use before the first RTT sample of the path in use, in place of that of the settings (RFC
+// 9002, 6.2.2): `RECOVERY_ANSWER_DONE`. A new path whose RTT begins anew goes by the settings again. There are fewer than 10^9
+// nanoseconds.
+struct recovery_encoded_reply recovery_ffi_sender_initial_rtt(struct recovery_handle *handle, uint64_t secs, uint32_t nanos);
+
+// What the timer for losses waits for, or why it is not set, and how many bytes the window and the amplification limit
+// still let out on the path in use. All is 0 if there is no sender.
+struct recovery_sender_view recovery_ffi_sender_view(struct recovery_handle *handle);
+
 // A PATH_CHALLENGE frame with this content is open on the path in use, where `is_open`, and one is to be sent, where
 // `pending` (RFC 9000, 8.2.1): `RECOVERY_ANSWER_DONE`. While one is open the window does not grow: what is acknowledged may
 // have gone by the path before it (RFC 9000, 9.4).
@@ -888,7 +941,7 @@ struct recovery_encoded_reply recovery_ffi_stop_timer(struct recovery_handle *ha
 // When does the next timer expire? The event `NextTimeout`.
 struct recovery_encoded_reply recovery_ffi_next_timeout(struct recovery_handle *handle);
 
-// The text of an error: of `refusal` of a reply. Of one by ECN `recovery_ffi_fault_text` says more.
+// Returns the text of an error, the `refusal` of a reply. For an ECN error, `recovery_ffi_fault_text` returns more.
 static inline const char *recovery_ffi_text(uint8_t refusal) {
     switch (refusal) {
     case RECOVERY_OK: return "no error";
@@ -913,15 +966,15 @@ static inline const char *recovery_ffi_text(uint8_t refusal) {
     case RECOVERY_REFUSAL_BAD_RANGE: return "the range of numbers is wrong";
     case RECOVERY_REFUSAL_CONFLICT: return "the connection id conflicts with the one that is held";
     case RECOVERY_REFUSAL_UNSENT: return "a number was acknowledged that was never sent";
-    case RECOVERY_REFUSAL_DECIDED: return "the event is one that the sender decides itself";
-    case RECOVERY_REFUSAL_NO_SENDER: return "the handle holds a recovery that stands alone, without a sender";
+    case RECOVERY_REFUSAL_DECIDED: return "only the sender itself makes this event; a caller cannot";
+    case RECOVERY_REFUSAL_NO_SENDER: return "the handle holds a bare recovery, without a sender";
     case RECOVERY_REFUSAL_NO_RECOVERY: return "the handle holds no recovery";
-    case RECOVERY_REFUSAL_BAD_ARGUMENT: return "an argument lies out of its range";
+    case RECOVERY_REFUSAL_BAD_ARGUMENT: return "an argument is out of range";
     default: return "a number that this header does not name";
     }
 }
 
-// The text of a fault of ECN: `recovery_refused_fault` of a reply.
+// Returns the text of an ECN fault, the `recovery_refused_fault` of a reply.
 static inline const char *recovery_ffi_fault_text(uint64_t fault) {
     switch (fault) {
     case RECOVERY_FAULT_ECT0_FALLS: return "peer ECT(0) count regression";
@@ -933,60 +986,60 @@ static inline const char *recovery_ffi_fault_text(uint64_t fault) {
     }
 }
 
-// The text of what `recovery_ffi_new` returns.
+// Returns the text of a result of `recovery_ffi_new`.
 static inline const char *recovery_ffi_new_text(uint8_t code) {
     switch (code) {
     case RECOVERY_NEW_MADE: return "a recovery was made";
-    case RECOVERY_NEW_NO_MEMORY: return "there was no memory";
+    case RECOVERY_NEW_NO_MEMORY: return "allocation failed";
     case RECOVERY_NEW_HELD: return "the handle holds a recovery already";
-    case RECOVERY_NEW_CID_TOO_LONG: return "the id of the peer has more than 20 bytes";
-    case RECOVERY_NEW_TOO_MANY_ISSUED: return "more than 2^62 ids were issued at the start";
+    case RECOVERY_NEW_CID_TOO_LONG: return "the peer's connection ID has more than 20 bytes";
+    case RECOVERY_NEW_TOO_MANY_ISSUED: return "more than 2^62 connection IDs were issued at the start";
     case RECOVERY_NEW_SKIP_TOO_LARGE: return "the first skip is 64 or more";
     case RECOVERY_NEW_ZERO_MTU: return "an MTU is zero";
     case RECOVERY_NEW_ZERO_WINDOW: return "the initial window is zero";
     case RECOVERY_NEW_ZERO_DENOMINATOR: return "the denominator of the loss reduction factor, or of the time threshold, is zero";
-    case RECOVERY_NEW_UNKNOWN_CONTROLLER: return "there is no such controller";
-    case RECOVERY_NEW_UNKNOWN_SKIPS: return "there is no such way to skip numbers";
+    case RECOVERY_NEW_UNKNOWN_CONTROLLER: return "the controller does not exist";
+    case RECOVERY_NEW_UNKNOWN_SKIPS: return "the kind of skips does not exist";
     default: return "a number that this header does not name";
     }
 }
 
-// What a reply says, by names: each of these reads a reply of the kind that it names, and of no other.
+// The contents of replies by name: each function reads replies of the kind in its name, and no others.
 
-// Whether to start the timer for a late ACK.
+// Whether to start the ACK delay timer.
 static inline bool recovery_new_arm(struct recovery_encoded_reply reply) { return reply.flag; }
 
 // The number of the packet.
 static inline uint64_t recovery_sent_number(struct recovery_encoded_reply reply) { return reply.first; }
-// Whether a packet that elicits no ACK is no longer tracked.
+// Whether a non-ack-eliciting packet is no longer tracked.
 static inline bool recovery_sent_has_forgotten(struct recovery_encoded_reply reply) { return reply.flag; }
 // The number of that packet.
 static inline uint64_t recovery_sent_forgotten(struct recovery_encoded_reply reply) { return reply.second; }
 
-// Whether the packet was the probe of the path's MTU.
+// Whether the packet was the MTU probe of the path.
 static inline bool recovery_acked_is_probe(struct recovery_encoded_reply reply) { return reply.flag; }
 
-// Whether the packet was the probe of the path's MTU.
+// Whether the packet was the MTU probe of the path.
 static inline bool recovery_lost_is_probe(struct recovery_encoded_reply reply) { return reply.flag; }
 
-// Whether numbers of the peer's ids are to be retired.
+// Whether connection IDs of the peer are to be retired.
 static inline bool recovery_retire_some(struct recovery_encoded_reply reply) { return reply.flag; }
-// The first of these numbers.
+// The first of their sequence numbers.
 static inline uint64_t recovery_retire_start(struct recovery_encoded_reply reply) { return reply.first; }
-// One above the last of these numbers.
+// One above the last of their sequence numbers.
 static inline uint64_t recovery_retire_end(struct recovery_encoded_reply reply) { return reply.second; }
 
 // Yes or no, as the event asks.
 static inline bool recovery_flag_value(struct recovery_encoded_reply reply) { return reply.flag; }
 
-// Whether a timer is set.
+// Whether a timer is running.
 static inline bool recovery_timeout_some(struct recovery_encoded_reply reply) { return reply.flag; }
-// When the earliest of them expires, in nanoseconds.
+// When the earliest timer expires, in nanoseconds.
 static inline uint64_t recovery_timeout_nanos(struct recovery_encoded_reply reply) { return reply.first; }
 
 // The bytes in flight.
 static inline uint64_t recovery_in_flight_bytes(struct recovery_encoded_reply reply) { return reply.first; }
-// How many packets in flight elicit an ACK.
+// How many packets in flight are ack-eliciting.
 static inline uint64_t recovery_in_flight_ack_eliciting(struct recovery_encoded_reply reply) { return reply.second; }
 
 // Until when the pacer delays the datagram, in nanoseconds.
@@ -1002,17 +1055,17 @@ static inline bool recovery_black_hole_found(struct recovery_encoded_reply reply
 
 // Whether an ACK is to be sent.
 static inline bool recovery_sendable_acks(struct recovery_encoded_reply reply) { return reply.flag; }
-// Whether something else is to be sent.
+// Whether there is something else to send.
 static inline bool recovery_sendable_other(struct recovery_encoded_reply reply) { return reply.other; }
 
 // How many packets the frame newly acknowledges.
 static inline uint64_t recovery_acknowledged_count(struct recovery_encoded_reply reply) { return reply.first; }
 // How many packets are declared lost.
 static inline uint64_t recovery_acknowledged_lost(struct recovery_encoded_reply reply) { return reply.second; }
-// Whether `recovery_ffi_last_outcome` says more than these two numbers.
+// Whether `recovery_ffi_last_outcome` has more than these two counts.
 static inline bool recovery_acknowledged_has_more(struct recovery_encoded_reply reply) { return reply.flag; }
 
-// The space of the packets, for a timeout.
+// The space of the lost packets, for a timeout.
 static inline uint64_t recovery_losses_space(struct recovery_encoded_reply reply) { return reply.first; }
 
 // The space to probe in.
@@ -1020,16 +1073,16 @@ static inline uint64_t recovery_probes_space(struct recovery_encoded_reply reply
 // How many probes are due, 1 or 2.
 static inline uint64_t recovery_probes_count(struct recovery_encoded_reply reply) { return reply.second; }
 
-// How many words of packets need room.
+// How many words of packets the caller needs room for.
 static inline uint64_t recovery_needs_room_packets(struct recovery_encoded_reply reply) { return reply.first; }
-// How many lost numbers need room.
+// How many lost numbers the caller needs room for.
 static inline uint64_t recovery_needs_room_lost(struct recovery_encoded_reply reply) { return reply.second; }
 
 // The fault, if the error is `RECOVERY_REFUSAL_ECN`.
 static inline uint64_t recovery_refused_fault(struct recovery_encoded_reply reply) { return reply.first; }
 
 // Does nothing; a library of another layout does not have it, and a program with this header does not link with that one.
-void recovery_ffi_layout(void) __asm__("recovery_ffi_layout_3910e5f9");
+void recovery_ffi_layout(void) __asm__("recovery_ffi_layout_75e3d1fc");
 __attribute__((used)) static void (*const recovery_ffi_has_this_layout)(void) = recovery_ffi_layout;
 
 #ifdef __cplusplus

@@ -1,9 +1,9 @@
-//! What crosses to the proved library and what it exports: written by `tests/rust.py --write` from the sources of the
+//! The declarations of the proved library and its exports: written by `tests/rust.py --write` from the sources of the
 //! library, and compared with them by its tests.
 
 /// The packet is new.
 pub const ANSWER_NEW: u8 = 0;
-/// The packet may have come before: it is to be dropped.
+/// The packet is a duplicate, or too old to tell: drop it.
 pub const ANSWER_DUPLICATE: u8 = 1;
 /// The packet is sent.
 pub const ANSWER_SENT: u8 = 2;
@@ -11,11 +11,11 @@ pub const ANSWER_SENT: u8 = 2;
 pub const ANSWER_ACKED: u8 = 3;
 /// The packet is lost, and no longer tracked.
 pub const ANSWER_LOST: u8 = 4;
-/// Which numbers of the peer's ids are to be retired.
+/// Which of the peer's connection IDs to retire.
 pub const ANSWER_RETIRE: u8 = 5;
 /// Yes or no, as the event asks.
 pub const ANSWER_FLAG: u8 = 6;
-/// The least moment that a timer is set to, if any.
+/// The earliest running timer, if any.
 pub const ANSWER_TIMEOUT: u8 = 7;
 /// What is in flight on a path.
 pub const ANSWER_IN_FLIGHT: u8 = 8;
@@ -23,36 +23,36 @@ pub const ANSWER_IN_FLIGHT: u8 = 8;
 pub const ANSWER_TRANSMITTED: u8 = 9;
 /// The datagram is not transmitted, by the amplification limit.
 pub const ANSWER_BLOCKED: u8 = 10;
-/// The bytes are not to be transmitted yet, by the pacer.
+/// The pacer delays the bytes.
 pub const ANSWER_DELAYED: u8 = 11;
-/// The bytes may be transmitted now, as far as the pacer goes.
+/// The pacer permits the bytes now.
 pub const ANSWER_READY: u8 = 12;
-/// A probe of the path's MTU goes out.
+/// An MTU probe of the path is sent.
 pub const ANSWER_PROBE: u8 = 13;
-/// No probe of the path's MTU is due.
+/// No MTU probe of the path is due.
 pub const ANSWER_NO_PROBE: u8 = 14;
 /// Whether a black hole was reported.
 pub const ANSWER_BLACK_HOLE: u8 = 15;
 /// What can be sent.
 pub const ANSWER_SENDABLE: u8 = 16;
-/// What is to be sent again.
+/// A retransmission queue.
 pub const ANSWER_QUEUE: u8 = 17;
 /// The event has no other answer.
 pub const ANSWER_DONE: u8 = 18;
-/// The window has no room for the datagram of a sender. The answers that senders alone give lie above those of events,
-/// so that further ones of these do not move them.
+/// The window has no room for a sender's datagram. The answers of senders alone are above those of events, so that new
+/// answers of events do not move them.
 pub const ANSWER_FULL: u8 = 128;
-/// An ACK frame of a sender is taken.
+/// A sender processed an ACK frame.
 pub const ANSWER_ACKNOWLEDGED: u8 = 129;
 /// No timer of the sender is due.
 pub const ANSWER_NOTHING: u8 = 130;
-/// Packets were looked for that are lost, in the space that `first` names for a timeout.
+/// A loss detection pass was made; for a timeout, `first` is its space.
 pub const ANSWER_LOSSES: u8 = 131;
-/// Probes are to be sent.
+/// Probes are due.
 pub const ANSWER_PROBES: u8 = 132;
 /// The caller has too little room for what an ACK frame results in: nothing is done.
 pub const ANSWER_NEEDS_ROOM: u8 = 133;
-/// The event is refused. It lies far from the answers, so that further ones do not move it.
+/// The call fails. The number is far from the answers, so that new ones do not move it.
 pub const ANSWER_REFUSED: u8 = 255;
 
 /// An allocation failed.
@@ -96,46 +96,59 @@ pub const REFUSAL_NOT_INITIAL_ID: u8 = 18;
 pub const REFUSAL_BAD_RANGE: u8 = 19;
 /// The peer's ID number is held with another ID, or with another token (RFC 9000, 19.15).
 pub const REFUSAL_CONFLICT: u8 = 20;
-/// A number was acknowledged that was never sent (RFC 9000, 13.1): of a sender alone. The errors of senders lie above
-/// those of events, so that further ones of these do not meet them.
+/// A number was acknowledged that was never sent (RFC 9000, 13.1): of a sender alone. The errors of senders are above
+/// those of events, so that new errors of events do not meet them.
 pub const REFUSAL_UNSENT: u8 = 128;
-/// The event is one that the sender decides itself: it is not handed in around it.
+/// Only the sender itself makes this event; a caller cannot.
 pub const REFUSAL_DECIDED: u8 = 252;
-/// The handle holds a recovery that stands alone, without a sender.
+/// The handle holds a bare recovery, without a sender.
 pub const REFUSAL_NO_SENDER: u8 = 253;
 /// The handle holds no recovery.
 pub const REFUSAL_NO_RECOVERY: u8 = 254;
-/// An argument lies out of its range: a space or a timer that there is not, an id of more than 20 bytes, a number of a
-/// frame of 2^62 or more, nanoseconds of a second or more.
+/// An argument is out of range: a space or timer that does not exist, a connection ID of more than 20 bytes, a frame's
+/// number of 2^62 or more, or nanoseconds of 10^9 or more.
 pub const REFUSAL_BAD_ARGUMENT: u8 = 255;
 
-/// The count of ECT(0) fell.
+/// The count of ECT(0) decreased.
 pub const FAULT_ECT0_FALLS: u64 = 0;
-/// The count of ECT(1) fell.
+/// The count of ECT(1) decreased.
 pub const FAULT_ECT1_FALLS: u64 = 1;
-/// The count of ECN-CE fell.
+/// The count of ECN-CE decreased.
 pub const FAULT_CE_FALLS: u64 = 2;
-/// Packets that are newly acknowledged are in no count.
+/// The counts do not include newly acknowledged packets.
 pub const FAULT_BLEACHED: u64 = 3;
-/// Packets were counted that were not sent so.
+/// The counts include packets that were not sent with this marking.
 pub const FAULT_CORRUPTED: u64 = 4;
 
-/// Nothing, or the frame has no counts of ECN.
+/// No congestion. If the frame has no ECN counts, packets are no longer marked on the path.
 pub const ECN_QUIET: u8 = 0;
-/// More packets were marked: there is congestion (RFC 9002, 7.1).
+/// More packets were marked with CE: congestion (RFC 9002, 7.1).
 pub const ECN_MARKED: u8 = 1;
-/// The check failed: packets are marked no more on the path.
+/// Validation failed: packets are no longer marked on the path.
 pub const ECN_FAILED: u8 = 2;
+
+/// Nothing: no ack-eliciting packet is in flight that is probed for, or there is no sender.
+pub const AWAITS_NOTHING: u8 = 0;
+/// The time at which packets of a space may be lost.
+pub const AWAITS_LOSSES: u8 = 1;
+/// The probe timeout of a space.
+pub const AWAITS_PROBES: u8 = 2;
+/// The probe timeout that ends a deadlock of the handshake (RFC 9002, 6.2.2.1).
+pub const AWAITS_DEADLOCK_PROBE: u8 = 3;
+/// The next datagram from the peer: the amplification limit permits no byte (RFC 9000, 8.1).
+pub const AWAITS_PEER: u8 = 4;
+/// The confirmation of the handshake: only 1-RTT packets are in flight (RFC 9002, 6.2.1).
+pub const AWAITS_CONFIRMATION: u8 = 5;
 
 /// A recovery was made.
 pub const NEW_MADE: u8 = 0;
-/// There was no memory.
+/// Allocation failed.
 pub const NEW_NO_MEMORY: u8 = 1;
 /// The handle holds a recovery already.
 pub const NEW_HELD: u8 = 2;
-/// The id of the peer has more than 20 bytes.
+/// The peer's connection ID has more than 20 bytes.
 pub const NEW_CID_TOO_LONG: u8 = 3;
-/// More than 2^62 ids were issued at the start.
+/// More than 2^62 connection IDs were issued at the start.
 pub const NEW_TOO_MANY_ISSUED: u8 = 4;
 /// The first skip is 64 or more.
 pub const NEW_SKIP_TOO_LARGE: u8 = 5;
@@ -145,23 +158,23 @@ pub const NEW_ZERO_MTU: u8 = 6;
 pub const NEW_ZERO_WINDOW: u8 = 7;
 /// The denominator of the loss reduction factor, or of the time threshold, is zero.
 pub const NEW_ZERO_DENOMINATOR: u8 = 8;
-/// There is no such controller.
+/// The controller does not exist.
 pub const NEW_UNKNOWN_CONTROLLER: u8 = 9;
-/// There is no such way to skip numbers.
+/// The kind of skips does not exist.
 pub const NEW_UNKNOWN_SKIPS: u8 = 10;
 
 /// NewReno (RFC 9002, 7).
 pub const CONTROLLER_NEW_RENO: u8 = 0;
-/// A window that stays the one at first.
+/// A fixed window: always the initial one.
 pub const CONTROLLER_FIXED: u8 = 1;
 /// CUBIC (RFC 9438).
 pub const CONTROLLER_CUBIC: u8 = 2;
 
 /// No number is skipped.
 pub const SKIPS_DISABLED: u8 = 0;
-/// As drawn with the seed.
+/// Skips are drawn with the seed.
 pub const SKIPS_DRAWN: u8 = 1;
-/// From the first skip on, those behind it as drawn with the seed.
+/// The first skip is given, and the following ones are drawn with the seed.
 pub const SKIPS_STARTING: u8 = 2;
 
 /// Initial packets.
@@ -252,6 +265,16 @@ pub struct TrackedView {
     pub loss_time: u64,
     /// Whether there is such a time.
     pub has_loss_time: bool,
+}
+
+/// A packet number, if there is one.
+#[repr(C)]
+#[derive(Clone, Copy, Debug, PartialEq, Eq)]
+pub struct NumberView {
+    /// The number; 0 if there is none.
+    pub number: u64,
+    /// Whether there is one.
+    pub is_some: bool,
 }
 
 /// What a caller holds a recovery by. It begins as all zeros, which holds none; from then on it is the library's own.
@@ -361,22 +384,22 @@ pub struct AckRange {
     pub last: u64,
 }
 
-/// The last outcome: of an ACK frame, of a timeout that searched for losses, or of a space whose packets were all
-/// declared lost.
+/// The last outcome: of an ACK frame, of a timeout that made a loss detection pass, or of a space whose packets were
+/// all declared lost.
 #[repr(C)]
 #[derive(Clone, Copy, Debug, PartialEq, Eq)]
 pub struct OutcomeView {
     /// How many numbers the frame newly acknowledged; else 0.
     pub acked: u64,
-    /// How many numbers were found lost, without that of the MTU's probe.
+    /// How many numbers were declared lost, without that of the MTU probe.
     pub lost: u64,
-    /// The number of the MTU's probe, where that was lost: no sign of congestion (RFC 9000, 14.4).
+    /// The number of the MTU probe, if it was lost: this does not indicate congestion (RFC 9000, 14.4).
     pub probe: u64,
-    /// The bytes lost on the path in use, where there was congestion (RFC 9002, 7.3.2).
+    /// The bytes lost on the path in use, if there was congestion (RFC 9002, 7.3.2).
     pub congestion: u64,
-    /// What the frame's counts of ECN came to (RFC 9000, 13.4.2.1).
+    /// The outcome of the frame's ECN counts (RFC 9000, 13.4.2.1).
     pub ecn: u8,
-    /// Whether the MTU's probe was lost.
+    /// Whether the MTU probe was lost.
     pub has_probe: bool,
     /// Whether there was congestion.
     pub has_congestion: bool,
@@ -450,31 +473,49 @@ pub struct Settings {
     pub searches: bool,
 }
 
-/// What an event was replied, in numbers.
+/// The reply to an event, in numbers.
 #[repr(C)]
 #[derive(Clone, Copy, Debug, PartialEq, Eq)]
 pub struct EncodedReply {
-    /// Which answer, or that it was refused.
+    /// Which answer, or that the call failed.
     pub kind: u8,
-    /// The number of the refusal, or 0; of one by ECN `first` is the number of the fault.
+    /// The number of the error, or 0. For an ECN error, `first` is the number of the fault.
     pub refusal: u8,
-    /// New: whether to start the timer for a late ACK. Sent: whether a silent packet was forgotten for it. Acked, lost:
-    /// whether it was the probe of the path's MTU. Retire: whether numbers are to be retired. Flag: yes or no. Timeout:
-    /// whether a timer is set. Black hole: whether one was reported. Sendable: whether an ACK is to be sent.
-    /// Acknowledged: whether the outcome has more than the two numbers. Otherwise false.
+    /// New: whether to start the ACK delay timer. Sent: whether a non-ack-eliciting packet was forgotten for it. Acked,
+    /// lost: whether it was the path's MTU probe. Retire: whether any connection IDs are to be retired. Flag: yes or
+    /// no. Timeout: whether a timer is running. Black hole: whether one was reported. Sendable: whether an ACK is to be
+    /// sent. Acknowledged: whether the outcome has more than the two counts. Otherwise false.
     pub flag: bool,
-    /// Sendable: whether there is something else to be sent. Otherwise false.
+    /// Sendable: whether there is something else to send. Otherwise false.
     pub other: bool,
     /// Probe: its size in bytes. Otherwise 0.
     pub size: u16,
-    /// Sent, probe: the number that it was given. Retire: the first number. Timeout, delayed: the moment, in
-    /// nanoseconds. In flight: the bytes. Acknowledged: how many numbers are so newly. Needs room: how many words of
+    /// Sent, probe: the packet number. Retire: the first sequence number. Timeout, delayed: the time, in nanoseconds.
+    /// In flight: the bytes. Acknowledged: how many numbers are newly acknowledged. Needs room: how many words of
     /// packets. Losses of a timeout, probes: the space. Otherwise 0.
     pub first: u64,
-    /// Sent: the number that was forgotten. Retire: one above the last number. In flight: how many packets elicit an
-    /// ACK. Acknowledged: how many numbers are lost. Needs room: how many lost numbers. Probes: how many are due.
-    /// Otherwise 0.
+    /// Sent: the packet number that was forgotten. Retire: one above the last sequence number. In flight: how many
+    /// packets are ack-eliciting. Acknowledged: how many numbers are lost. Needs room: how many lost numbers. Probes:
+    /// how many are due. Otherwise 0.
     pub second: u64,
+}
+
+/// The purpose of a sender's loss detection timer, and the room that is left on the path in use.
+#[repr(C)]
+#[derive(Clone, Copy, Debug, PartialEq, Eq)]
+pub struct SenderView {
+    /// How many bytes more fit into the congestion window (RFC 9002, 7).
+    pub window_room: u64,
+    /// How many more bytes the amplification limit permits, if `is_limited` (RFC 9000, 8.1); else `u64::MAX`.
+    pub amplification_room: u64,
+    /// When the loss detection timer expires, in nanoseconds; 0 if it is not set.
+    pub timer: u64,
+    /// Its purpose, such as `AWAITS_LOSSES`, or why it is not set, such as `AWAITS_PEER`.
+    pub awaits: u8,
+    /// The space for which it is set; 0 if it is not set.
+    pub space: u8,
+    /// Whether the amplification limit applies to the path: its address is not validated.
+    pub is_limited: bool,
 }
 
 /// What is kept for a path: times in nanoseconds, which stop at `u64::MAX`, and sizes in bytes.
@@ -578,7 +619,7 @@ pub struct IdsView {
 
 unsafe extern "C" {
     /// Does nothing; a library of another layout does not have it.
-    #[link_name = "recovery_ffi_layout_3910e5f9"]
+    #[link_name = "recovery_ffi_layout_75e3d1fc"]
     pub fn recovery_ffi_layout();
 
     /// Makes a recovery, whose peer is at this address and has this id of at most 20 bytes. The answer is `NEW_MADE`, or
@@ -630,6 +671,10 @@ unsafe extern "C" {
 
     /// Whether a packet that counts in flight is tracked in a space (RFC 9002, 2), by whichever path it went.
     pub fn recovery_ffi_has_in_flight(handle: *mut Handle, space: u8) -> bool;
+
+    /// The smallest packet number that a space tracks, by which a stack may choose the length of packet numbers (RFC 9000,
+    /// 17.1): all smaller ones are acknowledged, lost, forgotten or discarded. It costs a logarithm.
+    pub fn recovery_ffi_smallest_tracked(handle: *mut Handle, space: u8) -> NumberView;
 
     /// How many packets a space tracks, and when a sender declares the next of them lost by its age.
     pub fn recovery_ffi_tracked(handle: *mut Handle, space: u8) -> TrackedView;
@@ -1007,6 +1052,19 @@ unsafe extern "C" {
         secs: u64,
         nanos: u32,
     ) -> EncodedReply;
+
+    /// Sets the RTT that timers use before the first RTT sample of the path in use, in place of that of the settings (RFC
+    /// 9002, 6.2.2): `ANSWER_DONE`. A new path whose RTT begins anew goes by the settings again. There are fewer than 10^9
+    /// nanoseconds.
+    pub fn recovery_ffi_sender_initial_rtt(
+        handle: *mut Handle,
+        secs: u64,
+        nanos: u32,
+    ) -> EncodedReply;
+
+    /// What the timer for losses waits for, or why it is not set, and how many bytes the window and the amplification limit
+    /// still let out on the path in use. All is 0 if there is no sender.
+    pub fn recovery_ffi_sender_view(handle: *mut Handle) -> SenderView;
 
     /// A PATH_CHALLENGE frame with this content is open on the path in use, where `is_open`, and one is to be sent, where
     /// `pending` (RFC 9000, 8.2.1): `ANSWER_DONE`. While one is open the window does not grow: what is acknowledged may
