@@ -210,7 +210,8 @@ def checksum():
 def declared_in_library():
     yield "//! The layout of the interface: written by `tests/rust.py --write`."
     yield ""
-    yield "/// A program for this layout names this function, and so links only with a library of the same layout. Does nothing."
+    yield "/// A program for this layout names this function, and so links only with a library of the same layout."
+    yield "/// Does nothing."
     yield "#[unsafe(no_mangle)]"
     yield f'pub extern "C" fn recovery_ffi_layout_{checksum()}() {{}}'
 

@@ -248,7 +248,7 @@ enum recovery_timer {
 
 // An address and a port.
 struct recovery_address {
-    // The octets of an IPv6 address; of an IPv4 address the first four.
+    // The octets of an IPv6 address; for an IPv4 address, the first four.
     uint8_t octets[16];
     // The flow information of an IPv6 address.
     uint32_t flowinfo;
@@ -260,9 +260,9 @@ struct recovery_address {
     bool v6;
 };
 
-// An id that this end issues (RFC 9000, 19.15).
+// A connection ID that the local endpoint issues (RFC 9000, 19.15).
 struct recovery_id {
-    // Its number.
+    // Its sequence number.
     uint64_t sequence;
     // Its bytes, of which the first `len` count.
     uint8_t bytes[20];
@@ -274,22 +274,22 @@ struct recovery_id {
 
 // The congestion window of the path in use, in bytes.
 struct recovery_window_view {
-    // How many bytes may be in flight (RFC 9002, 7); 0 where there is no recovery.
+    // How many bytes may be in flight (RFC 9002, 7); 0 if there is no recovery.
     uint64_t window;
-    // How many are (RFC 9002, B.2).
+    // How many bytes are in flight (RFC 9002, B.2).
     uint64_t in_flight;
 };
 
-// The round-trip time of the path in use, in nanoseconds, which stop at `u64::MAX`.
+// The round-trip time of the path in use, in nanoseconds, at most `u64::MAX`.
 struct recovery_rtt_view {
-    // The best estimate: the smoothed one, or the initial one before the first sample (RFC 9002, 5.3); 0 where there
-    // is no recovery.
+    // The RTT estimate: the smoothed one, or the initial one before the first sample (RFC 9002, 5.3); 0 if there is no
+    // recovery.
     uint64_t rtt;
-    // The probe timeout without the peer's delay of ACKs (RFC 9002, 6.2.1).
+    // The probe timeout without the peer's max_ack_delay (RFC 9002, 6.2.1).
     uint64_t pto_base;
 };
 
-// What a packet number space tracks.
+// The tracked packets of a packet number space.
 struct recovery_tracked_view {
     // How many packets; 0 if there is no such space, or if it is discarded.
     uint64_t packets;
@@ -308,73 +308,71 @@ struct recovery_number_view {
     bool is_some;
 };
 
-// What a caller holds a recovery by. It begins as all zeros, which holds none; from then on it is the library's own.
+// The handle of a recovery. It begins as all zeros, which holds none; from then on only the library changes it.
 struct recovery_handle {
     void *ptr;
     bool holds;
 };
 
-// What the layer above keeps with a path, but for its PATH_RESPONSE frames.
+// The caller's marks of a path, except its PATH_RESPONSE frames.
 struct recovery_marks {
-    // What its PATH_CHALLENGE frame says, where one was sent (RFC 9000, 8.2.1).
+    // The data of its PATH_CHALLENGE frame, if one was sent (RFC 9000, 8.2.1).
     uint64_t challenge;
-    // The number of the first packet that was sent after a sample of the round-trip time (RFC 9002, 7.6.2), where
-    // there is one.
+    // The number of the first packet that was sent after an RTT sample (RFC 9002, 7.6.2), if any.
     uint64_t first_number;
     // The space of that packet.
     uint8_t first_space;
     // Whether a PATH_CHALLENGE frame was sent.
     bool has_challenge;
-    // Whether a packet was sent after a sample.
+    // Whether a packet was sent after an RTT sample.
     bool has_first;
     // Whether a PATH_CHALLENGE frame is to be sent.
     bool challenge_pending;
     // Whether packets are marked on the path (RFC 9000, 13.4).
     bool sending_ecn;
-    // Whether there is such a path; if not, all else is 0. To set marks it is not looked at.
+    // Whether there is such a path; if not, all else is 0. Ignored if marks are set.
     bool lives;
 };
 
-// What is known of an MTU.
+// The state of an MTU discovery.
 struct recovery_mtu_view {
-    // The number of the probe in flight, where there is one; otherwise 0.
+    // The number of the probe in flight, if any; otherwise 0.
     uint64_t probe;
     // The MTU in use, in bytes.
     uint16_t mtu;
     // Whether a probe is in flight.
     bool probes;
-    // Whether a search runs.
+    // Whether a search is running.
     bool searches;
-    // Whether a discovery is held; if not, all else is 0.
+    // Whether the handle holds a discovery; if not, all else is 0.
     bool some;
 };
 
-// What a caller holds an MTU discovery by. It begins as all zeros, which holds none; from then on it is the library's
-// own.
+// The handle of an MTU discovery. It begins as all zeros, which holds none; from then on only the library changes it.
 struct recovery_mtu_handle {
     void *ptr;
     bool holds;
 };
 
-// A bucket of tokens, one a byte. All zeros is none, and refused.
+// A bucket of tokens, one per byte. All zeros is no bucket, and an error.
 struct recovery_bucket {
-    // The most bytes that it takes.
+    // The most bytes that it holds.
     uint64_t capacity;
-    // The congestion window that this was computed for, in bytes.
+    // The congestion window, in bytes, for which the capacity was computed.
     uint64_t window;
     // The bytes in it.
     uint64_t tokens;
-    // The latest moment at which it was refilled, or made, in nanoseconds.
+    // When it was last refilled, or made, in nanoseconds.
     uint64_t last;
-    // The MTU that its capacity was computed for, in bytes.
+    // The MTU, in bytes, for which the capacity was computed.
     uint16_t mtu;
 };
 
-// What an ACK frame says beside its ranges, and what the stack knows at its arrival.
+// The fields of an ACK frame besides its ranges, and what the caller knows at its arrival.
 struct recovery_ack_frame {
-    // How long the peer says that it delayed the ACK, in whole seconds.
+    // The ACK delay that the peer reports, in whole seconds.
     uint64_t delay_secs;
-    // The count of ECT(0), where the frame has counts (RFC 9000, 19.3.2).
+    // The count of ECT(0), if the frame has counts (RFC 9000, 19.3.2).
     uint64_t ect0;
     // The count of ECT(1).
     uint64_t ect1;
@@ -384,14 +382,14 @@ struct recovery_ack_frame {
     uint64_t packets_room;
     // If `is_limited`: how many lost numbers of `recovery_ffi_told_numbers` it has room for.
     uint64_t lost_room;
-    // The nanoseconds of that delay beside its seconds, below 10^9.
+    // The rest of the ACK delay in nanoseconds, below 10^9.
     uint32_t delay_nanos;
-    // Whether the frame has counts of ECN.
+    // Whether the frame has ECN counts.
     bool has_ecn;
     // Whether the sender had too little to send to fill its window (RFC 9002, 7.8).
     bool app_limited;
-    // Whether the frame is taken only if the caller has room for all that it may read of the outcome. If not, the
-    // caller reads the outcome in its own time.
+    // Whether the frame is processed only if the caller has room for all that it may read of the outcome. If not, the
+    // caller may read the outcome later.
     bool is_limited;
 };
 
@@ -429,62 +427,61 @@ struct recovery_outcome_view {
     bool is_cut;
 };
 
-// The settings: times are in nanoseconds, and sizes in bytes.
+// The settings of a recovery: times are in nanoseconds, and sizes in bytes.
 struct recovery_settings {
-    // The longest delay of this end's ACKs (RFC 9000, 18.2).
+    // The local max_ack_delay (RFC 9000, 18.2).
     uint64_t max_ack_delay;
-    // How long this end's ids last, where they end.
+    // The lifetime of local connection IDs, if they expire.
     uint64_t cid_lifetime;
-    // How many ids this end has issued, at most 2^62; memory grows with it, by 16 bytes an id.
+    // How many connection IDs the local endpoint has issued, at most 2^62; memory grows with it, by 16 bytes per ID.
     uint64_t issued;
-    // The seed of the skips that are drawn.
+    // The seed with which skips are drawn.
     uint64_t seed;
-    // The first number that is skipped, below 64, where it is given.
+    // The first number that is skipped, below 64, if it is given.
     uint64_t first_skip;
     // The RTT before the first sample (RFC 9002, 6.2.2).
     uint64_t initial_rtt;
-    // From the end of a search for the MTU to the next one.
+    // The time from the end of an MTU search to the next one.
     uint64_t mtu_interval;
-    // From the report of a black hole to the next search.
+    // The time from the report of a black hole to the next MTU search.
     uint64_t black_hole_cooldown;
-    // The congestion window at first, above zero (RFC 9002, 7.2).
+    // The initial congestion window, above zero (RFC 9002, 7.2).
     uint64_t initial_window;
-    // What the window is multiplied by at a loss (RFC 9002, 7.3.2).
+    // The numerator of the factor by which a loss reduces the window (RFC 9002, 7.3.2).
     uint64_t loss_numerator;
-    // Above zero.
+    // Its denominator, above zero.
     uint64_t loss_denominator;
-    // The time threshold, a fraction of an RTT: a sender declares a packet lost so long after it was sent, if a
-    // later one is acknowledged; 1 stands for a smaller fraction (RFC 9002, 6.1.2).
+    // The numerator of the time threshold, in RTTs: a sender declares a packet lost this long after it was sent, if a
+    // later one is acknowledged. A smaller fraction than 1 counts as 1 (RFC 9002, 6.1.2).
     uint64_t time_numerator;
-    // Above zero.
+    // Its denominator, above zero.
     uint64_t time_denominator;
-    // The packet threshold: a sender declares a packet lost that was sent so many packets before an acknowledged one;
-    // 1 stands for 0 (RFC 9002, 6.1.1).
+    // The packet threshold: a sender declares a packet lost that was sent this many packets before an acknowledged
+    // one; 0 counts as 1 (RFC 9002, 6.1.1).
     uint32_t packet_threshold;
-    // How many probe timeouts losses span, for a sender, that are persistent congestion; 1 stands for 0 (RFC 9002,
-    // 7.6.1).
+    // How many probe timeouts persistent congestion lasts, for a sender; 0 counts as 1 (RFC 9002, 7.6.1).
     uint32_t persistent_congestion_threshold;
     // The size of datagrams before the search, above zero.
     uint16_t initial_mtu;
-    // The size that the path is known to carry, above zero.
+    // The datagram size that the path is known to carry, above zero.
     uint16_t min_mtu;
-    // The largest size that is probed.
+    // The largest datagram size that is probed.
     uint16_t mtu_upper_bound;
-    // The least step that is worth a probe.
+    // The smallest difference that is worth a probe.
     uint16_t mtu_minimum_change;
-    // The bytes of this end's ids.
+    // The length of local connection IDs.
     uint8_t cid_len;
     // Which congestion controller paths have: `RECOVERY_CONTROLLER_NEW_RENO`, `RECOVERY_CONTROLLER_FIXED` or `RECOVERY_CONTROLLER_CUBIC`.
     uint8_t controller;
     // How numbers are skipped: `RECOVERY_SKIPS_DISABLED`, `RECOVERY_SKIPS_DRAWN` or `RECOVERY_SKIPS_STARTING`.
     uint8_t skips;
-    // Whether ids last no longer than `cid_lifetime`.
+    // Whether local connection IDs expire after `cid_lifetime`.
     bool ids_end;
-    // Whether the peer was seen to receive at its address.
+    // Whether the peer's address is validated.
     bool validated;
-    // Whether the MTU is searched for at all.
+    // Whether MTU discovery is allowed.
     bool allow_mtud;
-    // Whether the settings of paths say how.
+    // Whether MTU discovery is configured; if not, there is none.
     bool searches;
 };
 
@@ -529,64 +526,63 @@ struct recovery_sender_view {
     bool is_limited;
 };
 
-// What is kept for a path: times in nanoseconds, which stop at `u64::MAX`, and sizes in bytes.
+// The state of a path: times in nanoseconds, at most `u64::MAX`, and sizes in bytes.
 struct recovery_path_view {
     // How many bytes may be in flight (RFC 9002, 7).
     uint64_t window;
     // The bytes in flight (RFC 9002, B.2).
     uint64_t in_flight;
-    // How many packets in flight elicit an ACK.
+    // How many packets in flight are ack-eliciting.
     uint64_t ack_eliciting;
     // The bytes of the datagrams transmitted.
     uint64_t total_sent;
-    // The bytes of the datagrams that came in.
+    // The bytes of the datagrams received.
     uint64_t total_recvd;
-    // The best estimate of the RTT: the smoothed one, or the initial one before the first sample (RFC 9002, 5.3).
+    // The RTT estimate: the smoothed one, or the initial one before the first sample (RFC 9002, 5.3).
     uint64_t rtt;
-    // The estimate that losses are judged by: the greater of that and the last sample (RFC 9002, 6.1.2).
+    // The larger of that estimate and the last sample, for loss detection (RFC 9002, 6.1.2).
     uint64_t rtt_conservative;
-    // The least sample (RFC 9002, 5.2).
+    // The smallest sample (RFC 9002, 5.2).
     uint64_t rtt_min;
     // The last sample, or the initial RTT before the first one (RFC 9002, 5.1).
     uint64_t rtt_latest;
     // The mean deviation of the samples, or half of the initial RTT before the first one (RFC 9002, 5.3).
     uint64_t rtt_variance;
-    // The probe timeout without the peer's delay of ACKs (RFC 9002, 6.2.1).
+    // The probe timeout without the peer's max_ack_delay (RFC 9002, 6.2.1).
     uint64_t pto_base;
     // The most bytes that the pacer's bucket holds (RFC 9002, 7.7).
     uint64_t pacer_capacity;
-    // The bytes in that bucket, as the last datagram or question left it: what time has brought since is not among
-    // them.
+    // The bytes in that bucket after the last datagram or check, without those of the time since.
     uint64_t pacer_tokens;
-    // The slow start threshold, where there is one: `u64::MAX` before the first loss (RFC 9002, 7.3.1).
+    // The slow start threshold, if any: `u64::MAX` before the first loss (RFC 9002, 7.3.1).
     uint64_t ssthresh;
     // The MTU in use (RFC 9000, 14.3).
     uint16_t mtu;
-    // Whether there is a slow start threshold: a window that stays has none.
+    // Whether there is a slow start threshold: a fixed window has none.
     bool has_ssthresh;
     // Whether there is such a path; if not, all else is 0.
     bool lives;
-    // Whether the peer was seen to receive there (RFC 9000, 8).
+    // Whether the peer's address is validated (RFC 9000, 8).
     bool validated;
 };
 
-// What a packet number space has to send, and what is to be acknowledged in it.
+// What a packet number space has to send, and which of its packet numbers are to be acknowledged.
 struct recovery_space_view {
     // The largest packet number received; 0 before the first.
     uint64_t largest_received;
-    // How many ranges of numbers are to be acknowledged.
+    // How many ranges of packet numbers are to be acknowledged.
     uint64_t ranges;
     // The number of the next packet, unless it is skipped.
     uint64_t next_packet_number;
     // Whether the space is not discarded; if it is, all else is 0.
     bool lives;
-    // Whether an ACK is required, and some number is to be acknowledged.
+    // Whether an ACK is required, and some packet number is to be acknowledged.
     bool acks;
-    // Whether there is something else to be sent.
+    // Whether there is something else to send.
     bool other;
 };
 
-// A range of numbers, from the first to one above the last.
+// A range of packet numbers.
 struct recovery_range_view {
     // The first number.
     uint64_t start;
@@ -596,7 +592,7 @@ struct recovery_range_view {
     bool some;
 };
 
-// A moment, or a span, if there is one.
+// A time or a duration, if there is one.
 struct recovery_time_view {
     // In nanoseconds.
     uint64_t nanos;
@@ -604,17 +600,17 @@ struct recovery_time_view {
     bool some;
 };
 
-// The ids of both ends, and how late ACKs may be.
+// The connection IDs of both endpoints, and their max_ack_delay.
 struct recovery_ids_view {
-    // The number of the peer's id in use.
+    // The sequence number of the peer's connection ID in use.
     uint64_t active;
-    // How many ids this end has issued.
+    // How many connection IDs the local endpoint has issued.
     uint64_t issued;
-    // The peer is asked to retire this end's ids below this number.
+    // The peer is asked to retire the local connection IDs below this sequence number.
     uint64_t retire_prior_to;
-    // How late this end's ACKs may be, in nanoseconds, which stop at `u64::MAX`.
+    // The local max_ack_delay, in nanoseconds, at most `u64::MAX`.
     uint64_t max_ack_delay;
-    // How late the peer's ACKs may be, in nanoseconds, which stop at `u64::MAX`.
+    // The peer's max_ack_delay, in nanoseconds, at most `u64::MAX`.
     uint64_t peer_max_ack_delay;
 };
 

@@ -207,7 +207,7 @@ pub const TIMER_MAX_ACK_DELAY: u8 = 8;
 #[repr(C)]
 #[derive(Clone, Copy, Debug, PartialEq, Eq)]
 pub struct Address {
-    /// The octets of an IPv6 address; of an IPv4 address the first four.
+    /// The octets of an IPv6 address; for an IPv4 address, the first four.
     pub octets: [u8; 16],
     /// The flow information of an IPv6 address.
     pub flowinfo: u32,
@@ -219,11 +219,11 @@ pub struct Address {
     pub v6: bool,
 }
 
-/// An id that this end issues (RFC 9000, 19.15).
+/// A connection ID that the local endpoint issues (RFC 9000, 19.15).
 #[repr(C)]
 #[derive(Clone, Copy, Debug, PartialEq, Eq)]
 pub struct Id {
-    /// Its number.
+    /// Its sequence number.
     pub sequence: u64,
     /// Its bytes, of which the first `len` count.
     pub bytes: [u8; 20],
@@ -237,24 +237,24 @@ pub struct Id {
 #[repr(C)]
 #[derive(Clone, Copy, Debug, PartialEq, Eq)]
 pub struct WindowView {
-    /// How many bytes may be in flight (RFC 9002, 7); 0 where there is no recovery.
+    /// How many bytes may be in flight (RFC 9002, 7); 0 if there is no recovery.
     pub window: u64,
-    /// How many are (RFC 9002, B.2).
+    /// How many bytes are in flight (RFC 9002, B.2).
     pub in_flight: u64,
 }
 
-/// The round-trip time of the path in use, in nanoseconds, which stop at `u64::MAX`.
+/// The round-trip time of the path in use, in nanoseconds, at most `u64::MAX`.
 #[repr(C)]
 #[derive(Clone, Copy, Debug, PartialEq, Eq)]
 pub struct RttView {
-    /// The best estimate: the smoothed one, or the initial one before the first sample (RFC 9002, 5.3); 0 where there
-    /// is no recovery.
+    /// The RTT estimate: the smoothed one, or the initial one before the first sample (RFC 9002, 5.3); 0 if there is no
+    /// recovery.
     pub rtt: u64,
-    /// The probe timeout without the peer's delay of ACKs (RFC 9002, 6.2.1).
+    /// The probe timeout without the peer's max_ack_delay (RFC 9002, 6.2.1).
     pub pto_base: u64,
 }
 
-/// What a packet number space tracks.
+/// The tracked packets of a packet number space.
 #[repr(C)]
 #[derive(Clone, Copy, Debug, PartialEq, Eq)]
 pub struct TrackedView {
@@ -277,83 +277,81 @@ pub struct NumberView {
     pub is_some: bool,
 }
 
-/// What a caller holds a recovery by. It begins as all zeros, which holds none; from then on it is the library's own.
+/// The handle of a recovery. It begins as all zeros, which holds none; from then on only the library changes it.
 #[repr(C)]
 pub struct Handle {
     pub ptr: *mut u8,
     pub holds: bool,
 }
 
-/// What the layer above keeps with a path, but for its PATH_RESPONSE frames.
+/// The caller's marks of a path, except its PATH_RESPONSE frames.
 #[repr(C)]
 #[derive(Clone, Copy, Debug, PartialEq, Eq)]
 pub struct Marks {
-    /// What its PATH_CHALLENGE frame says, where one was sent (RFC 9000, 8.2.1).
+    /// The data of its PATH_CHALLENGE frame, if one was sent (RFC 9000, 8.2.1).
     pub challenge: u64,
-    /// The number of the first packet that was sent after a sample of the round-trip time (RFC 9002, 7.6.2), where
-    /// there is one.
+    /// The number of the first packet that was sent after an RTT sample (RFC 9002, 7.6.2), if any.
     pub first_number: u64,
     /// The space of that packet.
     pub first_space: u8,
     /// Whether a PATH_CHALLENGE frame was sent.
     pub has_challenge: bool,
-    /// Whether a packet was sent after a sample.
+    /// Whether a packet was sent after an RTT sample.
     pub has_first: bool,
     /// Whether a PATH_CHALLENGE frame is to be sent.
     pub challenge_pending: bool,
     /// Whether packets are marked on the path (RFC 9000, 13.4).
     pub sending_ecn: bool,
-    /// Whether there is such a path; if not, all else is 0. To set marks it is not looked at.
+    /// Whether there is such a path; if not, all else is 0. Ignored if marks are set.
     pub lives: bool,
 }
 
-/// What is known of an MTU.
+/// The state of an MTU discovery.
 #[repr(C)]
 #[derive(Clone, Copy, Debug, PartialEq, Eq)]
 pub struct MtuView {
-    /// The number of the probe in flight, where there is one; otherwise 0.
+    /// The number of the probe in flight, if any; otherwise 0.
     pub probe: u64,
     /// The MTU in use, in bytes.
     pub mtu: u16,
     /// Whether a probe is in flight.
     pub probes: bool,
-    /// Whether a search runs.
+    /// Whether a search is running.
     pub searches: bool,
-    /// Whether a discovery is held; if not, all else is 0.
+    /// Whether the handle holds a discovery; if not, all else is 0.
     pub some: bool,
 }
 
-/// What a caller holds an MTU discovery by. It begins as all zeros, which holds none; from then on it is the library's
-/// own.
+/// The handle of an MTU discovery. It begins as all zeros, which holds none; from then on only the library changes it.
 #[repr(C)]
 pub struct MtuHandle {
     pub ptr: *mut u8,
     pub holds: bool,
 }
 
-/// A bucket of tokens, one a byte. All zeros is none, and refused.
+/// A bucket of tokens, one per byte. All zeros is no bucket, and an error.
 #[repr(C)]
 #[derive(Clone, Copy, Debug, PartialEq, Eq)]
 pub struct Bucket {
-    /// The most bytes that it takes.
+    /// The most bytes that it holds.
     pub capacity: u64,
-    /// The congestion window that this was computed for, in bytes.
+    /// The congestion window, in bytes, for which the capacity was computed.
     pub window: u64,
     /// The bytes in it.
     pub tokens: u64,
-    /// The latest moment at which it was refilled, or made, in nanoseconds.
+    /// When it was last refilled, or made, in nanoseconds.
     pub last: u64,
-    /// The MTU that its capacity was computed for, in bytes.
+    /// The MTU, in bytes, for which the capacity was computed.
     pub mtu: u16,
 }
 
-/// What an ACK frame says beside its ranges, and what the stack knows at its arrival.
+/// The fields of an ACK frame besides its ranges, and what the caller knows at its arrival.
 #[repr(C)]
 #[derive(Clone, Copy, Debug, PartialEq, Eq)]
 pub struct AckFrame {
-    /// How long the peer says that it delayed the ACK, in whole seconds.
+    /// The ACK delay that the peer reports, in whole seconds.
     pub delay_secs: u64,
-    /// The count of ECT(0), where the frame has counts (RFC 9000, 19.3.2).
+    /// The count of ECT(0), if the frame has counts (RFC 9000, 19.3.2).
     pub ect0: u64,
     /// The count of ECT(1).
     pub ect1: u64,
@@ -363,14 +361,14 @@ pub struct AckFrame {
     pub packets_room: u64,
     /// If `is_limited`: how many lost numbers of `recovery_ffi_told_numbers` it has room for.
     pub lost_room: u64,
-    /// The nanoseconds of that delay beside its seconds, below 10^9.
+    /// The rest of the ACK delay in nanoseconds, below 10^9.
     pub delay_nanos: u32,
-    /// Whether the frame has counts of ECN.
+    /// Whether the frame has ECN counts.
     pub has_ecn: bool,
     /// Whether the sender had too little to send to fill its window (RFC 9002, 7.8).
     pub app_limited: bool,
-    /// Whether the frame is taken only if the caller has room for all that it may read of the outcome. If not, the
-    /// caller reads the outcome in its own time.
+    /// Whether the frame is processed only if the caller has room for all that it may read of the outcome. If not, the
+    /// caller may read the outcome later.
     pub is_limited: bool,
 }
 
@@ -412,64 +410,63 @@ pub struct OutcomeView {
     pub is_cut: bool,
 }
 
-/// The settings: times are in nanoseconds, and sizes in bytes.
+/// The settings of a recovery: times are in nanoseconds, and sizes in bytes.
 #[repr(C)]
 #[derive(Clone, Copy, Debug, PartialEq, Eq)]
 pub struct Settings {
-    /// The longest delay of this end's ACKs (RFC 9000, 18.2).
+    /// The local max_ack_delay (RFC 9000, 18.2).
     pub max_ack_delay: u64,
-    /// How long this end's ids last, where they end.
+    /// The lifetime of local connection IDs, if they expire.
     pub cid_lifetime: u64,
-    /// How many ids this end has issued, at most 2^62; memory grows with it, by 16 bytes an id.
+    /// How many connection IDs the local endpoint has issued, at most 2^62; memory grows with it, by 16 bytes per ID.
     pub issued: u64,
-    /// The seed of the skips that are drawn.
+    /// The seed with which skips are drawn.
     pub seed: u64,
-    /// The first number that is skipped, below 64, where it is given.
+    /// The first number that is skipped, below 64, if it is given.
     pub first_skip: u64,
     /// The RTT before the first sample (RFC 9002, 6.2.2).
     pub initial_rtt: u64,
-    /// From the end of a search for the MTU to the next one.
+    /// The time from the end of an MTU search to the next one.
     pub mtu_interval: u64,
-    /// From the report of a black hole to the next search.
+    /// The time from the report of a black hole to the next MTU search.
     pub black_hole_cooldown: u64,
-    /// The congestion window at first, above zero (RFC 9002, 7.2).
+    /// The initial congestion window, above zero (RFC 9002, 7.2).
     pub initial_window: u64,
-    /// What the window is multiplied by at a loss (RFC 9002, 7.3.2).
+    /// The numerator of the factor by which a loss reduces the window (RFC 9002, 7.3.2).
     pub loss_numerator: u64,
-    /// Above zero.
+    /// Its denominator, above zero.
     pub loss_denominator: u64,
-    /// The time threshold, a fraction of an RTT: a sender declares a packet lost so long after it was sent, if a
-    /// later one is acknowledged; 1 stands for a smaller fraction (RFC 9002, 6.1.2).
+    /// The numerator of the time threshold, in RTTs: a sender declares a packet lost this long after it was sent, if a
+    /// later one is acknowledged. A smaller fraction than 1 counts as 1 (RFC 9002, 6.1.2).
     pub time_numerator: u64,
-    /// Above zero.
+    /// Its denominator, above zero.
     pub time_denominator: u64,
-    /// The packet threshold: a sender declares a packet lost that was sent so many packets before an acknowledged one;
-    /// 1 stands for 0 (RFC 9002, 6.1.1).
+    /// The packet threshold: a sender declares a packet lost that was sent this many packets before an acknowledged
+    /// one; 0 counts as 1 (RFC 9002, 6.1.1).
     pub packet_threshold: u32,
-    /// How many probe timeouts losses span, for a sender, that are persistent congestion; 1 stands for 0 (RFC 9002,
-    /// 7.6.1).
+    /// How many probe timeouts persistent congestion lasts, for a sender; 0 counts as 1 (RFC 9002, 7.6.1).
     pub persistent_congestion_threshold: u32,
     /// The size of datagrams before the search, above zero.
     pub initial_mtu: u16,
-    /// The size that the path is known to carry, above zero.
+    /// The datagram size that the path is known to carry, above zero.
     pub min_mtu: u16,
-    /// The largest size that is probed.
+    /// The largest datagram size that is probed.
     pub mtu_upper_bound: u16,
-    /// The least step that is worth a probe.
+    /// The smallest difference that is worth a probe.
     pub mtu_minimum_change: u16,
-    /// The bytes of this end's ids.
+    /// The length of local connection IDs.
     pub cid_len: u8,
     /// Which congestion controller paths have: `CONTROLLER_NEW_RENO`, `CONTROLLER_FIXED` or `CONTROLLER_CUBIC`.
     pub controller: u8,
     /// How numbers are skipped: `SKIPS_DISABLED`, `SKIPS_DRAWN` or `SKIPS_STARTING`.
     pub skips: u8,
-    /// Whether ids last no longer than `cid_lifetime`.
+    /// Whether local connection IDs expire after `cid_lifetime`.
     pub ids_end: bool,
-    /// Whether the peer was seen to receive at its address.
+    /// Whether the peer's address is validated.
     pub validated: bool,
-    /// Whether the MTU is searched for at all.
+    /// Whether MTU discovery is allowed.
     pub allow_mtud: bool,
-    /// Whether the settings of paths say how.
+    /// Whether MTU discovery is configured; if not, there is none.
     pub searches: bool,
 }
 
@@ -518,7 +515,7 @@ pub struct SenderView {
     pub is_limited: bool,
 }
 
-/// What is kept for a path: times in nanoseconds, which stop at `u64::MAX`, and sizes in bytes.
+/// The state of a path: times in nanoseconds, at most `u64::MAX`, and sizes in bytes.
 #[repr(C)]
 #[derive(Clone, Copy, Debug, PartialEq, Eq)]
 pub struct PathView {
@@ -526,60 +523,59 @@ pub struct PathView {
     pub window: u64,
     /// The bytes in flight (RFC 9002, B.2).
     pub in_flight: u64,
-    /// How many packets in flight elicit an ACK.
+    /// How many packets in flight are ack-eliciting.
     pub ack_eliciting: u64,
     /// The bytes of the datagrams transmitted.
     pub total_sent: u64,
-    /// The bytes of the datagrams that came in.
+    /// The bytes of the datagrams received.
     pub total_recvd: u64,
-    /// The best estimate of the RTT: the smoothed one, or the initial one before the first sample (RFC 9002, 5.3).
+    /// The RTT estimate: the smoothed one, or the initial one before the first sample (RFC 9002, 5.3).
     pub rtt: u64,
-    /// The estimate that losses are judged by: the greater of that and the last sample (RFC 9002, 6.1.2).
+    /// The larger of that estimate and the last sample, for loss detection (RFC 9002, 6.1.2).
     pub rtt_conservative: u64,
-    /// The least sample (RFC 9002, 5.2).
+    /// The smallest sample (RFC 9002, 5.2).
     pub rtt_min: u64,
     /// The last sample, or the initial RTT before the first one (RFC 9002, 5.1).
     pub rtt_latest: u64,
     /// The mean deviation of the samples, or half of the initial RTT before the first one (RFC 9002, 5.3).
     pub rtt_variance: u64,
-    /// The probe timeout without the peer's delay of ACKs (RFC 9002, 6.2.1).
+    /// The probe timeout without the peer's max_ack_delay (RFC 9002, 6.2.1).
     pub pto_base: u64,
     /// The most bytes that the pacer's bucket holds (RFC 9002, 7.7).
     pub pacer_capacity: u64,
-    /// The bytes in that bucket, as the last datagram or question left it: what time has brought since is not among
-    /// them.
+    /// The bytes in that bucket after the last datagram or check, without those of the time since.
     pub pacer_tokens: u64,
-    /// The slow start threshold, where there is one: `u64::MAX` before the first loss (RFC 9002, 7.3.1).
+    /// The slow start threshold, if any: `u64::MAX` before the first loss (RFC 9002, 7.3.1).
     pub ssthresh: u64,
     /// The MTU in use (RFC 9000, 14.3).
     pub mtu: u16,
-    /// Whether there is a slow start threshold: a window that stays has none.
+    /// Whether there is a slow start threshold: a fixed window has none.
     pub has_ssthresh: bool,
     /// Whether there is such a path; if not, all else is 0.
     pub lives: bool,
-    /// Whether the peer was seen to receive there (RFC 9000, 8).
+    /// Whether the peer's address is validated (RFC 9000, 8).
     pub validated: bool,
 }
 
-/// What a packet number space has to send, and what is to be acknowledged in it.
+/// What a packet number space has to send, and which of its packet numbers are to be acknowledged.
 #[repr(C)]
 #[derive(Clone, Copy, Debug, PartialEq, Eq)]
 pub struct SpaceView {
     /// The largest packet number received; 0 before the first.
     pub largest_received: u64,
-    /// How many ranges of numbers are to be acknowledged.
+    /// How many ranges of packet numbers are to be acknowledged.
     pub ranges: u64,
     /// The number of the next packet, unless it is skipped.
     pub next_packet_number: u64,
     /// Whether the space is not discarded; if it is, all else is 0.
     pub lives: bool,
-    /// Whether an ACK is required, and some number is to be acknowledged.
+    /// Whether an ACK is required, and some packet number is to be acknowledged.
     pub acks: bool,
-    /// Whether there is something else to be sent.
+    /// Whether there is something else to send.
     pub other: bool,
 }
 
-/// A range of numbers, from the first to one above the last.
+/// A range of packet numbers.
 #[repr(C)]
 #[derive(Clone, Copy, Debug, PartialEq, Eq)]
 pub struct RangeView {
@@ -591,7 +587,7 @@ pub struct RangeView {
     pub some: bool,
 }
 
-/// A moment, or a span, if there is one.
+/// A time or a duration, if there is one.
 #[repr(C)]
 #[derive(Clone, Copy, Debug, PartialEq, Eq)]
 pub struct TimeView {
@@ -601,19 +597,19 @@ pub struct TimeView {
     pub some: bool,
 }
 
-/// The ids of both ends, and how late ACKs may be.
+/// The connection IDs of both endpoints, and their max_ack_delay.
 #[repr(C)]
 #[derive(Clone, Copy, Debug, PartialEq, Eq)]
 pub struct IdsView {
-    /// The number of the peer's id in use.
+    /// The sequence number of the peer's connection ID in use.
     pub active: u64,
-    /// How many ids this end has issued.
+    /// How many connection IDs the local endpoint has issued.
     pub issued: u64,
-    /// The peer is asked to retire this end's ids below this number.
+    /// The peer is asked to retire the local connection IDs below this sequence number.
     pub retire_prior_to: u64,
-    /// How late this end's ACKs may be, in nanoseconds, which stop at `u64::MAX`.
+    /// The local max_ack_delay, in nanoseconds, at most `u64::MAX`.
     pub max_ack_delay: u64,
-    /// How late the peer's ACKs may be, in nanoseconds, which stop at `u64::MAX`.
+    /// The peer's max_ack_delay, in nanoseconds, at most `u64::MAX`.
     pub peer_max_ack_delay: u64,
 }
 
