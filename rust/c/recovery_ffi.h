@@ -614,327 +614,327 @@ struct recovery_ids_view {
     uint64_t peer_max_ack_delay;
 };
 
-// Makes a recovery, whose peer is at this address and has this id of at most 20 bytes. The answer is `RECOVERY_NEW_MADE`, or
-// the number of what is wrong; the handle then holds what it held.
+// Makes a recovery, whose peer is at this address and has this connection ID of at most 20 bytes. Returns `RECOVERY_NEW_MADE`,
+// or the number of what is wrong, which leaves the handle unchanged.
 uint8_t recovery_ffi_new(struct recovery_handle *handle, const struct recovery_settings *settings, const struct recovery_address *remote, const uint8_t *initial_cid, size_t initial_cid_len, uint64_t now);
 
-// Frees a recovery. The handle holds none then; one that holds none stays so.
+// Frees a recovery. The handle then holds none. A handle that holds none is unchanged.
 void recovery_ffi_drop(struct recovery_handle *handle);
 
-// An ACK_FREQUENCY frame came in: the event `AckFrequencyIn`; its numbers lie below 2^62.
+// Processes a received ACK_FREQUENCY frame: the event `AckFrequencyIn`. Its numbers are below 2^62.
 struct recovery_encoded_reply recovery_ffi_ack_frequency(struct recovery_handle *handle, uint64_t sequence, uint64_t threshold, uint64_t micros, uint64_t reordering);
 
-// An ACK frame was sent (RFC 9000, 13.2.1): the event `AcksSent`.
+// Records that an ACK frame was sent (RFC 9000, 13.2.1): the event `AcksSent`.
 struct recovery_encoded_reply recovery_ffi_acks_sent(struct recovery_handle *handle, uint8_t space);
 
-// The timer for a late ACK expired: the event `AckDelayTimeout`.
+// Handles the ACK delay timer: the event `AckDelayTimeout`.
 struct recovery_encoded_reply recovery_ffi_ack_delay_timeout(struct recovery_handle *handle, uint8_t space);
 
-// Is a probe of the MTU due (RFC 9000, 14.3)? The event `PollMtu`.
+// Sends an MTU probe if one is due (RFC 9000, 14.3): the event `PollMtu`.
 struct recovery_encoded_reply recovery_ffi_poll_mtu(struct recovery_handle *handle, uint64_t now);
 
-// The peer takes datagrams of at most so many bytes (RFC 9000, 18.2): the event `PeerLimit`.
+// Sets the largest datagram that the peer accepts (RFC 9000, 18.2): the event `PeerLimit`.
 struct recovery_encoded_reply recovery_ffi_peer_limit(struct recovery_handle *handle, uint16_t size);
 
-// All packets that were found lost together were told: the event `LossesDone`.
+// Ends the losses of packets that were lost together: the event `LossesDone`.
 struct recovery_encoded_reply recovery_ffi_losses_done(struct recovery_handle *handle, uint64_t now);
 
-// Window and bytes in flight of the path in use.
+// Returns the window and the bytes in flight of the path in use.
 struct recovery_window_view recovery_ffi_window(struct recovery_handle *handle);
 
-// The round-trip time of the path in use.
+// Returns the round-trip time of the path in use.
 struct recovery_rtt_view recovery_ffi_rtt(struct recovery_handle *handle);
 
-// The number of the peer's id in use (RFC 9000, 5.1.1); 0 where there is no recovery.
+// Returns the sequence number of the peer's connection ID in use (RFC 9000, 5.1.1); 0 if there is no recovery.
 uint64_t recovery_ffi_active_id(struct recovery_handle *handle);
 
-// Whether a packet that counts in flight is tracked in a space (RFC 9002, 2), by whichever path it went.
+// Returns whether a space tracks a packet that counts in flight (RFC 9002, 2), on either path.
 bool recovery_ffi_has_in_flight(struct recovery_handle *handle, uint8_t space);
 
-// The smallest packet number that a space tracks, by which a stack may choose the length of packet numbers (RFC 9000,
-// 17.1): all smaller ones are acknowledged, lost, forgotten or discarded. It costs a logarithm.
+// Returns the smallest packet number that a space tracks: all smaller ones are acknowledged, lost, forgotten or
+// discarded. A stack may choose the length of packet numbers by it (RFC 9000, 17.1). Cost: logarithmic.
 struct recovery_number_view recovery_ffi_smallest_tracked(struct recovery_handle *handle, uint8_t space);
 
-// How many packets a space tracks, and when a sender declares the next of them lost by its age.
+// Returns how many packets a space tracks, and when a sender declares the next of them lost by its age.
 struct recovery_tracked_view recovery_ffi_tracked(struct recovery_handle *handle, uint8_t space);
 
-// A NEW_CONNECTION_ID frame came in (RFC 9000, 19.15): the event `NewId`; an id has at most 20 bytes.
+// Processes a received NEW_CONNECTION_ID frame (RFC 9000, 19.15): the event `NewId`. The ID has at most 20 bytes.
 struct recovery_encoded_reply recovery_ffi_new_id(struct recovery_handle *handle, uint64_t sequence, uint64_t retire_prior_to, const uint8_t *id, size_t id_len, const uint8_t *token);
 
-// The next id of the peer is to be used: the event `NextId`.
+// Switches to the next connection ID of the peer: the event `NextId`.
 struct recovery_encoded_reply recovery_ffi_next_id(struct recovery_handle *handle);
 
-// The server chose another id (RFC 9000, 7.2): the event `InitialId`; an id has at most 20 bytes.
+// Sets the connection ID that the server chose (RFC 9000, 7.2): the event `InitialId`. It has at most 20 bytes.
 struct recovery_encoded_reply recovery_ffi_initial_id(struct recovery_handle *handle, const uint8_t *id, size_t id_len);
 
-// This end issues these ids (RFC 9000, 5.1.1): the event `IssueIds`; an id has at most 20 bytes.
+// Issues connection IDs of at most 20 bytes (RFC 9000, 5.1.1): the event `IssueIds`.
 struct recovery_encoded_reply recovery_ffi_issue_ids(struct recovery_handle *handle, uint64_t now, const struct recovery_id *given, size_t given_len);
 
-// The timer for new ids expired: the event `IdTimeout`.
+// Handles the timer for new connection IDs: the event `IdTimeout`.
 struct recovery_encoded_reply recovery_ffi_id_timeout(struct recovery_handle *handle);
 
-// A RETIRE_CONNECTION_ID frame came in (RFC 9000, 19.16): the event `PeerRetired`.
+// Processes a received RETIRE_CONNECTION_ID frame (RFC 9000, 19.16): the event `PeerRetired`.
 struct recovery_encoded_reply recovery_ffi_peer_retired(struct recovery_handle *handle, uint64_t sequence, uint64_t limit);
 
-// Writes the bytes of the token that was answered last; all zeros before there was one, and where no recovery is held.
+// Writes the bytes of the token that was returned last: all zeros before the first, or if there is no recovery.
 void recovery_ffi_token(struct recovery_handle *handle, uint8_t *out);
 
-// Whether this is the token that was answered last; of none where no recovery is held.
+// Returns whether this is the token that was returned last; false if there is no recovery.
 bool recovery_ffi_is_token(struct recovery_handle *handle, const uint8_t *token);
 
-// What the layer above keeps with a path.
+// Returns the caller's marks of a path.
 struct recovery_marks recovery_ffi_marks(struct recovery_handle *handle, bool previous);
 
-// The layer above keeps this with a path from now on. False, and nothing changes, where there is no such path or no
-// such space, and where a sender is held: it sets marks itself.
+// Stores the caller's marks of a path. Returns false and changes nothing if there is no such path or no such space, or
+// if a sender is held: a sender sets its marks itself.
 bool recovery_ffi_set_marks(struct recovery_handle *handle, bool previous, const struct recovery_marks *marks);
 
-// Makes an MTU discovery, as a path of these settings has it: by `initial_mtu`, `min_mtu`, `allow_mtud` and what they
-// say of the search. The peer takes datagrams of at most `limit` bytes; 0 says that it did not tell. The answer is
-// `RECOVERY_NEW_MADE`, or the number of what is wrong; the handle then holds what it held.
+// Makes an MTU discovery from `initial_mtu`, `min_mtu`, `allow_mtud` and the settings of the search, as a path has it.
+// The peer accepts datagrams of at most `limit` bytes, or 0 if it stated no limit. Returns `RECOVERY_NEW_MADE`, or the number
+// of what is wrong, which leaves the handle unchanged.
 uint8_t recovery_ffi_mtu_new(struct recovery_mtu_handle *mtu, const struct recovery_settings *settings, uint16_t limit);
 
-// Frees a discovery. The handle holds none then; one that holds none stays so.
+// Frees a discovery. The handle then holds none. A handle that holds none is unchanged.
 void recovery_ffi_mtu_drop(struct recovery_mtu_handle *mtu);
 
-// What is known.
+// Returns the state of the discovery.
 struct recovery_mtu_view recovery_ffi_mtu(struct recovery_mtu_handle *mtu);
 
-// Is a probe due? Its size is that of the answer (`RECOVERY_ANSWER_PROBE`, otherwise `RECOVERY_ANSWER_NO_PROBE`), and it is sent as the
-// packet of this number.
+// Checks whether a probe is due. The reply is `RECOVERY_ANSWER_PROBE` with its size, or `RECOVERY_ANSWER_NO_PROBE`. The caller sends the
+// probe as the packet of this number.
 struct recovery_encoded_reply recovery_ffi_mtu_poll(struct recovery_mtu_handle *mtu, uint64_t now, uint64_t number);
 
-// The peer takes datagrams of at most so many bytes. Refused where they are none, and while a search runs: the limit
-// is told before the first poll.
+// Sets the largest datagram that the peer accepts, in bytes. An error if it is 0, or while a search is running: set
+// the limit before the first poll.
 struct recovery_encoded_reply recovery_ffi_mtu_limit(struct recovery_mtu_handle *mtu, uint16_t size);
 
-// A packet of so many bytes was acknowledged (`RECOVERY_ANSWER_ACKED`): the flag says whether it was the probe in flight, whose
-// size is then the MTU.
+// Records that a packet of this many bytes was acknowledged (`RECOVERY_ANSWER_ACKED`). The flag is true if it was the probe in
+// flight, whose size is then the MTU.
 struct recovery_encoded_reply recovery_ffi_mtu_acked(struct recovery_mtu_handle *mtu, uint64_t number, uint16_t bytes);
 
-// The probe in flight was lost. Where none is, nothing changes.
+// Records that the probe in flight was lost. Changes nothing if there is none.
 struct recovery_encoded_reply recovery_ffi_mtu_probe_lost(struct recovery_mtu_handle *mtu);
 
-// A packet of so many bytes was lost that is no probe in flight. Numbers of one moment are told upward, and then
-// `recovery_ffi_mtu_losses_done`.
+// Records that a packet other than the probe in flight was lost. Report packets that are lost together in increasing
+// order, then call `recovery_ffi_mtu_losses_done`.
 struct recovery_encoded_reply recovery_ffi_mtu_lost(struct recovery_mtu_handle *mtu, uint64_t number, uint16_t bytes);
 
-// All losses of a moment were told: the flag says whether they are a black hole, which leaves the least MTU.
+// Ends the losses of packets that were lost together. The flag is true if they are a black hole, which resets the MTU
+// to the minimum.
 struct recovery_encoded_reply recovery_ffi_mtu_losses_done(struct recovery_mtu_handle *mtu, uint64_t now);
 
-// All begins anew, with these sizes; refused where one is zero. The peer's limit stays.
+// Resets the discovery with these sizes; an error if one is zero. The peer's limit is unchanged.
 struct recovery_encoded_reply recovery_ffi_mtu_reset(struct recovery_mtu_handle *mtu, uint16_t size, uint16_t least);
 
-// A full bucket at the moment `now`, by the RTT (nanoseconds), the congestion window and the MTU (bytes). Of a window
-// or an MTU of 0 it is all zeros, which is none.
+// Returns a full bucket at time `now`, from the RTT (nanoseconds), the congestion window and the MTU (bytes). If the
+// window or the MTU is 0, it is all zeros, which is no bucket.
 struct recovery_bucket recovery_ffi_pacer(uint64_t rtt, uint64_t window, uint16_t mtu, uint64_t now);
 
-// A packet of so many bytes was sent (`RECOVERY_ANSWER_TRANSMITTED`): it takes tokens, as far as they go. Refused where the
-// bucket is none.
+// Takes the tokens of a sent packet (`RECOVERY_ANSWER_TRANSMITTED`), at most all. An error if there is no bucket.
 struct recovery_encoded_reply recovery_ffi_pacer_transmit(struct recovery_bucket *bucket, uint16_t bytes);
 
-// May so many bytes be sent at the moment `now` (`RECOVERY_ANSWER_READY`), or when is it to be asked again (`RECOVERY_ANSWER_DELAYED`)?
-// By the RTT (nanoseconds), the MTU and the congestion window (bytes) of that moment. Refused where the window or the
-// MTU is 0, or the bucket is none.
+// Checks whether this many bytes may be sent at time `now` (`RECOVERY_ANSWER_READY`), or when to ask again (`RECOVERY_ANSWER_DELAYED`).
+// The RTT (nanoseconds), the MTU and the congestion window (bytes) are those of that time. An error if the window or
+// the MTU is 0, or if there is no bucket.
 struct recovery_encoded_reply recovery_ffi_pacer_delay(struct recovery_bucket *bucket, uint64_t rtt, uint64_t bytes, uint16_t mtu, uint64_t window, uint64_t now);
 
-// A packet came in (RFC 9000, 12.3): the event `Received`.
+// Records a received packet (RFC 9000, 12.3): the event `Received`.
 struct recovery_encoded_reply recovery_ffi_received(struct recovery_handle *handle, uint8_t space, uint64_t now, uint64_t number, bool ack_eliciting);
 
-// A packet with these items goes out (RFC 9002, A.5): the event `Send`.
+// Records a sent packet with these items (RFC 9002, A.5): the event `Send`.
 struct recovery_encoded_reply recovery_ffi_send(struct recovery_handle *handle, uint8_t space, uint64_t now, uint16_t size, bool ack_eliciting, bool has_largest, uint64_t largest, const uint64_t *items, size_t items_len);
 
-// A packet that was sent is acknowledged (RFC 9002, A.7): the event `Acked`.
+// Records that a sent packet was acknowledged (RFC 9002, A.7): the event `Acked`.
 struct recovery_encoded_reply recovery_ffi_acked(struct recovery_handle *handle, uint8_t space, uint64_t now, uint64_t number, bool app_limited);
 
-// A packet that was sent is declared lost (RFC 9002, A.10): the event `Lost`.
+// Declares a sent packet lost (RFC 9002, A.10): the event `Lost`.
 struct recovery_encoded_reply recovery_ffi_lost(struct recovery_handle *handle, uint8_t space, uint64_t number);
 
-// The keys of a space are dropped (RFC 9002, 6.4): the event `DiscardSpace`.
+// Discards a space with its keys (RFC 9002, 6.4): the event `DiscardSpace`.
 struct recovery_encoded_reply recovery_ffi_discard(struct recovery_handle *handle, uint8_t space);
 
-// How many items the queue that was taken last has; they are written where there is room for all. None, before one was
-// taken.
+// Returns the item count of the queue that was taken last, and writes the items if there is room for all. None before
+// the first.
 size_t recovery_ffi_last_items(struct recovery_handle *handle, uint64_t *out, size_t out_len);
 
-// What is in flight on a path? The event `InFlight`.
+// Returns what is in flight on a path: the event `InFlight`.
 struct recovery_encoded_reply recovery_ffi_in_flight(struct recovery_handle *handle, bool previous);
 
-// A sample of the round-trip time (RFC 9002, 5): the event `Sample`; nanoseconds are below 10^9.
+// Takes an RTT sample (RFC 9002, 5): the event `Sample`. Nanoseconds are below 10^9.
 struct recovery_encoded_reply recovery_ffi_sample(struct recovery_handle *handle, uint64_t delay_secs, uint32_t delay_nanos, uint64_t rtt_secs, uint32_t rtt_nanos);
 
-// A datagram came in on a path (RFC 9000, 8.1): the event `DatagramIn`.
+// Records a received datagram on a path (RFC 9000, 8.1): the event `DatagramIn`.
 struct recovery_encoded_reply recovery_ffi_datagram_in(struct recovery_handle *handle, bool previous, uint64_t bytes);
 
-// The peer was seen to receive at the address of a path (RFC 9000, 8): the event `Validated`.
+// Validates the peer's address on a path (RFC 9000, 8): the event `Validated`.
 struct recovery_encoded_reply recovery_ffi_validated(struct recovery_handle *handle, bool previous);
 
-// A datagram is to be transmitted on the current path: the event `Transmit`.
+// Counts a datagram on the path in use; if it is checked, only if limit and pacer permit. The event `Transmit`.
 struct recovery_encoded_reply recovery_ffi_transmit(struct recovery_handle *handle, uint64_t now, uint16_t bytes, bool checked);
 
-// May so many bytes be transmitted (RFC 9002, 7.7)? The event `PacerCheck`.
+// Checks whether the pacer permits this many bytes (RFC 9002, 7.7): the event `PacerCheck`.
 struct recovery_encoded_reply recovery_ffi_pacer_check(struct recovery_handle *handle, uint64_t now, uint64_t bytes);
 
-// Packets of the current path were lost, or marked (RFC 9002, 7.3): the event `Congestion`.
+// Reports congestion on the path in use: packets were lost, or marked (RFC 9002, 7.3). The event `Congestion`.
 struct recovery_encoded_reply recovery_ffi_congestion(struct recovery_handle *handle, uint64_t now, uint64_t sent, bool persistent, uint64_t bytes);
 
-// All packets that one ACK newly acknowledges were told: the event `EndAcks`.
+// Ends the acknowledgements of one ACK frame: the event `EndAcks`.
 struct recovery_encoded_reply recovery_ffi_end_acks(struct recovery_handle *handle, uint64_t now, bool app_limited, bool has_largest, uint64_t largest);
 
-// Another path is used from now on (RFC 9000, 9.3): the event `NewPath`.
+// Changes to another path (RFC 9000, 9.3): the event `NewPath`.
 struct recovery_encoded_reply recovery_ffi_new_path(struct recovery_handle *handle, uint64_t now, const struct recovery_address *remote, bool fresh);
 
-// The current path begins anew (RFC 9000, 9.4): the event `ResetPath`.
+// Resets the path in use (RFC 9000, 9.4): the event `ResetPath`.
 struct recovery_encoded_reply recovery_ffi_reset_path(struct recovery_handle *handle, uint64_t now);
 
-// The previous path is dropped (RFC 9000, 9.3.3): the event `DropPrevious`.
+// Drops the previous path (RFC 9000, 9.3.3): the event `DropPrevious`.
 struct recovery_encoded_reply recovery_ffi_drop_previous(struct recovery_handle *handle);
 
-// The previous path is used again, and the current one is dropped (RFC 9000, 9.3.2): the event `RevertPath`.
+// Returns to the previous path, and drops the current one (RFC 9000, 9.3.2): the event `RevertPath`.
 struct recovery_encoded_reply recovery_ffi_revert_path(struct recovery_handle *handle);
 
-// The counts of ECN of an ACK frame (RFC 9000, 13.4.2): the event `Ecn`.
+// Processes the ECN counts of an ACK frame (RFC 9000, 13.4.2): the event `Ecn`.
 struct recovery_encoded_reply recovery_ffi_ecn(struct recovery_handle *handle, uint8_t space, uint64_t newly_acked, uint64_t ect0, uint64_t ect1, uint64_t ce);
 
-// An ACK frame acknowledges a range of numbers (RFC 9000, 13.1): the event `CheckAck`.
+// Checks a range of packet numbers of an ACK frame (RFC 9000, 13.1): the event `CheckAck`.
 struct recovery_encoded_reply recovery_ffi_check_ack(struct recovery_handle *handle, uint8_t space, uint64_t low, uint64_t high);
 
-// A probe packet is to be sent (RFC 9002, 6.2.4): the event `QueueProbe`.
+// Queues the contents of a probe packet (RFC 9002, 6.2.4): the event `QueueProbe`.
 struct recovery_encoded_reply recovery_ffi_queue_probe(struct recovery_handle *handle, uint8_t space, bool immediate_ack);
 
-// What waits to be sent again is handed out, to be read by `recovery_ffi_last_items`: the event `TakePending`.
+// Takes the retransmission queue, to be read by `recovery_ffi_last_items`: the event `TakePending`.
 struct recovery_encoded_reply recovery_ffi_take_pending(struct recovery_handle *handle, uint8_t space);
 
-// What is kept for a path.
+// Returns the state of a path.
 struct recovery_path_view recovery_ffi_path(struct recovery_handle *handle, bool previous);
 
-// What a space has to send; of one that there is not what is said of a discarded one.
+// Returns what a space has to send. A space that does not exist is read as a discarded one.
 struct recovery_space_view recovery_ffi_space(struct recovery_handle *handle, uint8_t space);
 
-// One of the ranges of numbers that are to be acknowledged in a space, in ascending order.
+// Returns one of the ranges of packet numbers to be acknowledged in a space, in ascending order.
 struct recovery_range_view recovery_ffi_range(struct recovery_handle *handle, uint8_t space, size_t index);
 
-// How long ago the largest packet of a space came, which an ACK frame tells (RFC 9000, 13.2.5): zero before the first,
-// none where there is no such space or it is discarded.
+// Returns how long ago the largest packet of a space was received, for the ACK Delay of an ACK frame (RFC 9000,
+// 13.2.5). It is zero before the first, and none if there is no such space or it is discarded.
 struct recovery_time_view recovery_ffi_ack_delay(struct recovery_handle *handle, uint8_t space, uint64_t now);
 
-// When a timer expires.
+// Returns when a timer expires.
 struct recovery_time_view recovery_ffi_timer(struct recovery_handle *handle, uint8_t timer);
 
-// The ids of both ends, and how late ACKs may be.
+// Returns the connection IDs of both endpoints, and their max_ack_delay.
 struct recovery_ids_view recovery_ffi_ids(struct recovery_handle *handle);
 
-// When the oldest of this end's ids is to be retired (RFC 9000, 5.1.2), where they end: what `RECOVERY_TIMER_PUSH_NEW_CID` is
-// set to.
+// Returns when the oldest of the local connection IDs is to be retired (RFC 9000, 5.1.2), if they expire. Set
+// `RECOVERY_TIMER_PUSH_NEW_CID` to it.
 struct recovery_time_view recovery_ffi_next_id_timeout(struct recovery_handle *handle);
 
-// Makes a recovery of a sender, of the client or else of the server, whose peer is at this address and has this id of
-// at most 20 bytes. A client's first path is validated, whatever the settings say (RFC 9000, 8.1). The answer is
-// `RECOVERY_NEW_MADE`, or the number of what is wrong; the handle then holds what it held.
+// Makes a recovery of a sender, of a client if `client`, else of a server. Its peer is at this address and has this
+// connection ID of at most 20 bytes. A client's first path is validated, whatever the settings say (RFC 9000, 8.1).
+// Returns `RECOVERY_NEW_MADE`, or the number of what is wrong, which leaves the handle unchanged.
 uint8_t recovery_ffi_sender_new(struct recovery_handle *handle, bool client, const struct recovery_settings *settings, const struct recovery_address *remote, const uint8_t *initial_cid, size_t initial_cid_len, uint64_t now);
 
-// Makes a recovery of a sender whose handshake is over, as `recovery_ffi_sender_new` makes one, and then
-// `recovery_ffi_validated`, `recovery_ffi_sender_handshake_confirmed` and `recovery_ffi_sender_discard` of the Initial
-// and the Handshake space: 1-RTT packets alone are sent and probed for (RFC 9001, 4.1.2 and 4.9). The answer is that
-// of `recovery_ffi_sender_new`.
+// Makes a recovery of a sender whose handshake is confirmed (RFC 9001, 4.1.2 and 4.9). It calls
+// `recovery_ffi_sender_new`, `recovery_ffi_validated`, `recovery_ffi_sender_handshake_confirmed`, and
+// `recovery_ffi_sender_discard` for the Initial and the Handshake space. Only 1-RTT packets are then sent and probed
+// for. The results are those of `recovery_ffi_sender_new`.
 uint8_t recovery_ffi_sender_established(struct recovery_handle *handle, bool client, const struct recovery_settings *settings, const struct recovery_address *remote, const uint8_t *initial_cid, size_t initial_cid_len, uint64_t now);
 
-// Whether a datagram of so many bytes goes out now, with packets of a space: `RECOVERY_ANSWER_TRANSMITTED`, and it is counted;
-// `RECOVERY_ANSWER_BLOCKED` by the limit against amplification (RFC 9000, 8.1); `RECOVERY_ANSWER_FULL` where the window has no room (RFC
-// 9002, 7); `RECOVERY_ANSWER_DELAYED` by the pacer, until `first` (RFC 9002, 7.7). Where nothing in it counts in flight, or a
-// probe is due in the space, the limit alone is asked. The packets in it are told by `recovery_ffi_send` before the
-// next datagram is asked for. Refused by `RECOVERY_REFUSAL_SPACE_DISCARDED`, then by `RECOVERY_REFUSAL_OVERFLOW`.
+// Checks whether a datagram with packets of a space may be sent now. The reply is `RECOVERY_ANSWER_TRANSMITTED`, and the
+// datagram is counted; `RECOVERY_ANSWER_BLOCKED` by the amplification limit (RFC 9000, 8.1); `RECOVERY_ANSWER_FULL` if the window has no
+// room (RFC 9002, 7); or `RECOVERY_ANSWER_DELAYED` by the pacer, until `first` (RFC 9002, 7.7). If nothing in it counts in
+// flight, or a probe is due in the space, only the amplification limit is checked. Report its packets by
+// `recovery_ffi_send` before the next datagram. Errors: `RECOVERY_REFUSAL_SPACE_DISCARDED`, then `RECOVERY_REFUSAL_OVERFLOW`.
 struct recovery_encoded_reply recovery_ffi_sender_transmit(struct recovery_handle *handle, uint64_t now, uint16_t bytes, uint8_t space, bool in_flight);
 
-// An ACK frame came in (RFC 9002, A.7), with its ranges, the highest first, as on the wire: `RECOVERY_ANSWER_ACKNOWLEDGED`,
-// with how many numbers it newly acknowledges in `first`, how many packets it declares lost in `second`, and in `flag`
-// whether `recovery_ffi_last_outcome` has more than that. `recovery_ffi_told_numbers` and `recovery_ffi_told_packets`
-// say which they are. Nothing changes if the answer is an error: `RECOVERY_REFUSAL_SPACE_DISCARDED`; `RECOVERY_REFUSAL_BAD_RANGE` if
-// there is no range, one ends before it begins, or two have no number between them (RFC 9000, 19.3.1);
-// `RECOVERY_REFUSAL_UNSENT`; `RECOVERY_REFUSAL_SKIPPED_ACKED` (RFC 9000, 21.4); or `RECOVERY_REFUSAL_NO_MEMORY`. Nothing changes either at
-// `RECOVERY_ANSWER_NEEDS_ROOM`: the caller limits its room (`is_limited`), and has too little. `first` is then how many words
-// of packets, and `second` how many lost numbers, it needs room for.
+// Processes a received ACK frame (RFC 9002, A.7), with its ranges, the highest first, as on the wire. The reply
+// `RECOVERY_ANSWER_ACKNOWLEDGED` has in `first` how many packets are newly acknowledged, in `second` how many are declared
+// lost, and in `flag` whether `recovery_ffi_last_outcome` has more than that. Read the packets by
+// `recovery_ffi_told_numbers` and `recovery_ffi_told_packets`. Errors, which change nothing:
+// `RECOVERY_REFUSAL_SPACE_DISCARDED`; `RECOVERY_REFUSAL_BAD_RANGE` if there is no range, one ends before it begins, or two have no
+// number between them (RFC 9000, 19.3.1); `RECOVERY_REFUSAL_UNSENT`; `RECOVERY_REFUSAL_SKIPPED_ACKED` (RFC 9000, 21.4);
+// `RECOVERY_REFUSAL_NO_MEMORY`. If the caller limits its room (`is_limited`) and has too little, the reply is
+// `RECOVERY_ANSWER_NEEDS_ROOM`, and nothing changes. `first` is then how many words of packets, and `second` how many lost
+// numbers, it needs room for.
 struct recovery_encoded_reply recovery_ffi_sender_ack(struct recovery_handle *handle, uint8_t space, uint64_t now, const struct recovery_ack_frame *frame, const struct recovery_ack_range *ranges, size_t ranges_len);
 
-// The timer for losses may be due (RFC 9002, A.9): `RECOVERY_ANSWER_NOTHING` if it is not; `RECOVERY_ANSWER_LOSSES` if a space was
-// searched for lost packets, with the space in `first`, and `recovery_ffi_last_outcome` and
-// `recovery_ffi_told_numbers` say which are lost; or `RECOVERY_ANSWER_PROBES`, with the space in `first` and in `second` how
-// many probes are due there, 1 or 2. For each of them the caller asks `recovery_ffi_sender_transmit`, takes its
-// contents by `recovery_ffi_sender_probe`, and sends it by `recovery_ffi_send`. The error is `RECOVERY_REFUSAL_NO_MEMORY`, if
-// there is no room for the numbers of the packets that may be lost; then nothing has changed. A timeout that asks for
-// probes takes no memory.
+// Handles the loss detection timer, which may be due (RFC 9002, A.9). The reply is `RECOVERY_ANSWER_NOTHING` if it is not. It
+// is `RECOVERY_ANSWER_LOSSES` after a loss detection pass over the space in `first`: read the losses by
+// `recovery_ffi_last_outcome` and `recovery_ffi_told_numbers`. It is `RECOVERY_ANSWER_PROBES` if probes are due in the space in
+// `first`; `second` is how many, 1 or 2. For each, call `recovery_ffi_sender_transmit`, take its contents by
+// `recovery_ffi_sender_probe`, and send it by `recovery_ffi_send`. The error is `RECOVERY_REFUSAL_NO_MEMORY` if there is no
+// room for the numbers of the packets that may be lost; then nothing has changed. A timeout that asks for probes
+// allocates nothing.
 struct recovery_encoded_reply recovery_ffi_sender_on_timeout(struct recovery_handle *handle, uint64_t now);
 
-// Hands out what a probe of a space carries (RFC 9002, 6.2.4), to be read by `recovery_ffi_last_items`: what waits
-// there to be sent again, or else the contents of the first packet in flight that has any: `RECOVERY_ANSWER_QUEUE`. A queue
-// without items asks for a PING frame. `immediate_ack` asks for an IMMEDIATE_ACK frame in it. Refused by
-// `RECOVERY_REFUSAL_SPACE_DISCARDED`, then by `RECOVERY_REFUSAL_NO_MEMORY`; then nothing changed.
+// Takes the contents of a probe in a space (RFC 9002, 6.2.4), to be read by `recovery_ffi_last_items`: `RECOVERY_ANSWER_QUEUE`.
+// They are what is queued for retransmission, or else the contents of the first packet in flight that has any. If
+// there are no items, send a PING frame. `immediate_ack` asks for an IMMEDIATE_ACK frame in it. Errors, which change
+// nothing: `RECOVERY_REFUSAL_SPACE_DISCARDED`, then `RECOVERY_REFUSAL_NO_MEMORY`.
 struct recovery_encoded_reply recovery_ffi_sender_probe(struct recovery_handle *handle, uint8_t space, bool immediate_ack);
 
-// The keys of a space are dropped, and with them all that it tracks; probe timeouts are counted anew (RFC 9002, 6.2.2,
-// 6.4 and A.11): `RECOVERY_ANSWER_DONE`. Refused by `RECOVERY_REFUSAL_SPACE_DISCARDED`.
+// Discards a space with its keys and its tracked packets, and resets the count of probe timeouts (RFC 9002, 6.2.2, 6.4
+// and A.11): `RECOVERY_ANSWER_DONE`. Error: `RECOVERY_REFUSAL_SPACE_DISCARDED`.
 struct recovery_encoded_reply recovery_ffi_sender_discard(struct recovery_handle *handle, uint8_t space, uint64_t now);
 
-// What a space tracks was sent in vain, before a Retry or if 0-RTT is rejected (RFC 9002, 6.3 and 6.4). Each packet is
-// declared lost, which is no congestion, and probe timeouts are counted from zero: `RECOVERY_ANSWER_LOSSES`, and
-// `recovery_ffi_told_numbers` says which. With `is_cut` in `recovery_ffi_last_outcome` allocation failed for some
-// packets, which are still tracked, and the same call goes on with them. The errors are `RECOVERY_REFUSAL_SPACE_DISCARDED` and
-// `RECOVERY_REFUSAL_NO_MEMORY`; then nothing has changed.
+// Declares all packets of a space lost, because they will not be acknowledged: after a Retry, or if 0-RTT is rejected
+// (RFC 9002, 6.3 and 6.4). This does not indicate congestion. Resets the count of probe timeouts. The reply is
+// `RECOVERY_ANSWER_LOSSES`; read the packets by `recovery_ffi_told_numbers`. If `is_cut` in `recovery_ffi_last_outcome`,
+// allocation failed for some packets, which are still tracked: the same call continues with them. Errors, which change
+// nothing: `RECOVERY_REFUSAL_SPACE_DISCARDED`, `RECOVERY_REFUSAL_NO_MEMORY`.
 struct recovery_encoded_reply recovery_ffi_sender_retransmit_all(struct recovery_handle *handle, uint8_t space, uint64_t now);
 
-// There are keys of Handshake packets (RFC 9002, A.8): `RECOVERY_ANSWER_DONE`.
+// Records that Handshake keys are available (RFC 9002, A.8): `RECOVERY_ANSWER_DONE`.
 struct recovery_encoded_reply recovery_ffi_sender_handshake_keys(struct recovery_handle *handle);
 
-// The handshake is confirmed (RFC 9001, 4.1.2): packets of 1-RTT keys are probed for from now on, and a client knows
-// its address validated (RFC 9002, 6.2.1 and 6.2.2.1): `RECOVERY_ANSWER_DONE`.
+// Records that the handshake is confirmed (RFC 9001, 4.1.2): `RECOVERY_ANSWER_DONE`. From then on 1-RTT packets are probed for,
+// and a client knows its address validated (RFC 9002, 6.2.1 and 6.2.2.1).
 struct recovery_encoded_reply recovery_ffi_sender_handshake_confirmed(struct recovery_handle *handle);
 
-// The peer delays its ACKs of 1-RTT packets at most so long (RFC 9000, 18.2: max_ack_delay): `RECOVERY_ANSWER_DONE`. There are
-// fewer than 10^9 nanoseconds.
+// Sets the peer's max_ack_delay, for 1-RTT packets (RFC 9000, 18.2): `RECOVERY_ANSWER_DONE`. Nanoseconds are below 10^9.
 struct recovery_encoded_reply recovery_ffi_sender_peer_delay(struct recovery_handle *handle, uint64_t secs, uint32_t nanos);
 
-// Sets the RTT that timers use before the first RTT sample of the path in use, in place of that of the settings (RFC
-// 9002, 6.2.2): `RECOVERY_ANSWER_DONE`. A new path whose RTT begins anew goes by the settings again. There are fewer than 10^9
-// nanoseconds.
+// Sets the RTT that timers use before the first RTT sample of the path in use, instead of the one in the settings (RFC
+// 9002, 6.2.2): `RECOVERY_ANSWER_DONE`. If the RTT of the path is reset, the settings apply again. Nanoseconds are below 10^9.
 struct recovery_encoded_reply recovery_ffi_sender_initial_rtt(struct recovery_handle *handle, uint64_t secs, uint32_t nanos);
 
-// What the timer for losses waits for, or why it is not set, and how many bytes the window and the amplification limit
-// still let out on the path in use. All is 0 if there is no sender.
+// Returns the purpose of the loss detection timer, or why it is not set, and how many more bytes the window and the
+// amplification limit permit on the path in use. All is 0 if there is no sender.
 struct recovery_sender_view recovery_ffi_sender_view(struct recovery_handle *handle);
 
-// A PATH_CHALLENGE frame with this content is open on the path in use, where `is_open`, and one is to be sent, where
-// `pending` (RFC 9000, 8.2.1): `RECOVERY_ANSWER_DONE`. While one is open the window does not grow: what is acknowledged may
-// have gone by the path before it (RFC 9000, 9.4).
+// Stores whether a PATH_CHALLENGE frame with this data is outstanding on the path in use (`is_open`), and whether one
+// is to be sent (`pending`) (RFC 9000, 8.2.1): `RECOVERY_ANSWER_DONE`. While one is outstanding, the window does not grow: an
+// acknowledged packet may have been sent on the path before it (RFC 9000, 9.4).
 struct recovery_encoded_reply recovery_ffi_sender_challenge(struct recovery_handle *handle, uint64_t content, bool is_open, bool pending);
 
-// How many probe timeouts expired in a row, by which the next one is doubled (RFC 9002, 6.2.1); 0 where there is no
+// Returns the number of consecutive probe timeouts, each of which doubles the next (RFC 9002, 6.2.1); 0 if there is no
 // sender.
 uint32_t recovery_ffi_pto_count(struct recovery_handle *handle);
 
-// The last outcome: of an ACK frame that was taken, of a timeout that searched for losses, or of a space whose packets
+// Returns the last outcome: of an ACK frame, of a timeout that made a loss detection pass, or of a space whose packets
 // were all declared lost. It is empty before the first, and if there is no sender.
 struct recovery_outcome_view recovery_ffi_last_outcome(struct recovery_handle *handle);
 
-// How many numbers were newly acknowledged as something was told last, or, with `lost`, how many were found lost,
-// without that of the MTU's probe; they are written, rising, where there is room for all.
+// Returns how many packets the last outcome newly acknowledged or, with `lost`, declared lost, without the MTU probe.
+// Writes their numbers in increasing order, if there is room for all.
 size_t recovery_ffi_told_numbers(struct recovery_handle *handle, bool lost, uint64_t *out, size_t out_len);
 
-// Of each packet that was newly acknowledged as something was told last, rising: its number, how many items it
-// carried, and these. How many words that are; they are written where there is room for all.
+// Returns how many words the packets take that the last outcome newly acknowledged, and writes these if there is room
+// for all. For each packet, in increasing order: its number, its item count, and its items.
 size_t recovery_ffi_told_packets(struct recovery_handle *handle, uint64_t *out, size_t out_len);
 
-// The default settings: an address that is not validated, ACKs 25 ms late at most, ids of 8 bytes that last 10 s, one
-// of them issued, no skips, an RTT of 333 ms, MTUs of 1200 bytes and up to 1452, NewReno with 12,000 bytes and a
-// half, and for senders thresholds of 3 packets, 9/8 of an RTT and 3 probe timeouts.
+// Returns the default settings: an address that is not validated, a max_ack_delay of 25 ms, and one issued connection
+// ID of 8 bytes with a lifetime of 10 s. No skips, an RTT of 333 ms, MTUs from 1200 to 1452 bytes, and NewReno with a
+// window of 12,000 bytes and a factor of a half. For senders, thresholds of 3 packets, 9/8 of an RTT and 3 probe
+// timeouts.
 struct recovery_settings recovery_ffi_default_settings(void);
 
-// A timer is set to a moment in nanoseconds: the event `SetTimer`.
+// Sets a timer to a time in nanoseconds: the event `SetTimer`.
 struct recovery_encoded_reply recovery_ffi_set_timer(struct recovery_handle *handle, uint8_t timer, uint64_t time);
 
-// A timer is stopped: the event `StopTimer`.
+// Stops a timer: the event `StopTimer`.
 struct recovery_encoded_reply recovery_ffi_stop_timer(struct recovery_handle *handle, uint8_t timer);
 
-// When does the next timer expire? The event `NextTimeout`.
+// Returns when the next timer expires: the event `NextTimeout`.
 struct recovery_encoded_reply recovery_ffi_next_timeout(struct recovery_handle *handle);
 
 // Returns the text of an error, the `refusal` of a reply. For an ECN error, `recovery_ffi_fault_text` returns more.

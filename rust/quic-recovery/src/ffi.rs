@@ -618,8 +618,8 @@ unsafe extern "C" {
     #[link_name = "recovery_ffi_layout_75e3d1fc"]
     pub fn recovery_ffi_layout();
 
-    /// Makes a recovery, whose peer is at this address and has this id of at most 20 bytes. The answer is `NEW_MADE`, or
-    /// the number of what is wrong; the handle then holds what it held.
+    /// Makes a recovery, whose peer is at this address and has this connection ID of at most 20 bytes. Returns `NEW_MADE`,
+    /// or the number of what is wrong, which leaves the handle unchanged.
     pub fn recovery_ffi_new(
         handle: *mut Handle,
         settings: *const Settings,
@@ -629,10 +629,10 @@ unsafe extern "C" {
         now: u64,
     ) -> u8;
 
-    /// Frees a recovery. The handle holds none then; one that holds none stays so.
+    /// Frees a recovery. The handle then holds none. A handle that holds none is unchanged.
     pub fn recovery_ffi_drop(handle: *mut Handle);
 
-    /// An ACK_FREQUENCY frame came in: the event `AckFrequencyIn`; its numbers lie below 2^62.
+    /// Processes a received ACK_FREQUENCY frame: the event `AckFrequencyIn`. Its numbers are below 2^62.
     pub fn recovery_ffi_ack_frequency(
         handle: *mut Handle,
         sequence: u64,
@@ -641,41 +641,41 @@ unsafe extern "C" {
         reordering: u64,
     ) -> EncodedReply;
 
-    /// An ACK frame was sent (RFC 9000, 13.2.1): the event `AcksSent`.
+    /// Records that an ACK frame was sent (RFC 9000, 13.2.1): the event `AcksSent`.
     pub fn recovery_ffi_acks_sent(handle: *mut Handle, space: u8) -> EncodedReply;
 
-    /// The timer for a late ACK expired: the event `AckDelayTimeout`.
+    /// Handles the ACK delay timer: the event `AckDelayTimeout`.
     pub fn recovery_ffi_ack_delay_timeout(handle: *mut Handle, space: u8) -> EncodedReply;
 
-    /// Is a probe of the MTU due (RFC 9000, 14.3)? The event `PollMtu`.
+    /// Sends an MTU probe if one is due (RFC 9000, 14.3): the event `PollMtu`.
     pub fn recovery_ffi_poll_mtu(handle: *mut Handle, now: u64) -> EncodedReply;
 
-    /// The peer takes datagrams of at most so many bytes (RFC 9000, 18.2): the event `PeerLimit`.
+    /// Sets the largest datagram that the peer accepts (RFC 9000, 18.2): the event `PeerLimit`.
     pub fn recovery_ffi_peer_limit(handle: *mut Handle, size: u16) -> EncodedReply;
 
-    /// All packets that were found lost together were told: the event `LossesDone`.
+    /// Ends the losses of packets that were lost together: the event `LossesDone`.
     pub fn recovery_ffi_losses_done(handle: *mut Handle, now: u64) -> EncodedReply;
 
-    /// Window and bytes in flight of the path in use.
+    /// Returns the window and the bytes in flight of the path in use.
     pub fn recovery_ffi_window(handle: *mut Handle) -> WindowView;
 
-    /// The round-trip time of the path in use.
+    /// Returns the round-trip time of the path in use.
     pub fn recovery_ffi_rtt(handle: *mut Handle) -> RttView;
 
-    /// The number of the peer's id in use (RFC 9000, 5.1.1); 0 where there is no recovery.
+    /// Returns the sequence number of the peer's connection ID in use (RFC 9000, 5.1.1); 0 if there is no recovery.
     pub fn recovery_ffi_active_id(handle: *mut Handle) -> u64;
 
-    /// Whether a packet that counts in flight is tracked in a space (RFC 9002, 2), by whichever path it went.
+    /// Returns whether a space tracks a packet that counts in flight (RFC 9002, 2), on either path.
     pub fn recovery_ffi_has_in_flight(handle: *mut Handle, space: u8) -> bool;
 
-    /// The smallest packet number that a space tracks, by which a stack may choose the length of packet numbers (RFC 9000,
-    /// 17.1): all smaller ones are acknowledged, lost, forgotten or discarded. It costs a logarithm.
+    /// Returns the smallest packet number that a space tracks: all smaller ones are acknowledged, lost, forgotten or
+    /// discarded. A stack may choose the length of packet numbers by it (RFC 9000, 17.1). Cost: logarithmic.
     pub fn recovery_ffi_smallest_tracked(handle: *mut Handle, space: u8) -> NumberView;
 
-    /// How many packets a space tracks, and when a sender declares the next of them lost by its age.
+    /// Returns how many packets a space tracks, and when a sender declares the next of them lost by its age.
     pub fn recovery_ffi_tracked(handle: *mut Handle, space: u8) -> TrackedView;
 
-    /// A NEW_CONNECTION_ID frame came in (RFC 9000, 19.15): the event `NewId`; an id has at most 20 bytes.
+    /// Processes a received NEW_CONNECTION_ID frame (RFC 9000, 19.15): the event `NewId`. The ID has at most 20 bytes.
     pub fn recovery_ffi_new_id(
         handle: *mut Handle,
         sequence: u64,
@@ -685,17 +685,17 @@ unsafe extern "C" {
         token: *const [u8; 16],
     ) -> EncodedReply;
 
-    /// The next id of the peer is to be used: the event `NextId`.
+    /// Switches to the next connection ID of the peer: the event `NextId`.
     pub fn recovery_ffi_next_id(handle: *mut Handle) -> EncodedReply;
 
-    /// The server chose another id (RFC 9000, 7.2): the event `InitialId`; an id has at most 20 bytes.
+    /// Sets the connection ID that the server chose (RFC 9000, 7.2): the event `InitialId`. It has at most 20 bytes.
     pub fn recovery_ffi_initial_id(
         handle: *mut Handle,
         id: *const u8,
         id_len: usize,
     ) -> EncodedReply;
 
-    /// This end issues these ids (RFC 9000, 5.1.1): the event `IssueIds`; an id has at most 20 bytes.
+    /// Issues connection IDs of at most 20 bytes (RFC 9000, 5.1.1): the event `IssueIds`.
     pub fn recovery_ffi_issue_ids(
         handle: *mut Handle,
         now: u64,
@@ -703,77 +703,77 @@ unsafe extern "C" {
         given_len: usize,
     ) -> EncodedReply;
 
-    /// The timer for new ids expired: the event `IdTimeout`.
+    /// Handles the timer for new connection IDs: the event `IdTimeout`.
     pub fn recovery_ffi_id_timeout(handle: *mut Handle) -> EncodedReply;
 
-    /// A RETIRE_CONNECTION_ID frame came in (RFC 9000, 19.16): the event `PeerRetired`.
+    /// Processes a received RETIRE_CONNECTION_ID frame (RFC 9000, 19.16): the event `PeerRetired`.
     pub fn recovery_ffi_peer_retired(
         handle: *mut Handle,
         sequence: u64,
         limit: u64,
     ) -> EncodedReply;
 
-    /// Writes the bytes of the token that was answered last; all zeros before there was one, and where no recovery is held.
+    /// Writes the bytes of the token that was returned last: all zeros before the first, or if there is no recovery.
     pub fn recovery_ffi_token(handle: *mut Handle, out: *mut [u8; 16]);
 
-    /// Whether this is the token that was answered last; of none where no recovery is held.
+    /// Returns whether this is the token that was returned last; false if there is no recovery.
     pub fn recovery_ffi_is_token(handle: *mut Handle, token: *const [u8; 16]) -> bool;
 
-    /// What the layer above keeps with a path.
+    /// Returns the caller's marks of a path.
     pub fn recovery_ffi_marks(handle: *mut Handle, previous: bool) -> Marks;
 
-    /// The layer above keeps this with a path from now on. False, and nothing changes, where there is no such path or no
-    /// such space, and where a sender is held: it sets marks itself.
+    /// Stores the caller's marks of a path. Returns false and changes nothing if there is no such path or no such space, or
+    /// if a sender is held: a sender sets its marks itself.
     pub fn recovery_ffi_set_marks(handle: *mut Handle, previous: bool, marks: *const Marks)
         -> bool;
 
-    /// Makes an MTU discovery, as a path of these settings has it: by `initial_mtu`, `min_mtu`, `allow_mtud` and what they
-    /// say of the search. The peer takes datagrams of at most `limit` bytes; 0 says that it did not tell. The answer is
-    /// `NEW_MADE`, or the number of what is wrong; the handle then holds what it held.
+    /// Makes an MTU discovery from `initial_mtu`, `min_mtu`, `allow_mtud` and the settings of the search, as a path has it.
+    /// The peer accepts datagrams of at most `limit` bytes, or 0 if it stated no limit. Returns `NEW_MADE`, or the number
+    /// of what is wrong, which leaves the handle unchanged.
     pub fn recovery_ffi_mtu_new(mtu: *mut MtuHandle, settings: *const Settings, limit: u16) -> u8;
 
-    /// Frees a discovery. The handle holds none then; one that holds none stays so.
+    /// Frees a discovery. The handle then holds none. A handle that holds none is unchanged.
     pub fn recovery_ffi_mtu_drop(mtu: *mut MtuHandle);
 
-    /// What is known.
+    /// Returns the state of the discovery.
     pub fn recovery_ffi_mtu(mtu: *mut MtuHandle) -> MtuView;
 
-    /// Is a probe due? Its size is that of the answer (`ANSWER_PROBE`, otherwise `ANSWER_NO_PROBE`), and it is sent as the
-    /// packet of this number.
+    /// Checks whether a probe is due. The reply is `ANSWER_PROBE` with its size, or `ANSWER_NO_PROBE`. The caller sends the
+    /// probe as the packet of this number.
     pub fn recovery_ffi_mtu_poll(mtu: *mut MtuHandle, now: u64, number: u64) -> EncodedReply;
 
-    /// The peer takes datagrams of at most so many bytes. Refused where they are none, and while a search runs: the limit
-    /// is told before the first poll.
+    /// Sets the largest datagram that the peer accepts, in bytes. An error if it is 0, or while a search is running: set
+    /// the limit before the first poll.
     pub fn recovery_ffi_mtu_limit(mtu: *mut MtuHandle, size: u16) -> EncodedReply;
 
-    /// A packet of so many bytes was acknowledged (`ANSWER_ACKED`): the flag says whether it was the probe in flight, whose
-    /// size is then the MTU.
+    /// Records that a packet of this many bytes was acknowledged (`ANSWER_ACKED`). The flag is true if it was the probe in
+    /// flight, whose size is then the MTU.
     pub fn recovery_ffi_mtu_acked(mtu: *mut MtuHandle, number: u64, bytes: u16) -> EncodedReply;
 
-    /// The probe in flight was lost. Where none is, nothing changes.
+    /// Records that the probe in flight was lost. Changes nothing if there is none.
     pub fn recovery_ffi_mtu_probe_lost(mtu: *mut MtuHandle) -> EncodedReply;
 
-    /// A packet of so many bytes was lost that is no probe in flight. Numbers of one moment are told upward, and then
-    /// `recovery_ffi_mtu_losses_done`.
+    /// Records that a packet other than the probe in flight was lost. Report packets that are lost together in increasing
+    /// order, then call `recovery_ffi_mtu_losses_done`.
     pub fn recovery_ffi_mtu_lost(mtu: *mut MtuHandle, number: u64, bytes: u16) -> EncodedReply;
 
-    /// All losses of a moment were told: the flag says whether they are a black hole, which leaves the least MTU.
+    /// Ends the losses of packets that were lost together. The flag is true if they are a black hole, which resets the MTU
+    /// to the minimum.
     pub fn recovery_ffi_mtu_losses_done(mtu: *mut MtuHandle, now: u64) -> EncodedReply;
 
-    /// All begins anew, with these sizes; refused where one is zero. The peer's limit stays.
+    /// Resets the discovery with these sizes; an error if one is zero. The peer's limit is unchanged.
     pub fn recovery_ffi_mtu_reset(mtu: *mut MtuHandle, size: u16, least: u16) -> EncodedReply;
 
-    /// A full bucket at the moment `now`, by the RTT (nanoseconds), the congestion window and the MTU (bytes). Of a window
-    /// or an MTU of 0 it is all zeros, which is none.
+    /// Returns a full bucket at time `now`, from the RTT (nanoseconds), the congestion window and the MTU (bytes). If the
+    /// window or the MTU is 0, it is all zeros, which is no bucket.
     pub fn recovery_ffi_pacer(rtt: u64, window: u64, mtu: u16, now: u64) -> Bucket;
 
-    /// A packet of so many bytes was sent (`ANSWER_TRANSMITTED`): it takes tokens, as far as they go. Refused where the
-    /// bucket is none.
+    /// Takes the tokens of a sent packet (`ANSWER_TRANSMITTED`), at most all. An error if there is no bucket.
     pub fn recovery_ffi_pacer_transmit(bucket: *mut Bucket, bytes: u16) -> EncodedReply;
 
-    /// May so many bytes be sent at the moment `now` (`ANSWER_READY`), or when is it to be asked again (`ANSWER_DELAYED`)?
-    /// By the RTT (nanoseconds), the MTU and the congestion window (bytes) of that moment. Refused where the window or the
-    /// MTU is 0, or the bucket is none.
+    /// Checks whether this many bytes may be sent at time `now` (`ANSWER_READY`), or when to ask again (`ANSWER_DELAYED`).
+    /// The RTT (nanoseconds), the MTU and the congestion window (bytes) are those of that time. An error if the window or
+    /// the MTU is 0, or if there is no bucket.
     pub fn recovery_ffi_pacer_delay(
         bucket: *mut Bucket,
         rtt: u64,
@@ -783,7 +783,7 @@ unsafe extern "C" {
         now: u64,
     ) -> EncodedReply;
 
-    /// A packet came in (RFC 9000, 12.3): the event `Received`.
+    /// Records a received packet (RFC 9000, 12.3): the event `Received`.
     pub fn recovery_ffi_received(
         handle: *mut Handle,
         space: u8,
@@ -792,7 +792,7 @@ unsafe extern "C" {
         ack_eliciting: bool,
     ) -> EncodedReply;
 
-    /// A packet with these items goes out (RFC 9002, A.5): the event `Send`.
+    /// Records a sent packet with these items (RFC 9002, A.5): the event `Send`.
     pub fn recovery_ffi_send(
         handle: *mut Handle,
         space: u8,
@@ -805,7 +805,7 @@ unsafe extern "C" {
         items_len: usize,
     ) -> EncodedReply;
 
-    /// A packet that was sent is acknowledged (RFC 9002, A.7): the event `Acked`.
+    /// Records that a sent packet was acknowledged (RFC 9002, A.7): the event `Acked`.
     pub fn recovery_ffi_acked(
         handle: *mut Handle,
         space: u8,
@@ -814,20 +814,20 @@ unsafe extern "C" {
         app_limited: bool,
     ) -> EncodedReply;
 
-    /// A packet that was sent is declared lost (RFC 9002, A.10): the event `Lost`.
+    /// Declares a sent packet lost (RFC 9002, A.10): the event `Lost`.
     pub fn recovery_ffi_lost(handle: *mut Handle, space: u8, number: u64) -> EncodedReply;
 
-    /// The keys of a space are dropped (RFC 9002, 6.4): the event `DiscardSpace`.
+    /// Discards a space with its keys (RFC 9002, 6.4): the event `DiscardSpace`.
     pub fn recovery_ffi_discard(handle: *mut Handle, space: u8) -> EncodedReply;
 
-    /// How many items the queue that was taken last has; they are written where there is room for all. None, before one was
-    /// taken.
+    /// Returns the item count of the queue that was taken last, and writes the items if there is room for all. None before
+    /// the first.
     pub fn recovery_ffi_last_items(handle: *mut Handle, out: *mut u64, out_len: usize) -> usize;
 
-    /// What is in flight on a path? The event `InFlight`.
+    /// Returns what is in flight on a path: the event `InFlight`.
     pub fn recovery_ffi_in_flight(handle: *mut Handle, previous: bool) -> EncodedReply;
 
-    /// A sample of the round-trip time (RFC 9002, 5): the event `Sample`; nanoseconds are below 10^9.
+    /// Takes an RTT sample (RFC 9002, 5): the event `Sample`. Nanoseconds are below 10^9.
     pub fn recovery_ffi_sample(
         handle: *mut Handle,
         delay_secs: u64,
@@ -836,17 +836,17 @@ unsafe extern "C" {
         rtt_nanos: u32,
     ) -> EncodedReply;
 
-    /// A datagram came in on a path (RFC 9000, 8.1): the event `DatagramIn`.
+    /// Records a received datagram on a path (RFC 9000, 8.1): the event `DatagramIn`.
     pub fn recovery_ffi_datagram_in(
         handle: *mut Handle,
         previous: bool,
         bytes: u64,
     ) -> EncodedReply;
 
-    /// The peer was seen to receive at the address of a path (RFC 9000, 8): the event `Validated`.
+    /// Validates the peer's address on a path (RFC 9000, 8): the event `Validated`.
     pub fn recovery_ffi_validated(handle: *mut Handle, previous: bool) -> EncodedReply;
 
-    /// A datagram is to be transmitted on the current path: the event `Transmit`.
+    /// Counts a datagram on the path in use; if it is checked, only if limit and pacer permit. The event `Transmit`.
     pub fn recovery_ffi_transmit(
         handle: *mut Handle,
         now: u64,
@@ -854,10 +854,10 @@ unsafe extern "C" {
         checked: bool,
     ) -> EncodedReply;
 
-    /// May so many bytes be transmitted (RFC 9002, 7.7)? The event `PacerCheck`.
+    /// Checks whether the pacer permits this many bytes (RFC 9002, 7.7): the event `PacerCheck`.
     pub fn recovery_ffi_pacer_check(handle: *mut Handle, now: u64, bytes: u64) -> EncodedReply;
 
-    /// Packets of the current path were lost, or marked (RFC 9002, 7.3): the event `Congestion`.
+    /// Reports congestion on the path in use: packets were lost, or marked (RFC 9002, 7.3). The event `Congestion`.
     pub fn recovery_ffi_congestion(
         handle: *mut Handle,
         now: u64,
@@ -866,7 +866,7 @@ unsafe extern "C" {
         bytes: u64,
     ) -> EncodedReply;
 
-    /// All packets that one ACK newly acknowledges were told: the event `EndAcks`.
+    /// Ends the acknowledgements of one ACK frame: the event `EndAcks`.
     pub fn recovery_ffi_end_acks(
         handle: *mut Handle,
         now: u64,
@@ -875,7 +875,7 @@ unsafe extern "C" {
         largest: u64,
     ) -> EncodedReply;
 
-    /// Another path is used from now on (RFC 9000, 9.3): the event `NewPath`.
+    /// Changes to another path (RFC 9000, 9.3): the event `NewPath`.
     pub fn recovery_ffi_new_path(
         handle: *mut Handle,
         now: u64,
@@ -883,16 +883,16 @@ unsafe extern "C" {
         fresh: bool,
     ) -> EncodedReply;
 
-    /// The current path begins anew (RFC 9000, 9.4): the event `ResetPath`.
+    /// Resets the path in use (RFC 9000, 9.4): the event `ResetPath`.
     pub fn recovery_ffi_reset_path(handle: *mut Handle, now: u64) -> EncodedReply;
 
-    /// The previous path is dropped (RFC 9000, 9.3.3): the event `DropPrevious`.
+    /// Drops the previous path (RFC 9000, 9.3.3): the event `DropPrevious`.
     pub fn recovery_ffi_drop_previous(handle: *mut Handle) -> EncodedReply;
 
-    /// The previous path is used again, and the current one is dropped (RFC 9000, 9.3.2): the event `RevertPath`.
+    /// Returns to the previous path, and drops the current one (RFC 9000, 9.3.2): the event `RevertPath`.
     pub fn recovery_ffi_revert_path(handle: *mut Handle) -> EncodedReply;
 
-    /// The counts of ECN of an ACK frame (RFC 9000, 13.4.2): the event `Ecn`.
+    /// Processes the ECN counts of an ACK frame (RFC 9000, 13.4.2): the event `Ecn`.
     pub fn recovery_ffi_ecn(
         handle: *mut Handle,
         space: u8,
@@ -902,7 +902,7 @@ unsafe extern "C" {
         ce: u64,
     ) -> EncodedReply;
 
-    /// An ACK frame acknowledges a range of numbers (RFC 9000, 13.1): the event `CheckAck`.
+    /// Checks a range of packet numbers of an ACK frame (RFC 9000, 13.1): the event `CheckAck`.
     pub fn recovery_ffi_check_ack(
         handle: *mut Handle,
         space: u8,
@@ -910,42 +910,42 @@ unsafe extern "C" {
         high: u64,
     ) -> EncodedReply;
 
-    /// A probe packet is to be sent (RFC 9002, 6.2.4): the event `QueueProbe`.
+    /// Queues the contents of a probe packet (RFC 9002, 6.2.4): the event `QueueProbe`.
     pub fn recovery_ffi_queue_probe(
         handle: *mut Handle,
         space: u8,
         immediate_ack: bool,
     ) -> EncodedReply;
 
-    /// What waits to be sent again is handed out, to be read by `recovery_ffi_last_items`: the event `TakePending`.
+    /// Takes the retransmission queue, to be read by `recovery_ffi_last_items`: the event `TakePending`.
     pub fn recovery_ffi_take_pending(handle: *mut Handle, space: u8) -> EncodedReply;
 
-    /// What is kept for a path.
+    /// Returns the state of a path.
     pub fn recovery_ffi_path(handle: *mut Handle, previous: bool) -> PathView;
 
-    /// What a space has to send; of one that there is not what is said of a discarded one.
+    /// Returns what a space has to send. A space that does not exist is read as a discarded one.
     pub fn recovery_ffi_space(handle: *mut Handle, space: u8) -> SpaceView;
 
-    /// One of the ranges of numbers that are to be acknowledged in a space, in ascending order.
+    /// Returns one of the ranges of packet numbers to be acknowledged in a space, in ascending order.
     pub fn recovery_ffi_range(handle: *mut Handle, space: u8, index: usize) -> RangeView;
 
-    /// How long ago the largest packet of a space came, which an ACK frame tells (RFC 9000, 13.2.5): zero before the first,
-    /// none where there is no such space or it is discarded.
+    /// Returns how long ago the largest packet of a space was received, for the ACK Delay of an ACK frame (RFC 9000,
+    /// 13.2.5). It is zero before the first, and none if there is no such space or it is discarded.
     pub fn recovery_ffi_ack_delay(handle: *mut Handle, space: u8, now: u64) -> TimeView;
 
-    /// When a timer expires.
+    /// Returns when a timer expires.
     pub fn recovery_ffi_timer(handle: *mut Handle, timer: u8) -> TimeView;
 
-    /// The ids of both ends, and how late ACKs may be.
+    /// Returns the connection IDs of both endpoints, and their max_ack_delay.
     pub fn recovery_ffi_ids(handle: *mut Handle) -> IdsView;
 
-    /// When the oldest of this end's ids is to be retired (RFC 9000, 5.1.2), where they end: what `TIMER_PUSH_NEW_CID` is
-    /// set to.
+    /// Returns when the oldest of the local connection IDs is to be retired (RFC 9000, 5.1.2), if they expire. Set
+    /// `TIMER_PUSH_NEW_CID` to it.
     pub fn recovery_ffi_next_id_timeout(handle: *mut Handle) -> TimeView;
 
-    /// Makes a recovery of a sender, of the client or else of the server, whose peer is at this address and has this id of
-    /// at most 20 bytes. A client's first path is validated, whatever the settings say (RFC 9000, 8.1). The answer is
-    /// `NEW_MADE`, or the number of what is wrong; the handle then holds what it held.
+    /// Makes a recovery of a sender, of a client if `client`, else of a server. Its peer is at this address and has this
+    /// connection ID of at most 20 bytes. A client's first path is validated, whatever the settings say (RFC 9000, 8.1).
+    /// Returns `NEW_MADE`, or the number of what is wrong, which leaves the handle unchanged.
     pub fn recovery_ffi_sender_new(
         handle: *mut Handle,
         client: bool,
@@ -956,10 +956,10 @@ unsafe extern "C" {
         now: u64,
     ) -> u8;
 
-    /// Makes a recovery of a sender whose handshake is over, as `recovery_ffi_sender_new` makes one, and then
-    /// `recovery_ffi_validated`, `recovery_ffi_sender_handshake_confirmed` and `recovery_ffi_sender_discard` of the Initial
-    /// and the Handshake space: 1-RTT packets alone are sent and probed for (RFC 9001, 4.1.2 and 4.9). The answer is that
-    /// of `recovery_ffi_sender_new`.
+    /// Makes a recovery of a sender whose handshake is confirmed (RFC 9001, 4.1.2 and 4.9). It calls
+    /// `recovery_ffi_sender_new`, `recovery_ffi_validated`, `recovery_ffi_sender_handshake_confirmed`, and
+    /// `recovery_ffi_sender_discard` for the Initial and the Handshake space. Only 1-RTT packets are then sent and probed
+    /// for. The results are those of `recovery_ffi_sender_new`.
     pub fn recovery_ffi_sender_established(
         handle: *mut Handle,
         client: bool,
@@ -970,11 +970,11 @@ unsafe extern "C" {
         now: u64,
     ) -> u8;
 
-    /// Whether a datagram of so many bytes goes out now, with packets of a space: `ANSWER_TRANSMITTED`, and it is counted;
-    /// `ANSWER_BLOCKED` by the limit against amplification (RFC 9000, 8.1); `ANSWER_FULL` where the window has no room (RFC
-    /// 9002, 7); `ANSWER_DELAYED` by the pacer, until `first` (RFC 9002, 7.7). Where nothing in it counts in flight, or a
-    /// probe is due in the space, the limit alone is asked. The packets in it are told by `recovery_ffi_send` before the
-    /// next datagram is asked for. Refused by `REFUSAL_SPACE_DISCARDED`, then by `REFUSAL_OVERFLOW`.
+    /// Checks whether a datagram with packets of a space may be sent now. The reply is `ANSWER_TRANSMITTED`, and the
+    /// datagram is counted; `ANSWER_BLOCKED` by the amplification limit (RFC 9000, 8.1); `ANSWER_FULL` if the window has no
+    /// room (RFC 9002, 7); or `ANSWER_DELAYED` by the pacer, until `first` (RFC 9002, 7.7). If nothing in it counts in
+    /// flight, or a probe is due in the space, only the amplification limit is checked. Report its packets by
+    /// `recovery_ffi_send` before the next datagram. Errors: `REFUSAL_SPACE_DISCARDED`, then `REFUSAL_OVERFLOW`.
     pub fn recovery_ffi_sender_transmit(
         handle: *mut Handle,
         now: u64,
@@ -983,14 +983,15 @@ unsafe extern "C" {
         in_flight: bool,
     ) -> EncodedReply;
 
-    /// An ACK frame came in (RFC 9002, A.7), with its ranges, the highest first, as on the wire: `ANSWER_ACKNOWLEDGED`,
-    /// with how many numbers it newly acknowledges in `first`, how many packets it declares lost in `second`, and in `flag`
-    /// whether `recovery_ffi_last_outcome` has more than that. `recovery_ffi_told_numbers` and `recovery_ffi_told_packets`
-    /// say which they are. Nothing changes if the answer is an error: `REFUSAL_SPACE_DISCARDED`; `REFUSAL_BAD_RANGE` if
-    /// there is no range, one ends before it begins, or two have no number between them (RFC 9000, 19.3.1);
-    /// `REFUSAL_UNSENT`; `REFUSAL_SKIPPED_ACKED` (RFC 9000, 21.4); or `REFUSAL_NO_MEMORY`. Nothing changes either at
-    /// `ANSWER_NEEDS_ROOM`: the caller limits its room (`is_limited`), and has too little. `first` is then how many words
-    /// of packets, and `second` how many lost numbers, it needs room for.
+    /// Processes a received ACK frame (RFC 9002, A.7), with its ranges, the highest first, as on the wire. The reply
+    /// `ANSWER_ACKNOWLEDGED` has in `first` how many packets are newly acknowledged, in `second` how many are declared
+    /// lost, and in `flag` whether `recovery_ffi_last_outcome` has more than that. Read the packets by
+    /// `recovery_ffi_told_numbers` and `recovery_ffi_told_packets`. Errors, which change nothing:
+    /// `REFUSAL_SPACE_DISCARDED`; `REFUSAL_BAD_RANGE` if there is no range, one ends before it begins, or two have no
+    /// number between them (RFC 9000, 19.3.1); `REFUSAL_UNSENT`; `REFUSAL_SKIPPED_ACKED` (RFC 9000, 21.4);
+    /// `REFUSAL_NO_MEMORY`. If the caller limits its room (`is_limited`) and has too little, the reply is
+    /// `ANSWER_NEEDS_ROOM`, and nothing changes. `first` is then how many words of packets, and `second` how many lost
+    /// numbers, it needs room for.
     pub fn recovery_ffi_sender_ack(
         handle: *mut Handle,
         space: u8,
@@ -1000,71 +1001,69 @@ unsafe extern "C" {
         ranges_len: usize,
     ) -> EncodedReply;
 
-    /// The timer for losses may be due (RFC 9002, A.9): `ANSWER_NOTHING` if it is not; `ANSWER_LOSSES` if a space was
-    /// searched for lost packets, with the space in `first`, and `recovery_ffi_last_outcome` and
-    /// `recovery_ffi_told_numbers` say which are lost; or `ANSWER_PROBES`, with the space in `first` and in `second` how
-    /// many probes are due there, 1 or 2. For each of them the caller asks `recovery_ffi_sender_transmit`, takes its
-    /// contents by `recovery_ffi_sender_probe`, and sends it by `recovery_ffi_send`. The error is `REFUSAL_NO_MEMORY`, if
-    /// there is no room for the numbers of the packets that may be lost; then nothing has changed. A timeout that asks for
-    /// probes takes no memory.
+    /// Handles the loss detection timer, which may be due (RFC 9002, A.9). The reply is `ANSWER_NOTHING` if it is not. It
+    /// is `ANSWER_LOSSES` after a loss detection pass over the space in `first`: read the losses by
+    /// `recovery_ffi_last_outcome` and `recovery_ffi_told_numbers`. It is `ANSWER_PROBES` if probes are due in the space in
+    /// `first`; `second` is how many, 1 or 2. For each, call `recovery_ffi_sender_transmit`, take its contents by
+    /// `recovery_ffi_sender_probe`, and send it by `recovery_ffi_send`. The error is `REFUSAL_NO_MEMORY` if there is no
+    /// room for the numbers of the packets that may be lost; then nothing has changed. A timeout that asks for probes
+    /// allocates nothing.
     pub fn recovery_ffi_sender_on_timeout(handle: *mut Handle, now: u64) -> EncodedReply;
 
-    /// Hands out what a probe of a space carries (RFC 9002, 6.2.4), to be read by `recovery_ffi_last_items`: what waits
-    /// there to be sent again, or else the contents of the first packet in flight that has any: `ANSWER_QUEUE`. A queue
-    /// without items asks for a PING frame. `immediate_ack` asks for an IMMEDIATE_ACK frame in it. Refused by
-    /// `REFUSAL_SPACE_DISCARDED`, then by `REFUSAL_NO_MEMORY`; then nothing changed.
+    /// Takes the contents of a probe in a space (RFC 9002, 6.2.4), to be read by `recovery_ffi_last_items`: `ANSWER_QUEUE`.
+    /// They are what is queued for retransmission, or else the contents of the first packet in flight that has any. If
+    /// there are no items, send a PING frame. `immediate_ack` asks for an IMMEDIATE_ACK frame in it. Errors, which change
+    /// nothing: `REFUSAL_SPACE_DISCARDED`, then `REFUSAL_NO_MEMORY`.
     pub fn recovery_ffi_sender_probe(
         handle: *mut Handle,
         space: u8,
         immediate_ack: bool,
     ) -> EncodedReply;
 
-    /// The keys of a space are dropped, and with them all that it tracks; probe timeouts are counted anew (RFC 9002, 6.2.2,
-    /// 6.4 and A.11): `ANSWER_DONE`. Refused by `REFUSAL_SPACE_DISCARDED`.
+    /// Discards a space with its keys and its tracked packets, and resets the count of probe timeouts (RFC 9002, 6.2.2, 6.4
+    /// and A.11): `ANSWER_DONE`. Error: `REFUSAL_SPACE_DISCARDED`.
     pub fn recovery_ffi_sender_discard(handle: *mut Handle, space: u8, now: u64) -> EncodedReply;
 
-    /// What a space tracks was sent in vain, before a Retry or if 0-RTT is rejected (RFC 9002, 6.3 and 6.4). Each packet is
-    /// declared lost, which is no congestion, and probe timeouts are counted from zero: `ANSWER_LOSSES`, and
-    /// `recovery_ffi_told_numbers` says which. With `is_cut` in `recovery_ffi_last_outcome` allocation failed for some
-    /// packets, which are still tracked, and the same call goes on with them. The errors are `REFUSAL_SPACE_DISCARDED` and
-    /// `REFUSAL_NO_MEMORY`; then nothing has changed.
+    /// Declares all packets of a space lost, because they will not be acknowledged: after a Retry, or if 0-RTT is rejected
+    /// (RFC 9002, 6.3 and 6.4). This does not indicate congestion. Resets the count of probe timeouts. The reply is
+    /// `ANSWER_LOSSES`; read the packets by `recovery_ffi_told_numbers`. If `is_cut` in `recovery_ffi_last_outcome`,
+    /// allocation failed for some packets, which are still tracked: the same call continues with them. Errors, which change
+    /// nothing: `REFUSAL_SPACE_DISCARDED`, `REFUSAL_NO_MEMORY`.
     pub fn recovery_ffi_sender_retransmit_all(
         handle: *mut Handle,
         space: u8,
         now: u64,
     ) -> EncodedReply;
 
-    /// There are keys of Handshake packets (RFC 9002, A.8): `ANSWER_DONE`.
+    /// Records that Handshake keys are available (RFC 9002, A.8): `ANSWER_DONE`.
     pub fn recovery_ffi_sender_handshake_keys(handle: *mut Handle) -> EncodedReply;
 
-    /// The handshake is confirmed (RFC 9001, 4.1.2): packets of 1-RTT keys are probed for from now on, and a client knows
-    /// its address validated (RFC 9002, 6.2.1 and 6.2.2.1): `ANSWER_DONE`.
+    /// Records that the handshake is confirmed (RFC 9001, 4.1.2): `ANSWER_DONE`. From then on 1-RTT packets are probed for,
+    /// and a client knows its address validated (RFC 9002, 6.2.1 and 6.2.2.1).
     pub fn recovery_ffi_sender_handshake_confirmed(handle: *mut Handle) -> EncodedReply;
 
-    /// The peer delays its ACKs of 1-RTT packets at most so long (RFC 9000, 18.2: max_ack_delay): `ANSWER_DONE`. There are
-    /// fewer than 10^9 nanoseconds.
+    /// Sets the peer's max_ack_delay, for 1-RTT packets (RFC 9000, 18.2): `ANSWER_DONE`. Nanoseconds are below 10^9.
     pub fn recovery_ffi_sender_peer_delay(
         handle: *mut Handle,
         secs: u64,
         nanos: u32,
     ) -> EncodedReply;
 
-    /// Sets the RTT that timers use before the first RTT sample of the path in use, in place of that of the settings (RFC
-    /// 9002, 6.2.2): `ANSWER_DONE`. A new path whose RTT begins anew goes by the settings again. There are fewer than 10^9
-    /// nanoseconds.
+    /// Sets the RTT that timers use before the first RTT sample of the path in use, instead of the one in the settings (RFC
+    /// 9002, 6.2.2): `ANSWER_DONE`. If the RTT of the path is reset, the settings apply again. Nanoseconds are below 10^9.
     pub fn recovery_ffi_sender_initial_rtt(
         handle: *mut Handle,
         secs: u64,
         nanos: u32,
     ) -> EncodedReply;
 
-    /// What the timer for losses waits for, or why it is not set, and how many bytes the window and the amplification limit
-    /// still let out on the path in use. All is 0 if there is no sender.
+    /// Returns the purpose of the loss detection timer, or why it is not set, and how many more bytes the window and the
+    /// amplification limit permit on the path in use. All is 0 if there is no sender.
     pub fn recovery_ffi_sender_view(handle: *mut Handle) -> SenderView;
 
-    /// A PATH_CHALLENGE frame with this content is open on the path in use, where `is_open`, and one is to be sent, where
-    /// `pending` (RFC 9000, 8.2.1): `ANSWER_DONE`. While one is open the window does not grow: what is acknowledged may
-    /// have gone by the path before it (RFC 9000, 9.4).
+    /// Stores whether a PATH_CHALLENGE frame with this data is outstanding on the path in use (`is_open`), and whether one
+    /// is to be sent (`pending`) (RFC 9000, 8.2.1): `ANSWER_DONE`. While one is outstanding, the window does not grow: an
+    /// acknowledged packet may have been sent on the path before it (RFC 9000, 9.4).
     pub fn recovery_ffi_sender_challenge(
         handle: *mut Handle,
         content: u64,
@@ -1072,16 +1071,16 @@ unsafe extern "C" {
         pending: bool,
     ) -> EncodedReply;
 
-    /// How many probe timeouts expired in a row, by which the next one is doubled (RFC 9002, 6.2.1); 0 where there is no
+    /// Returns the number of consecutive probe timeouts, each of which doubles the next (RFC 9002, 6.2.1); 0 if there is no
     /// sender.
     pub fn recovery_ffi_pto_count(handle: *mut Handle) -> u32;
 
-    /// The last outcome: of an ACK frame that was taken, of a timeout that searched for losses, or of a space whose packets
+    /// Returns the last outcome: of an ACK frame, of a timeout that made a loss detection pass, or of a space whose packets
     /// were all declared lost. It is empty before the first, and if there is no sender.
     pub fn recovery_ffi_last_outcome(handle: *mut Handle) -> OutcomeView;
 
-    /// How many numbers were newly acknowledged as something was told last, or, with `lost`, how many were found lost,
-    /// without that of the MTU's probe; they are written, rising, where there is room for all.
+    /// Returns how many packets the last outcome newly acknowledged or, with `lost`, declared lost, without the MTU probe.
+    /// Writes their numbers in increasing order, if there is room for all.
     pub fn recovery_ffi_told_numbers(
         handle: *mut Handle,
         lost: bool,
@@ -1089,21 +1088,22 @@ unsafe extern "C" {
         out_len: usize,
     ) -> usize;
 
-    /// Of each packet that was newly acknowledged as something was told last, rising: its number, how many items it
-    /// carried, and these. How many words that are; they are written where there is room for all.
+    /// Returns how many words the packets take that the last outcome newly acknowledged, and writes these if there is room
+    /// for all. For each packet, in increasing order: its number, its item count, and its items.
     pub fn recovery_ffi_told_packets(handle: *mut Handle, out: *mut u64, out_len: usize) -> usize;
 
-    /// The default settings: an address that is not validated, ACKs 25 ms late at most, ids of 8 bytes that last 10 s, one
-    /// of them issued, no skips, an RTT of 333 ms, MTUs of 1200 bytes and up to 1452, NewReno with 12,000 bytes and a
-    /// half, and for senders thresholds of 3 packets, 9/8 of an RTT and 3 probe timeouts.
+    /// Returns the default settings: an address that is not validated, a max_ack_delay of 25 ms, and one issued connection
+    /// ID of 8 bytes with a lifetime of 10 s. No skips, an RTT of 333 ms, MTUs from 1200 to 1452 bytes, and NewReno with a
+    /// window of 12,000 bytes and a factor of a half. For senders, thresholds of 3 packets, 9/8 of an RTT and 3 probe
+    /// timeouts.
     pub fn recovery_ffi_default_settings() -> Settings;
 
-    /// A timer is set to a moment in nanoseconds: the event `SetTimer`.
+    /// Sets a timer to a time in nanoseconds: the event `SetTimer`.
     pub fn recovery_ffi_set_timer(handle: *mut Handle, timer: u8, time: u64) -> EncodedReply;
 
-    /// A timer is stopped: the event `StopTimer`.
+    /// Stops a timer: the event `StopTimer`.
     pub fn recovery_ffi_stop_timer(handle: *mut Handle, timer: u8) -> EncodedReply;
 
-    /// When does the next timer expire? The event `NextTimeout`.
+    /// Returns when the next timer expires: the event `NextTimeout`.
     pub fn recovery_ffi_next_timeout(handle: *mut Handle) -> EncodedReply;
 }
