@@ -49,20 +49,20 @@ IN_RUST = {
 # what Rust says of an enum in place of the library, and of a variant beside it
 BESIDE = {
     "Event": [
-        "What happens. A packet carries the numbers of items that are to be sent again when it is lost: what they stand for the",
-        "layer above knows.",
+        "An event. A packet carries the numbers of items that are retransmitted if it is lost. The caller defines what the items",
+        "are.",
     ],
     "Event::TakePending": [
         "",
-        "Refused by `NoMemory` too, where this crate finds none for the answer: the items can then still be read by",
+        "Fails with `NoMemory` too if this crate cannot allocate the answer. The items can then still be read by",
         "[`Recovery::last_items`](crate::Recovery::last_items).",
     ],
-    "Answer::Retire": ["", "The token is read by [`Recovery::reset_token`](crate::Recovery::reset_token)."],
+    "Answer::Retire": ["", "Read the token by [`Recovery::reset_token`](crate::Recovery::reset_token)."],
     "Answer::Flag": [
         "",
-        "`true` says of `IdTimeout` that the peer is to be asked, by a NEW_CONNECTION_ID frame, to retire a number that it did not",
-        "retire yet; of `PeerRetired` that the peer is ready to hold one id more; of `AckFrequencyIn` that the frame is newer than",
-        "the last one, and taken; of `Ecn` that more packets were marked as congested.",
+        "`true` means, for `IdTimeout`: ask the peer, by a NEW_CONNECTION_ID frame, to retire a connection ID that it did not",
+        "retire yet. For `PeerRetired`: the peer can hold one more connection ID. For `AckFrequencyIn`: the frame is newer than",
+        "the last one, and applies. For `Ecn`: more packets were marked with CE.",
     ],
 }
 LOGIC = ROOT / "LOGIC"
@@ -75,34 +75,34 @@ ONE = {"AckedProbe": "Acked", "LostProbe": "Lost"}
 
 # what a reply's `flag`, `first`, `second`, `other` and `size` are, by its kind: their names in C, and what each says
 REPLIES = {
-    "NEW": [("arm", "flag", "Whether to start the timer for a late ACK.")],
+    "NEW": [("arm", "flag", "Whether to start the ACK delay timer.")],
     "SENT": [("number", "first", "The number of the packet."),
-             ("has_forgotten", "flag", "Whether a packet that elicits no ACK is no longer tracked."),
+             ("has_forgotten", "flag", "Whether a non-ack-eliciting packet is no longer tracked."),
              ("forgotten", "second", "The number of that packet.")],
-    "ACKED": [("is_probe", "flag", "Whether the packet was the probe of the path's MTU.")],
-    "LOST": [("is_probe", "flag", "Whether the packet was the probe of the path's MTU.")],
-    "RETIRE": [("some", "flag", "Whether numbers of the peer's ids are to be retired."),
-               ("start", "first", "The first of these numbers."),
-               ("end", "second", "One above the last of these numbers.")],
+    "ACKED": [("is_probe", "flag", "Whether the packet was the MTU probe of the path.")],
+    "LOST": [("is_probe", "flag", "Whether the packet was the MTU probe of the path.")],
+    "RETIRE": [("some", "flag", "Whether connection IDs of the peer are to be retired."),
+               ("start", "first", "The first of their sequence numbers."),
+               ("end", "second", "One above the last of their sequence numbers.")],
     "FLAG": [("value", "flag", "Yes or no, as the event asks.")],
-    "TIMEOUT": [("some", "flag", "Whether a timer is set."),
-                ("nanos", "first", "When the earliest of them expires, in nanoseconds.")],
+    "TIMEOUT": [("some", "flag", "Whether a timer is running."),
+                ("nanos", "first", "When the earliest timer expires, in nanoseconds.")],
     "IN_FLIGHT": [("bytes", "first", "The bytes in flight."),
-                  ("ack_eliciting", "second", "How many packets in flight elicit an ACK.")],
+                  ("ack_eliciting", "second", "How many packets in flight are ack-eliciting.")],
     "DELAYED": [("until", "first", "Until when the pacer delays the datagram, in nanoseconds.")],
     "PROBE": [("number", "first", "The number of the probe's packet."),
               ("size", "size", "The size of the probe's datagram, in bytes.")],
     "BLACK_HOLE": [("found", "flag", "Whether a black hole is reported.")],
     "SENDABLE": [("acks", "flag", "Whether an ACK is to be sent."),
-                 ("other", "other", "Whether something else is to be sent.")],
+                 ("other", "other", "Whether there is something else to send.")],
     "ACKNOWLEDGED": [("count", "first", "How many packets the frame newly acknowledges."),
                      ("lost", "second", "How many packets are declared lost."),
-                     ("has_more", "flag", "Whether `recovery_ffi_last_outcome` says more than these two numbers.")],
-    "LOSSES": [("space", "first", "The space of the packets, for a timeout.")],
+                     ("has_more", "flag", "Whether `recovery_ffi_last_outcome` has more than these two counts.")],
+    "LOSSES": [("space", "first", "The space of the lost packets, for a timeout.")],
     "PROBES": [("space", "first", "The space to probe in."),
                ("count", "second", "How many probes are due, 1 or 2.")],
-    "NEEDS_ROOM": [("packets", "first", "How many words of packets need room."),
-                   ("lost", "second", "How many lost numbers need room.")],
+    "NEEDS_ROOM": [("packets", "first", "How many words of packets the caller needs room for."),
+                   ("lost", "second", "How many lost numbers the caller needs room for.")],
     "REFUSED": [("fault", "first", "The fault, if the error is `RECOVERY_REFUSAL_ECN`.")],
 }
 BARE = set("DUPLICATE TRANSMITTED BLOCKED READY NO_PROBE QUEUE DONE FULL NOTHING".split())  # answers that hold no more
@@ -110,16 +110,16 @@ IN_C = {"flag": "bool", "other": "bool", "size": "uint16_t", "first": "uint64_t"
 
 # what each group of numbers says
 GROUPS = {
-    "ANSWER": "What an event is answered: `kind` of a reply.",
-    "REFUSAL": "Why it is refused: `refusal` of a reply.",
-    "FAULT": "What is wrong with the peer's counts of ECN (RFC 9000, 13.4.2.1): `first` of a reply that is refused by ECN.",
-    "ECN": "What the counts of ECN of an ACK frame come to for a sender (RFC 9000, 13.4.2.1).",
-    "AWAITS": "What the timer for losses of a sender waits for: `awaits` of a sender's view.",
-    "NEW": "What comes of `recovery_ffi_new`.",
+    "ANSWER": "The answers: `kind` of a reply.",
+    "REFUSAL": "The errors: `refusal` of a reply.",
+    "FAULT": "What is wrong with the peer's ECN counts (RFC 9000, 13.4.2.1): `first` of a reply with the ECN error.",
+    "ECN": "The outcome of an ACK frame's ECN counts for a sender (RFC 9000, 13.4.2.1).",
+    "AWAITS": "The purpose of a sender's loss detection timer: `awaits` of a sender's view.",
+    "NEW": "The results of `recovery_ffi_new`.",
     "CONTROLLER": "Which congestion controller paths have.",
     "SKIPS": "How packet numbers are skipped (RFC 9000, 21.4).",
     "SPACE": "The packet number spaces (RFC 9000, 12.3).",
-    "TIMER": "What a timer is for.",
+    "TIMER": "The timers of a connection.",
 }
 
 tests = tree.Tests("rust")
@@ -208,10 +208,10 @@ def checksum():
 
 
 def declared_in_library():
-    yield "//! Which layout crosses: written by `tests/rust.py --write`."
+    yield "//! The layout of the interface: written by `tests/rust.py --write`."
     yield ""
-    yield "/// A program that was written for this layout names this function, and links with a library of the same layout alone."
-    yield "/// It does nothing."
+    yield "/// A program for this layout names this function, and so links only with a library of the same layout."
+    yield "/// Does nothing."
     yield "#[unsafe(no_mangle)]"
     yield f'pub extern "C" fn recovery_ffi_layout_{checksum()}() {{}}'
 
@@ -232,7 +232,7 @@ def crossing(name, kind, in_c):
 
 
 def declared_in_rust():
-    yield "//! What crosses to the proved library and what it exports: written by `tests/rust.py --write` from the sources of the"
+    yield "//! The declarations of the proved library and its exports: written by `tests/rust.py --write` from the sources of the"
     yield "//! library, and compared with them by its tests."
     for group, found in constants().items():
         yield ""
@@ -280,9 +280,9 @@ def texts_in_c():
     refusals = [(name, texts.get(name) or sentence(docs)) for name, _, docs in groups["REFUSAL"]]
     functions = [
         ("recovery_ffi_text", "refusal", "REFUSAL", refusals, [
-            "The text of an error: of `refusal` of a reply. Of one by ECN `recovery_ffi_fault_text` says more."]),
-        ("recovery_ffi_fault_text", "fault", "FAULT", fault_texts().items(), ["The text of a fault of ECN: `recovery_refused_fault` of a reply."]),
-        ("recovery_ffi_new_text", "code", "NEW", [(name, sentence(docs)) for name, _, docs in groups["NEW"]], ["The text of what `recovery_ffi_new` returns."]),
+            "Returns the text of an error, the `refusal` of a reply. For an ECN error, `recovery_ffi_fault_text` returns more."]),
+        ("recovery_ffi_fault_text", "fault", "FAULT", fault_texts().items(), ["Returns the text of an ECN fault, the `recovery_refused_fault` of a reply."]),
+        ("recovery_ffi_new_text", "code", "NEW", [(name, sentence(docs)) for name, _, docs in groups["NEW"]], ["Returns the text of a result of `recovery_ffi_new`."]),
     ]
     for name, given, group, arms, docs in functions:
         yield ""
@@ -303,7 +303,7 @@ def readers_in_c():
     if known != BARE | set(REPLIES):
         sys.exit(f"rust: REPLIES and BARE of tests/rust.py do not have the answers of numbers.rt: {', '.join(sorted(known ^ (BARE | set(REPLIES))))}")
     yield ""
-    yield "// What a reply says, by names: each of these reads a reply of the kind that it names, and of no other."
+    yield "// The contents of replies by name: each function reads replies of the kind in its name, and no others."
     for kind, fields in REPLIES.items():
         yield ""
         for name, field, docs in fields:
@@ -312,7 +312,7 @@ def readers_in_c():
 
 
 def declared_in_c():
-    yield "// What crosses to the proved library and what it exports: written by tests/rust.py --write from the sources of the library,"
+    yield "// The declarations of the proved library and its exports: written by tests/rust.py --write from the sources of the library,"
     yield "// and compared with them by its tests. docs/C.md says what a caller must ensure. A handle begins as all zeros."
     yield "#ifndef RECOVERY_FFI_H"
     yield "#define RECOVERY_FFI_H"
@@ -325,7 +325,7 @@ def declared_in_c():
     yield 'extern "C" {'
     yield "#endif"
     yield ""
-    yield "// No error: what `recovery_ffi_new` and its like return, and `refusal` of a reply, unless something is wrong."
+    yield "// No error: the result of `recovery_ffi_new` and of similar functions, and the `refusal` of a reply, if nothing is wrong."
     yield "enum recovery_ok { RECOVERY_OK = 0 };"
     for group, found in constants().items():
         yield ""
@@ -427,7 +427,7 @@ def faults_in_rust():
     """What is wrong with counts of ECN."""
     found, told = constants()["FAULT"], fault_texts()
     camel = {name: "".join(it.capitalize() for it in name.split("_")) for name, _, _ in found}
-    yield "/// What is wrong with the peer's counts of ECN (RFC 9000, 13.4.2.1)."
+    yield "/// What is wrong with the peer's ECN counts (RFC 9000, 13.4.2.1)."
     yield "#[derive(Clone, Copy, Debug, PartialEq, Eq, Hash)]"
     yield "#[non_exhaustive]"
     yield "pub enum EcnFault {"
@@ -450,13 +450,13 @@ def refusals_in_rust():
     numbered = [(name, "(_)" if "{0}" in said else "") for name, said in texts.items()]
     yield ""
     yield "impl Refusal {"
-    yield "    /// By the number that the library gives it; of one by ECN with the number of the fault."
+    yield "    /// Returns the error with this number of the library; for the ECN error, with the number of the fault."
     yield "    pub(crate) fn from_number(number: u8, fault: u64) -> Self {"
     made = lambda name, holds: f"Refusal::{name}(EcnFault::from_number(fault))" if holds else f"Refusal::{name}"
     yield from cases([(f"ffi::REFUSAL_{snake(name)}", made(name, holds)) for name, holds in numbered], "refusal")
     yield "    }"
     yield ""
-    yield "    /// The number by which scripts and logs know the refusal."
+    yield "    /// Returns the number of the error in scripts and logs."
     yield "    pub fn number(self) -> u8 {"
     yield "        match self {"
     yield from (f"            Refusal::{name}{holds} => ffi::REFUSAL_{snake(name)}," for name, holds in numbered)
@@ -470,8 +470,8 @@ def refusals_in_rust():
 
 
 def events_in_rust():
-    yield "//! What happens to a connection, what is answered, and why an event is refused: written by `tests/rust.py --write` from the"
-    yield "//! sources of the library, and compared with them by its tests."
+    yield "//! Events, answers and errors: written by `tests/rust.py --write` from the sources of the library, and compared with them by"
+    yield "//! its tests."
     yield "use crate::ffi;"
     yield "use crate::timer::Timer;"
     yield "use crate::types::{AckFrequency, ConnectionId, EcnCounts, Instant, IssuedCid, NewConnectionId, PathName, SendableFrames, SpaceId};"
@@ -492,11 +492,11 @@ def events_in_rust():
 
 
 def timers_in_rust():
-    yield "//! What timers are for, and their names: written by `tests/rust.py --write` from the sources of the library, and compared with"
+    yield "//! Timers, and their names: written by `tests/rust.py --write` from the sources of the library, and compared with"
     yield "//! them by its tests."
     yield "use crate::ffi;"
     yield ""
-    yield "/// What a timer is for."
+    yield "/// The timers of a connection."
     yield "#[derive(Clone, Copy, Debug, PartialEq, Eq, PartialOrd, Ord, Hash)]"
     yield "#[repr(u8)]"
     yield "pub enum Timer {"
@@ -510,14 +510,14 @@ def timers_in_rust():
     yield "    /// All timers, in the order of the enum."
     yield f"    pub const VALUES: [Timer; {len(found)}] = [{', '.join(f'Timer::{name}' for (name, _), _ in found)}];"
     yield ""
-    yield "    /// The timer's name in scripts and logs: small letters with hyphens."
+    yield "    /// Returns the timer's name in scripts and logs: small letters with hyphens."
     yield "    pub fn name(self) -> &'static str {"
     yield "        match self {"
     yield from (f'            Timer::{name} => "{said}",' for (name, _), said in found)
     yield "        }"
     yield "    }"
     yield ""
-    yield "    /// The timer of this name, or `None` where none has it."
+    yield "    /// Returns the timer with this name, or `None` if none has it."
     yield "    pub fn named(name: &str) -> Option<Self> {"
     yield "        Timer::VALUES.into_iter().find(|it| it.name() == name)"
     yield "    }"

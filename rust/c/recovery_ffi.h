@@ -1,4 +1,4 @@
-// What crosses to the proved library and what it exports: written by tests/rust.py --write from the sources of the library,
+// The declarations of the proved library and its exports: written by tests/rust.py --write from the sources of the library,
 // and compared with them by its tests. docs/C.md says what a caller must ensure. A handle begins as all zeros.
 #ifndef RECOVERY_FFI_H
 #define RECOVERY_FFI_H
@@ -11,14 +11,14 @@
 extern "C" {
 #endif
 
-// No error: what `recovery_ffi_new` and its like return, and `refusal` of a reply, unless something is wrong.
+// No error: the result of `recovery_ffi_new` and of similar functions, and the `refusal` of a reply, if nothing is wrong.
 enum recovery_ok { RECOVERY_OK = 0 };
 
-// What an event is answered: `kind` of a reply.
+// The answers: `kind` of a reply.
 enum recovery_answer {
     // The packet is new.
     RECOVERY_ANSWER_NEW = 0,
-    // The packet may have come before: it is to be dropped.
+    // The packet is a duplicate, or too old to tell: drop it.
     RECOVERY_ANSWER_DUPLICATE = 1,
     // The packet is sent.
     RECOVERY_ANSWER_SENT = 2,
@@ -26,11 +26,11 @@ enum recovery_answer {
     RECOVERY_ANSWER_ACKED = 3,
     // The packet is lost, and no longer tracked.
     RECOVERY_ANSWER_LOST = 4,
-    // Which numbers of the peer's ids are to be retired.
+    // Which of the peer's connection IDs to retire.
     RECOVERY_ANSWER_RETIRE = 5,
     // Yes or no, as the event asks.
     RECOVERY_ANSWER_FLAG = 6,
-    // The least moment that a timer is set to, if any.
+    // The earliest running timer, if any.
     RECOVERY_ANSWER_TIMEOUT = 7,
     // What is in flight on a path.
     RECOVERY_ANSWER_IN_FLIGHT = 8,
@@ -38,40 +38,40 @@ enum recovery_answer {
     RECOVERY_ANSWER_TRANSMITTED = 9,
     // The datagram is not transmitted, by the amplification limit.
     RECOVERY_ANSWER_BLOCKED = 10,
-    // The bytes are not to be transmitted yet, by the pacer.
+    // The pacer delays the bytes.
     RECOVERY_ANSWER_DELAYED = 11,
-    // The bytes may be transmitted now, as far as the pacer goes.
+    // The pacer permits the bytes now.
     RECOVERY_ANSWER_READY = 12,
-    // A probe of the path's MTU goes out.
+    // An MTU probe of the path is sent.
     RECOVERY_ANSWER_PROBE = 13,
-    // No probe of the path's MTU is due.
+    // No MTU probe of the path is due.
     RECOVERY_ANSWER_NO_PROBE = 14,
     // Whether a black hole was reported.
     RECOVERY_ANSWER_BLACK_HOLE = 15,
     // What can be sent.
     RECOVERY_ANSWER_SENDABLE = 16,
-    // What is to be sent again.
+    // A retransmission queue.
     RECOVERY_ANSWER_QUEUE = 17,
     // The event has no other answer.
     RECOVERY_ANSWER_DONE = 18,
-    // The window has no room for the datagram of a sender. The answers that senders alone give lie above those of events,
-    // so that further ones of these do not move them.
+    // The window has no room for a sender's datagram. The answers of senders alone are above those of events, so that new
+    // answers of events do not move them.
     RECOVERY_ANSWER_FULL = 128,
-    // An ACK frame of a sender is taken.
+    // A sender processed an ACK frame.
     RECOVERY_ANSWER_ACKNOWLEDGED = 129,
     // No timer of the sender is due.
     RECOVERY_ANSWER_NOTHING = 130,
-    // Packets were looked for that are lost, in the space that `first` names for a timeout.
+    // A loss detection pass was made; for a timeout, `first` is its space.
     RECOVERY_ANSWER_LOSSES = 131,
-    // Probes are to be sent.
+    // Probes are due.
     RECOVERY_ANSWER_PROBES = 132,
     // The caller has too little room for what an ACK frame results in: nothing is done.
     RECOVERY_ANSWER_NEEDS_ROOM = 133,
-    // The event is refused. It lies far from the answers, so that further ones do not move it.
+    // The call fails. The number is far from the answers, so that new ones do not move it.
     RECOVERY_ANSWER_REFUSED = 255,
 };
 
-// Why it is refused: `refusal` of a reply.
+// The errors: `refusal` of a reply.
 enum recovery_refusal {
     // An allocation failed.
     RECOVERY_REFUSAL_NO_MEMORY = 1,
@@ -114,45 +114,45 @@ enum recovery_refusal {
     RECOVERY_REFUSAL_BAD_RANGE = 19,
     // The peer's ID number is held with another ID, or with another token (RFC 9000, 19.15).
     RECOVERY_REFUSAL_CONFLICT = 20,
-    // A number was acknowledged that was never sent (RFC 9000, 13.1): of a sender alone. The errors of senders lie above
-    // those of events, so that further ones of these do not meet them.
+    // A number was acknowledged that was never sent (RFC 9000, 13.1): of a sender alone. The errors of senders are above
+    // those of events, so that new errors of events do not meet them.
     RECOVERY_REFUSAL_UNSENT = 128,
-    // The event is one that the sender decides itself: it is not handed in around it.
+    // Only the sender itself makes this event; a caller cannot.
     RECOVERY_REFUSAL_DECIDED = 252,
-    // The handle holds a recovery that stands alone, without a sender.
+    // The handle holds a bare recovery, without a sender.
     RECOVERY_REFUSAL_NO_SENDER = 253,
     // The handle holds no recovery.
     RECOVERY_REFUSAL_NO_RECOVERY = 254,
-    // An argument lies out of its range: a space or a timer that there is not, an id of more than 20 bytes, a number of a
-    // frame of 2^62 or more, nanoseconds of a second or more.
+    // An argument is out of range: a space or timer that does not exist, a connection ID of more than 20 bytes, a frame's
+    // number of 2^62 or more, or nanoseconds of 10^9 or more.
     RECOVERY_REFUSAL_BAD_ARGUMENT = 255,
 };
 
-// What is wrong with the peer's counts of ECN (RFC 9000, 13.4.2.1): `first` of a reply that is refused by ECN.
+// What is wrong with the peer's ECN counts (RFC 9000, 13.4.2.1): `first` of a reply with the ECN error.
 enum recovery_fault {
-    // The count of ECT(0) fell.
+    // The count of ECT(0) decreased.
     RECOVERY_FAULT_ECT0_FALLS = 0,
-    // The count of ECT(1) fell.
+    // The count of ECT(1) decreased.
     RECOVERY_FAULT_ECT1_FALLS = 1,
-    // The count of ECN-CE fell.
+    // The count of ECN-CE decreased.
     RECOVERY_FAULT_CE_FALLS = 2,
-    // Packets that are newly acknowledged are in no count.
+    // The counts do not include newly acknowledged packets.
     RECOVERY_FAULT_BLEACHED = 3,
-    // Packets were counted that were not sent so.
+    // The counts include packets that were not sent with this marking.
     RECOVERY_FAULT_CORRUPTED = 4,
 };
 
-// What the counts of ECN of an ACK frame come to for a sender (RFC 9000, 13.4.2.1).
+// The outcome of an ACK frame's ECN counts for a sender (RFC 9000, 13.4.2.1).
 enum recovery_ecn {
-    // Nothing, or the frame has no counts of ECN.
+    // No congestion. If the frame has no ECN counts, packets are no longer marked on the path.
     RECOVERY_ECN_QUIET = 0,
-    // More packets were marked: there is congestion (RFC 9002, 7.1).
+    // More packets were marked with CE: congestion (RFC 9002, 7.1).
     RECOVERY_ECN_MARKED = 1,
-    // The check failed: packets are marked no more on the path.
+    // Validation failed: packets are no longer marked on the path.
     RECOVERY_ECN_FAILED = 2,
 };
 
-// What the timer for losses of a sender waits for: `awaits` of a sender's view.
+// The purpose of a sender's loss detection timer: `awaits` of a sender's view.
 enum recovery_awaits {
     // Nothing: no ack-eliciting packet is in flight that is probed for, or there is no sender.
     RECOVERY_AWAITS_NOTHING = 0,
@@ -162,23 +162,23 @@ enum recovery_awaits {
     RECOVERY_AWAITS_PROBES = 2,
     // The probe timeout that ends a deadlock of the handshake (RFC 9002, 6.2.2.1).
     RECOVERY_AWAITS_DEADLOCK_PROBE = 3,
-    // The next datagram from the peer: the amplification limit lets no byte out (RFC 9000, 8.1).
+    // The next datagram from the peer: the amplification limit permits no byte (RFC 9000, 8.1).
     RECOVERY_AWAITS_PEER = 4,
     // The confirmation of the handshake: only 1-RTT packets are in flight (RFC 9002, 6.2.1).
     RECOVERY_AWAITS_CONFIRMATION = 5,
 };
 
-// What comes of `recovery_ffi_new`.
+// The results of `recovery_ffi_new`.
 enum recovery_new {
     // A recovery was made.
     RECOVERY_NEW_MADE = 0,
-    // There was no memory.
+    // Allocation failed.
     RECOVERY_NEW_NO_MEMORY = 1,
     // The handle holds a recovery already.
     RECOVERY_NEW_HELD = 2,
-    // The id of the peer has more than 20 bytes.
+    // The peer's connection ID has more than 20 bytes.
     RECOVERY_NEW_CID_TOO_LONG = 3,
-    // More than 2^62 ids were issued at the start.
+    // More than 2^62 connection IDs were issued at the start.
     RECOVERY_NEW_TOO_MANY_ISSUED = 4,
     // The first skip is 64 or more.
     RECOVERY_NEW_SKIP_TOO_LARGE = 5,
@@ -188,9 +188,9 @@ enum recovery_new {
     RECOVERY_NEW_ZERO_WINDOW = 7,
     // The denominator of the loss reduction factor, or of the time threshold, is zero.
     RECOVERY_NEW_ZERO_DENOMINATOR = 8,
-    // There is no such controller.
+    // The controller does not exist.
     RECOVERY_NEW_UNKNOWN_CONTROLLER = 9,
-    // There is no such way to skip numbers.
+    // The kind of skips does not exist.
     RECOVERY_NEW_UNKNOWN_SKIPS = 10,
 };
 
@@ -198,7 +198,7 @@ enum recovery_new {
 enum recovery_controller {
     // NewReno (RFC 9002, 7).
     RECOVERY_CONTROLLER_NEW_RENO = 0,
-    // A window that stays the one at first.
+    // A fixed window: always the initial one.
     RECOVERY_CONTROLLER_FIXED = 1,
     // CUBIC (RFC 9438).
     RECOVERY_CONTROLLER_CUBIC = 2,
@@ -208,9 +208,9 @@ enum recovery_controller {
 enum recovery_skips {
     // No number is skipped.
     RECOVERY_SKIPS_DISABLED = 0,
-    // As drawn with the seed.
+    // Skips are drawn with the seed.
     RECOVERY_SKIPS_DRAWN = 1,
-    // From the first skip on, those behind it as drawn with the seed.
+    // The first skip is given, and the following ones are drawn with the seed.
     RECOVERY_SKIPS_STARTING = 2,
 };
 
@@ -224,7 +224,7 @@ enum recovery_space {
     RECOVERY_SPACE_DATA = 2,
 };
 
-// What a timer is for.
+// The timers of a connection.
 enum recovery_timer {
     // When to declare packets lost or to send a probe (RFC 9002, 6.2 and A.8).
     RECOVERY_TIMER_LOSS_DETECTION = 0,
@@ -248,7 +248,7 @@ enum recovery_timer {
 
 // An address and a port.
 struct recovery_address {
-    // The octets of an IPv6 address; of an IPv4 address the first four.
+    // The octets of an IPv6 address; for an IPv4 address, the first four.
     uint8_t octets[16];
     // The flow information of an IPv6 address.
     uint32_t flowinfo;
@@ -260,9 +260,9 @@ struct recovery_address {
     bool v6;
 };
 
-// An id that this end issues (RFC 9000, 19.15).
+// A connection ID that the local endpoint issues (RFC 9000, 19.15).
 struct recovery_id {
-    // Its number.
+    // Its sequence number.
     uint64_t sequence;
     // Its bytes, of which the first `len` count.
     uint8_t bytes[20];
@@ -274,22 +274,22 @@ struct recovery_id {
 
 // The congestion window of the path in use, in bytes.
 struct recovery_window_view {
-    // How many bytes may be in flight (RFC 9002, 7); 0 where there is no recovery.
+    // How many bytes may be in flight (RFC 9002, 7); 0 if there is no recovery.
     uint64_t window;
-    // How many are (RFC 9002, B.2).
+    // How many bytes are in flight (RFC 9002, B.2).
     uint64_t in_flight;
 };
 
-// The round-trip time of the path in use, in nanoseconds, which stop at `u64::MAX`.
+// The round-trip time of the path in use, in nanoseconds, at most `u64::MAX`.
 struct recovery_rtt_view {
-    // The best estimate: the smoothed one, or the initial one before the first sample (RFC 9002, 5.3); 0 where there
-    // is no recovery.
+    // The RTT estimate: the smoothed one, or the initial one before the first sample (RFC 9002, 5.3); 0 if there is no
+    // recovery.
     uint64_t rtt;
-    // The probe timeout without the peer's delay of ACKs (RFC 9002, 6.2.1).
+    // The probe timeout without the peer's max_ack_delay (RFC 9002, 6.2.1).
     uint64_t pto_base;
 };
 
-// What a packet number space tracks.
+// The tracked packets of a packet number space.
 struct recovery_tracked_view {
     // How many packets; 0 if there is no such space, or if it is discarded.
     uint64_t packets;
@@ -308,73 +308,71 @@ struct recovery_number_view {
     bool is_some;
 };
 
-// What a caller holds a recovery by. It begins as all zeros, which holds none; from then on it is the library's own.
+// The handle of a recovery. It begins as all zeros, which holds none; from then on only the library changes it.
 struct recovery_handle {
     void *ptr;
     bool holds;
 };
 
-// What the layer above keeps with a path, but for its PATH_RESPONSE frames.
+// The caller's marks of a path, except its PATH_RESPONSE frames.
 struct recovery_marks {
-    // What its PATH_CHALLENGE frame says, where one was sent (RFC 9000, 8.2.1).
+    // The data of its PATH_CHALLENGE frame, if one was sent (RFC 9000, 8.2.1).
     uint64_t challenge;
-    // The number of the first packet that was sent after a sample of the round-trip time (RFC 9002, 7.6.2), where
-    // there is one.
+    // The number of the first packet that was sent after an RTT sample (RFC 9002, 7.6.2), if any.
     uint64_t first_number;
     // The space of that packet.
     uint8_t first_space;
     // Whether a PATH_CHALLENGE frame was sent.
     bool has_challenge;
-    // Whether a packet was sent after a sample.
+    // Whether a packet was sent after an RTT sample.
     bool has_first;
     // Whether a PATH_CHALLENGE frame is to be sent.
     bool challenge_pending;
     // Whether packets are marked on the path (RFC 9000, 13.4).
     bool sending_ecn;
-    // Whether there is such a path; if not, all else is 0. To set marks it is not looked at.
+    // Whether there is such a path; if not, all else is 0. Ignored if marks are set.
     bool lives;
 };
 
-// What is known of an MTU.
+// The state of an MTU discovery.
 struct recovery_mtu_view {
-    // The number of the probe in flight, where there is one; otherwise 0.
+    // The number of the probe in flight, if any; otherwise 0.
     uint64_t probe;
     // The MTU in use, in bytes.
     uint16_t mtu;
     // Whether a probe is in flight.
     bool probes;
-    // Whether a search runs.
+    // Whether a search is running.
     bool searches;
-    // Whether a discovery is held; if not, all else is 0.
+    // Whether the handle holds a discovery; if not, all else is 0.
     bool some;
 };
 
-// What a caller holds an MTU discovery by. It begins as all zeros, which holds none; from then on it is the library's
-// own.
+// The handle of an MTU discovery. It begins as all zeros, which holds none; from then on only the library changes it.
 struct recovery_mtu_handle {
     void *ptr;
     bool holds;
 };
 
-// A bucket of tokens, one a byte. All zeros is none, and refused.
+// A bucket of tokens, one per byte. All zeros is no bucket, and an error.
 struct recovery_bucket {
-    // The most bytes that it takes.
+    // The most bytes that it holds.
     uint64_t capacity;
-    // The congestion window that this was computed for, in bytes.
+    // The congestion window, in bytes, for which the capacity was computed.
     uint64_t window;
     // The bytes in it.
     uint64_t tokens;
-    // The latest moment at which it was refilled, or made, in nanoseconds.
+    // When it was last refilled, or made, in nanoseconds.
     uint64_t last;
-    // The MTU that its capacity was computed for, in bytes.
+    // The MTU, in bytes, for which the capacity was computed.
     uint16_t mtu;
 };
 
-// What an ACK frame says beside its ranges, and what the stack knows at its arrival.
+// The fields of an ACK frame besides its ranges, and what the caller knows at its arrival.
 struct recovery_ack_frame {
-    // How long the peer says that it delayed the ACK, in whole seconds.
+    // The ACK delay that the peer reports, in whole seconds.
     uint64_t delay_secs;
-    // The count of ECT(0), where the frame has counts (RFC 9000, 19.3.2).
+    // The count of ECT(0), if the frame has counts (RFC 9000, 19.3.2).
     uint64_t ect0;
     // The count of ECT(1).
     uint64_t ect1;
@@ -384,14 +382,14 @@ struct recovery_ack_frame {
     uint64_t packets_room;
     // If `is_limited`: how many lost numbers of `recovery_ffi_told_numbers` it has room for.
     uint64_t lost_room;
-    // The nanoseconds of that delay beside its seconds, below 10^9.
+    // The rest of the ACK delay in nanoseconds, below 10^9.
     uint32_t delay_nanos;
-    // Whether the frame has counts of ECN.
+    // Whether the frame has ECN counts.
     bool has_ecn;
     // Whether the sender had too little to send to fill its window (RFC 9002, 7.8).
     bool app_limited;
-    // Whether the frame is taken only if the caller has room for all that it may read of the outcome. If not, the
-    // caller reads the outcome in its own time.
+    // Whether the frame is processed only if the caller has room for all that it may read of the outcome. If not, the
+    // caller may read the outcome later.
     bool is_limited;
 };
 
@@ -403,20 +401,20 @@ struct recovery_ack_range {
     uint64_t last;
 };
 
-// The last outcome: of an ACK frame, of a timeout that searched for losses, or of a space whose packets were all
-// declared lost.
+// The last outcome: of an ACK frame, of a timeout that made a loss detection pass, or of a space whose packets were
+// all declared lost.
 struct recovery_outcome_view {
     // How many numbers the frame newly acknowledged; else 0.
     uint64_t acked;
-    // How many numbers were found lost, without that of the MTU's probe.
+    // How many numbers were declared lost, without that of the MTU probe.
     uint64_t lost;
-    // The number of the MTU's probe, where that was lost: no sign of congestion (RFC 9000, 14.4).
+    // The number of the MTU probe, if it was lost: this does not indicate congestion (RFC 9000, 14.4).
     uint64_t probe;
-    // The bytes lost on the path in use, where there was congestion (RFC 9002, 7.3.2).
+    // The bytes lost on the path in use, if there was congestion (RFC 9002, 7.3.2).
     uint64_t congestion;
-    // What the frame's counts of ECN came to (RFC 9000, 13.4.2.1).
+    // The outcome of the frame's ECN counts (RFC 9000, 13.4.2.1).
     uint8_t ecn;
-    // Whether the MTU's probe was lost.
+    // Whether the MTU probe was lost.
     bool has_probe;
     // Whether there was congestion.
     bool has_congestion;
@@ -429,164 +427,162 @@ struct recovery_outcome_view {
     bool is_cut;
 };
 
-// The settings: times are in nanoseconds, and sizes in bytes.
+// The settings of a recovery: times are in nanoseconds, and sizes in bytes.
 struct recovery_settings {
-    // The longest delay of this end's ACKs (RFC 9000, 18.2).
+    // The local max_ack_delay (RFC 9000, 18.2).
     uint64_t max_ack_delay;
-    // How long this end's ids last, where they end.
+    // The lifetime of local connection IDs, if they expire.
     uint64_t cid_lifetime;
-    // How many ids this end has issued, at most 2^62; memory grows with it, by 16 bytes an id.
+    // How many connection IDs the local endpoint has issued, at most 2^62; memory grows with it, by 16 bytes per ID.
     uint64_t issued;
-    // The seed of the skips that are drawn.
+    // The seed with which skips are drawn.
     uint64_t seed;
-    // The first number that is skipped, below 64, where it is given.
+    // The first number that is skipped, below 64, if it is given.
     uint64_t first_skip;
     // The RTT before the first sample (RFC 9002, 6.2.2).
     uint64_t initial_rtt;
-    // From the end of a search for the MTU to the next one.
+    // The time from the end of an MTU search to the next one.
     uint64_t mtu_interval;
-    // From the report of a black hole to the next search.
+    // The time from the report of a black hole to the next MTU search.
     uint64_t black_hole_cooldown;
-    // The congestion window at first, above zero (RFC 9002, 7.2).
+    // The initial congestion window, above zero (RFC 9002, 7.2).
     uint64_t initial_window;
-    // What the window is multiplied by at a loss (RFC 9002, 7.3.2).
+    // The numerator of the factor by which a loss reduces the window (RFC 9002, 7.3.2).
     uint64_t loss_numerator;
-    // Above zero.
+    // Its denominator, above zero.
     uint64_t loss_denominator;
-    // The time threshold, a fraction of an RTT: a sender declares a packet lost so long after it was sent, if a
-    // later one is acknowledged; 1 stands for a smaller fraction (RFC 9002, 6.1.2).
+    // The numerator of the time threshold, in RTTs: a sender declares a packet lost this long after it was sent, if a
+    // later one is acknowledged. A smaller fraction than 1 counts as 1 (RFC 9002, 6.1.2).
     uint64_t time_numerator;
-    // Above zero.
+    // Its denominator, above zero.
     uint64_t time_denominator;
-    // The packet threshold: a sender declares a packet lost that was sent so many packets before an acknowledged one;
-    // 1 stands for 0 (RFC 9002, 6.1.1).
+    // The packet threshold: a sender declares a packet lost that was sent this many packets before an acknowledged
+    // one; 0 counts as 1 (RFC 9002, 6.1.1).
     uint32_t packet_threshold;
-    // How many probe timeouts losses span, for a sender, that are persistent congestion; 1 stands for 0 (RFC 9002,
-    // 7.6.1).
+    // How many probe timeouts persistent congestion lasts, for a sender; 0 counts as 1 (RFC 9002, 7.6.1).
     uint32_t persistent_congestion_threshold;
     // The size of datagrams before the search, above zero.
     uint16_t initial_mtu;
-    // The size that the path is known to carry, above zero.
+    // The datagram size that the path is known to carry, above zero.
     uint16_t min_mtu;
-    // The largest size that is probed.
+    // The largest datagram size that is probed.
     uint16_t mtu_upper_bound;
-    // The least step that is worth a probe.
+    // The smallest difference that is worth a probe.
     uint16_t mtu_minimum_change;
-    // The bytes of this end's ids.
+    // The length of local connection IDs.
     uint8_t cid_len;
     // Which congestion controller paths have: `RECOVERY_CONTROLLER_NEW_RENO`, `RECOVERY_CONTROLLER_FIXED` or `RECOVERY_CONTROLLER_CUBIC`.
     uint8_t controller;
     // How numbers are skipped: `RECOVERY_SKIPS_DISABLED`, `RECOVERY_SKIPS_DRAWN` or `RECOVERY_SKIPS_STARTING`.
     uint8_t skips;
-    // Whether ids last no longer than `cid_lifetime`.
+    // Whether local connection IDs expire after `cid_lifetime`.
     bool ids_end;
-    // Whether the peer was seen to receive at its address.
+    // Whether the peer's address is validated.
     bool validated;
-    // Whether the MTU is searched for at all.
+    // Whether MTU discovery is allowed.
     bool allow_mtud;
-    // Whether the settings of paths say how.
+    // Whether MTU discovery is configured; if not, there is none.
     bool searches;
 };
 
-// What an event was replied, in numbers.
+// The reply to an event, in numbers.
 struct recovery_encoded_reply {
-    // Which answer, or that it was refused.
+    // Which answer, or that the call failed.
     uint8_t kind;
-    // The number of the refusal, or 0; of one by ECN `first` is the number of the fault.
+    // The number of the error, or 0. For an ECN error, `first` is the number of the fault.
     uint8_t refusal;
-    // New: whether to start the timer for a late ACK. Sent: whether a silent packet was forgotten for it. Acked, lost:
-    // whether it was the probe of the path's MTU. Retire: whether numbers are to be retired. Flag: yes or no. Timeout:
-    // whether a timer is set. Black hole: whether one was reported. Sendable: whether an ACK is to be sent.
-    // Acknowledged: whether the outcome has more than the two numbers. Otherwise false.
+    // New: whether to start the ACK delay timer. Sent: whether a non-ack-eliciting packet was forgotten for it. Acked,
+    // lost: whether it was the path's MTU probe. Retire: whether any connection IDs are to be retired. Flag: yes or
+    // no. Timeout: whether a timer is running. Black hole: whether one was reported. Sendable: whether an ACK is to be
+    // sent. Acknowledged: whether the outcome has more than the two counts. Otherwise false.
     bool flag;
-    // Sendable: whether there is something else to be sent. Otherwise false.
+    // Sendable: whether there is something else to send. Otherwise false.
     bool other;
     // Probe: its size in bytes. Otherwise 0.
     uint16_t size;
-    // Sent, probe: the number that it was given. Retire: the first number. Timeout, delayed: the moment, in
-    // nanoseconds. In flight: the bytes. Acknowledged: how many numbers are so newly. Needs room: how many words of
+    // Sent, probe: the packet number. Retire: the first sequence number. Timeout, delayed: the time, in nanoseconds.
+    // In flight: the bytes. Acknowledged: how many numbers are newly acknowledged. Needs room: how many words of
     // packets. Losses of a timeout, probes: the space. Otherwise 0.
     uint64_t first;
-    // Sent: the number that was forgotten. Retire: one above the last number. In flight: how many packets elicit an
-    // ACK. Acknowledged: how many numbers are lost. Needs room: how many lost numbers. Probes: how many are due.
-    // Otherwise 0.
+    // Sent: the packet number that was forgotten. Retire: one above the last sequence number. In flight: how many
+    // packets are ack-eliciting. Acknowledged: how many numbers are lost. Needs room: how many lost numbers. Probes:
+    // how many are due. Otherwise 0.
     uint64_t second;
 };
 
-// What the timer for losses of a sender waits for, and what room is left on the path in use.
+// The purpose of a sender's loss detection timer, and the room that is left on the path in use.
 struct recovery_sender_view {
     // How many bytes more fit into the congestion window (RFC 9002, 7).
     uint64_t window_room;
-    // How many bytes the amplification limit still lets out, if `is_limited` (RFC 9000, 8.1); else `u64::MAX`.
+    // How many more bytes the amplification limit permits, if `is_limited` (RFC 9000, 8.1); else `u64::MAX`.
     uint64_t amplification_room;
-    // When the timer for losses expires, in nanoseconds; 0 if it is not set.
+    // When the loss detection timer expires, in nanoseconds; 0 if it is not set.
     uint64_t timer;
-    // What it waits for, such as `RECOVERY_AWAITS_LOSSES`, or why it is not set, such as `RECOVERY_AWAITS_PEER`.
+    // Its purpose, such as `RECOVERY_AWAITS_LOSSES`, or why it is not set, such as `RECOVERY_AWAITS_PEER`.
     uint8_t awaits;
     // The space for which it is set; 0 if it is not set.
     uint8_t space;
-    // Whether the amplification limit binds the path: its address is not validated.
+    // Whether the amplification limit applies to the path: its address is not validated.
     bool is_limited;
 };
 
-// What is kept for a path: times in nanoseconds, which stop at `u64::MAX`, and sizes in bytes.
+// The state of a path: times in nanoseconds, at most `u64::MAX`, and sizes in bytes.
 struct recovery_path_view {
     // How many bytes may be in flight (RFC 9002, 7).
     uint64_t window;
     // The bytes in flight (RFC 9002, B.2).
     uint64_t in_flight;
-    // How many packets in flight elicit an ACK.
+    // How many packets in flight are ack-eliciting.
     uint64_t ack_eliciting;
     // The bytes of the datagrams transmitted.
     uint64_t total_sent;
-    // The bytes of the datagrams that came in.
+    // The bytes of the datagrams received.
     uint64_t total_recvd;
-    // The best estimate of the RTT: the smoothed one, or the initial one before the first sample (RFC 9002, 5.3).
+    // The RTT estimate: the smoothed one, or the initial one before the first sample (RFC 9002, 5.3).
     uint64_t rtt;
-    // The estimate that losses are judged by: the greater of that and the last sample (RFC 9002, 6.1.2).
+    // The larger of that estimate and the last sample, for loss detection (RFC 9002, 6.1.2).
     uint64_t rtt_conservative;
-    // The least sample (RFC 9002, 5.2).
+    // The smallest sample (RFC 9002, 5.2).
     uint64_t rtt_min;
     // The last sample, or the initial RTT before the first one (RFC 9002, 5.1).
     uint64_t rtt_latest;
     // The mean deviation of the samples, or half of the initial RTT before the first one (RFC 9002, 5.3).
     uint64_t rtt_variance;
-    // The probe timeout without the peer's delay of ACKs (RFC 9002, 6.2.1).
+    // The probe timeout without the peer's max_ack_delay (RFC 9002, 6.2.1).
     uint64_t pto_base;
     // The most bytes that the pacer's bucket holds (RFC 9002, 7.7).
     uint64_t pacer_capacity;
-    // The bytes in that bucket, as the last datagram or question left it: what time has brought since is not among
-    // them.
+    // The bytes in that bucket after the last datagram or check, without those of the time since.
     uint64_t pacer_tokens;
-    // The slow start threshold, where there is one: `u64::MAX` before the first loss (RFC 9002, 7.3.1).
+    // The slow start threshold, if any: `u64::MAX` before the first loss (RFC 9002, 7.3.1).
     uint64_t ssthresh;
     // The MTU in use (RFC 9000, 14.3).
     uint16_t mtu;
-    // Whether there is a slow start threshold: a window that stays has none.
+    // Whether there is a slow start threshold: a fixed window has none.
     bool has_ssthresh;
     // Whether there is such a path; if not, all else is 0.
     bool lives;
-    // Whether the peer was seen to receive there (RFC 9000, 8).
+    // Whether the peer's address is validated (RFC 9000, 8).
     bool validated;
 };
 
-// What a packet number space has to send, and what is to be acknowledged in it.
+// What a packet number space has to send, and which of its packet numbers are to be acknowledged.
 struct recovery_space_view {
     // The largest packet number received; 0 before the first.
     uint64_t largest_received;
-    // How many ranges of numbers are to be acknowledged.
+    // How many ranges of packet numbers are to be acknowledged.
     uint64_t ranges;
     // The number of the next packet, unless it is skipped.
     uint64_t next_packet_number;
     // Whether the space is not discarded; if it is, all else is 0.
     bool lives;
-    // Whether an ACK is required, and some number is to be acknowledged.
+    // Whether an ACK is required, and some packet number is to be acknowledged.
     bool acks;
-    // Whether there is something else to be sent.
+    // Whether there is something else to send.
     bool other;
 };
 
-// A range of numbers, from the first to one above the last.
+// A range of packet numbers.
 struct recovery_range_view {
     // The first number.
     uint64_t start;
@@ -596,7 +592,7 @@ struct recovery_range_view {
     bool some;
 };
 
-// A moment, or a span, if there is one.
+// A time or a duration, if there is one.
 struct recovery_time_view {
     // In nanoseconds.
     uint64_t nanos;
@@ -604,344 +600,344 @@ struct recovery_time_view {
     bool some;
 };
 
-// The ids of both ends, and how late ACKs may be.
+// The connection IDs of both endpoints, and their max_ack_delay.
 struct recovery_ids_view {
-    // The number of the peer's id in use.
+    // The sequence number of the peer's connection ID in use.
     uint64_t active;
-    // How many ids this end has issued.
+    // How many connection IDs the local endpoint has issued.
     uint64_t issued;
-    // The peer is asked to retire this end's ids below this number.
+    // The peer is asked to retire the local connection IDs below this sequence number.
     uint64_t retire_prior_to;
-    // How late this end's ACKs may be, in nanoseconds, which stop at `u64::MAX`.
+    // The local max_ack_delay, in nanoseconds, at most `u64::MAX`.
     uint64_t max_ack_delay;
-    // How late the peer's ACKs may be, in nanoseconds, which stop at `u64::MAX`.
+    // The peer's max_ack_delay, in nanoseconds, at most `u64::MAX`.
     uint64_t peer_max_ack_delay;
 };
 
-// Makes a recovery, whose peer is at this address and has this id of at most 20 bytes. The answer is `RECOVERY_NEW_MADE`, or
-// the number of what is wrong; the handle then holds what it held.
+// Makes a recovery, whose peer is at this address and has this connection ID of at most 20 bytes. Returns `RECOVERY_NEW_MADE`,
+// or the number of what is wrong, which leaves the handle unchanged.
 uint8_t recovery_ffi_new(struct recovery_handle *handle, const struct recovery_settings *settings, const struct recovery_address *remote, const uint8_t *initial_cid, size_t initial_cid_len, uint64_t now);
 
-// Frees a recovery. The handle holds none then; one that holds none stays so.
+// Frees a recovery. The handle then holds none. A handle that holds none is unchanged.
 void recovery_ffi_drop(struct recovery_handle *handle);
 
-// An ACK_FREQUENCY frame came in: the event `AckFrequencyIn`; its numbers lie below 2^62.
+// Processes a received ACK_FREQUENCY frame: the event `AckFrequencyIn`. Its numbers are below 2^62.
 struct recovery_encoded_reply recovery_ffi_ack_frequency(struct recovery_handle *handle, uint64_t sequence, uint64_t threshold, uint64_t micros, uint64_t reordering);
 
-// An ACK frame was sent (RFC 9000, 13.2.1): the event `AcksSent`.
+// Records that an ACK frame was sent (RFC 9000, 13.2.1): the event `AcksSent`.
 struct recovery_encoded_reply recovery_ffi_acks_sent(struct recovery_handle *handle, uint8_t space);
 
-// The timer for a late ACK expired: the event `AckDelayTimeout`.
+// Handles the ACK delay timer: the event `AckDelayTimeout`.
 struct recovery_encoded_reply recovery_ffi_ack_delay_timeout(struct recovery_handle *handle, uint8_t space);
 
-// Is a probe of the MTU due (RFC 9000, 14.3)? The event `PollMtu`.
+// Sends an MTU probe if one is due (RFC 9000, 14.3): the event `PollMtu`.
 struct recovery_encoded_reply recovery_ffi_poll_mtu(struct recovery_handle *handle, uint64_t now);
 
-// The peer takes datagrams of at most so many bytes (RFC 9000, 18.2): the event `PeerLimit`.
+// Sets the largest datagram that the peer accepts (RFC 9000, 18.2): the event `PeerLimit`.
 struct recovery_encoded_reply recovery_ffi_peer_limit(struct recovery_handle *handle, uint16_t size);
 
-// All packets that were found lost together were told: the event `LossesDone`.
+// Ends the losses of packets that were lost together: the event `LossesDone`.
 struct recovery_encoded_reply recovery_ffi_losses_done(struct recovery_handle *handle, uint64_t now);
 
-// Window and bytes in flight of the path in use.
+// Returns the window and the bytes in flight of the path in use.
 struct recovery_window_view recovery_ffi_window(struct recovery_handle *handle);
 
-// The round-trip time of the path in use.
+// Returns the round-trip time of the path in use.
 struct recovery_rtt_view recovery_ffi_rtt(struct recovery_handle *handle);
 
-// The number of the peer's id in use (RFC 9000, 5.1.1); 0 where there is no recovery.
+// Returns the sequence number of the peer's connection ID in use (RFC 9000, 5.1.1); 0 if there is no recovery.
 uint64_t recovery_ffi_active_id(struct recovery_handle *handle);
 
-// Whether a packet that counts in flight is tracked in a space (RFC 9002, 2), by whichever path it went.
+// Returns whether a space tracks a packet that counts in flight (RFC 9002, 2), on either path.
 bool recovery_ffi_has_in_flight(struct recovery_handle *handle, uint8_t space);
 
-// The smallest packet number that a space tracks, by which a stack may choose the length of packet numbers (RFC 9000,
-// 17.1): all smaller ones are acknowledged, lost, forgotten or discarded. It costs a logarithm.
+// Returns the smallest packet number that a space tracks: all smaller ones are acknowledged, lost, forgotten or
+// discarded. A stack may choose the length of packet numbers by it (RFC 9000, 17.1). Cost: logarithmic.
 struct recovery_number_view recovery_ffi_smallest_tracked(struct recovery_handle *handle, uint8_t space);
 
-// How many packets a space tracks, and when a sender declares the next of them lost by its age.
+// Returns how many packets a space tracks, and when a sender declares the next of them lost by its age.
 struct recovery_tracked_view recovery_ffi_tracked(struct recovery_handle *handle, uint8_t space);
 
-// A NEW_CONNECTION_ID frame came in (RFC 9000, 19.15): the event `NewId`; an id has at most 20 bytes.
+// Processes a received NEW_CONNECTION_ID frame (RFC 9000, 19.15): the event `NewId`. The ID has at most 20 bytes.
 struct recovery_encoded_reply recovery_ffi_new_id(struct recovery_handle *handle, uint64_t sequence, uint64_t retire_prior_to, const uint8_t *id, size_t id_len, const uint8_t *token);
 
-// The next id of the peer is to be used: the event `NextId`.
+// Switches to the next connection ID of the peer: the event `NextId`.
 struct recovery_encoded_reply recovery_ffi_next_id(struct recovery_handle *handle);
 
-// The server chose another id (RFC 9000, 7.2): the event `InitialId`; an id has at most 20 bytes.
+// Sets the connection ID that the server chose (RFC 9000, 7.2): the event `InitialId`. It has at most 20 bytes.
 struct recovery_encoded_reply recovery_ffi_initial_id(struct recovery_handle *handle, const uint8_t *id, size_t id_len);
 
-// This end issues these ids (RFC 9000, 5.1.1): the event `IssueIds`; an id has at most 20 bytes.
+// Issues connection IDs of at most 20 bytes (RFC 9000, 5.1.1): the event `IssueIds`.
 struct recovery_encoded_reply recovery_ffi_issue_ids(struct recovery_handle *handle, uint64_t now, const struct recovery_id *given, size_t given_len);
 
-// The timer for new ids expired: the event `IdTimeout`.
+// Handles the timer for new connection IDs: the event `IdTimeout`.
 struct recovery_encoded_reply recovery_ffi_id_timeout(struct recovery_handle *handle);
 
-// A RETIRE_CONNECTION_ID frame came in (RFC 9000, 19.16): the event `PeerRetired`.
+// Processes a received RETIRE_CONNECTION_ID frame (RFC 9000, 19.16): the event `PeerRetired`.
 struct recovery_encoded_reply recovery_ffi_peer_retired(struct recovery_handle *handle, uint64_t sequence, uint64_t limit);
 
-// Writes the bytes of the token that was answered last; all zeros before there was one, and where no recovery is held.
+// Writes the bytes of the token that was returned last: all zeros before the first, or if there is no recovery.
 void recovery_ffi_token(struct recovery_handle *handle, uint8_t *out);
 
-// Whether this is the token that was answered last; of none where no recovery is held.
+// Returns whether this is the token that was returned last; false if there is no recovery.
 bool recovery_ffi_is_token(struct recovery_handle *handle, const uint8_t *token);
 
-// What the layer above keeps with a path.
+// Returns the caller's marks of a path.
 struct recovery_marks recovery_ffi_marks(struct recovery_handle *handle, bool previous);
 
-// The layer above keeps this with a path from now on. False, and nothing changes, where there is no such path or no
-// such space, and where a sender is held: it sets marks itself.
+// Stores the caller's marks of a path. Returns false and changes nothing if there is no such path or no such space, or
+// if a sender is held: a sender sets its marks itself.
 bool recovery_ffi_set_marks(struct recovery_handle *handle, bool previous, const struct recovery_marks *marks);
 
-// Makes an MTU discovery, as a path of these settings has it: by `initial_mtu`, `min_mtu`, `allow_mtud` and what they
-// say of the search. The peer takes datagrams of at most `limit` bytes; 0 says that it did not tell. The answer is
-// `RECOVERY_NEW_MADE`, or the number of what is wrong; the handle then holds what it held.
+// Makes an MTU discovery from `initial_mtu`, `min_mtu`, `allow_mtud` and the settings of the search, as a path has it.
+// The peer accepts datagrams of at most `limit` bytes, or 0 if it stated no limit. Returns `RECOVERY_NEW_MADE`, or the number
+// of what is wrong, which leaves the handle unchanged.
 uint8_t recovery_ffi_mtu_new(struct recovery_mtu_handle *mtu, const struct recovery_settings *settings, uint16_t limit);
 
-// Frees a discovery. The handle holds none then; one that holds none stays so.
+// Frees a discovery. The handle then holds none. A handle that holds none is unchanged.
 void recovery_ffi_mtu_drop(struct recovery_mtu_handle *mtu);
 
-// What is known.
+// Returns the state of the discovery.
 struct recovery_mtu_view recovery_ffi_mtu(struct recovery_mtu_handle *mtu);
 
-// Is a probe due? Its size is that of the answer (`RECOVERY_ANSWER_PROBE`, otherwise `RECOVERY_ANSWER_NO_PROBE`), and it is sent as the
-// packet of this number.
+// Checks whether a probe is due. The reply is `RECOVERY_ANSWER_PROBE` with its size, or `RECOVERY_ANSWER_NO_PROBE`. The caller sends the
+// probe as the packet of this number.
 struct recovery_encoded_reply recovery_ffi_mtu_poll(struct recovery_mtu_handle *mtu, uint64_t now, uint64_t number);
 
-// The peer takes datagrams of at most so many bytes. Refused where they are none, and while a search runs: the limit
-// is told before the first poll.
+// Sets the largest datagram that the peer accepts, in bytes. An error if it is 0, or while a search is running: set
+// the limit before the first poll.
 struct recovery_encoded_reply recovery_ffi_mtu_limit(struct recovery_mtu_handle *mtu, uint16_t size);
 
-// A packet of so many bytes was acknowledged (`RECOVERY_ANSWER_ACKED`): the flag says whether it was the probe in flight, whose
-// size is then the MTU.
+// Records that a packet of this many bytes was acknowledged (`RECOVERY_ANSWER_ACKED`). The flag is true if it was the probe in
+// flight, whose size is then the MTU.
 struct recovery_encoded_reply recovery_ffi_mtu_acked(struct recovery_mtu_handle *mtu, uint64_t number, uint16_t bytes);
 
-// The probe in flight was lost. Where none is, nothing changes.
+// Records that the probe in flight was lost. Changes nothing if there is none.
 struct recovery_encoded_reply recovery_ffi_mtu_probe_lost(struct recovery_mtu_handle *mtu);
 
-// A packet of so many bytes was lost that is no probe in flight. Numbers of one moment are told upward, and then
-// `recovery_ffi_mtu_losses_done`.
+// Records that a packet other than the probe in flight was lost. Report packets that are lost together in increasing
+// order, then call `recovery_ffi_mtu_losses_done`.
 struct recovery_encoded_reply recovery_ffi_mtu_lost(struct recovery_mtu_handle *mtu, uint64_t number, uint16_t bytes);
 
-// All losses of a moment were told: the flag says whether they are a black hole, which leaves the least MTU.
+// Ends the losses of packets that were lost together. The flag is true if they are a black hole, which resets the MTU
+// to the minimum.
 struct recovery_encoded_reply recovery_ffi_mtu_losses_done(struct recovery_mtu_handle *mtu, uint64_t now);
 
-// All begins anew, with these sizes; refused where one is zero. The peer's limit stays.
+// Resets the discovery with these sizes; an error if one is zero. The peer's limit is unchanged.
 struct recovery_encoded_reply recovery_ffi_mtu_reset(struct recovery_mtu_handle *mtu, uint16_t size, uint16_t least);
 
-// A full bucket at the moment `now`, by the RTT (nanoseconds), the congestion window and the MTU (bytes). Of a window
-// or an MTU of 0 it is all zeros, which is none.
+// Returns a full bucket at time `now`, from the RTT (nanoseconds), the congestion window and the MTU (bytes). If the
+// window or the MTU is 0, it is all zeros, which is no bucket.
 struct recovery_bucket recovery_ffi_pacer(uint64_t rtt, uint64_t window, uint16_t mtu, uint64_t now);
 
-// A packet of so many bytes was sent (`RECOVERY_ANSWER_TRANSMITTED`): it takes tokens, as far as they go. Refused where the
-// bucket is none.
+// Takes the tokens of a sent packet (`RECOVERY_ANSWER_TRANSMITTED`), at most all. An error if there is no bucket.
 struct recovery_encoded_reply recovery_ffi_pacer_transmit(struct recovery_bucket *bucket, uint16_t bytes);
 
-// May so many bytes be sent at the moment `now` (`RECOVERY_ANSWER_READY`), or when is it to be asked again (`RECOVERY_ANSWER_DELAYED`)?
-// By the RTT (nanoseconds), the MTU and the congestion window (bytes) of that moment. Refused where the window or the
-// MTU is 0, or the bucket is none.
+// Checks whether this many bytes may be sent at time `now` (`RECOVERY_ANSWER_READY`), or when to ask again (`RECOVERY_ANSWER_DELAYED`).
+// The RTT (nanoseconds), the MTU and the congestion window (bytes) are those of that time. An error if the window or
+// the MTU is 0, or if there is no bucket.
 struct recovery_encoded_reply recovery_ffi_pacer_delay(struct recovery_bucket *bucket, uint64_t rtt, uint64_t bytes, uint16_t mtu, uint64_t window, uint64_t now);
 
-// A packet came in (RFC 9000, 12.3): the event `Received`.
+// Records a received packet (RFC 9000, 12.3): the event `Received`.
 struct recovery_encoded_reply recovery_ffi_received(struct recovery_handle *handle, uint8_t space, uint64_t now, uint64_t number, bool ack_eliciting);
 
-// A packet with these items goes out (RFC 9002, A.5): the event `Send`.
+// Records a sent packet with these items (RFC 9002, A.5): the event `Send`.
 struct recovery_encoded_reply recovery_ffi_send(struct recovery_handle *handle, uint8_t space, uint64_t now, uint16_t size, bool ack_eliciting, bool has_largest, uint64_t largest, const uint64_t *items, size_t items_len);
 
-// A packet that was sent is acknowledged (RFC 9002, A.7): the event `Acked`.
+// Records that a sent packet was acknowledged (RFC 9002, A.7): the event `Acked`.
 struct recovery_encoded_reply recovery_ffi_acked(struct recovery_handle *handle, uint8_t space, uint64_t now, uint64_t number, bool app_limited);
 
-// A packet that was sent is declared lost (RFC 9002, A.10): the event `Lost`.
+// Declares a sent packet lost (RFC 9002, A.10): the event `Lost`.
 struct recovery_encoded_reply recovery_ffi_lost(struct recovery_handle *handle, uint8_t space, uint64_t number);
 
-// The keys of a space are dropped (RFC 9002, 6.4): the event `DiscardSpace`.
+// Discards a space with its keys (RFC 9002, 6.4): the event `DiscardSpace`.
 struct recovery_encoded_reply recovery_ffi_discard(struct recovery_handle *handle, uint8_t space);
 
-// How many items the queue that was taken last has; they are written where there is room for all. None, before one was
-// taken.
+// Returns the item count of the queue that was taken last, and writes the items if there is room for all. None before
+// the first.
 size_t recovery_ffi_last_items(struct recovery_handle *handle, uint64_t *out, size_t out_len);
 
-// What is in flight on a path? The event `InFlight`.
+// Returns what is in flight on a path: the event `InFlight`.
 struct recovery_encoded_reply recovery_ffi_in_flight(struct recovery_handle *handle, bool previous);
 
-// A sample of the round-trip time (RFC 9002, 5): the event `Sample`; nanoseconds are below 10^9.
+// Takes an RTT sample (RFC 9002, 5): the event `Sample`. Nanoseconds are below 10^9.
 struct recovery_encoded_reply recovery_ffi_sample(struct recovery_handle *handle, uint64_t delay_secs, uint32_t delay_nanos, uint64_t rtt_secs, uint32_t rtt_nanos);
 
-// A datagram came in on a path (RFC 9000, 8.1): the event `DatagramIn`.
+// Records a received datagram on a path (RFC 9000, 8.1): the event `DatagramIn`.
 struct recovery_encoded_reply recovery_ffi_datagram_in(struct recovery_handle *handle, bool previous, uint64_t bytes);
 
-// The peer was seen to receive at the address of a path (RFC 9000, 8): the event `Validated`.
+// Validates the peer's address on a path (RFC 9000, 8): the event `Validated`.
 struct recovery_encoded_reply recovery_ffi_validated(struct recovery_handle *handle, bool previous);
 
-// A datagram is to be transmitted on the current path: the event `Transmit`.
+// Counts a datagram on the path in use; if it is checked, only if limit and pacer permit. The event `Transmit`.
 struct recovery_encoded_reply recovery_ffi_transmit(struct recovery_handle *handle, uint64_t now, uint16_t bytes, bool checked);
 
-// May so many bytes be transmitted (RFC 9002, 7.7)? The event `PacerCheck`.
+// Checks whether the pacer permits this many bytes (RFC 9002, 7.7): the event `PacerCheck`.
 struct recovery_encoded_reply recovery_ffi_pacer_check(struct recovery_handle *handle, uint64_t now, uint64_t bytes);
 
-// Packets of the current path were lost, or marked (RFC 9002, 7.3): the event `Congestion`.
+// Reports congestion on the path in use: packets were lost, or marked (RFC 9002, 7.3). The event `Congestion`.
 struct recovery_encoded_reply recovery_ffi_congestion(struct recovery_handle *handle, uint64_t now, uint64_t sent, bool persistent, uint64_t bytes);
 
-// All packets that one ACK newly acknowledges were told: the event `EndAcks`.
+// Ends the acknowledgements of one ACK frame: the event `EndAcks`.
 struct recovery_encoded_reply recovery_ffi_end_acks(struct recovery_handle *handle, uint64_t now, bool app_limited, bool has_largest, uint64_t largest);
 
-// Another path is used from now on (RFC 9000, 9.3): the event `NewPath`.
+// Changes to another path (RFC 9000, 9.3): the event `NewPath`.
 struct recovery_encoded_reply recovery_ffi_new_path(struct recovery_handle *handle, uint64_t now, const struct recovery_address *remote, bool fresh);
 
-// The current path begins anew (RFC 9000, 9.4): the event `ResetPath`.
+// Resets the path in use (RFC 9000, 9.4): the event `ResetPath`.
 struct recovery_encoded_reply recovery_ffi_reset_path(struct recovery_handle *handle, uint64_t now);
 
-// The previous path is dropped (RFC 9000, 9.3.3): the event `DropPrevious`.
+// Drops the previous path (RFC 9000, 9.3.3): the event `DropPrevious`.
 struct recovery_encoded_reply recovery_ffi_drop_previous(struct recovery_handle *handle);
 
-// The previous path is used again, and the current one is dropped (RFC 9000, 9.3.2): the event `RevertPath`.
+// Returns to the previous path, and drops the current one (RFC 9000, 9.3.2): the event `RevertPath`.
 struct recovery_encoded_reply recovery_ffi_revert_path(struct recovery_handle *handle);
 
-// The counts of ECN of an ACK frame (RFC 9000, 13.4.2): the event `Ecn`.
+// Processes the ECN counts of an ACK frame (RFC 9000, 13.4.2): the event `Ecn`.
 struct recovery_encoded_reply recovery_ffi_ecn(struct recovery_handle *handle, uint8_t space, uint64_t newly_acked, uint64_t ect0, uint64_t ect1, uint64_t ce);
 
-// An ACK frame acknowledges a range of numbers (RFC 9000, 13.1): the event `CheckAck`.
+// Checks a range of packet numbers of an ACK frame (RFC 9000, 13.1): the event `CheckAck`.
 struct recovery_encoded_reply recovery_ffi_check_ack(struct recovery_handle *handle, uint8_t space, uint64_t low, uint64_t high);
 
-// A probe packet is to be sent (RFC 9002, 6.2.4): the event `QueueProbe`.
+// Queues the contents of a probe packet (RFC 9002, 6.2.4): the event `QueueProbe`.
 struct recovery_encoded_reply recovery_ffi_queue_probe(struct recovery_handle *handle, uint8_t space, bool immediate_ack);
 
-// What waits to be sent again is handed out, to be read by `recovery_ffi_last_items`: the event `TakePending`.
+// Takes the retransmission queue, to be read by `recovery_ffi_last_items`: the event `TakePending`.
 struct recovery_encoded_reply recovery_ffi_take_pending(struct recovery_handle *handle, uint8_t space);
 
-// What is kept for a path.
+// Returns the state of a path.
 struct recovery_path_view recovery_ffi_path(struct recovery_handle *handle, bool previous);
 
-// What a space has to send; of one that there is not what is said of a discarded one.
+// Returns what a space has to send. A space that does not exist is read as a discarded one.
 struct recovery_space_view recovery_ffi_space(struct recovery_handle *handle, uint8_t space);
 
-// One of the ranges of numbers that are to be acknowledged in a space, in ascending order.
+// Returns one of the ranges of packet numbers to be acknowledged in a space, in ascending order.
 struct recovery_range_view recovery_ffi_range(struct recovery_handle *handle, uint8_t space, size_t index);
 
-// How long ago the largest packet of a space came, which an ACK frame tells (RFC 9000, 13.2.5): zero before the first,
-// none where there is no such space or it is discarded.
+// Returns how long ago the largest packet of a space was received, for the ACK Delay of an ACK frame (RFC 9000,
+// 13.2.5). It is zero before the first, and none if there is no such space or it is discarded.
 struct recovery_time_view recovery_ffi_ack_delay(struct recovery_handle *handle, uint8_t space, uint64_t now);
 
-// When a timer expires.
+// Returns when a timer expires.
 struct recovery_time_view recovery_ffi_timer(struct recovery_handle *handle, uint8_t timer);
 
-// The ids of both ends, and how late ACKs may be.
+// Returns the connection IDs of both endpoints, and their max_ack_delay.
 struct recovery_ids_view recovery_ffi_ids(struct recovery_handle *handle);
 
-// When the oldest of this end's ids is to be retired (RFC 9000, 5.1.2), where they end: what `RECOVERY_TIMER_PUSH_NEW_CID` is
-// set to.
+// Returns when the oldest of the local connection IDs is to be retired (RFC 9000, 5.1.2), if they expire. Set
+// `RECOVERY_TIMER_PUSH_NEW_CID` to it.
 struct recovery_time_view recovery_ffi_next_id_timeout(struct recovery_handle *handle);
 
-// Makes a recovery of a sender, of the client or else of the server, whose peer is at this address and has this id of
-// at most 20 bytes. A client's first path is validated, whatever the settings say (RFC 9000, 8.1). The answer is
-// `RECOVERY_NEW_MADE`, or the number of what is wrong; the handle then holds what it held.
+// Makes a recovery of a sender, of a client if `client`, else of a server. Its peer is at this address and has this
+// connection ID of at most 20 bytes. A client's first path is validated, whatever the settings say (RFC 9000, 8.1).
+// Returns `RECOVERY_NEW_MADE`, or the number of what is wrong, which leaves the handle unchanged.
 uint8_t recovery_ffi_sender_new(struct recovery_handle *handle, bool client, const struct recovery_settings *settings, const struct recovery_address *remote, const uint8_t *initial_cid, size_t initial_cid_len, uint64_t now);
 
-// Makes a recovery of a sender whose handshake is over, as `recovery_ffi_sender_new` makes one, and then
-// `recovery_ffi_validated`, `recovery_ffi_sender_handshake_confirmed` and `recovery_ffi_sender_discard` of the Initial
-// and the Handshake space: 1-RTT packets alone are sent and probed for (RFC 9001, 4.1.2 and 4.9). The answer is that
-// of `recovery_ffi_sender_new`.
+// Makes a recovery of a sender whose handshake is confirmed (RFC 9001, 4.1.2 and 4.9). It calls
+// `recovery_ffi_sender_new`, `recovery_ffi_validated`, `recovery_ffi_sender_handshake_confirmed`, and
+// `recovery_ffi_sender_discard` for the Initial and the Handshake space. Only 1-RTT packets are then sent and probed
+// for. The results are those of `recovery_ffi_sender_new`.
 uint8_t recovery_ffi_sender_established(struct recovery_handle *handle, bool client, const struct recovery_settings *settings, const struct recovery_address *remote, const uint8_t *initial_cid, size_t initial_cid_len, uint64_t now);
 
-// Whether a datagram of so many bytes goes out now, with packets of a space: `RECOVERY_ANSWER_TRANSMITTED`, and it is counted;
-// `RECOVERY_ANSWER_BLOCKED` by the limit against amplification (RFC 9000, 8.1); `RECOVERY_ANSWER_FULL` where the window has no room (RFC
-// 9002, 7); `RECOVERY_ANSWER_DELAYED` by the pacer, until `first` (RFC 9002, 7.7). Where nothing in it counts in flight, or a
-// probe is due in the space, the limit alone is asked. The packets in it are told by `recovery_ffi_send` before the
-// next datagram is asked for. Refused by `RECOVERY_REFUSAL_SPACE_DISCARDED`, then by `RECOVERY_REFUSAL_OVERFLOW`.
+// Checks whether a datagram with packets of a space may be sent now. The reply is `RECOVERY_ANSWER_TRANSMITTED`, and the
+// datagram is counted; `RECOVERY_ANSWER_BLOCKED` by the amplification limit (RFC 9000, 8.1); `RECOVERY_ANSWER_FULL` if the window has no
+// room (RFC 9002, 7); or `RECOVERY_ANSWER_DELAYED` by the pacer, until `first` (RFC 9002, 7.7). If nothing in it counts in
+// flight, or a probe is due in the space, only the amplification limit is checked. Report its packets by
+// `recovery_ffi_send` before the next datagram. Errors: `RECOVERY_REFUSAL_SPACE_DISCARDED`, then `RECOVERY_REFUSAL_OVERFLOW`.
 struct recovery_encoded_reply recovery_ffi_sender_transmit(struct recovery_handle *handle, uint64_t now, uint16_t bytes, uint8_t space, bool in_flight);
 
-// An ACK frame came in (RFC 9002, A.7), with its ranges, the highest first, as on the wire: `RECOVERY_ANSWER_ACKNOWLEDGED`,
-// with how many numbers it newly acknowledges in `first`, how many packets it declares lost in `second`, and in `flag`
-// whether `recovery_ffi_last_outcome` has more than that. `recovery_ffi_told_numbers` and `recovery_ffi_told_packets`
-// say which they are. Nothing changes if the answer is an error: `RECOVERY_REFUSAL_SPACE_DISCARDED`; `RECOVERY_REFUSAL_BAD_RANGE` if
-// there is no range, one ends before it begins, or two have no number between them (RFC 9000, 19.3.1);
-// `RECOVERY_REFUSAL_UNSENT`; `RECOVERY_REFUSAL_SKIPPED_ACKED` (RFC 9000, 21.4); or `RECOVERY_REFUSAL_NO_MEMORY`. Nothing changes either at
-// `RECOVERY_ANSWER_NEEDS_ROOM`: the caller limits its room (`is_limited`), and has too little. `first` is then how many words
-// of packets, and `second` how many lost numbers, it needs room for.
+// Processes a received ACK frame (RFC 9002, A.7), with its ranges, the highest first, as on the wire. The reply
+// `RECOVERY_ANSWER_ACKNOWLEDGED` has in `first` how many packets are newly acknowledged, in `second` how many are declared
+// lost, and in `flag` whether `recovery_ffi_last_outcome` has more than that. Read the packets by
+// `recovery_ffi_told_numbers` and `recovery_ffi_told_packets`. Errors, which change nothing:
+// `RECOVERY_REFUSAL_SPACE_DISCARDED`; `RECOVERY_REFUSAL_BAD_RANGE` if there is no range, one ends before it begins, or two have no
+// number between them (RFC 9000, 19.3.1); `RECOVERY_REFUSAL_UNSENT`; `RECOVERY_REFUSAL_SKIPPED_ACKED` (RFC 9000, 21.4);
+// `RECOVERY_REFUSAL_NO_MEMORY`. If the caller limits its room (`is_limited`) and has too little, the reply is
+// `RECOVERY_ANSWER_NEEDS_ROOM`, and nothing changes. `first` is then how many words of packets, and `second` how many lost
+// numbers, it needs room for.
 struct recovery_encoded_reply recovery_ffi_sender_ack(struct recovery_handle *handle, uint8_t space, uint64_t now, const struct recovery_ack_frame *frame, const struct recovery_ack_range *ranges, size_t ranges_len);
 
-// The timer for losses may be due (RFC 9002, A.9): `RECOVERY_ANSWER_NOTHING` if it is not; `RECOVERY_ANSWER_LOSSES` if a space was
-// searched for lost packets, with the space in `first`, and `recovery_ffi_last_outcome` and
-// `recovery_ffi_told_numbers` say which are lost; or `RECOVERY_ANSWER_PROBES`, with the space in `first` and in `second` how
-// many probes are due there, 1 or 2. For each of them the caller asks `recovery_ffi_sender_transmit`, takes its
-// contents by `recovery_ffi_sender_probe`, and sends it by `recovery_ffi_send`. The error is `RECOVERY_REFUSAL_NO_MEMORY`, if
-// there is no room for the numbers of the packets that may be lost; then nothing has changed. A timeout that asks for
-// probes takes no memory.
+// Handles the loss detection timer, which may be due (RFC 9002, A.9). The reply is `RECOVERY_ANSWER_NOTHING` if it is not. It
+// is `RECOVERY_ANSWER_LOSSES` after a loss detection pass over the space in `first`: read the losses by
+// `recovery_ffi_last_outcome` and `recovery_ffi_told_numbers`. It is `RECOVERY_ANSWER_PROBES` if probes are due in the space in
+// `first`; `second` is how many, 1 or 2. For each, call `recovery_ffi_sender_transmit`, take its contents by
+// `recovery_ffi_sender_probe`, and send it by `recovery_ffi_send`. The error is `RECOVERY_REFUSAL_NO_MEMORY` if there is no
+// room for the numbers of the packets that may be lost; then nothing has changed. A timeout that asks for probes
+// allocates nothing.
 struct recovery_encoded_reply recovery_ffi_sender_on_timeout(struct recovery_handle *handle, uint64_t now);
 
-// Hands out what a probe of a space carries (RFC 9002, 6.2.4), to be read by `recovery_ffi_last_items`: what waits
-// there to be sent again, or else the contents of the first packet in flight that has any: `RECOVERY_ANSWER_QUEUE`. A queue
-// without items asks for a PING frame. `immediate_ack` asks for an IMMEDIATE_ACK frame in it. Refused by
-// `RECOVERY_REFUSAL_SPACE_DISCARDED`, then by `RECOVERY_REFUSAL_NO_MEMORY`; then nothing changed.
+// Takes the contents of a probe in a space (RFC 9002, 6.2.4), to be read by `recovery_ffi_last_items`: `RECOVERY_ANSWER_QUEUE`.
+// They are what is queued for retransmission, or else the contents of the first packet in flight that has any. If
+// there are no items, send a PING frame. `immediate_ack` asks for an IMMEDIATE_ACK frame in it. Errors, which change
+// nothing: `RECOVERY_REFUSAL_SPACE_DISCARDED`, then `RECOVERY_REFUSAL_NO_MEMORY`.
 struct recovery_encoded_reply recovery_ffi_sender_probe(struct recovery_handle *handle, uint8_t space, bool immediate_ack);
 
-// The keys of a space are dropped, and with them all that it tracks; probe timeouts are counted anew (RFC 9002, 6.2.2,
-// 6.4 and A.11): `RECOVERY_ANSWER_DONE`. Refused by `RECOVERY_REFUSAL_SPACE_DISCARDED`.
+// Discards a space with its keys and its tracked packets, and resets the count of probe timeouts (RFC 9002, 6.2.2, 6.4
+// and A.11): `RECOVERY_ANSWER_DONE`. Error: `RECOVERY_REFUSAL_SPACE_DISCARDED`.
 struct recovery_encoded_reply recovery_ffi_sender_discard(struct recovery_handle *handle, uint8_t space, uint64_t now);
 
-// What a space tracks was sent in vain, before a Retry or if 0-RTT is rejected (RFC 9002, 6.3 and 6.4). Each packet is
-// declared lost, which is no congestion, and probe timeouts are counted from zero: `RECOVERY_ANSWER_LOSSES`, and
-// `recovery_ffi_told_numbers` says which. With `is_cut` in `recovery_ffi_last_outcome` allocation failed for some
-// packets, which are still tracked, and the same call goes on with them. The errors are `RECOVERY_REFUSAL_SPACE_DISCARDED` and
-// `RECOVERY_REFUSAL_NO_MEMORY`; then nothing has changed.
+// Declares all packets of a space lost, because they will not be acknowledged: after a Retry, or if 0-RTT is rejected
+// (RFC 9002, 6.3 and 6.4). This does not indicate congestion. Resets the count of probe timeouts. The reply is
+// `RECOVERY_ANSWER_LOSSES`; read the packets by `recovery_ffi_told_numbers`. If `is_cut` in `recovery_ffi_last_outcome`,
+// allocation failed for some packets, which are still tracked: the same call continues with them. Errors, which change
+// nothing: `RECOVERY_REFUSAL_SPACE_DISCARDED`, `RECOVERY_REFUSAL_NO_MEMORY`.
 struct recovery_encoded_reply recovery_ffi_sender_retransmit_all(struct recovery_handle *handle, uint8_t space, uint64_t now);
 
-// There are keys of Handshake packets (RFC 9002, A.8): `RECOVERY_ANSWER_DONE`.
+// Records that Handshake keys are available (RFC 9002, A.8): `RECOVERY_ANSWER_DONE`.
 struct recovery_encoded_reply recovery_ffi_sender_handshake_keys(struct recovery_handle *handle);
 
-// The handshake is confirmed (RFC 9001, 4.1.2): packets of 1-RTT keys are probed for from now on, and a client knows
-// its address validated (RFC 9002, 6.2.1 and 6.2.2.1): `RECOVERY_ANSWER_DONE`.
+// Records that the handshake is confirmed (RFC 9001, 4.1.2): `RECOVERY_ANSWER_DONE`. From then on 1-RTT packets are probed for,
+// and a client knows its address validated (RFC 9002, 6.2.1 and 6.2.2.1).
 struct recovery_encoded_reply recovery_ffi_sender_handshake_confirmed(struct recovery_handle *handle);
 
-// The peer delays its ACKs of 1-RTT packets at most so long (RFC 9000, 18.2: max_ack_delay): `RECOVERY_ANSWER_DONE`. There are
-// fewer than 10^9 nanoseconds.
+// Sets the peer's max_ack_delay, for 1-RTT packets (RFC 9000, 18.2): `RECOVERY_ANSWER_DONE`. Nanoseconds are below 10^9.
 struct recovery_encoded_reply recovery_ffi_sender_peer_delay(struct recovery_handle *handle, uint64_t secs, uint32_t nanos);
 
-// Sets the RTT that timers use before the first RTT sample of the path in use, in place of that of the settings (RFC
-// 9002, 6.2.2): `RECOVERY_ANSWER_DONE`. A new path whose RTT begins anew goes by the settings again. There are fewer than 10^9
-// nanoseconds.
+// Sets the RTT that timers use before the first RTT sample of the path in use, instead of the one in the settings (RFC
+// 9002, 6.2.2): `RECOVERY_ANSWER_DONE`. If the RTT of the path is reset, the settings apply again. Nanoseconds are below 10^9.
 struct recovery_encoded_reply recovery_ffi_sender_initial_rtt(struct recovery_handle *handle, uint64_t secs, uint32_t nanos);
 
-// What the timer for losses waits for, or why it is not set, and how many bytes the window and the amplification limit
-// still let out on the path in use. All is 0 if there is no sender.
+// Returns the purpose of the loss detection timer, or why it is not set, and how many more bytes the window and the
+// amplification limit permit on the path in use. All is 0 if there is no sender.
 struct recovery_sender_view recovery_ffi_sender_view(struct recovery_handle *handle);
 
-// A PATH_CHALLENGE frame with this content is open on the path in use, where `is_open`, and one is to be sent, where
-// `pending` (RFC 9000, 8.2.1): `RECOVERY_ANSWER_DONE`. While one is open the window does not grow: what is acknowledged may
-// have gone by the path before it (RFC 9000, 9.4).
+// Stores whether a PATH_CHALLENGE frame with this data is outstanding on the path in use (`is_open`), and whether one
+// is to be sent (`pending`) (RFC 9000, 8.2.1): `RECOVERY_ANSWER_DONE`. While one is outstanding, the window does not grow: an
+// acknowledged packet may have been sent on the path before it (RFC 9000, 9.4).
 struct recovery_encoded_reply recovery_ffi_sender_challenge(struct recovery_handle *handle, uint64_t content, bool is_open, bool pending);
 
-// How many probe timeouts expired in a row, by which the next one is doubled (RFC 9002, 6.2.1); 0 where there is no
+// Returns the number of consecutive probe timeouts, each of which doubles the next (RFC 9002, 6.2.1); 0 if there is no
 // sender.
 uint32_t recovery_ffi_pto_count(struct recovery_handle *handle);
 
-// The last outcome: of an ACK frame that was taken, of a timeout that searched for losses, or of a space whose packets
+// Returns the last outcome: of an ACK frame, of a timeout that made a loss detection pass, or of a space whose packets
 // were all declared lost. It is empty before the first, and if there is no sender.
 struct recovery_outcome_view recovery_ffi_last_outcome(struct recovery_handle *handle);
 
-// How many numbers were newly acknowledged as something was told last, or, with `lost`, how many were found lost,
-// without that of the MTU's probe; they are written, rising, where there is room for all.
+// Returns how many packets the last outcome newly acknowledged or, with `lost`, declared lost, without the MTU probe.
+// Writes their numbers in increasing order, if there is room for all.
 size_t recovery_ffi_told_numbers(struct recovery_handle *handle, bool lost, uint64_t *out, size_t out_len);
 
-// Of each packet that was newly acknowledged as something was told last, rising: its number, how many items it
-// carried, and these. How many words that are; they are written where there is room for all.
+// Returns how many words the packets take that the last outcome newly acknowledged, and writes these if there is room
+// for all. For each packet, in increasing order: its number, its item count, and its items.
 size_t recovery_ffi_told_packets(struct recovery_handle *handle, uint64_t *out, size_t out_len);
 
-// The default settings: an address that is not validated, ACKs 25 ms late at most, ids of 8 bytes that last 10 s, one
-// of them issued, no skips, an RTT of 333 ms, MTUs of 1200 bytes and up to 1452, NewReno with 12,000 bytes and a
-// half, and for senders thresholds of 3 packets, 9/8 of an RTT and 3 probe timeouts.
+// Returns the default settings: an address that is not validated, a max_ack_delay of 25 ms, and one issued connection
+// ID of 8 bytes with a lifetime of 10 s. No skips, an RTT of 333 ms, MTUs from 1200 to 1452 bytes, and NewReno with a
+// window of 12,000 bytes and a factor of a half. For senders, thresholds of 3 packets, 9/8 of an RTT and 3 probe
+// timeouts.
 struct recovery_settings recovery_ffi_default_settings(void);
 
-// A timer is set to a moment in nanoseconds: the event `SetTimer`.
+// Sets a timer to a time in nanoseconds: the event `SetTimer`.
 struct recovery_encoded_reply recovery_ffi_set_timer(struct recovery_handle *handle, uint8_t timer, uint64_t time);
 
-// A timer is stopped: the event `StopTimer`.
+// Stops a timer: the event `StopTimer`.
 struct recovery_encoded_reply recovery_ffi_stop_timer(struct recovery_handle *handle, uint8_t timer);
 
-// When does the next timer expire? The event `NextTimeout`.
+// Returns when the next timer expires: the event `NextTimeout`.
 struct recovery_encoded_reply recovery_ffi_next_timeout(struct recovery_handle *handle);
 
-// The text of an error: of `refusal` of a reply. Of one by ECN `recovery_ffi_fault_text` says more.
+// Returns the text of an error, the `refusal` of a reply. For an ECN error, `recovery_ffi_fault_text` returns more.
 static inline const char *recovery_ffi_text(uint8_t refusal) {
     switch (refusal) {
     case RECOVERY_OK: return "no error";
@@ -966,15 +962,15 @@ static inline const char *recovery_ffi_text(uint8_t refusal) {
     case RECOVERY_REFUSAL_BAD_RANGE: return "the range of numbers is wrong";
     case RECOVERY_REFUSAL_CONFLICT: return "the connection id conflicts with the one that is held";
     case RECOVERY_REFUSAL_UNSENT: return "a number was acknowledged that was never sent";
-    case RECOVERY_REFUSAL_DECIDED: return "the event is one that the sender decides itself";
-    case RECOVERY_REFUSAL_NO_SENDER: return "the handle holds a recovery that stands alone, without a sender";
+    case RECOVERY_REFUSAL_DECIDED: return "only the sender itself makes this event; a caller cannot";
+    case RECOVERY_REFUSAL_NO_SENDER: return "the handle holds a bare recovery, without a sender";
     case RECOVERY_REFUSAL_NO_RECOVERY: return "the handle holds no recovery";
-    case RECOVERY_REFUSAL_BAD_ARGUMENT: return "an argument lies out of its range";
+    case RECOVERY_REFUSAL_BAD_ARGUMENT: return "an argument is out of range";
     default: return "a number that this header does not name";
     }
 }
 
-// The text of a fault of ECN: `recovery_refused_fault` of a reply.
+// Returns the text of an ECN fault, the `recovery_refused_fault` of a reply.
 static inline const char *recovery_ffi_fault_text(uint64_t fault) {
     switch (fault) {
     case RECOVERY_FAULT_ECT0_FALLS: return "peer ECT(0) count regression";
@@ -986,60 +982,60 @@ static inline const char *recovery_ffi_fault_text(uint64_t fault) {
     }
 }
 
-// The text of what `recovery_ffi_new` returns.
+// Returns the text of a result of `recovery_ffi_new`.
 static inline const char *recovery_ffi_new_text(uint8_t code) {
     switch (code) {
     case RECOVERY_NEW_MADE: return "a recovery was made";
-    case RECOVERY_NEW_NO_MEMORY: return "there was no memory";
+    case RECOVERY_NEW_NO_MEMORY: return "allocation failed";
     case RECOVERY_NEW_HELD: return "the handle holds a recovery already";
-    case RECOVERY_NEW_CID_TOO_LONG: return "the id of the peer has more than 20 bytes";
-    case RECOVERY_NEW_TOO_MANY_ISSUED: return "more than 2^62 ids were issued at the start";
+    case RECOVERY_NEW_CID_TOO_LONG: return "the peer's connection ID has more than 20 bytes";
+    case RECOVERY_NEW_TOO_MANY_ISSUED: return "more than 2^62 connection IDs were issued at the start";
     case RECOVERY_NEW_SKIP_TOO_LARGE: return "the first skip is 64 or more";
     case RECOVERY_NEW_ZERO_MTU: return "an MTU is zero";
     case RECOVERY_NEW_ZERO_WINDOW: return "the initial window is zero";
     case RECOVERY_NEW_ZERO_DENOMINATOR: return "the denominator of the loss reduction factor, or of the time threshold, is zero";
-    case RECOVERY_NEW_UNKNOWN_CONTROLLER: return "there is no such controller";
-    case RECOVERY_NEW_UNKNOWN_SKIPS: return "there is no such way to skip numbers";
+    case RECOVERY_NEW_UNKNOWN_CONTROLLER: return "the controller does not exist";
+    case RECOVERY_NEW_UNKNOWN_SKIPS: return "the kind of skips does not exist";
     default: return "a number that this header does not name";
     }
 }
 
-// What a reply says, by names: each of these reads a reply of the kind that it names, and of no other.
+// The contents of replies by name: each function reads replies of the kind in its name, and no others.
 
-// Whether to start the timer for a late ACK.
+// Whether to start the ACK delay timer.
 static inline bool recovery_new_arm(struct recovery_encoded_reply reply) { return reply.flag; }
 
 // The number of the packet.
 static inline uint64_t recovery_sent_number(struct recovery_encoded_reply reply) { return reply.first; }
-// Whether a packet that elicits no ACK is no longer tracked.
+// Whether a non-ack-eliciting packet is no longer tracked.
 static inline bool recovery_sent_has_forgotten(struct recovery_encoded_reply reply) { return reply.flag; }
 // The number of that packet.
 static inline uint64_t recovery_sent_forgotten(struct recovery_encoded_reply reply) { return reply.second; }
 
-// Whether the packet was the probe of the path's MTU.
+// Whether the packet was the MTU probe of the path.
 static inline bool recovery_acked_is_probe(struct recovery_encoded_reply reply) { return reply.flag; }
 
-// Whether the packet was the probe of the path's MTU.
+// Whether the packet was the MTU probe of the path.
 static inline bool recovery_lost_is_probe(struct recovery_encoded_reply reply) { return reply.flag; }
 
-// Whether numbers of the peer's ids are to be retired.
+// Whether connection IDs of the peer are to be retired.
 static inline bool recovery_retire_some(struct recovery_encoded_reply reply) { return reply.flag; }
-// The first of these numbers.
+// The first of their sequence numbers.
 static inline uint64_t recovery_retire_start(struct recovery_encoded_reply reply) { return reply.first; }
-// One above the last of these numbers.
+// One above the last of their sequence numbers.
 static inline uint64_t recovery_retire_end(struct recovery_encoded_reply reply) { return reply.second; }
 
 // Yes or no, as the event asks.
 static inline bool recovery_flag_value(struct recovery_encoded_reply reply) { return reply.flag; }
 
-// Whether a timer is set.
+// Whether a timer is running.
 static inline bool recovery_timeout_some(struct recovery_encoded_reply reply) { return reply.flag; }
-// When the earliest of them expires, in nanoseconds.
+// When the earliest timer expires, in nanoseconds.
 static inline uint64_t recovery_timeout_nanos(struct recovery_encoded_reply reply) { return reply.first; }
 
 // The bytes in flight.
 static inline uint64_t recovery_in_flight_bytes(struct recovery_encoded_reply reply) { return reply.first; }
-// How many packets in flight elicit an ACK.
+// How many packets in flight are ack-eliciting.
 static inline uint64_t recovery_in_flight_ack_eliciting(struct recovery_encoded_reply reply) { return reply.second; }
 
 // Until when the pacer delays the datagram, in nanoseconds.
@@ -1055,17 +1051,17 @@ static inline bool recovery_black_hole_found(struct recovery_encoded_reply reply
 
 // Whether an ACK is to be sent.
 static inline bool recovery_sendable_acks(struct recovery_encoded_reply reply) { return reply.flag; }
-// Whether something else is to be sent.
+// Whether there is something else to send.
 static inline bool recovery_sendable_other(struct recovery_encoded_reply reply) { return reply.other; }
 
 // How many packets the frame newly acknowledges.
 static inline uint64_t recovery_acknowledged_count(struct recovery_encoded_reply reply) { return reply.first; }
 // How many packets are declared lost.
 static inline uint64_t recovery_acknowledged_lost(struct recovery_encoded_reply reply) { return reply.second; }
-// Whether `recovery_ffi_last_outcome` says more than these two numbers.
+// Whether `recovery_ffi_last_outcome` has more than these two counts.
 static inline bool recovery_acknowledged_has_more(struct recovery_encoded_reply reply) { return reply.flag; }
 
-// The space of the packets, for a timeout.
+// The space of the lost packets, for a timeout.
 static inline uint64_t recovery_losses_space(struct recovery_encoded_reply reply) { return reply.first; }
 
 // The space to probe in.
@@ -1073,9 +1069,9 @@ static inline uint64_t recovery_probes_space(struct recovery_encoded_reply reply
 // How many probes are due, 1 or 2.
 static inline uint64_t recovery_probes_count(struct recovery_encoded_reply reply) { return reply.second; }
 
-// How many words of packets need room.
+// How many words of packets the caller needs room for.
 static inline uint64_t recovery_needs_room_packets(struct recovery_encoded_reply reply) { return reply.first; }
-// How many lost numbers need room.
+// How many lost numbers the caller needs room for.
 static inline uint64_t recovery_needs_room_lost(struct recovery_encoded_reply reply) { return reply.second; }
 
 // The fault, if the error is `RECOVERY_REFUSAL_ECN`.

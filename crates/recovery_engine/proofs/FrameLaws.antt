@@ -1,4 +1,4 @@
--- What is said of a frame is said too where its ranges stand elsewhere.
+-- What holds for a frame holds too if its ranges are stored elsewhere.
 use Rattle.std.proofs.Common.{ℕ, List, Vec, inl, inr}
 use Rattle.std.specs.Global.{Global}
 use Rattle.recovery_base.specs.declared.below.SpaceId.{SpaceId}

@@ -1,4 +1,4 @@
--- Packets with their items, one behind another.
+-- Packets with their items, in order.
 use Rattle.std.proofs.Common.{◌≡◌, ℕ, ◌+◌, ◌<◌, List, [], ◌∷◌, ◌++◌, length, take, get_or, sym, ap, ◌∙◌}
 use Rattle.std.proofs.lemmas.List.{append_assoc, append-nil, take_more}
 use Rattle.recovery_spaces.specs.Packets.{Packets}

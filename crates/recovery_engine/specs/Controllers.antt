@@ -19,7 +19,7 @@ chosen_made (config.Reno settings) now mtu = Reno (reno_made settings now mtu)
 chosen_made (config.Fixed window) now mtu = Fixed window
 chosen_made (config.Cubic window) now mtu = Cubic (cubic_made window now mtu)
 
--- nothing changes a fixed window
+-- a fixed window never changes
 abbrev pub chosen_after : ControllerCall → Chosen → Chosen
 chosen_after call (Reno reno) = Reno (reno_words.after call reno)
 chosen_after call (Fixed window) = Fixed window

@@ -1,4 +1,4 @@
--- The recovery that a stack keeps: one that stands alone, or one of a sender.
+-- The engine of a stack: a bare recovery, or one of a sender.
 use Rattle.std.specs.Prelude.{◌≡◌, ℕ, Bool, false, IsFalse, List, [], ◌∷◌, ◌++◌, length, None, is_some, Result, Ok, Err, if◌then◌else◌}
 use Rattle.std.specs.Option.{option_map_or}
 use Rattle.rand_core.specs.Stream.{Stream}
@@ -40,19 +40,19 @@ use Rattle.recovery_engine.specs.declared.sending.LastOutcome.{LastOutcome}
 abbrev pub ItemEvent : Type 0
 ItemEvent = Event (List ℕ) (Unit {0}) (Unit {0}) (List ℕ)
 
--- what can be read of it
+-- the readable state of an engine
 abbrev pub parts_kept : Engine → RecoveryState Chosen (List ℕ) (Unit {0})
 parts_kept (Alone recovery) = state_of recovery.recovery
 parts_kept (Sends sending) = state_in sending.sender
 
 -- ---- events
 
--- one that stands alone takes each event, and a sender those that pass
+-- a bare recovery accepts each event, and a sender those that pass
 abbrev pub AcceptsEvent : Engine → ItemEvent → Type 0
 AcceptsEvent (Alone recovery) event = Unit {0}
 AcceptsEvent (Sends sending) event = IsPassedThrough event
 
--- all that `LiveRecovery::apply` says of an event and its reply, whatever came before
+-- the promises of `LiveRecovery::apply` for an event and its reply, for every past
 pub record AppliesEvent {F Q R C K S M P : Type 0} {f : _} {c : _} {q : _} {m : _} {r : _}
     (old : Recovery F Q R C K S M P f c q m r) (event : Event Q S M P) (reply : History.Reply Q)
     (new : Recovery F Q R C K S M P f c q m r) : Type 0 where
@@ -61,12 +61,12 @@ pub record AppliesEvent {F Q R C K S M P : Type 0} {f : _} {c : _} {q : _} {m : 
   pub extends : LiveStep old event reply new
   pub extended : ∥ LiveStepFromSome old event reply new ∥₁
 
--- the reply as a sender gives it
+-- the reply in a sender's form
 abbrev pub by_sender : {Q : Type 0} → History.Reply Q → Result (Answer Q) SenderError
 by_sender (Ok answer) = Ok answer
 by_sender (Err refusal) = Err (refused.Event refusal)
 
--- one that stands alone does as `LiveRecovery::apply` says, one of a sender as `Sender::on_event`
+-- a bare recovery applies an event by `LiveRecovery::apply`, one of a sender by `Sender::on_event`
 abbrev pub EventOutcome : Engine → ItemEvent → History.Reply (List ℕ) → Engine → Type 0
 EventOutcome (Alone old) event reply (Alone new) = AppliesEvent old.recovery event reply new.recovery
 EventOutcome (Sends old) event reply (Sends new) =
@@ -74,22 +74,22 @@ EventOutcome (Sends old) event reply (Sends new) =
 EventOutcome (Alone old) event reply (Sends new) = ⊥
 EventOutcome (Sends old) event reply (Alone new) = ⊥
 
--- ---- what is made
+-- ---- construction
 
--- how a run begins, over the chosen controller and queues of items
+-- the beginning of a run, with the chosen controller and queues of items
 abbrev pub beginning : RecoveryConfig ChosenConfig → ℕ → Stream
     → Beginning ChosenConfig Chosen (List ℕ) (Unit {0}) (Unit {0}) (List ℕ)
 beginning config now words =
     begins chosen_made chosen_words (queue_model (λ items. items) item_words tt) config now words
 
--- these losses are told, and nothing that was acknowledged
+-- the outcome has these losses, and no acknowledged numbers
 pub record HasLossesOnly (lost : Losses) (told : LastOutcome) : Type 0 where
   pub numbers : told.acked.numbers.items ≡ []
   pub losses : told.acked.losses ≡ lost
   pub ecn : told.acked.ecn ≡ Quiet
   pub packets : told.packets.items ≡ []
 
--- no ACK frame was told yet, and no loss
+-- there was no ACK frame and no loss yet
 pub record IsEmptyOutcome (told : LastOutcome) : Type 0 where
   pub numbers : told.acked.numbers.items ≡ []
   pub lost : told.acked.losses.numbers.items ≡ []
@@ -101,52 +101,52 @@ pub record IsEmptyOutcome (told : LastOutcome) : Type 0 where
   pub ecn : told.acked.ecn ≡ Quiet
   pub packets : told.packets.items ≡ []
 
--- nothing has happened to one that stands alone
+-- a bare recovery without any event
 abbrev pub IsFreshAlone : RecoveryConfig ChosenConfig → ℕ → Stream → Engine → Type 0
 IsFreshAlone config now words (Alone recovery) = ReachedBy (beginning config now words) [] (state_of recovery.recovery)
 IsFreshAlone config now words (Sends sending) = ⊥
 
--- nor to one of a sender
+-- a sender without any event
 abbrev pub IsFreshSender : Side → RecoveryConfig ChosenConfig → ℕ → Stream → Engine → Type 0
 IsFreshSender side config now words (Sends sending) =
     IsNewSender side config now words sending.sender × IsEmptyOutcome sending.told
 IsFreshSender side config now words (Alone recovery) = ⊥
 
--- nor to one whose handshake is over
+-- a sender whose handshake is confirmed
 abbrev pub IsFreshEstablished : Side → RecoveryConfig ChosenConfig → ℕ → Stream → Engine → Type 0
 IsFreshEstablished side config now words (Sends sending) =
     IsEstablishedSender side config now words sending.sender × IsEmptyOutcome sending.told
 IsFreshEstablished side config now words (Alone recovery) = ⊥
 
--- in its form
+-- each form without any event
 abbrev pub IsFresh : Form → RecoveryConfig ChosenConfig → ℕ → Stream → Engine → Type 0
 IsFresh Bare config now words kept = IsFreshAlone config now words kept
 IsFresh (Handshaking side) config now words kept = IsFreshSender side config now words kept
 IsFresh (Established side) config now words kept = IsFreshEstablished side config now words kept
 
--- probe timeouts of a sender that expired in a row (RFC 9002, 6.2.1)
+-- the number of a sender's consecutive probe timeouts (RFC 9002, 6.2.1)
 abbrev pub pto_count_of : Engine → ℕ
 pto_count_of (Alone recovery) = 0
 pto_count_of (Sends sending) = sending.sender.variables.pto_count
 
--- ---- what the layer above keeps with a path
+-- ---- the caller's marks of a path
 
--- marks are kept with a path from then on, if it lives; all else stays, and for the past it is all the same
+-- marks are stored with a path, if it exists; the rest is unchanged, and the properties of the past still hold
 pub record MarksRecovery {F Q R C K S M P : Type 0} {f : _} {c : _} {q : _} {m : _} {r : _} (name : PathName)
     (marks : PathMarks) (is_set : Bool) (old new : Recovery F Q R C K S M P f c q m r) : Type 0 where
   pub set : is_set ≡ is_some (marks_at name (state_of old))
   pub after : state_of new ≡ with_marks_at name marks (state_of old)
   pub stays : PreservesPasts old new
 
--- a sender sets them itself
+-- a sender sets its marks itself
 abbrev pub MarksKept : PathName → PathMarks → Bool → Engine → Engine → Type 0
 MarksKept name marks is_set (Alone old) (Alone new) = MarksRecovery name marks is_set old.recovery new.recovery
 MarksKept name marks is_set (Alone old) (Sends new) = ⊥
 MarksKept name marks is_set (Sends old) new = IsFalse is_set × (new ≡ Sends old)
 
--- ---- what was told last
+-- ---- the last outcome
 
--- the numbers that are newly acknowledged, or those that are lost
+-- the numbers that are newly acknowledged, or lost
 abbrev pub numbers_of : Bool → Acknowledged → List ℕ
 numbers_of lost told = if lost then told.losses.numbers.items else told.numbers.items
 
@@ -158,7 +158,7 @@ numbers_told lost (Sends sending) = numbers_of lost sending.told.acked
 abbrev pub items_of : Packets (List ℕ) (Unit {0}) → ℕ → List ℕ
 items_of packets number = option_map_or (λ packet. packet.retransmits) (packet_at packets number) []
 
--- of each packet its number, how many items it carries, and these
+-- for each packet: its number, its item count, and its items
 abbrev pub packets_listed : Packets (List ℕ) (Unit {0}) → List ℕ → List ℕ
 packets_listed packets [] = []
 packets_listed packets (number ∷ numbers) =

@@ -1,4 +1,4 @@
--- How replies are spelled in numbers.
+-- How replies are encoded in numbers.
 use Rattle.std.specs.Prelude.{◌≡◌, ℕ, ◌≤◌, ◌<◌, ◌++◌, List, length, drop, Option, true, false, Some, None, Ok, Err, if◌then◌else◌, bytes_eq}
 use lib.Chars.{codes}
 use Rattle.std.specs.declared.ops.Range.{Range}
@@ -12,7 +12,7 @@ use Rattle.recovery_events.specs.declared.event.Answer.TheVariants.{New, Duplica
 use Rattle.recovery_engine.specs.declared.numbers.TheConstants.{ANSWER_NEW, ANSWER_DUPLICATE, ANSWER_SENT, ANSWER_ACKED, ANSWER_LOST, ANSWER_RETIRE, ANSWER_FLAG, ANSWER_TIMEOUT, ANSWER_IN_FLIGHT, ANSWER_TRANSMITTED, ANSWER_BLOCKED, ANSWER_DELAYED, ANSWER_READY, ANSWER_PROBE, ANSWER_NO_PROBE, ANSWER_BLACK_HOLE, ANSWER_SENDABLE, ANSWER_QUEUE, ANSWER_DONE, ANSWER_REFUSED, REFUSAL_BAD_ARGUMENT, REFUSAL_DECIDED, REFUSAL_NO_RECOVERY, REFUSAL_NO_SENDER, FAULT_ECT0_FALLS, FAULT_ECT1_FALLS, FAULT_CE_FALLS, FAULT_BLEACHED, FAULT_CORRUPTED}
 use Rattle.recovery_engine.specs.declared.spelling.EncodedReply.{EncodedReply}
 
--- an answer that holds nothing
+-- an answer without contents
 abbrev pub plain : ℕ → EncodedReply
 plain kind = record { kind = kind; refusal = 0; flag = false; other = false; size = 0; first = 0; second = 0 }
 
@@ -29,7 +29,7 @@ abbrev pub timeout_spelled : Option ℕ → EncodedReply
 timeout_spelled (Some time) = record (plain ANSWER_TIMEOUT) { flag = true; first = time }
 timeout_spelled None = plain ANSWER_TIMEOUT
 
--- which fault the peer's counts of ECN have, by its text (RFC 9000, 13.4.2.1)
+-- which fault the peer's ECN counts have, by its text (RFC 9000, 13.4.2.1)
 abbrev pub fault_number : List ℕ → ℕ
 fault_number text =
     if bytes_eq text (codes "peer ECT(0) count regression") then FAULT_ECT0_FALLS
@@ -65,9 +65,9 @@ encoded (Ok (Queue queue)) = plain ANSWER_QUEUE
 encoded (Ok Done) = plain ANSWER_DONE
 encoded (Err refusal) = refusal_spelled refusal
 
--- ---- refusals of a call
+-- ---- errors of a call
 
--- there is no memory for what is handed in
+-- there is no memory for the arguments
 abbrev pub no_memory : EncodedReply
 no_memory = refusal_spelled NoMemory
 
@@ -79,7 +79,7 @@ no_recovery = record (plain ANSWER_REFUSED) { refusal = REFUSAL_NO_RECOVERY }
 abbrev pub no_sender : EncodedReply
 no_sender = record (plain ANSWER_REFUSED) { refusal = REFUSAL_NO_SENDER }
 
--- its sender decides the event itself
+-- only the sender itself makes this event
 abbrev pub decided : EncodedReply
 decided = record (plain ANSWER_REFUSED) { refusal = REFUSAL_DECIDED }
 
@@ -87,27 +87,27 @@ decided = record (plain ANSWER_REFUSED) { refusal = REFUSAL_DECIDED }
 abbrev pub bad_argument : EncodedReply
 bad_argument = record (plain ANSWER_REFUSED) { refusal = REFUSAL_BAD_ARGUMENT }
 
--- ---- what else is handed out in numbers
+-- ---- other results in numbers
 
 abbrev pub space_number : SpaceId → ℕ
 space_number Initial = 0
 space_number Handshake = 1
 space_number Data = 2
 
--- items are counted, and written in front where there is room for all; what lies behind them stays
+-- items are counted, and written at the front if there is room for all; the rest is unchanged
 pub record IsWritten (items old : List ℕ) (count : ℕ) (new : List ℕ) : Type 0 where
   pub counted : count ≡ length items
   pub written : count ≤ length old → new ≡ items ++ drop count old
   pub too_many : length old < count → new ≡ old
 
--- ---- what is kept
+-- ---- stored results
 
--- what is kept beside the recovery, to be read: the queue that was handed out last,
+-- stored besides the recovery, to be read: the queue that was last taken,
 abbrev pub taken_after : {Q : Type 0} → History.Reply Q → Q → Q
 taken_after (Ok (Queue queue)) taken = queue
 taken_after reply taken = taken
 
--- and the token that was answered last
+-- and the token that was last returned
 abbrev pub token_after : {Q : Type 0} → History.Reply Q → List ℕ → List ℕ
 token_after (Ok (Retire (Some retired))) token = retired.1
 token_after reply token = token

@@ -17,7 +17,7 @@ use Rattle.recovery_engine.specs.declared.kept.Engine.TheVariants.{Alone, Sends}
 use Rattle.recovery_engine.specs.declared.numbers.TheConstants.{AWAITS_CONFIRMATION, AWAITS_DEADLOCK_PROBE, AWAITS_LOSSES, AWAITS_NOTHING, AWAITS_PEER, AWAITS_PROBES}
 use Rattle.recovery_engine.specs.declared.views.SenderView.{SenderView}
 
--- what a timer waits for, or why it is not set
+-- the purpose of the timer, or why it is not set
 abbrev pub awaited : TimerState → ℕ
 awaited (Set time (Losses space)) = AWAITS_LOSSES
 awaited (Set time (Probes space)) = AWAITS_PROBES

@@ -1,4 +1,4 @@
--- What a call of a sender comes to, in numbers.
+-- The result of a sender's call, in numbers.
 use Rattle.std.specs.Prelude.{◌≡◌, ◌⊎◌, ℕ, ◌+◌, ◌<◌, ◌≤◌, ◌||◌, not, Bool, true, false, List, [], length, map, Option, None, Some, is_some, Result, Ok, Err, IfOk, OnOk, OnErr, ◌∷◌}
 use Rattle.std.specs.Option.{option_map_or}
 use Rattle.std.specs.Vec.{vec_capacity}
@@ -68,7 +68,7 @@ timeout_spelled Nothing = plain ANSWER_NOTHING
 timeout_spelled (Lost space losses) = losses_spelled space
 timeout_spelled (Probe space count) = record (plain ANSWER_PROBES) { first = space_number space; second = count }
 
--- a frame: how many numbers are newly acknowledged, how many lost, and whether more is told than these
+-- a frame: how many numbers are newly acknowledged, how many lost, and whether the outcome has more than these
 abbrev pub is_quiet : EcnOutcome → Bool
 is_quiet Quiet = true
 is_quiet end = false
@@ -84,9 +84,9 @@ acknowledged_spelled told = record (plain ANSWER_ACKNOWLEDGED) {
   flag = tells_more told;
 }
 
--- ---- what a call comes to
+-- ---- the result of a call
 
--- a datagram goes out, or does not (RFC 9002, 7; RFC 9000, 8.1)
+-- a datagram may be sent, or not (RFC 9002, 7; RFC 9000, 8.1)
 pub record TransmitReply (now bytes : ℕ) (space : SpaceId) (in_flight : Bool) (old : Sending) (spelling : EncodedReply)
     (new : Sending) : Type 0 where
   pub reply : Result Transmission SenderError
@@ -100,7 +100,7 @@ pub record TransmitReply (now bytes : ℕ) (space : SpaceId) (in_flight : Bool) 
   pub spells : spelling ≡ spelled_by transmission_spelled reply
   pub told : new.told ≡ old.told
 
--- an ACK frame: what it comes to is kept, to be read, with what its packets carried (RFC 9002, A.7)
+-- an ACK frame: its outcome is stored, to be read, with the items of its packets (RFC 9002, A.7)
 abbrev pub IsOutcomeOfAck : Packets (List ℕ) (Unit {0}) → Result Acknowledged SenderError → LastOutcome → LastOutcome
     → Type 0
 IsOutcomeOfAck packets (Ok acked) old new =
@@ -111,7 +111,7 @@ IsOutcomeOfAck packets (Err refusal) old new = new ≡ old
 abbrev pub HasRoomFor : AckRoom → NewlyAcked → List ℕ → Type 0
 HasRoomFor room newly packets = (length packets ≤ room.packets) × (vec_capacity newly.lost ≤ room.lost)
 
--- the sender takes it, if there is that room, or rejects it and nothing changes
+-- the sender processes the frame, if there is that room, or rejects it and nothing changes
 pub record IsTaken (space : SpaceId) (now : ℕ) (ranges : List (ℕ × ℕ)) (ack : Ack) (room : AckRoom) (old : Sending)
     (spelling : EncodedReply)
     (new : Sending) : Type 0 where
@@ -126,7 +126,7 @@ abbrev pub room_spelled : NewlyAcked → List ℕ → EncodedReply
 room_spelled newly packets =
     record (plain ANSWER_NEEDS_ROOM) { first = length packets; second = vec_capacity newly.lost }
 
--- it has too little room for a frame that may be taken: nothing changes, and the reply is how much it needs
+-- there is too little room for a valid frame: nothing changes, and the reply states how much is needed
 pub record NeedsRoom (space : SpaceId) (ranges : List (ℕ × ℕ)) (room : AckRoom) (old : Sending)
     (spelling : EncodedReply)
     (new : Sending) : Type 0 where
@@ -142,7 +142,7 @@ abbrev pub AckReply : SpaceId → ℕ → List (ℕ × ℕ) → Ack → AckRoom 
 AckReply space now ranges ack room old spelling new =
     IsTaken space now ranges ack room old spelling new ⊎ NeedsRoom space ranges room old spelling new
 
--- with its ranges as they are given, or there is no memory to hand them in
+-- with its ranges as given, or there is no memory for them
 abbrev pub range_given : AckRange → ℕ × ℕ
 range_given range = (range.first, range.last)
 
@@ -157,7 +157,7 @@ abbrev pub AckFrameReply : SpaceId → ℕ → List AckRange → Ack → AckRoom
 AckFrameReply space now given ack room old spelling new =
     AckReply space now (map range_given given) ack room old spelling new ⊎ LacksRangeMemory given old spelling new
 
--- a timeout: so are losses that it finds (RFC 9002, A.9)
+-- a timeout: the losses that it finds are stored (RFC 9002, A.9)
 abbrev pub IsOutcomeOfTimeout : Result Timeout SenderError → LastOutcome → LastOutcome → Type 0
 IsOutcomeOfTimeout (Ok (Lost space losses)) old new = HasLossesOnly losses new
 IsOutcomeOfTimeout reply old new = new ≡ old
@@ -168,7 +168,7 @@ pub record TimeoutReply (now : ℕ) (old : Sending) (spelling : EncodedReply) (n
   pub spells : spelling ≡ spelled_by timeout_spelled reply
   pub told : IsOutcomeOfTimeout reply old.told new.told
 
--- what a probe carries is given, or in numbers why it is refused (RFC 9002, 6.2.4)
+-- the contents of a probe, or the error in numbers (RFC 9002, 6.2.4)
 abbrev pub probe_given : Result (List ℕ) SenderError → Result (List ℕ) EncodedReply
 probe_given (Ok queue) = Ok queue
 probe_given (Err refusal) = Err (refused_spelled refusal)
@@ -180,7 +180,7 @@ pub record ProbeReply (space : SpaceId) (immediate : Bool) (old : Sending) (give
   pub gives : given ≡ probe_given reply
   pub told : new.told ≡ old.told
 
--- a space ends (RFC 9002, 6.2.2, 6.4 and A.11)
+-- a space is discarded (RFC 9002, 6.2.2, 6.4 and A.11)
 pub record DiscardReply (space : SpaceId) (now : ℕ) (old : Sending) (spelling : EncodedReply)
     (new : Sending) : Type 0 where
   pub reply : Result (Unit {0}) SenderError
@@ -192,7 +192,7 @@ pub record DiscardReply (space : SpaceId) (now : ℕ) (old : Sending) (spelling 
   pub spells : spelling ≡ spelled_by (λ done. plain ANSWER_DONE) reply
   pub told : new.told ≡ old.told
 
--- what a space tracks is lost, all of it or what memory lets: so are these numbers kept (RFC 9002, 6.3 and 6.4)
+-- all packets of a space are declared lost, except if allocation fails: these losses are stored (RFC 9002, 6.3 and 6.4)
 abbrev pub lost_alone : Retransmitted → Losses
 lost_alone all = record {
   numbers = all.numbers;
@@ -214,14 +214,14 @@ pub record RetransmitAllReply (space : SpaceId) (now : ℕ) (old : Sending) (spe
   pub spells : spelling ≡ spelled_by (λ all. plain ANSWER_LOSSES) reply
   pub told : ReportsLost reply old.told new.told
 
--- something is said of the connection, and the timer set
+-- the variables change, and the timer is set
 pub record UpdatesVariables (change : Variables → Variables) (old : Sending) (spelling : EncodedReply)
     (new : Sending) : Type 0 where
   pub does : CompletesCall [] (change old.sender.variables) old.sender new.sender
   pub spells : spelling ≡ plain ANSWER_DONE
   pub told : new.told ≡ old.told
 
--- there are keys of Handshake packets (RFC 9002, A.8)
+-- Handshake keys are available (RFC 9002, A.8)
 abbrev pub keyed : Variables → Variables
 keyed variables = record variables { has_handshake_keys = true }
 
@@ -229,7 +229,7 @@ keyed variables = record variables { has_handshake_keys = true }
 abbrev pub confirmed : Variables → Variables
 confirmed variables = record variables { is_handshake_confirmed = true; is_address_known = true }
 
--- the peer delays its ACKs at most so long (RFC 9000, 18.2)
+-- the peer's max_ack_delay is set (RFC 9000, 18.2)
 abbrev pub delayed_by : ℕ → Variables → Variables
 delayed_by span variables = record variables { max_ack_delay = span }
 
@@ -238,7 +238,7 @@ pub record InitialRttReply (rtt : ℕ) (old : Sending) (spelling : EncodedReply)
   pub does : ChangesRtt (record old.sender.variables { initial_rtt = Some rtt }) old.sender new.sender
   pub spells : spelling ≡ plain ANSWER_DONE
 
--- a challenge of the path in use is open, or none (RFC 9000, 8.2.1)
+-- the outstanding challenge of the path in use is set, if any (RFC 9000, 8.2.1)
 pub record ChallengeReply (content : Option ℕ) (pending : Bool) (old : Sending) (spelling : EncodedReply)
     (new : Sending) : Type 0
   where
@@ -248,7 +248,7 @@ pub record ChallengeReply (content : Option ℕ) (pending : Bool) (old : Sending
     pub spells : spelling ≡ plain ANSWER_DONE
     pub told : new.told ≡ old.told
 
--- a call, with the ranges of an ACK frame beside it
+-- a call, with the ranges of an ACK frame as a separate argument
 abbrev pub SenderCallReply : Call → List AckRange → Sending → EncodedReply → Sending → Type 0
 SenderCallReply (Transmit now bytes space in_flight) given old spelling new =
     TransmitReply now bytes space in_flight old spelling new
@@ -263,9 +263,9 @@ SenderCallReply (PeerDelay span) given old spelling new = UpdatesVariables (dela
 SenderCallReply (InitialRtt rtt) given old spelling new = InitialRttReply rtt old spelling new
 SenderCallReply (Challenge challenge pending) given old spelling new = ChallengeReply challenge pending old spelling new
 
--- ---- of what is kept
+-- ---- an engine
 
--- a recovery that stands alone refuses a call of a sender, and stays
+-- a bare recovery rejects a call of a sender, and is unchanged
 abbrev pub UnlessNoSender : Call → List AckRange → Engine → EncodedReply → Engine → Type 0
 UnlessNoSender call given (Alone old) spelling new = (spelling ≡ no_sender) × (new ≡ Alone old)
 UnlessNoSender call given (Sends old) spelling (Sends new) = SenderCallReply call given old spelling new
@@ -277,7 +277,7 @@ ProbeUnlessNoSender space immediate (Alone old) given new = (given ≡ Err no_se
 ProbeUnlessNoSender space immediate (Sends old) given (Sends new) = ProbeReply space immediate old given new
 ProbeUnlessNoSender space immediate (Sends old) given (Alone new) = ⊥
 
--- ---- what was told last, in numbers
+-- ---- the last outcome, in numbers
 
 abbrev pub ecn_number : EcnOutcome → ℕ
 ecn_number Quiet = ECN_QUIET

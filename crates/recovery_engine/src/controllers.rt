@@ -11,7 +11,7 @@ use recovery_congestion::rtt::RttEstimator;
 use recovery_cubic::{Cubic, CubicConfig};
 use std::marker::Model;
 
-/// A window in bytes that nothing changes, above zero.
+/// A fixed window in bytes, above zero.
 #[derive(Clone, Copy)]
 pub struct FixedConfig {
     window: u64,
@@ -30,7 +30,7 @@ impl Model for FixedConfig {
 }
 
 impl FixedConfig {
-    /// This window, in bytes and above zero, for good.
+    /// Returns a fixed window, in bytes and above zero.
     pub fn new(window: u64) -> Self
         requires { 0 < window }
         ensures { result ≡ window }
@@ -51,7 +51,7 @@ impl FixedConfig {
 pub enum ChosenConfig {
     /// NewReno (RFC 9002, 7).
     Reno(NewRenoConfig),
-    /// A window that nothing changes.
+    /// A fixed window.
     Fixed(FixedConfig),
     /// CUBIC (RFC 9438).
     Cubic(CubicConfig),
@@ -62,7 +62,7 @@ pub enum ChosenConfig {
 pub enum Chosen {
     /// NewReno (RFC 9002, 7).
     Reno(NewReno),
-    /// A window in bytes that nothing changes.
+    /// A fixed window in bytes.
     Fixed(u64),
     /// CUBIC (RFC 9438).
     Cubic(Cubic),
@@ -190,7 +190,7 @@ impl Controller for Chosen {
         }
     }
 
-    /// Takes no memory, and never answers `NoMemory`.
+    /// Allocates nothing, and never fails.
     fn try_clone(&self) -> Result<Self, NoMemory>
         ensures { result ≡ Ok self.now }
     {

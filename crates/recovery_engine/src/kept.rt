@@ -1,4 +1,4 @@
-//! The recovery that a stack keeps: one that stands alone, or one of a sender.
+//! The engine of a stack: a bare recovery, or one of a sender.
 ghost use Rattle.std.specs.Prelude.{◌≡◌, ◌≤◌, Decides, IfOk};
 ghost use Rattle.rand_core.specs.Steps.{stream_of, steps_u32};
 ghost use Rattle.recovery_base.specs.Units.{number_limit};
@@ -28,33 +28,33 @@ use recovery_queue::items::ItemQueue;
 use recovery_sender::{Sender, SenderError, passes};
 use std::alloc::Global;
 
-/// A recovery over a chosen controller, whose packets carry numbered items and whose skips are drawn by PCG32.
+/// A recovery with a chosen controller, whose packets carry numbered items and whose skips are drawn by PCG32.
 pub type ItemRecovery = LiveRecovery<ChosenConfig, ItemQueue, Pcg32>;
 
-/// A sender over such a one.
+/// A sender of such a recovery.
 pub type ItemSender = Sender<ChosenConfig, ItemQueue, Pcg32>;
 
-/// What a recovery begins as.
+/// The initial form of an engine.
 #[derive(Clone, Copy)]
 pub enum Form {
-    /// A recovery alone: its caller decides what is lost.
+    /// A bare recovery: its caller decides what is lost.
     Bare,
-    /// One of a sender of this side, from the start of the handshake.
+    /// A sender of this side, from the start of the handshake.
     Handshaking(Side),
-    /// One of a sender of this side, once the handshake is confirmed.
+    /// A sender of this side, once the handshake is confirmed.
     Established(Side),
 }
 
-/// The recovery of a stack.
+/// The engine of a stack.
 #[derive(Drop)]
 pub enum Engine {
-    /// It takes each event.
+    /// A bare recovery. It accepts each event.
     Alone(ItemRecovery),
-    /// It takes the events that its sender lets pass, and those of the sender's calls.
+    /// A sender. It accepts the events that the sender passes, and makes those of the sender's calls.
     Sends(Sending),
 }
 
-/// One event that a sender lets pass: out of line, so that one of a recovery that stands alone is compiled in.
+/// Applies an event that a sender passes. It is out of line, so that events of a bare recovery are inlined.
 #[inline(never)]
 fn passed(sending: &mut Sending, event: Event<ItemQueue>) -> Result<Answer<ItemQueue>, Refusal>
     requires { IsPassedThrough event }
@@ -69,7 +69,7 @@ fn passed(sending: &mut Sending, event: Event<ItemQueue>) -> Result<Answer<ItemQ
 }
 
 impl Engine {
-    /// A recovery to which nothing has happened yet, in this form.
+    /// Returns an engine of this form, without any event.
     pub fn new(
         alloc: Global,
         form: Form,
@@ -136,7 +136,7 @@ impl Engine {
         Ok(Engine::Sends(Sending::new(alloc, sender)))
     }
 
-    /// The recovery, to look at.
+    /// Returns the recovery, for reading.
     pub fn recovery(&self) -> &Recovery<ChosenConfig, ItemQueue, Pcg32>
         ensures { state_of result.now ≡ parts_kept self.now }
     {
@@ -146,7 +146,7 @@ impl Engine {
         }
     }
 
-    /// Whether it takes an event: a sender decides some itself.
+    /// Returns whether the engine accepts an event: a sender itself makes some.
     #[inline(always)]
     pub fn accepts(&self, event: &Event<ItemQueue>) -> bool
         ensures { Decides result (AcceptsEvent self.now event.now) }
@@ -157,7 +157,7 @@ impl Engine {
         }
     }
 
-    /// One event that it takes.
+    /// Applies an event that the engine accepts.
     #[inline(always)]
     pub fn apply(&mut self, event: Event<ItemQueue>) -> Result<Answer<ItemQueue>, Refusal>
         requires { AcceptsEvent self.old event }
@@ -169,7 +169,7 @@ impl Engine {
         }
     }
 
-    /// How many probe timeouts of a sender expired in a row.
+    /// Returns the number of a sender's consecutive probe timeouts.
     pub fn pto_count(&self) -> u32
         ensures { result ≡ pto_count_of self.now }
     {
@@ -179,7 +179,7 @@ impl Engine {
         }
     }
 
-    /// What the timer of a sender waits for, and what room is left.
+    /// Returns the purpose of a sender's timer, and the room that is left.
     pub fn sender_view(&self) -> SenderView
         ensures { result ≡ sender_view_of self.now }
     {
@@ -189,7 +189,7 @@ impl Engine {
         }
     }
 
-    /// The numbers that the last ACK frame newly acknowledged, or those that were lost as something was told last.
+    /// Returns the numbers that the last outcome newly acknowledged, or those that it found lost.
     fn numbers(&self, lost: bool) -> &[u64]
         ensures { result.now ≡ numbers_told lost self.now }
     {
@@ -199,14 +199,14 @@ impl Engine {
         }
     }
 
-    /// How many of these there are; they are written where there is room for all.
+    /// Returns the count of these numbers, and writes them if there is room for all.
     pub fn copy_numbers(&self, lost: bool, out: &mut [u64]) -> usize
         ensures { IsWritten (numbers_told lost self.now) out.old result out.new }
     {
         copy_numbers(self.numbers(lost), out)
     }
 
-    /// The packets that the last ACK frame newly acknowledged, with their items.
+    /// Returns the packets that the last ACK frame newly acknowledged, with their items.
     fn packets(&self) -> &[u64]
         ensures { result.now ≡ packets_told self.now }
     {
@@ -216,14 +216,14 @@ impl Engine {
         }
     }
 
-    /// How many words they are; they are written where there is room for all.
+    /// Returns the count of these words, and writes them if there is room for all.
     pub fn copy_packets(&self, out: &mut [u64]) -> usize
         ensures { IsWritten (packets_told self.now) out.old result out.new }
     {
         copy_numbers(self.packets(), out)
     }
 
-    /// What was told last by a sender.
+    /// Returns the last outcome of a sender.
     pub fn last_outcome(&self) -> OutcomeView
         ensures { result ≡ told_view self.now }
     {
@@ -233,7 +233,7 @@ impl Engine {
         }
     }
 
-    /// One call of a sender; refused where there is none.
+    /// Makes a call of a sender; an error if there is none.
     pub fn call_sender(&mut self, alloc: Global, call: Call, ranges: &[AckRange]) -> EncodedReply
         ensures { UnlessNoSender call ranges.now self.old result self.new }
     {
@@ -243,7 +243,7 @@ impl Engine {
         }
     }
 
-    /// Hands out what a probe of a sender carries, or says in numbers why it is refused; refused where there is none.
+    /// Returns the contents of a sender's probe, or the error in numbers; an error if there is no sender.
     pub fn probe(&mut self, space: SpaceId, immediate_ack: bool) -> Result<ItemQueue, EncodedReply>
         ensures { ProbeUnlessNoSender space immediate_ack self.old result self.new }
     {
@@ -253,8 +253,7 @@ impl Engine {
         }
     }
 
-    /// The layer above keeps this with a path from now on: of a recovery that stands alone; a sender sets its marks
-    /// itself.
+    /// Stores the caller's marks of a path of a bare recovery. A sender sets its marks itself.
     pub fn set_marks(&mut self, path: PathName, marks: PathMarks) -> bool
         ensures { MarksKept path marks result self.old self.new }
     {

@@ -1,6 +1,6 @@
-//! The recovery that a stack keeps, over a controller that a setting chooses: one that stands alone and takes each
-//! event, or one of a sender (RFC 9002), which decides some itself. What either answers is spelled in numbers. Begin at
-//! `kept.rt`, and at `specs/Kept.antt`.
+//! The engine of a stack, with a controller that a setting chooses: a bare recovery, which accepts each event, or one
+//! of a sender (RFC 9002), which itself makes some. Replies are encoded in numbers. Begin at `kept.rt` and
+//! `specs/Kept.antt`.
 #![tactic(auto)]
 
 pub mod controllers;

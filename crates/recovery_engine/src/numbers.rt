@@ -1,9 +1,9 @@
-//! The numbers that stand for what crosses: answers, refusals of a call, faults of counts and what these come to, what
-//! comes of making a recovery, and settings that choose. `tests/rust.py --write` writes them for Rust and for C.
+//! The numbers of the interface: answers, errors of a call, ECN faults and outcomes, results of making a recovery, and
+//! settings. `tests/rust.py --write` writes them for Rust and for C.
 
 /// The packet is new.
 pub const ANSWER_NEW: u8 = 0;
-/// The packet may have come before: it is to be dropped.
+/// The packet is a duplicate, or too old to tell: drop it.
 pub const ANSWER_DUPLICATE: u8 = 1;
 /// The packet is sent.
 pub const ANSWER_SENT: u8 = 2;
@@ -11,11 +11,11 @@ pub const ANSWER_SENT: u8 = 2;
 pub const ANSWER_ACKED: u8 = 3;
 /// The packet is lost, and no longer tracked.
 pub const ANSWER_LOST: u8 = 4;
-/// Which numbers of the peer's ids are to be retired.
+/// Which of the peer's connection IDs to retire.
 pub const ANSWER_RETIRE: u8 = 5;
 /// Yes or no, as the event asks.
 pub const ANSWER_FLAG: u8 = 6;
-/// The least moment that a timer is set to, if any.
+/// The earliest running timer, if any.
 pub const ANSWER_TIMEOUT: u8 = 7;
 /// What is in flight on a path.
 pub const ANSWER_IN_FLIGHT: u8 = 8;
@@ -23,67 +23,67 @@ pub const ANSWER_IN_FLIGHT: u8 = 8;
 pub const ANSWER_TRANSMITTED: u8 = 9;
 /// The datagram is not transmitted, by the amplification limit.
 pub const ANSWER_BLOCKED: u8 = 10;
-/// The bytes are not to be transmitted yet, by the pacer.
+/// The pacer delays the bytes.
 pub const ANSWER_DELAYED: u8 = 11;
-/// The bytes may be transmitted now, as far as the pacer goes.
+/// The pacer permits the bytes now.
 pub const ANSWER_READY: u8 = 12;
-/// A probe of the path's MTU goes out.
+/// An MTU probe of the path is sent.
 pub const ANSWER_PROBE: u8 = 13;
-/// No probe of the path's MTU is due.
+/// No MTU probe of the path is due.
 pub const ANSWER_NO_PROBE: u8 = 14;
 /// Whether a black hole was reported.
 pub const ANSWER_BLACK_HOLE: u8 = 15;
 /// What can be sent.
 pub const ANSWER_SENDABLE: u8 = 16;
-/// What is to be sent again.
+/// A retransmission queue.
 pub const ANSWER_QUEUE: u8 = 17;
 /// The event has no other answer.
 pub const ANSWER_DONE: u8 = 18;
-/// The window has no room for the datagram of a sender. The answers that senders alone give lie above those of events,
-/// so that further ones of these do not move them.
+/// The window has no room for a sender's datagram. The answers of senders alone are above those of events, so that new
+/// answers of events do not move them.
 pub const ANSWER_FULL: u8 = 128;
-/// An ACK frame of a sender is taken.
+/// A sender processed an ACK frame.
 pub const ANSWER_ACKNOWLEDGED: u8 = 129;
 /// No timer of the sender is due.
 pub const ANSWER_NOTHING: u8 = 130;
-/// Packets were looked for that are lost, in the space that `first` names for a timeout.
+/// A loss detection pass was made; for a timeout, `first` is its space.
 pub const ANSWER_LOSSES: u8 = 131;
-/// Probes are to be sent.
+/// Probes are due.
 pub const ANSWER_PROBES: u8 = 132;
 /// The caller has too little room for what an ACK frame results in: nothing is done.
 pub const ANSWER_NEEDS_ROOM: u8 = 133;
-/// The event is refused. It lies far from the answers, so that further ones do not move it.
+/// The call fails. The number is far from the answers, so that new ones do not move it.
 pub const ANSWER_REFUSED: u8 = 255;
 
-/// A number was acknowledged that was never sent (RFC 9000, 13.1): of a sender alone. The errors of senders lie above
-/// those of events, so that further ones of these do not meet them.
+/// A number was acknowledged that was never sent (RFC 9000, 13.1): of a sender alone. The errors of senders are above
+/// those of events, so that new errors of events do not meet them.
 pub const REFUSAL_UNSENT: u8 = 128;
-/// The event is one that the sender decides itself: it is not handed in around it.
+/// Only the sender itself makes this event; a caller cannot.
 pub const REFUSAL_DECIDED: u8 = 252;
-/// The handle holds a recovery that stands alone, without a sender.
+/// The handle holds a bare recovery, without a sender.
 pub const REFUSAL_NO_SENDER: u8 = 253;
 /// The handle holds no recovery.
 pub const REFUSAL_NO_RECOVERY: u8 = 254;
-/// An argument lies out of its range: a space or a timer that there is not, an id of more than 20 bytes, a number of a
-/// frame of 2^62 or more, nanoseconds of a second or more.
+/// An argument is out of range: a space or timer that does not exist, a connection ID of more than 20 bytes, a frame's
+/// number of 2^62 or more, or nanoseconds of 10^9 or more.
 pub const REFUSAL_BAD_ARGUMENT: u8 = 255;
 
-/// The count of ECT(0) fell.
+/// The count of ECT(0) decreased.
 pub const FAULT_ECT0_FALLS: u64 = 0;
-/// The count of ECT(1) fell.
+/// The count of ECT(1) decreased.
 pub const FAULT_ECT1_FALLS: u64 = 1;
-/// The count of ECN-CE fell.
+/// The count of ECN-CE decreased.
 pub const FAULT_CE_FALLS: u64 = 2;
-/// Packets that are newly acknowledged are in no count.
+/// The counts do not include newly acknowledged packets.
 pub const FAULT_BLEACHED: u64 = 3;
-/// Packets were counted that were not sent so.
+/// The counts include packets that were not sent with this marking.
 pub const FAULT_CORRUPTED: u64 = 4;
 
-/// Nothing, or the frame has no counts of ECN.
+/// No congestion. If the frame has no ECN counts, packets are no longer marked on the path.
 pub const ECN_QUIET: u8 = 0;
-/// More packets were marked: there is congestion (RFC 9002, 7.1).
+/// More packets were marked with CE: congestion (RFC 9002, 7.1).
 pub const ECN_MARKED: u8 = 1;
-/// The check failed: packets are marked no more on the path.
+/// Validation failed: packets are no longer marked on the path.
 pub const ECN_FAILED: u8 = 2;
 
 /// Nothing: no ack-eliciting packet is in flight that is probed for, or there is no sender.
@@ -94,20 +94,20 @@ pub const AWAITS_LOSSES: u8 = 1;
 pub const AWAITS_PROBES: u8 = 2;
 /// The probe timeout that ends a deadlock of the handshake (RFC 9002, 6.2.2.1).
 pub const AWAITS_DEADLOCK_PROBE: u8 = 3;
-/// The next datagram from the peer: the amplification limit lets no byte out (RFC 9000, 8.1).
+/// The next datagram from the peer: the amplification limit permits no byte (RFC 9000, 8.1).
 pub const AWAITS_PEER: u8 = 4;
 /// The confirmation of the handshake: only 1-RTT packets are in flight (RFC 9002, 6.2.1).
 pub const AWAITS_CONFIRMATION: u8 = 5;
 
 /// A recovery was made.
 pub const NEW_MADE: u8 = 0;
-/// There was no memory.
+/// Allocation failed.
 pub const NEW_NO_MEMORY: u8 = 1;
 /// The handle holds a recovery already.
 pub const NEW_HELD: u8 = 2;
-/// The id of the peer has more than 20 bytes.
+/// The peer's connection ID has more than 20 bytes.
 pub const NEW_CID_TOO_LONG: u8 = 3;
-/// More than 2^62 ids were issued at the start.
+/// More than 2^62 connection IDs were issued at the start.
 pub const NEW_TOO_MANY_ISSUED: u8 = 4;
 /// The first skip is 64 or more.
 pub const NEW_SKIP_TOO_LARGE: u8 = 5;
@@ -117,21 +117,21 @@ pub const NEW_ZERO_MTU: u8 = 6;
 pub const NEW_ZERO_WINDOW: u8 = 7;
 /// The denominator of the loss reduction factor, or of the time threshold, is zero.
 pub const NEW_ZERO_DENOMINATOR: u8 = 8;
-/// There is no such controller.
+/// The controller does not exist.
 pub const NEW_UNKNOWN_CONTROLLER: u8 = 9;
-/// There is no such way to skip numbers.
+/// The kind of skips does not exist.
 pub const NEW_UNKNOWN_SKIPS: u8 = 10;
 
 /// NewReno (RFC 9002, 7).
 pub const CONTROLLER_NEW_RENO: u8 = 0;
-/// A window that stays the one at first.
+/// A fixed window: always the initial one.
 pub const CONTROLLER_FIXED: u8 = 1;
 /// CUBIC (RFC 9438).
 pub const CONTROLLER_CUBIC: u8 = 2;
 
 /// No number is skipped.
 pub const SKIPS_DISABLED: u8 = 0;
-/// As drawn with the seed.
+/// Skips are drawn with the seed.
 pub const SKIPS_DRAWN: u8 = 1;
-/// From the first skip on, those behind it as drawn with the seed.
+/// The first skip is given, and the following ones are drawn with the seed.
 pub const SKIPS_STARTING: u8 = 2;

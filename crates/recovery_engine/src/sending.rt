@@ -1,4 +1,4 @@
-//! A sender, and what it told last.
+//! A sender, and its last outcome.
 ghost use Rattle.std.specs.Prelude.{◌≡◌, ◌<◌, ◌++◌, ◌∷◌, [], length, map, true, false, Decides};
 ghost use Rattle.recovery_sender.specs.declared.sender.probes.Timeout.TheVariants.{Probe};
 ghost use Rattle.recovery_sender.specs.Senders.{state_in};
@@ -34,98 +34,98 @@ pub struct AckRange {
     pub last: u64,
 }
 
-/// What a call came to, with the packets that it newly acknowledged.
+/// The outcome of a call, with the packets that it newly acknowledged.
 #[derive(Drop)]
 pub struct LastOutcome {
     pub acked: Acknowledged,
-    /// Of each of these packets, rising: its number, how many items it carried, and these.
+    /// For each of these packets, in increasing order: its number, its item count, and its items.
     pub packets: Vec<u64>,
 }
 
-/// A sender, and what it told last.
+/// A sender, and its last outcome.
 #[derive(Drop)]
 pub struct Sending {
     pub sender: ItemSender,
-    /// The outcome of the last ACK frame, of the last timeout that searched for losses, or of the last space whose
-    /// packets were all declared lost, whichever came last; nothing before the first.
+    /// The outcome of the last ACK frame, of the last timeout that made a loss detection pass, or of the last space
+    /// whose packets were all declared lost, whichever came last; empty before the first.
     pub told: LastOutcome,
-    /// What takes the ranges of an ACK frame, kept for its memory.
+    /// The ranges of an ACK frame, kept for their memory.
     pub ranges: Vec<(u64, u64)>,
-    /// What takes the numbers that one newly acknowledges, likewise.
+    /// The numbers that a frame newly acknowledges, kept for their memory.
     pub numbers_room: Vec<u64>,
-    /// What takes these packets, likewise.
+    /// These packets, kept for their memory.
     pub packets_room: Vec<u64>,
 }
 
 /// The room that a caller has for what an ACK frame results in. If it is too little, nothing is done.
 #[derive(Clone, Copy)]
 pub struct AckRoom {
-    /// How many words of newly acknowledged packets it takes.
+    /// How many words of newly acknowledged packets there is room for.
     pub packets: u64,
-    /// How many lost numbers it takes.
+    /// How many lost numbers there is room for.
     pub lost: u64,
 }
 
 /// A call of a sender; the ranges of an ACK frame are passed next to it.
 #[derive(Clone, Copy)]
 pub enum Call {
-    /// A datagram is to go out.
+    /// Checks whether a datagram may be sent.
     Transmit {
         now: Instant,
         bytes: u16,
         space: SpaceId,
         in_flight: bool,
     },
-    /// An ACK frame came in.
+    /// An ACK frame was received.
     TakeAck {
         space: SpaceId,
         now: Instant,
         ack: Ack,
         room: AckRoom,
     },
-    /// The timer for losses may be due.
+    /// The loss detection timer may be due.
     Expire(Instant),
-    /// The keys of a space are dropped.
+    /// Discards a space with its keys.
     Discard {
         space: SpaceId,
         now: Instant,
     },
-    /// What a space tracks was sent in vain.
+    /// Declares all packets of a space lost.
     RetransmitAll {
         space: SpaceId,
         now: Instant,
     },
-    /// There are keys of Handshake packets.
+    /// Handshake keys are available.
     HandshakeKeys,
     /// The handshake is confirmed.
     HandshakeConfirmed,
-    /// The peer delays its ACKs at most so long.
+    /// The peer's max_ack_delay.
     PeerDelay(Duration),
-    /// The RTT before the first sample of the path in use.
+    /// Sets the RTT that timers use before the first sample of the path in use.
     InitialRtt(Duration),
-    /// A PATH_CHALLENGE frame is open on the path in use, or none, and one is to be sent, or none.
+    /// The outstanding PATH_CHALLENGE frame of the path in use, if any, and whether one is to be sent.
     Challenge {
         challenge: Option<u64>,
         pending: bool,
     },
 }
 
-/// The last outcome: of an ACK frame, of a timeout that searched for losses, or of a space whose packets were all
-/// declared lost.
+/// The last outcome: of an ACK frame, of a timeout that made a loss detection pass, or of a space whose packets were
+/// all declared lost.
 #[repr(C)]
 #[derive(Clone, Copy)]
 pub struct OutcomeView {
     /// How many numbers the frame newly acknowledged; else 0.
     pub acked: u64,
-    /// How many numbers were found lost, without that of the MTU's probe.
+    /// How many numbers were declared lost, without that of the MTU probe.
     pub lost: u64,
-    /// The number of the MTU's probe, where that was lost: no sign of congestion (RFC 9000, 14.4).
+    /// The number of the MTU probe, if it was lost: this does not indicate congestion (RFC 9000, 14.4).
     pub probe: u64,
-    /// The bytes lost on the path in use, where there was congestion (RFC 9002, 7.3.2).
+    /// The bytes lost on the path in use, if there was congestion (RFC 9002, 7.3.2).
     pub congestion: u64,
-    /// What the frame's counts of ECN came to (RFC 9000, 13.4.2.1).
+    /// The outcome of the frame's ECN counts (RFC 9000, 13.4.2.1).
     pub ecn: u8,
-    /// Whether the MTU's probe was lost.
+    /// Whether the MTU probe was lost.
     pub has_probe: bool,
     /// Whether there was congestion.
     pub has_congestion: bool,
@@ -152,7 +152,7 @@ fn lost_alone(all: Retransmitted) -> Losses
     }
 }
 
-/// There was no outcome yet. It takes no memory.
+/// Returns an empty outcome. Allocates nothing.
 fn no_outcome(alloc: Global) -> LastOutcome
     ensures { IsEmptyOutcome result }
 {
@@ -182,7 +182,7 @@ fn ecn_number(ecn: EcnOutcome) -> u8
 }
 
 impl OutcomeView {
-    /// In numbers.
+    /// Returns the outcome in numbers.
     pub fn of(told: &Acknowledged) -> OutcomeView
         ensures { result ≡ told_shown told.now }
     {
@@ -201,7 +201,7 @@ impl OutcomeView {
         }
     }
 
-    /// There is no sender, or it told nothing yet.
+    /// Returns the view if there is no sender or no outcome yet.
     pub fn none() -> OutcomeView
         ensures { result ≡ no_told }
     {
@@ -229,7 +229,7 @@ fn is_quiet(ecn: EcnOutcome) -> bool
     }
 }
 
-/// Whether more is told of an ACK frame than numbers.
+/// Returns whether the outcome has more than the two counts.
 fn tells_more(told: &Acknowledged) -> bool
     ensures { result ≡ tells_more told.now }
 {
@@ -275,14 +275,14 @@ fn spell_transmission(sent: Transmission) -> EncodedReply
     }
 }
 
-/// A space was searched for losses.
+/// Encodes a loss detection pass over a space.
 fn spell_losses(space: SpaceId) -> EncodedReply
     ensures { result ≡ losses_spelled space }
 {
     encode_number(ANSWER_LOSSES, u64::from(space_number(space)))
 }
 
-/// So many probes are due in a space.
+/// Encodes that `count` probes are due in a space.
 fn spell_probes(space: SpaceId, count: u8) -> EncodedReply
     ensures { result ≡ timeout_spelled (Probe space count) }
 {
@@ -293,7 +293,7 @@ fn spell_probes(space: SpaceId, count: u8) -> EncodedReply
     }
 }
 
-/// Ranges as the sender takes them, in the same order, in place of what a list held; false, where there is no memory.
+/// Fills a list with the given ranges in their order. Returns false if allocation fails.
 fn fill(ranges: &mut Vec<(u64, u64)>, given: &[AckRange]) -> bool
     ensures ranges { result ≡ true → ranges.new.items ≡ map range_given given.now }
     ensures memory { result ≡ false → 0 < length given.now }
@@ -308,7 +308,7 @@ fn fill(ranges: &mut Vec<(u64, u64)>, given: &[AckRange]) -> bool
     true
 }
 
-/// The items that a tracked packet carries; none where it is not tracked.
+/// Returns the items of a tracked packet; none if it is not tracked.
 fn items_of(sender: &ItemSender, space: SpaceId, number: u64) -> &[u64]
     ensures { result.now ≡ items_of (packets_in (state_in sender.now) space) number }
 {
@@ -318,7 +318,7 @@ fn items_of(sender: &ItemSender, space: SpaceId, number: u64) -> &[u64]
     }
 }
 
-/// The number of a packet, how many items it has, and these go behind others; false, where there is no memory.
+/// Appends a packet's number, item count and items to a list. Returns false if allocation fails.
 fn list_packet(number: u64, items: &[u64], packets: &mut Vec<u64>) -> bool
     ensures { result ≡ true
         → packets.new.items ≡ packets.old.items ++ number ∷ length items.now ∷ items.now }
@@ -329,7 +329,7 @@ fn list_packet(number: u64, items: &[u64], packets: &mut Vec<u64>) -> bool
     items.is_empty() || packets.extend_from_slice(items).is_ok()
 }
 
-/// These packets, with the items that they carry, in place of what a list held; false, where there is no memory.
+/// Fills a list with these packets and their items. Returns false if allocation fails.
 fn list_packets(
     sender: &ItemSender,
     space: SpaceId,
@@ -348,14 +348,14 @@ fn list_packets(
     true
 }
 
-/// Whether a caller has room for these packets, and for all numbers that may be lost then.
+/// Returns whether a caller has room for these packets, and for all numbers that may be lost then.
 fn has_room_for(room: &AckRoom, newly: &NewlyAcked, packets: &[u64]) -> bool
     ensures { Decides result (HasRoomFor room.now newly.now packets.now) }
 {
     packets.len() as u64 <= room.packets && newly.lost.capacity() as u64 <= room.lost
 }
 
-/// How much room a caller needs for these packets, and for all numbers that may be lost then.
+/// Encodes how much room a caller needs for these packets, and for all numbers that may be lost then.
 fn spell_room(newly: &NewlyAcked, packets: &[u64]) -> EncodedReply
     ensures { result ≡ room_spelled newly.now packets.now }
 {
@@ -367,7 +367,7 @@ fn spell_room(newly: &NewlyAcked, packets: &[u64]) -> EncodedReply
 }
 
 impl Sending {
-    /// This sender, which told nothing yet. It takes no memory.
+    /// Returns a sender without an outcome. Allocates nothing.
     pub fn new(alloc: Global, sender: ItemSender) -> Sending
         ensures sender { result.sender ≡ sender }
         ensures told { IsEmptyOutcome result.told }
@@ -381,7 +381,7 @@ impl Sending {
         }
     }
 
-    /// The numbers that were newly acknowledged, or those that were lost.
+    /// Returns the numbers that were newly acknowledged, or those that were declared lost.
     pub fn numbers(&self, lost: bool) -> &[u64]
         ensures { result.now ≡ numbers_of lost self.now.told.acked }
     {
@@ -393,7 +393,7 @@ impl Sending {
         }
     }
 
-    /// One call.
+    /// Makes a call.
     pub fn call_sender(&mut self, alloc: Global, call: Call, ranges: &[AckRange]) -> EncodedReply
         ensures { SenderCallReply call ranges.now self.old result self.new }
     {
@@ -456,7 +456,7 @@ impl Sending {
         reply
     }
 
-    /// A frame with these ranges. All memory is taken before the sender changes.
+    /// Processes a frame with these ranges. All memory is allocated before the sender changes.
     fn take_ack(
         &mut self,
         alloc: Global,
@@ -489,7 +489,7 @@ impl Sending {
         reply
     }
 
-    /// Keeps the lists of a frame that is not taken, for their memory.
+    /// Stores the lists of a frame that was not processed, for their memory.
     fn take_back(&mut self, newly: NewlyAcked, packets: Vec<u64>)
         ensures told { self.new.told ≡ self.old.told }
         ensures sender { self.new.sender ≡ self.old.sender }
@@ -498,7 +498,7 @@ impl Sending {
         self.packets_room = packets;
     }
 
-    /// Keeps the outcome of an ACK frame, and the lists of the one before for their memory.
+    /// Stores the outcome of an ACK frame, and the lists of the previous one for their memory.
     fn keep(&mut self, told: LastOutcome)
         ensures told { self.new.told ≡ told }
         ensures sender { self.new.sender ≡ self.old.sender }
@@ -508,7 +508,7 @@ impl Sending {
         self.packets_room = packets;
     }
 
-    /// Keeps the losses of a timeout, or of a space whose packets are all declared lost. It takes no memory.
+    /// Stores the losses of a timeout, or of a space whose packets are all declared lost. Allocates nothing.
     fn keep_losses(&mut self, losses: Losses)
         ensures told { HasLossesOnly losses self.new.told }
         ensures sender { self.new.sender ≡ self.old.sender }
@@ -533,7 +533,7 @@ impl Sending {
         }
     }
 
-    /// Hands out what a probe of a space carries, or says in numbers why it is refused.
+    /// Returns the contents of a probe in a space, or the error in numbers.
     pub fn probe(&mut self, space: SpaceId, immediate_ack: bool) -> Result<ItemQueue, EncodedReply>
         ensures { ProbeReply space immediate_ack self.old result self.new }
     {

@@ -1,4 +1,4 @@
-//! How replies are spelled in numbers, and what else is handed out so.
+//! How replies and other results are encoded in numbers.
 ghost use Rattle.std.specs.Prelude.{◌≡◌};
 ghost use Rattle.recovery_engine.specs.Replies.{bad_argument, decided, no_memory, no_recovery, no_sender, plain, sent_spelled, retire_spelled, timeout_spelled, refusal_spelled, fault_number, space_number, encoded, IsWritten};
 
@@ -16,42 +16,42 @@ use recovery_events::event::{Answer, Refusal};
 use recovery_queue::items::ItemQueue;
 use std::ops::Range;
 
-/// What an event was replied, in numbers.
+/// The reply to an event, in numbers.
 #[repr(C)]
 #[derive(Clone, Copy)]
 pub struct EncodedReply {
-    /// Which answer, or that it was refused.
+    /// Which answer, or that the call failed.
     pub kind: u8,
-    /// The number of the refusal, or 0; of one by ECN `first` is the number of the fault.
+    /// The number of the error, or 0. For an ECN error, `first` is the number of the fault.
     pub refusal: u8,
-    /// New: whether to start the timer for a late ACK. Sent: whether a silent packet was forgotten for it. Acked, lost:
-    /// whether it was the probe of the path's MTU. Retire: whether numbers are to be retired. Flag: yes or no. Timeout:
-    /// whether a timer is set. Black hole: whether one was reported. Sendable: whether an ACK is to be sent.
-    /// Acknowledged: whether the outcome has more than the two numbers. Otherwise false.
+    /// New: whether to start the ACK delay timer. Sent: whether a non-ack-eliciting packet was forgotten for it. Acked,
+    /// lost: whether it was the path's MTU probe. Retire: whether any connection IDs are to be retired. Flag: yes or
+    /// no. Timeout: whether a timer is running. Black hole: whether one was reported. Sendable: whether an ACK is to be
+    /// sent. Acknowledged: whether the outcome has more than the two counts. Otherwise false.
     pub flag: bool,
-    /// Sendable: whether there is something else to be sent. Otherwise false.
+    /// Sendable: whether there is something else to send. Otherwise false.
     pub other: bool,
     /// Probe: its size in bytes. Otherwise 0.
     pub size: u16,
-    /// Sent, probe: the number that it was given. Retire: the first number. Timeout, delayed: the moment, in
-    /// nanoseconds. In flight: the bytes. Acknowledged: how many numbers are so newly. Needs room: how many words of
+    /// Sent, probe: the packet number. Retire: the first sequence number. Timeout, delayed: the time, in nanoseconds.
+    /// In flight: the bytes. Acknowledged: how many numbers are newly acknowledged. Needs room: how many words of
     /// packets. Losses of a timeout, probes: the space. Otherwise 0.
     pub first: u64,
-    /// Sent: the number that was forgotten. Retire: one above the last number. In flight: how many packets elicit an
-    /// ACK. Acknowledged: how many numbers are lost. Needs room: how many lost numbers. Probes: how many are due.
-    /// Otherwise 0.
+    /// Sent: the packet number that was forgotten. Retire: one above the last sequence number. In flight: how many
+    /// packets are ack-eliciting. Acknowledged: how many numbers are lost. Needs room: how many lost numbers. Probes:
+    /// how many are due. Otherwise 0.
     pub second: u64,
 }
 
 impl EncodedReply {
-    /// A refusal for want of memory.
+    /// Returns the error of a failed allocation.
     pub fn no_memory() -> EncodedReply
         ensures { result ≡ no_memory }
     {
         encode_refusal(Refusal::NoMemory)
     }
 
-    /// The handle holds no recovery.
+    /// Returns the error if the handle holds no recovery.
     pub fn no_recovery() -> EncodedReply
         ensures { result ≡ no_recovery }
     {
@@ -61,7 +61,7 @@ impl EncodedReply {
         }
     }
 
-    /// It holds one without a sender.
+    /// Returns the error if the handle holds a bare recovery.
     pub fn no_sender() -> EncodedReply
         ensures { result ≡ no_sender }
     {
@@ -71,7 +71,7 @@ impl EncodedReply {
         }
     }
 
-    /// Its sender decides the event itself.
+    /// Returns the error if only the sender itself makes the event.
     pub fn decided() -> EncodedReply
         ensures { result ≡ decided }
     {
@@ -81,7 +81,7 @@ impl EncodedReply {
         }
     }
 
-    /// An argument lies out of its range.
+    /// Returns the error if an argument is out of range.
     pub fn bad_argument() -> EncodedReply
         ensures { result ≡ bad_argument }
     {
@@ -91,7 +91,7 @@ impl EncodedReply {
         }
     }
 
-    /// An answer that holds nothing.
+    /// Returns an answer without contents.
     pub fn plain(kind: u8) -> EncodedReply
         ensures { result ≡ plain kind }
     {
@@ -107,7 +107,7 @@ impl EncodedReply {
     }
 }
 
-/// Which fault the counts of ECN have, by its text (RFC 9000, 13.4.2.1).
+/// Returns which fault the ECN counts have, by its text (RFC 9000, 13.4.2.1).
 fn fault_number(text: &str) -> u64
     ensures { result ≡ fault_number text.now }
 {
@@ -168,7 +168,7 @@ fn spell_timeout(time: Option<Instant>) -> EncodedReply
     }
 }
 
-/// An answer that holds a number.
+/// Returns an answer with a number.
 pub fn encode_number(kind: u8, first: u64) -> EncodedReply
     ensures { result ≡ record (plain kind) { first = first } }
 {
@@ -184,7 +184,7 @@ fn spell_delayed(until: Instant) -> EncodedReply
     encode_number(ANSWER_DELAYED, until.as_nanos())
 }
 
-/// An answer that holds a flag.
+/// Returns an answer with a flag.
 pub fn encode_flag(kind: u8, flag: bool) -> EncodedReply
     ensures { result ≡ record (plain kind) { flag = flag } }
 {
@@ -194,7 +194,7 @@ pub fn encode_flag(kind: u8, flag: bool) -> EncodedReply
     }
 }
 
-/// A refusal by its number.
+/// Encodes an error.
 pub fn encode_refusal(refusal: Refusal) -> EncodedReply
     ensures { result ≡ refusal_spelled refusal }
 {
@@ -209,7 +209,7 @@ pub fn encode_refusal(refusal: Refusal) -> EncodedReply
     }
 }
 
-/// A reply by its numbers.
+/// Encodes a reply.
 #[inline(always)]
 pub fn encode_reply(reply: &Result<Answer<ItemQueue>, Refusal>) -> EncodedReply
     ensures { result ≡ encoded reply.now }
@@ -255,7 +255,7 @@ pub fn encode_reply(reply: &Result<Answer<ItemQueue>, Refusal>) -> EncodedReply
     }
 }
 
-/// The number of a packet number space.
+/// Returns the number of a packet number space.
 pub fn space_number(space: SpaceId) -> u8
     ensures { result ≡ space_number space }
 {
@@ -266,7 +266,7 @@ pub fn space_number(space: SpaceId) -> u8
     }
 }
 
-/// How many numbers there are; they are written where there is room for all.
+/// Returns the count of the numbers, and writes them if there is room for all.
 pub fn copy_numbers(numbers: &[u64], out: &mut [u64]) -> usize
     ensures { IsWritten numbers.now out.old result out.new }
 {

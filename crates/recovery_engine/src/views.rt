@@ -1,4 +1,4 @@
-//! What can be read of a sender in numbers: what its timer waits for, and what room is left on the path in use.
+//! What can be read of a sender in numbers: the purpose of its timer, and the room that is left on the path in use.
 ghost use Rattle.std.specs.Prelude.{◌≡◌};
 ghost use Rattle.recovery_sender.specs.Senders.{state_in};
 ghost use Rattle.recovery_engine.specs.SenderViews.{awaited, awaited_space, awaited_time, no_sender_view, sender_shown};
@@ -12,25 +12,25 @@ use crate::spelling::space_number;
 use recovery_losses::Due;
 use recovery_sender::TimerState;
 
-/// What the timer for losses of a sender waits for, and what room is left on the path in use.
+/// The purpose of a sender's loss detection timer, and the room that is left on the path in use.
 #[repr(C)]
 #[derive(Clone, Copy)]
 pub struct SenderView {
     /// How many bytes more fit into the congestion window (RFC 9002, 7).
     pub window_room: u64,
-    /// How many bytes the amplification limit still lets out, if `is_limited` (RFC 9000, 8.1); else `u64::MAX`.
+    /// How many more bytes the amplification limit permits, if `is_limited` (RFC 9000, 8.1); else `u64::MAX`.
     pub amplification_room: u64,
-    /// When the timer for losses expires, in nanoseconds; 0 if it is not set.
+    /// When the loss detection timer expires, in nanoseconds; 0 if it is not set.
     pub timer: u64,
-    /// What it waits for, such as `AWAITS_LOSSES`, or why it is not set, such as `AWAITS_PEER`.
+    /// Its purpose, such as `AWAITS_LOSSES`, or why it is not set, such as `AWAITS_PEER`.
     pub awaits: u8,
     /// The space for which it is set; 0 if it is not set.
     pub space: u8,
-    /// Whether the amplification limit binds the path: its address is not validated.
+    /// Whether the amplification limit applies to the path: its address is not validated.
     pub is_limited: bool,
 }
 
-/// The number of what a timer waits for.
+/// Returns the number of the timer's purpose.
 fn awaited(state: &TimerState) -> u8
     ensures { result ≡ awaited state.now }
 {
@@ -44,7 +44,7 @@ fn awaited(state: &TimerState) -> u8
     }
 }
 
-/// The space for which it is set.
+/// Returns the space for which the timer is set.
 fn awaited_space(state: &TimerState) -> u8
     ensures { result ≡ awaited_space state.now }
 {
@@ -56,7 +56,7 @@ fn awaited_space(state: &TimerState) -> u8
     }
 }
 
-/// The time that it is set to.
+/// Returns the time that the timer is set to.
 fn awaited_time(state: &TimerState) -> u64
     ensures { result ≡ awaited_time state.now }
 {
@@ -67,7 +67,7 @@ fn awaited_time(state: &TimerState) -> u64
 }
 
 impl SenderView {
-    /// What is read if there is no sender.
+    /// Returns the view if there is no sender.
     pub fn none() -> SenderView
         ensures { result ≡ no_sender_view }
     {
@@ -81,7 +81,7 @@ impl SenderView {
         }
     }
 
-    /// What is read of a sender.
+    /// Returns the view of a sender.
     pub fn of(sender: &ItemSender) -> SenderView
         ensures { result ≡ sender_shown (state_in sender.now) sender.now.variables }
     {

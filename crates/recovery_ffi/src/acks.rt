@@ -1,4 +1,4 @@
-//! How often and how late this end acknowledges (RFC 9000, 13.2): an export for each event.
+//! When and how late the local endpoint sends ACKs (RFC 9000, 13.2): an export for each event.
 ghost use Rattle.recovery_stack.specs.Answers.{HandleAppliesTo};
 ghost use Rattle.recovery_stack.specs.Codes.{request, space_coded};
 ghost use Rattle.recovery_events.specs.declared.event.Event.TheVariants.{AckDelayTimeout, AckFrequencyIn, AcksSent};
@@ -9,7 +9,7 @@ use recovery_stack::codes::{request, space_coded};
 use recovery_stack::handle::Handle;
 use std::alloc::Global;
 
-/// An ACK_FREQUENCY frame came in: the event `AckFrequencyIn`; its numbers lie below 2^62.
+/// Processes a received ACK_FREQUENCY frame: the event `AckFrequencyIn`. Its numbers are below 2^62.
 #[unsafe(no_mangle)]
 pub extern "C" fn recovery_ffi_ack_frequency(
     alloc: Global,
@@ -28,7 +28,7 @@ pub extern "C" fn recovery_ffi_ack_frequency(
     }
 }
 
-/// An ACK frame was sent (RFC 9000, 13.2.1): the event `AcksSent`.
+/// Records that an ACK frame was sent (RFC 9000, 13.2.1): the event `AcksSent`.
 #[unsafe(no_mangle)]
 pub extern "C" fn recovery_ffi_acks_sent(
     alloc: Global,
@@ -45,7 +45,7 @@ pub extern "C" fn recovery_ffi_acks_sent(
     handle.apply(alloc, Event::AcksSent { space })
 }
 
-/// The timer for a late ACK expired: the event `AckDelayTimeout`.
+/// Handles the ACK delay timer: the event `AckDelayTimeout`.
 #[unsafe(no_mangle)]
 pub extern "C" fn recovery_ffi_ack_delay_timeout(
     alloc: Global,

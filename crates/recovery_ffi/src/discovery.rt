@@ -1,4 +1,4 @@
-//! The search for the MTU (RFC 9000, 14.3; RFC 8899): an export for each event.
+//! MTU discovery (RFC 9000, 14.3; RFC 8899): an export for each event.
 ghost use Rattle.recovery_stack.specs.Answers.{HandleApplies};
 ghost use Rattle.recovery_events.specs.declared.event.Event.TheVariants.{LossesDone, PeerLimit, PollMtu};
 
@@ -8,7 +8,7 @@ use recovery_events::event::Event;
 use recovery_stack::handle::Handle;
 use std::alloc::Global;
 
-/// Is a probe of the MTU due (RFC 9000, 14.3)? The event `PollMtu`.
+/// Sends an MTU probe if one is due (RFC 9000, 14.3): the event `PollMtu`.
 #[unsafe(no_mangle)]
 pub extern "C" fn recovery_ffi_poll_mtu(
     alloc: Global,
@@ -25,7 +25,7 @@ pub extern "C" fn recovery_ffi_poll_mtu(
     )
 }
 
-/// The peer takes datagrams of at most so many bytes (RFC 9000, 18.2): the event `PeerLimit`.
+/// Sets the largest datagram that the peer accepts (RFC 9000, 18.2): the event `PeerLimit`.
 #[unsafe(no_mangle)]
 pub extern "C" fn recovery_ffi_peer_limit(
     alloc: Global,
@@ -37,7 +37,7 @@ pub extern "C" fn recovery_ffi_peer_limit(
     handle.apply(alloc, Event::PeerLimit { size })
 }
 
-/// All packets that were found lost together were told: the event `LossesDone`.
+/// Ends the losses of packets that were lost together: the event `LossesDone`.
 #[unsafe(no_mangle)]
 pub extern "C" fn recovery_ffi_losses_done(
     alloc: Global,

@@ -1,5 +1,5 @@
-//! Readings of a few instructions, for a stack that reads more often than it changes: of the path in use, of the id in
-//! use, and of what a space tracks.
+//! Readings that cost a few instructions, for a stack that reads more often than it changes. They read the path in use,
+//! the connection ID in use, and the tracked packets of a space.
 ghost use Rattle.std.specs.Prelude.{◌≡◌, false, Decides};
 ghost use Rattle.recovery_ids.specs.CidQueue.{active_of};
 ghost use Rattle.recovery_stack.specs.Answers.{ReadsHandle};
@@ -11,7 +11,7 @@ use recovery_stack::glances::{NumberView, RttView, TrackedView, WindowView};
 use recovery_stack::handle::Handle;
 use std::alloc::Global;
 
-/// Window and bytes in flight of the path in use.
+/// Returns the window and the bytes in flight of the path in use.
 #[unsafe(no_mangle)]
 pub extern "C" fn recovery_ffi_window(alloc: Global, handle: &mut Handle) -> WindowView
     ensures { ReadsHandle handle.old.slot.held handle.new.slot.held (λ stack.
@@ -20,7 +20,7 @@ pub extern "C" fn recovery_ffi_window(alloc: Global, handle: &mut Handle) -> Win
     handle.window(alloc)
 }
 
-/// The round-trip time of the path in use.
+/// Returns the round-trip time of the path in use.
 #[unsafe(no_mangle)]
 pub extern "C" fn recovery_ffi_rtt(alloc: Global, handle: &mut Handle) -> RttView
     ensures { ReadsHandle handle.old.slot.held handle.new.slot.held (λ stack.
@@ -29,7 +29,7 @@ pub extern "C" fn recovery_ffi_rtt(alloc: Global, handle: &mut Handle) -> RttVie
     handle.rtt(alloc)
 }
 
-/// The number of the peer's id in use (RFC 9000, 5.1.1); 0 where there is no recovery.
+/// Returns the sequence number of the peer's connection ID in use (RFC 9000, 5.1.1); 0 if there is no recovery.
 #[unsafe(no_mangle)]
 pub extern "C" fn recovery_ffi_active_id(alloc: Global, handle: &mut Handle) -> u64
     ensures { ReadsHandle handle.old.slot.held handle.new.slot.held (λ stack.
@@ -38,7 +38,7 @@ pub extern "C" fn recovery_ffi_active_id(alloc: Global, handle: &mut Handle) -> 
     handle.active_id(alloc)
 }
 
-/// Whether a packet that counts in flight is tracked in a space (RFC 9002, 2), by whichever path it went.
+/// Returns whether a space tracks a packet that counts in flight (RFC 9002, 2), on either path.
 #[unsafe(no_mangle)]
 pub extern "C" fn recovery_ffi_has_in_flight(alloc: Global, handle: &mut Handle, space: u8) -> bool
     ensures { ReadsHandle handle.old.slot.held handle.new.slot.held (λ stack.
@@ -48,8 +48,8 @@ pub extern "C" fn recovery_ffi_has_in_flight(alloc: Global, handle: &mut Handle,
     handle.has_in_flight(alloc, space)
 }
 
-/// The smallest packet number that a space tracks, by which a stack may choose the length of packet numbers (RFC 9000,
-/// 17.1): all smaller ones are acknowledged, lost, forgotten or discarded. It costs a logarithm.
+/// Returns the smallest packet number that a space tracks: all smaller ones are acknowledged, lost, forgotten or
+/// discarded. A stack may choose the length of packet numbers by it (RFC 9000, 17.1). Cost: logarithmic.
 #[unsafe(no_mangle)]
 pub extern "C" fn recovery_ffi_smallest_tracked(
     alloc: Global,
@@ -62,7 +62,7 @@ pub extern "C" fn recovery_ffi_smallest_tracked(
     handle.smallest_tracked(alloc, space)
 }
 
-/// How many packets a space tracks, and when a sender declares the next of them lost by its age.
+/// Returns how many packets a space tracks, and when a sender declares the next of them lost by its age.
 #[unsafe(no_mangle)]
 pub extern "C" fn recovery_ffi_tracked(alloc: Global, handle: &mut Handle, space: u8) -> TrackedView
     ensures { ReadsHandle handle.old.slot.held handle.new.slot.held (λ stack.

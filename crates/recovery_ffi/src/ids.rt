@@ -1,4 +1,5 @@
-//! Connection ids of the peer and of this end (RFC 9000, 5.1): an export for each event, and what is read of tokens.
+//! Connection IDs of the peer and of the local endpoint (RFC 9000, 5.1): an export for each event, and readings of
+//! tokens.
 ghost use Rattle.std.specs.Prelude.{◌≡◌, ◌≤◌, Decides, IsFalse, replicate};
 ghost use Rattle.std.specs.List.{All};
 ghost use Rattle.recovery_base.specs.Ids.{longest_cid, reset_token_size};
@@ -14,7 +15,7 @@ use recovery_stack::codes::{Id, are_ids, cid, ids_of};
 use recovery_stack::handle::Handle;
 use std::alloc::Global;
 
-/// A NEW_CONNECTION_ID frame came in (RFC 9000, 19.15): the event `NewId`; an id has at most 20 bytes.
+/// Processes a received NEW_CONNECTION_ID frame (RFC 9000, 19.15): the event `NewId`. The ID has at most 20 bytes.
 #[unsafe(no_mangle)]
 pub extern "C" fn recovery_ffi_new_id(
     alloc: Global,
@@ -42,7 +43,7 @@ pub extern "C" fn recovery_ffi_new_id(
     )
 }
 
-/// The next id of the peer is to be used: the event `NextId`.
+/// Switches to the next connection ID of the peer: the event `NextId`.
 #[unsafe(no_mangle)]
 pub extern "C" fn recovery_ffi_next_id(alloc: Global, handle: &mut Handle) -> EncodedReply
     ensures { HandleApplies handle.old.slot.held (NextId) result handle.new.slot.held }
@@ -50,7 +51,7 @@ pub extern "C" fn recovery_ffi_next_id(alloc: Global, handle: &mut Handle) -> En
     handle.apply(alloc, Event::NextId)
 }
 
-/// The server chose another id (RFC 9000, 7.2): the event `InitialId`; an id has at most 20 bytes.
+/// Sets the connection ID that the server chose (RFC 9000, 7.2): the event `InitialId`. It has at most 20 bytes.
 #[unsafe(no_mangle)]
 pub extern "C" fn recovery_ffi_initial_id(
     alloc: Global,
@@ -66,7 +67,7 @@ pub extern "C" fn recovery_ffi_initial_id(
     }
 }
 
-/// This end issues these ids (RFC 9000, 5.1.1): the event `IssueIds`; an id has at most 20 bytes.
+/// Issues connection IDs of at most 20 bytes (RFC 9000, 5.1.1): the event `IssueIds`.
 #[unsafe(no_mangle)]
 pub extern "C" fn recovery_ffi_issue_ids(
     alloc: Global,
@@ -82,7 +83,7 @@ pub extern "C" fn recovery_ffi_issue_ids(
     handle.issue_ids(alloc, now, given)
 }
 
-/// The timer for new ids expired: the event `IdTimeout`.
+/// Handles the timer for new connection IDs: the event `IdTimeout`.
 #[unsafe(no_mangle)]
 pub extern "C" fn recovery_ffi_id_timeout(alloc: Global, handle: &mut Handle) -> EncodedReply
     ensures { HandleApplies handle.old.slot.held (IdTimeout) result handle.new.slot.held }
@@ -90,7 +91,7 @@ pub extern "C" fn recovery_ffi_id_timeout(alloc: Global, handle: &mut Handle) ->
     handle.apply(alloc, Event::IdTimeout)
 }
 
-/// A RETIRE_CONNECTION_ID frame came in (RFC 9000, 19.16): the event `PeerRetired`.
+/// Processes a received RETIRE_CONNECTION_ID frame (RFC 9000, 19.16): the event `PeerRetired`.
 #[unsafe(no_mangle)]
 pub extern "C" fn recovery_ffi_peer_retired(
     alloc: Global,
@@ -104,7 +105,7 @@ pub extern "C" fn recovery_ffi_peer_retired(
     handle.apply(alloc, Event::PeerRetired { sequence, limit })
 }
 
-/// Writes the bytes of the token that was answered last; all zeros before there was one, and where no recovery is held.
+/// Writes the bytes of the token that was returned last: all zeros before the first, or if there is no recovery.
 #[unsafe(no_mangle)]
 pub extern "C" fn recovery_ffi_token(alloc: Global, handle: &mut Handle, out: &mut [u8; 16])
     ensures { ReadsHandle handle.old.slot.held handle.new.slot.held
@@ -113,7 +114,7 @@ pub extern "C" fn recovery_ffi_token(alloc: Global, handle: &mut Handle, out: &m
     handle.token(alloc, out);
 }
 
-/// Whether this is the token that was answered last; of none where no recovery is held.
+/// Returns whether this is the token that was returned last; false if there is no recovery.
 #[unsafe(no_mangle)]
 pub extern "C" fn recovery_ffi_is_token(
     alloc: Global,

@@ -1,6 +1,6 @@
-//! Which layout crosses: written by `tests/rust.py --write`.
+//! The layout of the interface: written by `tests/rust.py --write`.
 
-/// A program that was written for this layout names this function, and links with a library of the same layout alone.
-/// It does nothing.
+/// A program for this layout names this function, and so links only with a library of the same layout.
+/// Does nothing.
 #[unsafe(no_mangle)]
 pub extern "C" fn recovery_ffi_layout_75e3d1fc() {}

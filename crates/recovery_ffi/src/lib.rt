@@ -1,6 +1,6 @@
-//! A recovery for C and Rust: an exported function for each event, and for what can be read. Each says what the live
-//! recovery's `apply` says of its event, whatever came before, and refuses a call that spells none; docs/RUST.md says
-//! what a caller keeps.
+//! A recovery for C and Rust: an exported function for each event, and for each reading. Each guarantees what the live
+//! recovery's `apply` guarantees for its event, for every past, and returns an error if the arguments are invalid.
+//! docs/RUST.md states what a caller must ensure.
 #![tactic(auto)]
 
 mod acks;
@@ -30,8 +30,8 @@ use recovery_stack::making::begin;
 use recovery_stack::settings::Settings;
 use std::alloc::Global;
 
-/// Makes a recovery, whose peer is at this address and has this id of at most 20 bytes. The answer is `NEW_MADE`, or
-/// the number of what is wrong; the handle then holds what it held.
+/// Makes a recovery, whose peer is at this address and has this connection ID of at most 20 bytes. Returns `NEW_MADE`,
+/// or the number of what is wrong, which leaves the handle unchanged.
 #[unsafe(no_mangle)]
 pub extern "C" fn recovery_ffi_new(
     alloc: Global,
@@ -55,7 +55,7 @@ pub extern "C" fn recovery_ffi_new(
     )
 }
 
-/// Frees a recovery. The handle holds none then; one that holds none stays so.
+/// Frees a recovery. The handle then holds none. A handle that holds none is unchanged.
 #[unsafe(no_mangle)]
 pub extern "C" fn recovery_ffi_drop(alloc: Global, handle: &mut Handle)
     ensures { handle.new.slot.held ≡ None }

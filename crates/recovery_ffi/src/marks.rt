@@ -1,5 +1,5 @@
-//! What the layer above keeps with a path (RFC 9000, 8.2 and 13.4; RFC 9002, 7.6): it is read and set, and no event
-//! changes it.
+//! The caller's marks of a path (RFC 9000, 8.2 and 13.4; RFC 9002, 7.6). The caller reads and sets them; no event
+//! changes them.
 ghost use Rattle.std.specs.Prelude.{◌≡◌, None};
 ghost use Rattle.recovery_history.specs.CallerState.{marks_at};
 ghost use Rattle.recovery_stack.specs.Answers.{ReadsHandle};
@@ -11,7 +11,7 @@ use recovery_stack::handle::Handle;
 use recovery_stack::marks::Marks;
 use std::alloc::Global;
 
-/// What the layer above keeps with a path.
+/// Returns the caller's marks of a path.
 #[unsafe(no_mangle)]
 pub extern "C" fn recovery_ffi_marks(alloc: Global, handle: &mut Handle, previous: bool) -> Marks
     ensures { ReadsHandle handle.old.slot.held handle.new.slot.held (λ stack.
@@ -21,8 +21,8 @@ pub extern "C" fn recovery_ffi_marks(alloc: Global, handle: &mut Handle, previou
     handle.marks(alloc, previous)
 }
 
-/// The layer above keeps this with a path from now on. False, and nothing changes, where there is no such path or no
-/// such space, and where a sender is held: it sets marks itself.
+/// Stores the caller's marks of a path. Returns false and changes nothing if there is no such path or no such space, or
+/// if a sender is held: a sender sets its marks itself.
 #[unsafe(no_mangle)]
 pub extern "C" fn recovery_ffi_set_marks(
     alloc: Global,

@@ -1,5 +1,5 @@
-//! MTU discovery alone, without a recovery: for a tunnel, or another datagram protocol (RFC 8899). Packets are numbered
-//! by the caller, upward, probes among them.
+//! MTU discovery without a recovery, for a tunnel or another datagram protocol (RFC 8899). The caller numbers all
+//! packets in increasing order, probes included.
 ghost use Rattle.std.specs.Prelude.{◌≡◌, None};
 ghost use Rattle.recovery_stack.specs.Answers.{ReadsHandle};
 ghost use Rattle.recovery_stack.specs.Discoveries.{DiscoveryAnswers, NewDiscovery, mtu_shown, no_mtu};
@@ -12,9 +12,9 @@ use recovery_stack::mtu_handle::{Call, MtuHandle};
 use recovery_stack::settings::Settings;
 use std::alloc::Global;
 
-/// Makes an MTU discovery, as a path of these settings has it: by `initial_mtu`, `min_mtu`, `allow_mtud` and what they
-/// say of the search. The peer takes datagrams of at most `limit` bytes; 0 says that it did not tell. The answer is
-/// `NEW_MADE`, or the number of what is wrong; the handle then holds what it held.
+/// Makes an MTU discovery from `initial_mtu`, `min_mtu`, `allow_mtud` and the settings of the search, as a path has it.
+/// The peer accepts datagrams of at most `limit` bytes, or 0 if it stated no limit. Returns `NEW_MADE`, or the number
+/// of what is wrong, which leaves the handle unchanged.
 #[unsafe(no_mangle)]
 pub extern "C" fn recovery_ffi_mtu_new(
     alloc: Global,
@@ -27,7 +27,7 @@ pub extern "C" fn recovery_ffi_mtu_new(
     mtu.begin(alloc, settings, limit)
 }
 
-/// Frees a discovery. The handle holds none then; one that holds none stays so.
+/// Frees a discovery. The handle then holds none. A handle that holds none is unchanged.
 #[unsafe(no_mangle)]
 pub extern "C" fn recovery_ffi_mtu_drop(alloc: Global, mtu: &mut MtuHandle)
     ensures { mtu.new.slot.held ≡ None }
@@ -35,7 +35,7 @@ pub extern "C" fn recovery_ffi_mtu_drop(alloc: Global, mtu: &mut MtuHandle)
     mtu.free(alloc);
 }
 
-/// What is known.
+/// Returns the state of the discovery.
 #[unsafe(no_mangle)]
 pub extern "C" fn recovery_ffi_mtu(alloc: Global, mtu: &mut MtuHandle) -> MtuView
     ensures { ReadsHandle mtu.old.slot.held mtu.new.slot.held
@@ -44,8 +44,8 @@ pub extern "C" fn recovery_ffi_mtu(alloc: Global, mtu: &mut MtuHandle) -> MtuVie
     mtu.view(alloc)
 }
 
-/// Is a probe due? Its size is that of the answer (`ANSWER_PROBE`, otherwise `ANSWER_NO_PROBE`), and it is sent as the
-/// packet of this number.
+/// Checks whether a probe is due. The reply is `ANSWER_PROBE` with its size, or `ANSWER_NO_PROBE`. The caller sends the
+/// probe as the packet of this number.
 #[unsafe(no_mangle)]
 pub extern "C" fn recovery_ffi_mtu_poll(
     alloc: Global,
@@ -64,8 +64,8 @@ pub extern "C" fn recovery_ffi_mtu_poll(
     )
 }
 
-/// The peer takes datagrams of at most so many bytes. Refused where they are none, and while a search runs: the limit
-/// is told before the first poll.
+/// Sets the largest datagram that the peer accepts, in bytes. An error if it is 0, or while a search is running: set
+/// the limit before the first poll.
 #[unsafe(no_mangle)]
 pub extern "C" fn recovery_ffi_mtu_limit(
     alloc: Global,
@@ -77,8 +77,8 @@ pub extern "C" fn recovery_ffi_mtu_limit(
     mtu.call(alloc, Call::Limit { size })
 }
 
-/// A packet of so many bytes was acknowledged (`ANSWER_ACKED`): the flag says whether it was the probe in flight, whose
-/// size is then the MTU.
+/// Records that a packet of this many bytes was acknowledged (`ANSWER_ACKED`). The flag is true if it was the probe in
+/// flight, whose size is then the MTU.
 #[unsafe(no_mangle)]
 pub extern "C" fn recovery_ffi_mtu_acked(
     alloc: Global,
@@ -91,7 +91,7 @@ pub extern "C" fn recovery_ffi_mtu_acked(
     mtu.call(alloc, Call::Acked { number, bytes })
 }
 
-/// The probe in flight was lost. Where none is, nothing changes.
+/// Records that the probe in flight was lost. Changes nothing if there is none.
 #[unsafe(no_mangle)]
 pub extern "C" fn recovery_ffi_mtu_probe_lost(alloc: Global, mtu: &mut MtuHandle) -> EncodedReply
     ensures { DiscoveryAnswers mtu.old.slot.held ProbeLost result mtu.new.slot.held }
@@ -99,8 +99,8 @@ pub extern "C" fn recovery_ffi_mtu_probe_lost(alloc: Global, mtu: &mut MtuHandle
     mtu.call(alloc, Call::ProbeLost)
 }
 
-/// A packet of so many bytes was lost that is no probe in flight. Numbers of one moment are told upward, and then
-/// `recovery_ffi_mtu_losses_done`.
+/// Records that a packet other than the probe in flight was lost. Report packets that are lost together in increasing
+/// order, then call `recovery_ffi_mtu_losses_done`.
 #[unsafe(no_mangle)]
 pub extern "C" fn recovery_ffi_mtu_lost(
     alloc: Global,
@@ -113,7 +113,8 @@ pub extern "C" fn recovery_ffi_mtu_lost(
     mtu.call(alloc, Call::Lost { number, bytes })
 }
 
-/// All losses of a moment were told: the flag says whether they are a black hole, which leaves the least MTU.
+/// Ends the losses of packets that were lost together. The flag is true if they are a black hole, which resets the MTU
+/// to the minimum.
 #[unsafe(no_mangle)]
 pub extern "C" fn recovery_ffi_mtu_losses_done(
     alloc: Global,
@@ -130,7 +131,7 @@ pub extern "C" fn recovery_ffi_mtu_losses_done(
     )
 }
 
-/// All begins anew, with these sizes; refused where one is zero. The peer's limit stays.
+/// Resets the discovery with these sizes; an error if one is zero. The peer's limit is unchanged.
 #[unsafe(no_mangle)]
 pub extern "C" fn recovery_ffi_mtu_reset(
     alloc: Global,

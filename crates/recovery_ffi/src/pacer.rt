@@ -1,13 +1,13 @@
-//! Pacing alone, without a recovery: for a tunnel, or another datagram protocol (RFC 9002, 7.7). The bucket is the
-//! caller's, and takes no memory of the library.
+//! Pacing without a recovery, for a tunnel or another datagram protocol (RFC 9002, 7.7). The caller owns the bucket;
+//! the library allocates nothing for it.
 ghost use Rattle.std.specs.Prelude.{◌≡◌};
 ghost use Rattle.recovery_stack.specs.Buckets.{Delays, PacerTransmits, bucket_first};
 
 use recovery_engine::spelling::EncodedReply;
 use recovery_stack::pacer::Bucket;
 
-/// A full bucket at the moment `now`, by the RTT (nanoseconds), the congestion window and the MTU (bytes). Of a window
-/// or an MTU of 0 it is all zeros, which is none.
+/// Returns a full bucket at time `now`, from the RTT (nanoseconds), the congestion window and the MTU (bytes). If the
+/// window or the MTU is 0, it is all zeros, which is no bucket.
 #[unsafe(no_mangle)]
 pub extern "C" fn recovery_ffi_pacer(rtt: u64, window: u64, mtu: u16, now: u64) -> Bucket
     ensures { result ≡ bucket_first rtt window mtu now }
@@ -15,8 +15,7 @@ pub extern "C" fn recovery_ffi_pacer(rtt: u64, window: u64, mtu: u16, now: u64) 
     Bucket::full(rtt, window, mtu, now)
 }
 
-/// A packet of so many bytes was sent (`ANSWER_TRANSMITTED`): it takes tokens, as far as they go. Refused where the
-/// bucket is none.
+/// Takes the tokens of a sent packet (`ANSWER_TRANSMITTED`), at most all. An error if there is no bucket.
 #[unsafe(no_mangle)]
 pub extern "C" fn recovery_ffi_pacer_transmit(bucket: &mut Bucket, bytes: u16) -> EncodedReply
     ensures { PacerTransmits bytes bucket.old result bucket.new }
@@ -24,9 +23,9 @@ pub extern "C" fn recovery_ffi_pacer_transmit(bucket: &mut Bucket, bytes: u16) -
     bucket.transmit(bytes)
 }
 
-/// May so many bytes be sent at the moment `now` (`ANSWER_READY`), or when is it to be asked again (`ANSWER_DELAYED`)?
-/// By the RTT (nanoseconds), the MTU and the congestion window (bytes) of that moment. Refused where the window or the
-/// MTU is 0, or the bucket is none.
+/// Checks whether this many bytes may be sent at time `now` (`ANSWER_READY`), or when to ask again (`ANSWER_DELAYED`).
+/// The RTT (nanoseconds), the MTU and the congestion window (bytes) are those of that time. An error if the window or
+/// the MTU is 0, or if there is no bucket.
 #[unsafe(no_mangle)]
 pub extern "C" fn recovery_ffi_pacer_delay(
     bucket: &mut Bucket,

@@ -1,4 +1,4 @@
-//! Packets that come in and go out (RFC 9000, 12; RFC 9002, A.5 and A.7): an export for each event.
+//! Received and sent packets (RFC 9000, 12; RFC 9002, A.5 and A.7): an export for each event.
 ghost use Rattle.std.specs.Prelude.{◌≡◌};
 ghost use Rattle.recovery_stack.specs.Answers.{HandleAppliesTo, AnswersWith, ReadsHandle};
 ghost use Rattle.recovery_stack.specs.Codes.{space_coded, maybe};
@@ -12,7 +12,7 @@ use recovery_stack::codes::{copy_items, maybe, queue_of, space_coded};
 use recovery_stack::handle::Handle;
 use std::alloc::Global;
 
-/// A packet came in (RFC 9000, 12.3): the event `Received`.
+/// Records a received packet (RFC 9000, 12.3): the event `Received`.
 #[unsafe(no_mangle)]
 pub extern "C" fn recovery_ffi_received(
     alloc: Global,
@@ -40,7 +40,7 @@ pub extern "C" fn recovery_ffi_received(
     )
 }
 
-/// A packet with these items goes out (RFC 9002, A.5): the event `Send`.
+/// Records a sent packet with these items (RFC 9002, A.5): the event `Send`.
 #[unsafe(no_mangle)]
 pub extern "C" fn recovery_ffi_send(
     alloc: Global,
@@ -77,7 +77,7 @@ pub extern "C" fn recovery_ffi_send(
     }
 }
 
-/// A packet that was sent is acknowledged (RFC 9002, A.7): the event `Acked`.
+/// Records that a sent packet was acknowledged (RFC 9002, A.7): the event `Acked`.
 #[unsafe(no_mangle)]
 pub extern "C" fn recovery_ffi_acked(
     alloc: Global,
@@ -105,7 +105,7 @@ pub extern "C" fn recovery_ffi_acked(
     )
 }
 
-/// A packet that was sent is declared lost (RFC 9002, A.10): the event `Lost`.
+/// Declares a sent packet lost (RFC 9002, A.10): the event `Lost`.
 #[unsafe(no_mangle)]
 pub extern "C" fn recovery_ffi_lost(
     alloc: Global,
@@ -123,7 +123,7 @@ pub extern "C" fn recovery_ffi_lost(
     handle.apply(alloc, Event::Lost { space, number })
 }
 
-/// The keys of a space are dropped (RFC 9002, 6.4): the event `DiscardSpace`.
+/// Discards a space with its keys (RFC 9002, 6.4): the event `DiscardSpace`.
 #[unsafe(no_mangle)]
 pub extern "C" fn recovery_ffi_discard(
     alloc: Global,
@@ -140,8 +140,8 @@ pub extern "C" fn recovery_ffi_discard(
     handle.apply(alloc, Event::DiscardSpace { space })
 }
 
-/// How many items the queue that was taken last has; they are written where there is room for all. None, before one was
-/// taken.
+/// Returns the item count of the queue that was taken last, and writes the items if there is room for all. None before
+/// the first.
 #[unsafe(no_mangle)]
 pub extern "C" fn recovery_ffi_last_items(
     alloc: Global,

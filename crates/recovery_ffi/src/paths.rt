@@ -10,7 +10,7 @@ use recovery_stack::codes::{Address, maybe, path_coded, socket_of, spans};
 use recovery_stack::handle::Handle;
 use std::alloc::Global;
 
-/// What is in flight on a path? The event `InFlight`.
+/// Returns what is in flight on a path: the event `InFlight`.
 #[unsafe(no_mangle)]
 pub extern "C" fn recovery_ffi_in_flight(
     alloc: Global,
@@ -28,7 +28,7 @@ pub extern "C" fn recovery_ffi_in_flight(
     )
 }
 
-/// A sample of the round-trip time (RFC 9002, 5): the event `Sample`; nanoseconds are below 10^9.
+/// Takes an RTT sample (RFC 9002, 5): the event `Sample`. Nanoseconds are below 10^9.
 #[unsafe(no_mangle)]
 pub extern "C" fn recovery_ffi_sample(
     alloc: Global,
@@ -47,7 +47,7 @@ pub extern "C" fn recovery_ffi_sample(
     }
 }
 
-/// A datagram came in on a path (RFC 9000, 8.1): the event `DatagramIn`.
+/// Records a received datagram on a path (RFC 9000, 8.1): the event `DatagramIn`.
 #[unsafe(no_mangle)]
 pub extern "C" fn recovery_ffi_datagram_in(
     alloc: Global,
@@ -67,7 +67,7 @@ pub extern "C" fn recovery_ffi_datagram_in(
     )
 }
 
-/// The peer was seen to receive at the address of a path (RFC 9000, 8): the event `Validated`.
+/// Validates the peer's address on a path (RFC 9000, 8): the event `Validated`.
 #[unsafe(no_mangle)]
 pub extern "C" fn recovery_ffi_validated(
     alloc: Global,
@@ -85,7 +85,7 @@ pub extern "C" fn recovery_ffi_validated(
     )
 }
 
-/// A datagram is to be transmitted on the current path: the event `Transmit`.
+/// Counts a datagram on the path in use; if it is checked, only if limit and pacer permit. The event `Transmit`.
 #[unsafe(no_mangle)]
 pub extern "C" fn recovery_ffi_transmit(
     alloc: Global,
@@ -107,7 +107,7 @@ pub extern "C" fn recovery_ffi_transmit(
     )
 }
 
-/// May so many bytes be transmitted (RFC 9002, 7.7)? The event `PacerCheck`.
+/// Checks whether the pacer permits this many bytes (RFC 9002, 7.7): the event `PacerCheck`.
 #[unsafe(no_mangle)]
 pub extern "C" fn recovery_ffi_pacer_check(
     alloc: Global,
@@ -127,7 +127,7 @@ pub extern "C" fn recovery_ffi_pacer_check(
     )
 }
 
-/// Packets of the current path were lost, or marked (RFC 9002, 7.3): the event `Congestion`.
+/// Reports congestion on the path in use: packets were lost, or marked (RFC 9002, 7.3). The event `Congestion`.
 #[unsafe(no_mangle)]
 pub extern "C" fn recovery_ffi_congestion(
     alloc: Global,
@@ -151,7 +151,7 @@ pub extern "C" fn recovery_ffi_congestion(
     )
 }
 
-/// All packets that one ACK newly acknowledges were told: the event `EndAcks`.
+/// Ends the acknowledgements of one ACK frame: the event `EndAcks`.
 #[unsafe(no_mangle)]
 pub extern "C" fn recovery_ffi_end_acks(
     alloc: Global,
@@ -174,7 +174,7 @@ pub extern "C" fn recovery_ffi_end_acks(
     )
 }
 
-/// Another path is used from now on (RFC 9000, 9.3): the event `NewPath`.
+/// Changes to another path (RFC 9000, 9.3): the event `NewPath`.
 #[unsafe(no_mangle)]
 pub extern "C" fn recovery_ffi_new_path(
     alloc: Global,
@@ -195,7 +195,7 @@ pub extern "C" fn recovery_ffi_new_path(
     )
 }
 
-/// The current path begins anew (RFC 9000, 9.4): the event `ResetPath`.
+/// Resets the path in use (RFC 9000, 9.4): the event `ResetPath`.
 #[unsafe(no_mangle)]
 pub extern "C" fn recovery_ffi_reset_path(
     alloc: Global,
@@ -212,7 +212,7 @@ pub extern "C" fn recovery_ffi_reset_path(
     )
 }
 
-/// The previous path is dropped (RFC 9000, 9.3.3): the event `DropPrevious`.
+/// Drops the previous path (RFC 9000, 9.3.3): the event `DropPrevious`.
 #[unsafe(no_mangle)]
 pub extern "C" fn recovery_ffi_drop_previous(alloc: Global, handle: &mut Handle) -> EncodedReply
     ensures { HandleApplies handle.old.slot.held (DropPrevious) result handle.new.slot.held }
@@ -220,7 +220,7 @@ pub extern "C" fn recovery_ffi_drop_previous(alloc: Global, handle: &mut Handle)
     handle.apply(alloc, Event::DropPrevious)
 }
 
-/// The previous path is used again, and the current one is dropped (RFC 9000, 9.3.2): the event `RevertPath`.
+/// Returns to the previous path, and drops the current one (RFC 9000, 9.3.2): the event `RevertPath`.
 #[unsafe(no_mangle)]
 pub extern "C" fn recovery_ffi_revert_path(alloc: Global, handle: &mut Handle) -> EncodedReply
     ensures { HandleApplies handle.old.slot.held (RevertPath) result handle.new.slot.held }

@@ -1,5 +1,4 @@
-//! Counts of ECN, ranges that are acknowledged, probes and what waits to be sent again (RFC 9000, 13.4; RFC 9002,
-//! 6.2.4).
+//! ECN counts, checks of ACK ranges, probes and retransmissions (RFC 9000, 13.4; RFC 9002, 6.2.4).
 ghost use Rattle.recovery_stack.specs.Answers.{HandleAppliesTo};
 ghost use Rattle.recovery_stack.specs.Codes.{counts, space_coded};
 ghost use Rattle.recovery_events.specs.declared.event.Event.TheVariants.{CheckAck, Ecn, QueueProbe, TakePending};
@@ -11,7 +10,7 @@ use recovery_stack::codes::space_coded;
 use recovery_stack::handle::Handle;
 use std::alloc::Global;
 
-/// The counts of ECN of an ACK frame (RFC 9000, 13.4.2): the event `Ecn`.
+/// Processes the ECN counts of an ACK frame (RFC 9000, 13.4.2): the event `Ecn`.
 #[unsafe(no_mangle)]
 pub extern "C" fn recovery_ffi_ecn(
     alloc: Global,
@@ -39,7 +38,7 @@ pub extern "C" fn recovery_ffi_ecn(
     )
 }
 
-/// An ACK frame acknowledges a range of numbers (RFC 9000, 13.1): the event `CheckAck`.
+/// Checks a range of packet numbers of an ACK frame (RFC 9000, 13.1): the event `CheckAck`.
 #[unsafe(no_mangle)]
 pub extern "C" fn recovery_ffi_check_ack(
     alloc: Global,
@@ -58,7 +57,7 @@ pub extern "C" fn recovery_ffi_check_ack(
     handle.apply(alloc, Event::CheckAck { space, low, high })
 }
 
-/// A probe packet is to be sent (RFC 9002, 6.2.4): the event `QueueProbe`.
+/// Queues the contents of a probe packet (RFC 9002, 6.2.4): the event `QueueProbe`.
 #[unsafe(no_mangle)]
 pub extern "C" fn recovery_ffi_queue_probe(
     alloc: Global,
@@ -83,7 +82,7 @@ pub extern "C" fn recovery_ffi_queue_probe(
     )
 }
 
-/// What waits to be sent again is handed out, to be read by `recovery_ffi_last_items`: the event `TakePending`.
+/// Takes the retransmission queue, to be read by `recovery_ffi_last_items`: the event `TakePending`.
 #[unsafe(no_mangle)]
 pub extern "C" fn recovery_ffi_take_pending(
     alloc: Global,

@@ -1,5 +1,5 @@
-//! What can be read of a recovery: paths, spaces, ranges to be acknowledged, timers, ids. Of a handle that holds none
-//! it is what there is where there is nothing.
+//! Readings of a recovery: paths, spaces, ranges to be acknowledged, timers and connection IDs. If the handle holds
+//! none, each returns its empty value.
 ghost use Rattle.std.specs.Prelude.{◌≡◌, slice_get, None};
 ghost use Rattle.recovery_ids.specs.LocalIds.{first_moment};
 ghost use Rattle.recovery_paths.specs.PathLog.{path_of};
@@ -13,7 +13,7 @@ use recovery_stack::handle::Handle;
 use recovery_stack::views::{IdsView, PathView, RangeView, SpaceView, TimeView};
 use std::alloc::Global;
 
-/// What is kept for a path.
+/// Returns the state of a path.
 #[unsafe(no_mangle)]
 pub extern "C" fn recovery_ffi_path(alloc: Global, handle: &mut Handle, previous: bool) -> PathView
     ensures { ReadsHandle handle.old.slot.held handle.new.slot.held (λ stack.
@@ -23,7 +23,7 @@ pub extern "C" fn recovery_ffi_path(alloc: Global, handle: &mut Handle, previous
     handle.path(alloc, previous)
 }
 
-/// What a space has to send; of one that there is not what is said of a discarded one.
+/// Returns what a space has to send. A space that does not exist is read as a discarded one.
 #[unsafe(no_mangle)]
 pub extern "C" fn recovery_ffi_space(alloc: Global, handle: &mut Handle, space: u8) -> SpaceView
     ensures { ReadsHandle handle.old.slot.held handle.new.slot.held (λ stack.
@@ -33,7 +33,7 @@ pub extern "C" fn recovery_ffi_space(alloc: Global, handle: &mut Handle, space: 
     handle.space(alloc, space)
 }
 
-/// One of the ranges of numbers that are to be acknowledged in a space, in ascending order.
+/// Returns one of the ranges of packet numbers to be acknowledged in a space, in ascending order.
 #[unsafe(no_mangle)]
 pub extern "C" fn recovery_ffi_range(
     alloc: Global,
@@ -48,8 +48,8 @@ pub extern "C" fn recovery_ffi_range(
     handle.range(alloc, space, index)
 }
 
-/// How long ago the largest packet of a space came, which an ACK frame tells (RFC 9000, 13.2.5): zero before the first,
-/// none where there is no such space or it is discarded.
+/// Returns how long ago the largest packet of a space was received, for the ACK Delay of an ACK frame (RFC 9000,
+/// 13.2.5). It is zero before the first, and none if there is no such space or it is discarded.
 #[unsafe(no_mangle)]
 pub extern "C" fn recovery_ffi_ack_delay(
     alloc: Global,
@@ -64,7 +64,7 @@ pub extern "C" fn recovery_ffi_ack_delay(
     handle.ack_delay(alloc, space, now)
 }
 
-/// When a timer expires.
+/// Returns when a timer expires.
 #[unsafe(no_mangle)]
 pub extern "C" fn recovery_ffi_timer(alloc: Global, handle: &mut Handle, timer: u8) -> TimeView
     ensures { ReadsHandle handle.old.slot.held handle.new.slot.held (λ stack.
@@ -74,7 +74,7 @@ pub extern "C" fn recovery_ffi_timer(alloc: Global, handle: &mut Handle, timer: 
     handle.timer(alloc, timer)
 }
 
-/// The ids of both ends, and how late ACKs may be.
+/// Returns the connection IDs of both endpoints, and their max_ack_delay.
 #[unsafe(no_mangle)]
 pub extern "C" fn recovery_ffi_ids(alloc: Global, handle: &mut Handle) -> IdsView
     ensures { ReadsHandle handle.old.slot.held handle.new.slot.held (λ stack.
@@ -83,8 +83,8 @@ pub extern "C" fn recovery_ffi_ids(alloc: Global, handle: &mut Handle) -> IdsVie
     handle.ids(alloc)
 }
 
-/// When the oldest of this end's ids is to be retired (RFC 9000, 5.1.2), where they end: what `TIMER_PUSH_NEW_CID` is
-/// set to.
+/// Returns when the oldest of the local connection IDs is to be retired (RFC 9000, 5.1.2), if they expire. Set
+/// `TIMER_PUSH_NEW_CID` to it.
 #[unsafe(no_mangle)]
 pub extern "C" fn recovery_ffi_next_id_timeout(alloc: Global, handle: &mut Handle) -> TimeView
     ensures { ReadsHandle handle.old.slot.held handle.new.slot.held (λ stack.

@@ -1,5 +1,6 @@
-//! The sending half of a connection (RFC 9002, Appendices A and B): which packets are lost, when to probe, and whether
-//! a datagram may go out. An export for each call of it that is no event; events that pass it takes as a recovery does.
+//! The sender of one endpoint (RFC 9002, Appendices A and B): which packets are lost, when to probe, and whether a
+//! datagram may be sent. An export for each of its calls that is no event; it takes the events that pass as a recovery
+//! does.
 ghost use Rattle.std.specs.Prelude.{◌≡◌};
 ghost use Rattle.recovery_stack.specs.Answers.{ReadsHandle};
 ghost use Rattle.recovery_stack.specs.Codes.{maybe, side_coded, space_coded, span};
@@ -24,9 +25,9 @@ use recovery_stack::sender::{AckFrame, side_of};
 use recovery_stack::settings::Settings;
 use std::alloc::Global;
 
-/// Makes a recovery of a sender, of the client or else of the server, whose peer is at this address and has this id of
-/// at most 20 bytes. A client's first path is validated, whatever the settings say (RFC 9000, 8.1). The answer is
-/// `NEW_MADE`, or the number of what is wrong; the handle then holds what it held.
+/// Makes a recovery of a sender, of a client if `client`, else of a server. Its peer is at this address and has this
+/// connection ID of at most 20 bytes. A client's first path is validated, whatever the settings say (RFC 9000, 8.1).
+/// Returns `NEW_MADE`, or the number of what is wrong, which leaves the handle unchanged.
 #[unsafe(no_mangle)]
 pub extern "C" fn recovery_ffi_sender_new(
     alloc: Global,
@@ -51,10 +52,10 @@ pub extern "C" fn recovery_ffi_sender_new(
     )
 }
 
-/// Makes a recovery of a sender whose handshake is over, as `recovery_ffi_sender_new` makes one, and then
-/// `recovery_ffi_validated`, `recovery_ffi_sender_handshake_confirmed` and `recovery_ffi_sender_discard` of the Initial
-/// and the Handshake space: 1-RTT packets alone are sent and probed for (RFC 9001, 4.1.2 and 4.9). The answer is that
-/// of `recovery_ffi_sender_new`.
+/// Makes a recovery of a sender whose handshake is confirmed (RFC 9001, 4.1.2 and 4.9). It calls
+/// `recovery_ffi_sender_new`, `recovery_ffi_validated`, `recovery_ffi_sender_handshake_confirmed`, and
+/// `recovery_ffi_sender_discard` for the Initial and the Handshake space. Only 1-RTT packets are then sent and probed
+/// for. The results are those of `recovery_ffi_sender_new`.
 #[unsafe(no_mangle)]
 pub extern "C" fn recovery_ffi_sender_established(
     alloc: Global,
@@ -79,11 +80,11 @@ pub extern "C" fn recovery_ffi_sender_established(
     )
 }
 
-/// Whether a datagram of so many bytes goes out now, with packets of a space: `ANSWER_TRANSMITTED`, and it is counted;
-/// `ANSWER_BLOCKED` by the limit against amplification (RFC 9000, 8.1); `ANSWER_FULL` where the window has no room (RFC
-/// 9002, 7); `ANSWER_DELAYED` by the pacer, until `first` (RFC 9002, 7.7). Where nothing in it counts in flight, or a
-/// probe is due in the space, the limit alone is asked. The packets in it are told by `recovery_ffi_send` before the
-/// next datagram is asked for. Refused by `REFUSAL_SPACE_DISCARDED`, then by `REFUSAL_OVERFLOW`.
+/// Checks whether a datagram with packets of a space may be sent now. The reply is `ANSWER_TRANSMITTED`, and the
+/// datagram is counted; `ANSWER_BLOCKED` by the amplification limit (RFC 9000, 8.1); `ANSWER_FULL` if the window has no
+/// room (RFC 9002, 7); or `ANSWER_DELAYED` by the pacer, until `first` (RFC 9002, 7.7). If nothing in it counts in
+/// flight, or a probe is due in the space, only the amplification limit is checked. Report its packets by
+/// `recovery_ffi_send` before the next datagram. Errors: `REFUSAL_SPACE_DISCARDED`, then `REFUSAL_OVERFLOW`.
 #[unsafe(no_mangle)]
 pub extern "C" fn recovery_ffi_sender_transmit(
     alloc: Global,
@@ -110,14 +111,15 @@ pub extern "C" fn recovery_ffi_sender_transmit(
     )
 }
 
-/// An ACK frame came in (RFC 9002, A.7), with its ranges, the highest first, as on the wire: `ANSWER_ACKNOWLEDGED`,
-/// with how many numbers it newly acknowledges in `first`, how many packets it declares lost in `second`, and in `flag`
-/// whether `recovery_ffi_last_outcome` has more than that. `recovery_ffi_told_numbers` and `recovery_ffi_told_packets`
-/// say which they are. Nothing changes if the answer is an error: `REFUSAL_SPACE_DISCARDED`; `REFUSAL_BAD_RANGE` if
-/// there is no range, one ends before it begins, or two have no number between them (RFC 9000, 19.3.1);
-/// `REFUSAL_UNSENT`; `REFUSAL_SKIPPED_ACKED` (RFC 9000, 21.4); or `REFUSAL_NO_MEMORY`. Nothing changes either at
-/// `ANSWER_NEEDS_ROOM`: the caller limits its room (`is_limited`), and has too little. `first` is then how many words
-/// of packets, and `second` how many lost numbers, it needs room for.
+/// Processes a received ACK frame (RFC 9002, A.7), with its ranges, the highest first, as on the wire. The reply
+/// `ANSWER_ACKNOWLEDGED` has in `first` how many packets are newly acknowledged, in `second` how many are declared
+/// lost, and in `flag` whether `recovery_ffi_last_outcome` has more than that. Read the packets by
+/// `recovery_ffi_told_numbers` and `recovery_ffi_told_packets`. Errors, which change nothing:
+/// `REFUSAL_SPACE_DISCARDED`; `REFUSAL_BAD_RANGE` if there is no range, one ends before it begins, or two have no
+/// number between them (RFC 9000, 19.3.1); `REFUSAL_UNSENT`; `REFUSAL_SKIPPED_ACKED` (RFC 9000, 21.4);
+/// `REFUSAL_NO_MEMORY`. If the caller limits its room (`is_limited`) and has too little, the reply is
+/// `ANSWER_NEEDS_ROOM`, and nothing changes. `first` is then how many words of packets, and `second` how many lost
+/// numbers, it needs room for.
 #[unsafe(no_mangle)]
 pub extern "C" fn recovery_ffi_sender_ack(
     alloc: Global,
@@ -133,13 +135,13 @@ pub extern "C" fn recovery_ffi_sender_ack(
     handle.take_ack(alloc, space, now, frame, ranges)
 }
 
-/// The timer for losses may be due (RFC 9002, A.9): `ANSWER_NOTHING` if it is not; `ANSWER_LOSSES` if a space was
-/// searched for lost packets, with the space in `first`, and `recovery_ffi_last_outcome` and
-/// `recovery_ffi_told_numbers` say which are lost; or `ANSWER_PROBES`, with the space in `first` and in `second` how
-/// many probes are due there, 1 or 2. For each of them the caller asks `recovery_ffi_sender_transmit`, takes its
-/// contents by `recovery_ffi_sender_probe`, and sends it by `recovery_ffi_send`. The error is `REFUSAL_NO_MEMORY`, if
-/// there is no room for the numbers of the packets that may be lost; then nothing has changed. A timeout that asks for
-/// probes takes no memory.
+/// Handles the loss detection timer, which may be due (RFC 9002, A.9). The reply is `ANSWER_NOTHING` if it is not. It
+/// is `ANSWER_LOSSES` after a loss detection pass over the space in `first`: read the losses by
+/// `recovery_ffi_last_outcome` and `recovery_ffi_told_numbers`. It is `ANSWER_PROBES` if probes are due in the space in
+/// `first`; `second` is how many, 1 or 2. For each, call `recovery_ffi_sender_transmit`, take its contents by
+/// `recovery_ffi_sender_probe`, and send it by `recovery_ffi_send`. The error is `REFUSAL_NO_MEMORY` if there is no
+/// room for the numbers of the packets that may be lost; then nothing has changed. A timeout that asks for probes
+/// allocates nothing.
 #[unsafe(no_mangle)]
 pub extern "C" fn recovery_ffi_sender_on_timeout(
     alloc: Global,
@@ -151,10 +153,10 @@ pub extern "C" fn recovery_ffi_sender_on_timeout(
     handle.call_sender(alloc, Call::Expire(Instant::from_nanos(now)))
 }
 
-/// Hands out what a probe of a space carries (RFC 9002, 6.2.4), to be read by `recovery_ffi_last_items`: what waits
-/// there to be sent again, or else the contents of the first packet in flight that has any: `ANSWER_QUEUE`. A queue
-/// without items asks for a PING frame. `immediate_ack` asks for an IMMEDIATE_ACK frame in it. Refused by
-/// `REFUSAL_SPACE_DISCARDED`, then by `REFUSAL_NO_MEMORY`; then nothing changed.
+/// Takes the contents of a probe in a space (RFC 9002, 6.2.4), to be read by `recovery_ffi_last_items`: `ANSWER_QUEUE`.
+/// They are what is queued for retransmission, or else the contents of the first packet in flight that has any. If
+/// there are no items, send a PING frame. `immediate_ack` asks for an IMMEDIATE_ACK frame in it. Errors, which change
+/// nothing: `REFUSAL_SPACE_DISCARDED`, then `REFUSAL_NO_MEMORY`.
 #[unsafe(no_mangle)]
 pub extern "C" fn recovery_ffi_sender_probe(
     alloc: Global,
@@ -171,8 +173,8 @@ pub extern "C" fn recovery_ffi_sender_probe(
     }
 }
 
-/// The keys of a space are dropped, and with them all that it tracks; probe timeouts are counted anew (RFC 9002, 6.2.2,
-/// 6.4 and A.11): `ANSWER_DONE`. Refused by `REFUSAL_SPACE_DISCARDED`.
+/// Discards a space with its keys and its tracked packets, and resets the count of probe timeouts (RFC 9002, 6.2.2, 6.4
+/// and A.11): `ANSWER_DONE`. Error: `REFUSAL_SPACE_DISCARDED`.
 #[unsafe(no_mangle)]
 pub extern "C" fn recovery_ffi_sender_discard(
     alloc: Global,
@@ -195,11 +197,11 @@ pub extern "C" fn recovery_ffi_sender_discard(
     )
 }
 
-/// What a space tracks was sent in vain, before a Retry or if 0-RTT is rejected (RFC 9002, 6.3 and 6.4). Each packet is
-/// declared lost, which is no congestion, and probe timeouts are counted from zero: `ANSWER_LOSSES`, and
-/// `recovery_ffi_told_numbers` says which. With `is_cut` in `recovery_ffi_last_outcome` allocation failed for some
-/// packets, which are still tracked, and the same call goes on with them. The errors are `REFUSAL_SPACE_DISCARDED` and
-/// `REFUSAL_NO_MEMORY`; then nothing has changed.
+/// Declares all packets of a space lost, because they will not be acknowledged: after a Retry, or if 0-RTT is rejected
+/// (RFC 9002, 6.3 and 6.4). This does not indicate congestion. Resets the count of probe timeouts. The reply is
+/// `ANSWER_LOSSES`; read the packets by `recovery_ffi_told_numbers`. If `is_cut` in `recovery_ffi_last_outcome`,
+/// allocation failed for some packets, which are still tracked: the same call continues with them. Errors, which change
+/// nothing: `REFUSAL_SPACE_DISCARDED`, `REFUSAL_NO_MEMORY`.
 #[unsafe(no_mangle)]
 pub extern "C" fn recovery_ffi_sender_retransmit_all(
     alloc: Global,
@@ -222,7 +224,7 @@ pub extern "C" fn recovery_ffi_sender_retransmit_all(
     )
 }
 
-/// There are keys of Handshake packets (RFC 9002, A.8): `ANSWER_DONE`.
+/// Records that Handshake keys are available (RFC 9002, A.8): `ANSWER_DONE`.
 #[unsafe(no_mangle)]
 pub extern "C" fn recovery_ffi_sender_handshake_keys(
     alloc: Global,
@@ -233,8 +235,8 @@ pub extern "C" fn recovery_ffi_sender_handshake_keys(
     handle.call_sender(alloc, Call::HandshakeKeys)
 }
 
-/// The handshake is confirmed (RFC 9001, 4.1.2): packets of 1-RTT keys are probed for from now on, and a client knows
-/// its address validated (RFC 9002, 6.2.1 and 6.2.2.1): `ANSWER_DONE`.
+/// Records that the handshake is confirmed (RFC 9001, 4.1.2): `ANSWER_DONE`. From then on 1-RTT packets are probed for,
+/// and a client knows its address validated (RFC 9002, 6.2.1 and 6.2.2.1).
 #[unsafe(no_mangle)]
 pub extern "C" fn recovery_ffi_sender_handshake_confirmed(
     alloc: Global,
@@ -245,8 +247,7 @@ pub extern "C" fn recovery_ffi_sender_handshake_confirmed(
     handle.call_sender(alloc, Call::HandshakeConfirmed)
 }
 
-/// The peer delays its ACKs of 1-RTT packets at most so long (RFC 9000, 18.2: max_ack_delay): `ANSWER_DONE`. There are
-/// fewer than 10^9 nanoseconds.
+/// Sets the peer's max_ack_delay, for 1-RTT packets (RFC 9000, 18.2): `ANSWER_DONE`. Nanoseconds are below 10^9.
 #[unsafe(no_mangle)]
 pub extern "C" fn recovery_ffi_sender_peer_delay(
     alloc: Global,
@@ -263,9 +264,8 @@ pub extern "C" fn recovery_ffi_sender_peer_delay(
     }
 }
 
-/// Sets the RTT that timers use before the first RTT sample of the path in use, in place of that of the settings (RFC
-/// 9002, 6.2.2): `ANSWER_DONE`. A new path whose RTT begins anew goes by the settings again. There are fewer than 10^9
-/// nanoseconds.
+/// Sets the RTT that timers use before the first RTT sample of the path in use, instead of the one in the settings (RFC
+/// 9002, 6.2.2): `ANSWER_DONE`. If the RTT of the path is reset, the settings apply again. Nanoseconds are below 10^9.
 #[unsafe(no_mangle)]
 pub extern "C" fn recovery_ffi_sender_initial_rtt(
     alloc: Global,
@@ -282,8 +282,8 @@ pub extern "C" fn recovery_ffi_sender_initial_rtt(
     }
 }
 
-/// What the timer for losses waits for, or why it is not set, and how many bytes the window and the amplification limit
-/// still let out on the path in use. All is 0 if there is no sender.
+/// Returns the purpose of the loss detection timer, or why it is not set, and how many more bytes the window and the
+/// amplification limit permit on the path in use. All is 0 if there is no sender.
 #[unsafe(no_mangle)]
 pub extern "C" fn recovery_ffi_sender_view(alloc: Global, handle: &mut Handle) -> SenderView
     ensures { ReadsHandle handle.old.slot.held handle.new.slot.held (λ stack.
@@ -292,9 +292,9 @@ pub extern "C" fn recovery_ffi_sender_view(alloc: Global, handle: &mut Handle) -
     handle.sender_view(alloc)
 }
 
-/// A PATH_CHALLENGE frame with this content is open on the path in use, where `is_open`, and one is to be sent, where
-/// `pending` (RFC 9000, 8.2.1): `ANSWER_DONE`. While one is open the window does not grow: what is acknowledged may
-/// have gone by the path before it (RFC 9000, 9.4).
+/// Stores whether a PATH_CHALLENGE frame with this data is outstanding on the path in use (`is_open`), and whether one
+/// is to be sent (`pending`) (RFC 9000, 8.2.1): `ANSWER_DONE`. While one is outstanding, the window does not grow: an
+/// acknowledged packet may have been sent on the path before it (RFC 9000, 9.4).
 #[unsafe(no_mangle)]
 pub extern "C" fn recovery_ffi_sender_challenge(
     alloc: Global,
@@ -310,7 +310,7 @@ pub extern "C" fn recovery_ffi_sender_challenge(
     handle.call_sender(alloc, Call::Challenge { challenge, pending })
 }
 
-/// How many probe timeouts expired in a row, by which the next one is doubled (RFC 9002, 6.2.1); 0 where there is no
+/// Returns the number of consecutive probe timeouts, each of which doubles the next (RFC 9002, 6.2.1); 0 if there is no
 /// sender.
 #[unsafe(no_mangle)]
 pub extern "C" fn recovery_ffi_pto_count(alloc: Global, handle: &mut Handle) -> u32
@@ -320,7 +320,7 @@ pub extern "C" fn recovery_ffi_pto_count(alloc: Global, handle: &mut Handle) -> 
     handle.pto_count(alloc)
 }
 
-/// The last outcome: of an ACK frame that was taken, of a timeout that searched for losses, or of a space whose packets
+/// Returns the last outcome: of an ACK frame, of a timeout that made a loss detection pass, or of a space whose packets
 /// were all declared lost. It is empty before the first, and if there is no sender.
 #[unsafe(no_mangle)]
 pub extern "C" fn recovery_ffi_last_outcome(alloc: Global, handle: &mut Handle) -> OutcomeView
@@ -330,8 +330,8 @@ pub extern "C" fn recovery_ffi_last_outcome(alloc: Global, handle: &mut Handle) 
     handle.last_outcome(alloc)
 }
 
-/// How many numbers were newly acknowledged as something was told last, or, with `lost`, how many were found lost,
-/// without that of the MTU's probe; they are written, rising, where there is room for all.
+/// Returns how many packets the last outcome newly acknowledged or, with `lost`, declared lost, without the MTU probe.
+/// Writes their numbers in increasing order, if there is room for all.
 #[unsafe(no_mangle)]
 pub extern "C" fn recovery_ffi_told_numbers(
     alloc: Global,
@@ -346,8 +346,8 @@ pub extern "C" fn recovery_ffi_told_numbers(
     handle.told_numbers(alloc, lost, out)
 }
 
-/// Of each packet that was newly acknowledged as something was told last, rising: its number, how many items it
-/// carried, and these. How many words that are; they are written where there is room for all.
+/// Returns how many words the packets take that the last outcome newly acknowledged, and writes these if there is room
+/// for all. For each packet, in increasing order: its number, its item count, and its items.
 #[unsafe(no_mangle)]
 pub extern "C" fn recovery_ffi_told_packets(
     alloc: Global,

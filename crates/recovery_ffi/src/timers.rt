@@ -10,7 +10,7 @@ use recovery_stack::codes::timer_coded;
 use recovery_stack::handle::Handle;
 use std::alloc::Global;
 
-/// A timer is set to a moment in nanoseconds: the event `SetTimer`.
+/// Sets a timer to a time in nanoseconds: the event `SetTimer`.
 #[unsafe(no_mangle)]
 pub extern "C" fn recovery_ffi_set_timer(
     alloc: Global,
@@ -34,7 +34,7 @@ pub extern "C" fn recovery_ffi_set_timer(
     )
 }
 
-/// A timer is stopped: the event `StopTimer`.
+/// Stops a timer: the event `StopTimer`.
 #[unsafe(no_mangle)]
 pub extern "C" fn recovery_ffi_stop_timer(
     alloc: Global,
@@ -51,7 +51,7 @@ pub extern "C" fn recovery_ffi_stop_timer(
     handle.apply(alloc, Event::StopTimer { timer })
 }
 
-/// When does the next timer expire? The event `NextTimeout`.
+/// Returns when the next timer expires: the event `NextTimeout`.
 #[unsafe(no_mangle)]
 pub extern "C" fn recovery_ffi_next_timeout(alloc: Global, handle: &mut Handle) -> EncodedReply
     ensures { HandleApplies handle.old.slot.held (NextTimeout) result handle.new.slot.held }

@@ -1,4 +1,4 @@
--- A look goes on from packet to packet: what was found below one number is found below the next.
+-- A pass proceeds from packet to packet: the result below one number gives the result below the next.
 use Rattle.std.proofs.Common.{◌≡◌, ◌≢◌, ℕ, ◌+◌, ◌-◌, ◌^◌, ◌≤◌, ◌<◌, ◌⊎◌, min, true, false, true≢false, Bool, List, [], ◌∷◌, ◌++◌, Option, None, Some, if◌then◌else◌, refl, sym, ap, subst, ◌∙◌, inl, inr, arith}
 use Rattle.std.proofs.lemmas.Option.{none-some, same_Some}
 use Rattle.std.proofs.lemmas.Bool.Decides.{eqb_tells, leb_tells}
@@ -89,7 +89,7 @@ module _ {P M : Type 0} where
   without_more packets [] last = refl
   without_more packets (first ∷ numbers) last = without_more (without packets first) numbers last
 
--- ---- sums and greatest moments
+-- ---- sums and latest times
 
 later_none : (time : Option ℕ) → later_of time None ≡ time
 later_none None = refl
@@ -114,7 +114,7 @@ module _ {P M : Type 0} (look : LossPass) (packets : Packets P M) where
       ap (later_of (sent_counted look packets (packet_at packets first))) (last_more numbers last)
       ∙ sym (later_joins (sent_counted look packets (packet_at packets first)) _ _)
 
--- ---- moments
+-- ---- times
 
 pub earlier_is : (time : Option ℕ) (due : ℕ) → (t : ℕ) × (earlier_of time (Some due) ≡ Some t) × (t ≤ due)
     × ((s : ℕ) → time ≡ Some s → t ≤ s)
@@ -129,7 +129,7 @@ earlier_from (Some s) due least is = elim (leb_tells s due) [
   | inr large ↦ inl (omega (arith, same_Some (min s due) least is, large.1))
 ]
 
--- a packet is to be looked at at one moment
+-- a packet is due at exactly one time
 due_once : (look : LossPass) (number sent one other : ℕ) → IsDueAt look number sent one → IsDueAt look number sent other
     → one ≡ other
 due_once look number sent one other (inl first) (inl second) = first.1 ∙ sym second.1
@@ -209,7 +209,7 @@ module _ {P M : Type 0} (look : LossPass) (old : Packets P M) where
       here : IsBelow look old next.number is.packet
       here = (sym (still next.number is.from_on) ∙ is.below.0, is.below.1)
 
-      -- below the next number there are those below this one, and the packet itself
+      -- below the next number are those below this one, and the packet itself
       or_next : (number : ℕ) (packet : Packet P M) → IsBelow look old number packet → number < next.number + 1
           → (number < from) ⊎ (number ≡ next.number)
       or_next number packet below small = elim (leb_tells from number) [
@@ -236,7 +236,7 @@ module _ {P M : Type 0} (look : LossPass) (old : Packets P M) where
       probe_wider number told = let was = looked.probe number told in
           (was.0, omega (arith, was.1, is.from_on), was.2)
 
-      -- it waits
+      -- it is not lost yet
       pub looked_waiting : (due : ℕ) → IsDueAt look next.number next.time_sent due
           → PassSoFar look old (next.number + 1) numbers (waiting due tally) now
       looked_waiting due is_due = record {
@@ -288,7 +288,7 @@ module _ {P M : Type 0} (look : LossPass) (old : Packets P M) where
       lost_here : IsLost look next.number next.time_sent → IsLostBelow look old next.number
       lost_here lost = (is.packet, here, rw (← is.is.time_sent) lost)
 
-      -- where the packet itself is told, those that are not lie below
+      -- if the packet itself is declared lost, those that are not lie below
       module _ (IsToldNow : ℕ → Type 0) (told_here : IsToldNow next.number)
           (told_still : (number : ℕ) → IsDeclaredLost numbers tally.probe number → IsToldNow number)
           (told_before : (number : ℕ) → number < from → IsToldNow number → IsDeclaredLost numbers tally.probe number)
@@ -311,7 +311,7 @@ module _ {P M : Type 0} (look : LossPass) (old : Packets P M) where
                 ];
           }
 
-      -- it is the probe of the MTU
+      -- it is the MTU probe
       pub looked_probe : IsLost look next.number next.time_sent → look.probe ≡ Some next.number
           → PassSoFar look old (next.number + 1) numbers (finding_probe look next tally) now
       looked_probe lost probe = record {
@@ -343,7 +343,7 @@ module _ {P M : Type 0} (look : LossPass) (old : Packets P M) where
           told_before number small (inr told) =
               absurd (omega (arith, small, is.from_on, same_Some next.number number (sym probe ∙ told)))
 
-      -- it is told lost
+      -- it is declared lost
       pub looked_lost : IsLost look next.number next.time_sent → look.probe ≢ Some next.number
           → PassSoFar look old (next.number + 1) (numbers ++ next.number ∷ []) (counting look next tally)
           (without now next.number)
@@ -498,14 +498,14 @@ module _ {P M : Type 0} (look : LossPass) (old : Packets P M) where
           ]
           told_before number small (inr told) = inr told
 
--- ---- the probe of the MTU is told last, where memory is not refused
+-- ---- the MTU probe is declared lost last, unless allocation fails
 
 module _ {P M : Type 0} (look : LossPass) (old : Packets P M) (end : ℕ) (numbers : List ℕ) (tally : Tally)
     (now : Packets P M) (looked : PassSoFar look old end numbers tally now) where
   pub not_told : (number : ℕ) → tally.probe ≡ Some number → IsOneOf number numbers → ⊥
   not_told number probe there = (looked.lost.lost number there).1 (looked.probe number probe).0
 
-  -- it is tracked still
+  -- it is still tracked
   pub probe_tracked : (number : ℕ) → tally.probe ≡ Some number → packet_at now number ≢ None
   probe_tracked number probe none =
       let was = looked.probe number probe in

@@ -1,4 +1,4 @@
--- When the first of the packets below the largest acknowledged was sent, as they are gone over.
+-- When the first of the packets below the largest acknowledged was sent, as a pass scans them.
 use Rattle.std.proofs.Common.{◌≡◌, ℕ, ◌+◌, ◌≤◌, ◌<◌, Option, None, Some, sym, ap, ◌∙◌, inl, inr, arith}
 use Rattle.std.proofs.lemmas.Option.{none-some, same_Some}
 use Rattle.std.proofs.lemmas.Bool.Decides.{leb_tells}

@@ -6,7 +6,7 @@ use Rattle.std.specs.Option.{is_some}
 use Rattle.std.proofs.lemmas.List.{drop_all, drop_more}
 use Rattle.recovery_losses.specs.Frames.{are_apart, are_ranges, is_apart, largest_of}
 
--- the ranges from an index on lie apart where all do
+-- the ranges from an index on are apart if all are
 pub record AreSeen (ranges : List (ℕ × ℕ)) (at : ℕ) (above : Option ℕ) : Type 0 where
   pub none : at ≡ 0 → above ≡ None
   pub some : 0 < at → is_some above ≡ true
@@ -55,7 +55,7 @@ module _ (ranges : List (ℕ × ℕ)) (at : ℕ) (above : Option ℕ) (seen : Ar
           && are_apart (Some (get_or ranges at (0, 0)).0) (drop (at + 1) ranges)) fine;
     }
 
--- ---- whole ranges that lie apart
+-- ---- whole ranges that are apart
 
 both : (one other : Bool) → (one && other) ≡ true → (one ≡ true) × (other ≡ true)
 both true other fine = (refl, fine)
@@ -103,7 +103,7 @@ are_fine above (range ∷ ranges) fine =
     fine_more above range ranges (leb-true range.0 range.1 one.0) (λ a is. apart_from range.1 above a is one.1)
     (are_fine (Some range.0) ranges all.1)
 
--- where the largest number is small, all are
+-- if the largest number is small, all are
 pub small_all : (ranges : List (ℕ × ℕ)) (limit : ℕ) → AreFine None ranges
     → IfSome (largest_of ranges) (λ largest. largest + 1 < limit) → (i : ℕ) → i < length ranges
     → (get_or ranges i (0, 0)).1 + 1 < limit

@@ -1,4 +1,4 @@
--- The packets that a look goes over, one after another.
+-- The packets that a pass scans, in order.
 use Rattle.std.proofs.Common.{◌≡◌, ℕ, ◌≤◌, ◌<◌, [], ◌∷◌, None, Some, arith, filter}
 use Rattle.recovery_spaces.specs.Packets.{Packet, Packets, packet_at, first_from}
 use Rattle.recovery_queue.specs.Slots.{is_from, AreFrom}

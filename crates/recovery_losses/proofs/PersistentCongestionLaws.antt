@@ -1,4 +1,4 @@
--- The run of numbers that are lost goes on from number to number (RFC 9002, 7.6).
+-- The run of lost numbers continues from number to number (RFC 9002, 7.6).
 use Rattle.std.proofs.Common.{◌≡◌, ℕ, ◌+◌, ◌-◌, ◌<◌, ◌≤◌, ◌⊎◌, ◌||◌, ◌≢◌, ◌↔◌, IsTrue, option_map, List, [], ◌∷◌, max, min, nat_lt, true, false, Bool, Decides, true≢false, ltb-true, lt-ltb, Option, None, Some, if◌then◌else◌, refl, sym, ap, subst, ◌∙◌, inl, inr, arith}
 use Rattle.std.specs.Option.{option_map_or}
 use Rattle.std.proofs.lemmas.Bool.Decides.{nat_tests}
@@ -10,7 +10,7 @@ use Rattle.recovery_spaces.specs.Packets.{Packet, Packets, packet_at}
 use Rattle.recovery_losses.specs.Losses.{HasCounted, IsOneOf, ending, follows, going_on, is_counted, last_counted, later_of, no_run, sent_counted}
 use Rattle.recovery_losses.specs.PersistentCongestion.{IsInRun, IsLostOrSkipped, IsPersistentCongestion, IsLossRun}
 
--- ---- what comes right after a number, but for one that was skipped
+-- ---- what directly follows a number, except for a skipped one
 
 follows_next : (skipped : Option ℕ) (last number : ℕ) → last + 1 ≡ number → follows skipped (Some last) number ≡ true
 follows_next None last number next = grind (arith, nat_tests, next)
@@ -296,7 +296,7 @@ module _ (IsLostNow : ℕ → Type 0) (IsEnd EndThen : ℕ → ℕ → Type 0) (
     ],
   )
 
-  -- so long after the oldest of the run
+  -- long enough after the oldest of the run
   long_now : (oldest : Option ℕ) → run.oldest ≡ oldest
       → option_map_or (λ before. nat_lt look.period (sent - before)) run.oldest false ≡ true
       → IsPersistentCongestion IsLostNow EndThen look.skipped look.period

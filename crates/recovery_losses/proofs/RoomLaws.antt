@@ -1,4 +1,4 @@
--- How many packets are left below a number, as a detection pass goes on from packet to packet.
+-- How many packets are left below a number, as a detection pass proceeds from packet to packet.
 use Rattle.std.proofs.Common.{◌≡◌, ◌≢◌, ℕ, ◌+◌, ◌≤◌, ◌<◌, List, [], ◌∷◌, filter, length, None, refl, sym, ◌∙◌, inl, inr, arith}
 use Rattle.std.proofs.lemmas.Bool.Decides.{nat_tests}
 use Rattle.recovery_queue.specs.Slots.{is_below, is_from}
@@ -22,7 +22,7 @@ module _ {P M : Type 0} where
   count_later from later end (entry ∷ packets) above =
       grind (arith, nat_tests, count_later from later end packets, above)
 
-  -- behind a tracked packet there is one fewer
+  -- after a tracked packet there is one fewer
   pub count_next : (from end number : ℕ) (packets : Packets P M) → packet_at packets number ≢ None → from ≤ number
       → number < end → count_between (number + 1) end packets + 1 ≤ count_between from end packets
   count_next from end number [] tracked above small = absurd (tracked refl)

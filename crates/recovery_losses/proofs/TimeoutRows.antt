@@ -1,4 +1,4 @@
--- Worked rows of spans, computed. Nothing rests on them.
+-- Worked rows of durations, computed. Nothing depends on them.
 use Rattle.std.specs.Prelude.{ℕ, ◌≡◌, ◌*◌, ◌^◌, refl}
 use Rattle.recovery_base.specs.Times.{longest_span}
 use Rattle.recovery_losses.specs.Timeouts.{loss_delay_of, probe_timeout_of}
@@ -16,7 +16,7 @@ loss_delay-least = refl
 loss_delay-below_one : loss_delay_of (1, 2) (millis 80) (millis 100) ≡ millis 100
 loss_delay-below_one = refl
 
--- the third probe timeout in a row, with a max_ack_delay of 25 ms
+-- the third consecutive probe timeout, with a max_ack_delay of 25 ms
 probe_timeout-doubled : probe_timeout_of (millis 100) (millis 25) 2 ≡ millis 500
 probe_timeout-doubled = refl
 

@@ -1,4 +1,4 @@
--- Each packet that is lost is tried once, as a detection pass goes on from packet to packet.
+-- Each lost packet is tried once, as a detection pass proceeds from packet to packet.
 use Rattle.std.proofs.Common.{◌≡◌, ◌≢◌, ℕ, ◌+◌, ◌≤◌, ◌<◌, ◌⊎◌, List, [], ◌∷◌, ◌++◌, None, Some, sym, ap, ◌∙◌, inl, inr, arith}
 use Rattle.std.proofs.lemmas.Option.{same_Some}
 use Rattle.std.proofs.lemmas.Bool.Decides.{leb_tells}
@@ -17,7 +17,7 @@ module _ {P M : Type 0} (look : LossPass) (old : Packets P M) where
     each = λ number lost none. absurd (omega (arith, none));
   }
 
-  -- a pass that was cut found all else as one that was not
+  -- a pass that was cut has the same result otherwise
   pub looked_cut : (end : ℕ) (numbers : List ℕ) (tally : Tally) (now : Packets P M)
       → PassSoFar look old end numbers (waiting look.at tally) now
       → PassSoFar look old end numbers (cutting look tally) now
@@ -83,7 +83,7 @@ module _ {P M : Type 0} (look : LossPass) (old : Packets P M) where
                 (same_Some lost.0 is.packet (sym lost.1.0 ∙ ap (λ n. packet_at old n) same ∙ here.0)) in
                 rw (← same, is.is.time_sent, ← sent) lost.2
 
-        -- it is the probe of the MTU
+        -- it is the MTU probe
         pub tries_probe : look.probe ≡ Some next.number
             → TriesEachLost look old (next.number + 1) tried look.probe
         tries_probe probe = record {

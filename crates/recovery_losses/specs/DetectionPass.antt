@@ -1,4 +1,4 @@
--- What a look for losses found of the packets below a number.
+-- The result of a loss detection pass for the packets below a number.
 use Rattle.std.specs.Prelude.{◌≡◌, ℕ, ◌<◌, min, List, Option, Some}
 use Rattle.std.specs.Option.{ForSome}
 use Rattle.recovery_base.specs.Units.{largest_u64}
@@ -16,12 +16,12 @@ pub record PassSoFar {P M : Type 0} (look : LossPass) (old : Packets P M) (end :
   pub earliest : IsEarliest look old end (IsDeclaredLost numbers tally.probe) tally.loss_time
   pub bytes : tally.bytes ≡ min (bytes_counted look old numbers) largest_u64
   pub last_sent : tally.last_sent ≡ last_counted look old numbers
-  -- the numbers that are lost now, one behind another
+  -- the numbers that are lost now, in consecutive runs
   pub run :
       IsLossRun (IsDeclaredLost numbers tally.probe) (IsEndAt look old numbers) look.skipped look.period end tally.run
 
--- each packet below a number that is lost was tried once: it was declared lost, or allocation failed; the probe of the
--- MTU is tried last
+-- each lost packet below a number was tried once: it was declared lost, or allocation failed; the MTU probe is tried
+-- last
 pub record TriesEachLost {P M : Type 0} (look : LossPass) (old : Packets P M) (end : ℕ) (tried : List ℕ)
     (probe : Option ℕ) : Type 0 where
   pub lost : AreLost look old end tried

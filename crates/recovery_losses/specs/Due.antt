@@ -1,8 +1,8 @@
--- The sooner of two moments, each with what is due at it (RFC 9002, A.8).
+-- The earlier of two times, each with what is due at it (RFC 9002, A.8).
 use Rattle.std.specs.Prelude.{ℕ, nat_lt, Option, None, Some, if◌then◌else◌}
 use Rattle.recovery_losses.specs.declared.due.Due.{Due}
 
--- of equal ones the first
+-- the first, if both are equal
 abbrev pub sooner : Option (ℕ × Due) → Option (ℕ × Due) → Option (ℕ × Due)
 sooner None second = second
 sooner first None = first

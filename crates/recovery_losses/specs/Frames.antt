@@ -1,12 +1,12 @@
--- The ranges of an ACK frame, the highest first, as they stand in it (RFC 9000, 19.3.1).
+-- The ranges of an ACK frame, the highest first, in the order of the frame (RFC 9000, 19.3.1).
 use Rattle.std.specs.Prelude.{ℕ, ◌+◌, ◌≤◌, ◌⊎◌, ◌&&◌, nat_le, Bool, true, false, List, [], ◌∷◌, Option, None, Some}
 
--- a range ends below another, with a number between them, where there is another
+-- a range ends below the one above it, if any, with a number between them
 abbrev pub is_apart : ℕ → Option ℕ → Bool
 is_apart last None = true
 is_apart last (Some above) = nat_le (last + 2) above
 
--- none ends before it begins, and each lies apart from the one above it
+-- no range ends before it begins, and each is apart from the one above it
 abbrev pub are_apart : Option ℕ → List (ℕ × ℕ) → Bool
 are_apart above [] = true
 are_apart above (range ∷ ranges) =
@@ -21,12 +21,12 @@ abbrev pub largest_of : List (ℕ × ℕ) → Option ℕ
 largest_of [] = None
 largest_of (range ∷ ranges) = Some range.1
 
--- it is at or above the next number that is given out
+-- the largest number is at or above the next number to be sent
 abbrev pub is_unsent : Option ℕ → ℕ → Bool
 is_unsent None next = false
 is_unsent (Some largest) next = nat_le next largest
 
--- a number lies in one of them
+-- a number is in one of the ranges
 abbrev pub IsInAckRanges : ℕ → List (ℕ × ℕ) → Type 0
 IsInAckRanges number [] = ⊥
 IsInAckRanges number (range ∷ ranges) = (range.0 ≤ number) × (number ≤ range.1) ⊎ IsInAckRanges number ranges

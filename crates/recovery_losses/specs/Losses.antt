@@ -1,4 +1,4 @@
--- Which packets are lost, when the next one is, and what that comes to (RFC 9002, 6.1, 7.6 and A.10).
+-- Which packets are lost, when the next one is lost, and what follows (RFC 9002, 6.1, 7.6 and A.10).
 use Rattle.std.specs.Prelude.{◌≡◌, ◌≢◌, ℕ, ◌+◌, ◌-◌, ◌<◌, ◌≤◌, ◌⊎◌, ◌&&◌, ◌||◌, ◌==◌, min, max, nat_lt, nat_le, Bool, true, false, List, [], ◌∷◌, filter, length, Option, None, Some, if◌then◌else◌}
 use Rattle.std.specs.Option.{ForSome, option_map_or}
 use Rattle.recovery_base.specs.declared.below.SpaceId.{SpaceId}
@@ -20,49 +20,49 @@ abbrev pub IsOneOf : ℕ → List ℕ → Type 0
 IsOneOf number [] = ⊥
 IsOneOf number (first ∷ numbers) = (first ≡ number) ⊎ IsOneOf number numbers
 
--- they rise, from the first on and below the end
+-- numbers are increasing, at least `first`, and below `end`
 abbrev pub AreIncreasing : ℕ → List ℕ → ℕ → Type 0
 AreIncreasing first [] end = first ≤ end
 AreIncreasing first (number ∷ numbers) end = (first ≤ number) × AreIncreasing (number + 1) numbers end
 
 -- ---- which are lost (RFC 9002, 6.1)
 
--- what the path's mark, the first packet after a sample of the RTT, says of a space: in its own space the number
--- decides, in another one the time at which the path got the mark (RFC 9002, 7.6.2 and B.8)
+-- how a path's mark, the first packet after an RTT sample, divides the packets of a space: in the mark's space by
+-- number, in another space by the time of that sample (RFC 9002, 7.6.2 and B.8)
 abbrev pub first_sample_in : Option (SpaceId × ℕ) → ℕ → SpaceId → FirstSample
 first_sample_in None sampled space = Missing
 first_sample_in (Some mark) sampled space = if same_space mark.0 space then InSpace mark.1 else Elsewhere sampled
 
--- a packet was sent after the first sample of the RTT
+-- a packet was sent after the first RTT sample
 abbrev pub is_after_sample : FirstSample → ℕ → ℕ → Bool
 is_after_sample Missing number sent = false
 is_after_sample (InSpace first) number sent = nat_le first number
 is_after_sample (Elsewhere sampled) number sent = nat_lt sampled sent
 
--- when a packet that was sent then is lost by its age (RFC 9002, 6.1.2): it stops at the last moment of the clock
+-- when a packet sent at this time is lost by its age (RFC 9002, 6.1.2), capped at the last time of the clock
 abbrev pub lost_at : LossPass → ℕ → ℕ
 lost_at look sent = min (sent + look.delay) last_time
 
--- some numbers below the largest acknowledged, or sent long ago (RFC 9002, 6.1.1 and 6.1.2)
+-- far enough below the largest acknowledged number, or sent long enough ago (RFC 9002, 6.1.1 and 6.1.2)
 abbrev pub IsLost : LossPass → ℕ → ℕ → Type 0
 IsLost look number sent = (number + look.packet_threshold ≤ look.largest) ⊎ (lost_at look sent ≤ look.at)
 
--- when it is to be looked at: once it is lost by its age, or now, where it is lost and memory was refused
+-- when a packet is due: once it is lost by its age, or now, if it is lost and allocation failed
 abbrev pub IsDueAt : LossPass → ℕ → ℕ → ℕ → Type 0
 IsDueAt look number sent time = ((¬ IsLost look number sent) × (time ≡ lost_at look sent))
     ⊎ (IsLost look number sent × (time ≡ look.at))
 
--- a packet with a size on the path in use: its loss is a sign of congestion (RFC 9002, 7; RFC 9000, 9.4)
+-- a packet with a size, sent on the path in use: its loss indicates congestion (RFC 9002, 7; RFC 9000, 9.4)
 abbrev pub is_counted : LossPass → ℕ → ℕ → Bool
 is_counted look size generation = nat_lt 0 size && (generation == look.generation)
 
--- the later of two moments, where there are any
+-- the later of two times, if any
 abbrev pub later_of : Option ℕ → Option ℕ → Option ℕ
 later_of None second = second
 later_of (Some first) None = Some first
 later_of (Some first) (Some second) = Some (max first second)
 
--- the packets but those of some numbers
+-- the packets except those with these numbers
 abbrev pub without_all : {P M : Type 0} → Packets P M → List ℕ → Packets P M
 without_all packets [] = packets
 without_all packets (number ∷ numbers) = without_all (without packets number) numbers
@@ -80,7 +80,7 @@ module _ {P M : Type 0} (look : LossPass) (packets : Packets P M) where
   abbrev pub IsLostBelow : ℕ → Type 0
   IsLostBelow number = (packet : Packet P M) × IsBelow number packet × IsLost look number packet.time_sent
 
-  -- the bytes of those that count
+  -- the bytes of the packets that count
   abbrev pub size_counted : Option (Packet P M) → ℕ
   size_counted None = 0
   size_counted (Some packet) = if is_counted look packet.size packet.path_generation then packet.size else 0
@@ -89,7 +89,7 @@ module _ {P M : Type 0} (look : LossPass) (packets : Packets P M) where
   bytes_counted [] = 0
   bytes_counted (number ∷ numbers) = size_counted (packet_at packets number) + bytes_counted numbers
 
-  -- when the last of those that count was sent, where there is one
+  -- when the last packet that counts was sent, if any
   abbrev pub sent_counted : Option (Packet P M) → Option ℕ
   sent_counted None = None
   sent_counted (Some packet) =
@@ -104,26 +104,26 @@ module _ {P M : Type 0} (look : LossPass) (packets : Packets P M) where
   HasCounted numbers = (number : ℕ) × (packet : Packet P M) × IsOneOf number numbers
       × (packet_at packets number ≡ Some packet) × (is_counted look packet.size packet.path_generation ≡ true)
 
-  -- the least moment at which a packet below a number is to be looked at that was not told lost, where there is one
+  -- the earliest time at which a packet below `end` that was not declared lost is due, if any
   pub record IsEarliest (end : ℕ) (IsDeclaredLost : ℕ → Type 0) (time : Option ℕ) : Type 0 where
     pub one : ForSome time (λ least. (number : ℕ) × (packet : Packet P M) × IsBelow number packet × (number < end)
         × (IsDeclaredLost number → ⊥) × IsDueAt look number packet.time_sent least)
     pub least : (number : ℕ) (packet : Packet P M) (due : ℕ) → IsBelow number packet → number < end
         → (IsDeclaredLost number → ⊥) → IsDueAt look number packet.time_sent due → (t : ℕ) × (time ≡ Some t) × (t ≤ due)
 
--- when the first of the packets that are tracked below a number was sent, if there is one
+-- when the first of the packets that are tracked below a number was sent, if any
 pub record IsEarliestSent {P M : Type 0} (packets : Packets P M) (end : ℕ) (time : Option ℕ) : Type 0 where
   pub one : ForSome time (λ least. (number : ℕ) × (packet : Packet P M) × (packet_at packets number ≡ Some packet)
       × (number < end) × (packet.time_sent ≡ least))
   pub least : (number : ℕ) (packet : Packet P M) → packet_at packets number ≡ Some packet → number < end
       → (t : ℕ) × (time ≡ Some t) × (t ≤ packet.time_sent)
 
--- these are told lost: rising, each of them lost, and no probe of the MTU
+-- the numbers that are declared lost: increasing, each of them lost, and none the MTU probe
 pub record AreLost {P M : Type 0} (look : LossPass) (packets : Packets P M) (end : ℕ) (numbers : List ℕ) : Type 0 where
   pub rising : AreIncreasing 0 numbers end
   pub lost : (number : ℕ) → IsOneOf number numbers → IsLostBelow look packets number × (look.probe ≢ Some number)
 
--- ---- how the look goes on from packet to packet
+-- ---- how a pass proceeds from packet to packet
 
 -- a candidate is the packet of its number
 pub record IsCandidateOf {P M : Type 0} (packet : Packet P M) (candidate : Candidate) : Type 0 where
@@ -132,7 +132,7 @@ pub record IsCandidateOf {P M : Type 0} (packet : Packet P M) (candidate : Candi
   pub ack_eliciting : candidate.ack_eliciting ≡ packet.ack_eliciting
   pub path_generation : candidate.path_generation ≡ packet.path_generation
 
--- the first packet below the largest acknowledged from a number on
+-- the first packet below the largest acknowledged, at or above a number
 pub record IsNextLossCandidate {P M : Type 0} (look : LossPass) (packets : Packets P M) (from : ℕ)
     (candidate : Candidate) : Type 0 where
   pub packet : Packet P M
@@ -147,21 +147,21 @@ abbrev pub NoneFrom : {P M : Type 0} → LossPass → Packets P M → ℕ → Ty
 NoneFrom {P} {M} look packets from =
     (number : ℕ) (packet : Packet P M) → IsBelow look packets number packet → from ≤ number → ⊥
 
--- what the look found so far, where a packet waits until this moment
+-- the result so far, if a packet becomes lost at this time
 abbrev pub waiting : ℕ → Tally → Tally
 waiting time tally = record tally { loss_time = earlier_of tally.loss_time (Some time) }
 
--- what the look found so far, if allocation failed for a packet that is lost: it is to be looked at again at once
+-- the result so far, if allocation failed for a lost packet: it is due again at once
 abbrev pub cutting : LossPass → Tally → Tally
 cutting look tally = record (waiting look.at tally) { is_cut = true }
 
--- a number continues a run: it comes right after the last one, or only the number that was skipped lies between
+-- a number continues a run: it directly follows the last one, or only the skipped number lies between
 abbrev pub follows : Option ℕ → Option ℕ → ℕ → Bool
 follows skipped None number = false
 follows None (Some last) number = last + 1 == number
 follows (Some skipped) (Some last) number = last + 1 == number || (last + 1 == skipped && skipped + 1 == number)
 
--- the next number is lost: the run goes on, or begins
+-- a number is lost: it continues the run, or begins one
 abbrev pub going_on : LossPass → ℕ → Run → Run
 going_on look number run = record {
   previous = Some number;
@@ -173,18 +173,19 @@ going_on look number run = record {
 abbrev pub is_end : LossPass → ℕ → ℕ → Bool → Bool
 is_end look number sent eliciting = eliciting && is_after_sample look.first_sample number sent
 
--- it was sent then: so long after the oldest of the run, congestion is persistent
+-- such a packet of the run was sent at this time: congestion is persistent if the oldest one was sent more than the
+-- period before
 abbrev pub ending : LossPass → ℕ → Run → Run
 ending look sent run = record run {
   oldest = Some (option_map_or (λ oldest. min oldest sent) run.oldest sent);
   is_persistent = run.is_persistent || option_map_or (λ oldest. nat_lt look.period (sent - oldest)) run.oldest false;
 }
 
--- where the probe of the MTU is lost
+-- if the MTU probe is lost
 abbrev pub finding_probe : LossPass → Candidate → Tally → Tally
 finding_probe look packet tally = record tally { probe = look.probe; run = going_on look packet.number tally.run }
 
--- where a packet was told lost
+-- if a packet was declared lost
 abbrev pub counting : LossPass → Candidate → Tally → Tally
 counting look packet tally = let run = going_on look packet.number tally.run in
     if is_counted look packet.size packet.path_generation then record tally {
@@ -194,7 +195,7 @@ counting look packet tally = let run = going_on look packet.number tally.run in
           else run);
     } else record tally { run = run }
 
--- a number was told lost, or is that of the probe, which is told last
+-- a number was declared lost, or is that of the MTU probe, which is declared lost last
 abbrev pub IsDeclaredLost : List ℕ → Option ℕ → ℕ → Type 0
 IsDeclaredLost numbers probe number = IsOneOf number numbers ⊎ (probe ≡ Some number)
 

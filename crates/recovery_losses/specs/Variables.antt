@@ -1,4 +1,4 @@
--- What a sender keeps beside its recovery, and how it changes (RFC 9002, A.3).
+-- The variables of a sender besides its recovery, and how they change (RFC 9002, A.3).
 use Rattle.std.specs.Prelude.{ℕ, ◌+◌, ◌||◌, min, max, Bool, true, false, Option, None, Some, if◌then◌else◌, ◌-◌, nat_le}
 use Rattle.std.specs.Option.{option_and_then, option_map_or}
 use Rattle.recovery_base.specs.declared.below.SpaceId.{SpaceId}
@@ -12,8 +12,8 @@ use Rattle.recovery_losses.specs.declared.thresholds.Thresholds.{Thresholds}
 use Rattle.recovery_losses.specs.declared.variables.DueProbes.{DueProbes}
 use Rattle.recovery_losses.specs.declared.variables.Variables.{Variables}
 
--- nothing was said of the connection, and no probe timeout expired; the peer's max_ack_delay is 25 ms until it is told
--- (RFC 9000, 18.2)
+-- nothing is known of the connection, and no probe timeout expired; the peer's max_ack_delay is 25 ms until it is
+-- reported (RFC 9000, 18.2)
 abbrev pub fresh : Side → Thresholds → ℕ → Variables
 fresh side thresholds now = record {
   side = side;
@@ -29,8 +29,8 @@ fresh side thresholds now = record {
   initial_rtt = None;
 }
 
--- the thresholds that settings give: with a packet threshold of 0 a packet would be lost with its own ACK, with a
--- persistent congestion threshold of 0 any two packets would do (RFC 9002, 6.1.1 and 7.6.1)
+-- The thresholds of the settings; 0 counts as 1. With a packet threshold of 0 a packet would be lost with its own ACK,
+-- with a persistent congestion threshold of 0 any two packets would do (RFC 9002, 6.1.1 and 7.6.1).
 abbrev pub thresholds_of : ℕ → ℕ × ℕ → ℕ → Thresholds
 thresholds_of packets time persistent = record {
   packets = max packets 1;
@@ -42,7 +42,7 @@ abbrev pub is_server : Side → Bool
 is_server Server = true
 is_server Client = false
 
--- this end is a server, or a client that knows its address validated (RFC 9002, A.8: PeerCompletedAddressValidation)
+-- a server, or a client that knows that its address is validated (RFC 9002, A.8: PeerCompletedAddressValidation)
 abbrev pub is_address_validated : Variables → Bool
 is_address_validated variables = is_server variables.side || variables.is_address_known
 
@@ -51,17 +51,17 @@ abbrev pub ack_delay_in : Variables → SpaceId → ℕ
 ack_delay_in variables Data = variables.max_ack_delay
 ack_delay_in variables space = 0
 
--- how often a probe timeout is doubled at most
+-- how many times a probe timeout is doubled at most
 abbrev pub most_doublings : ℕ
 most_doublings = 16
 
--- the probe timeout, as often doubled as it expired in a row, but 16 times at most (RFC 9002, 6.2.1)
+-- the probe timeout, doubled for each consecutive timeout, 16 times at most (RFC 9002, 6.2.1)
 abbrev pub pto_by : ℕ → Variables → SpaceId → ℕ
 pto_by base variables space =
     probe_timeout_of base (ack_delay_in variables space) (min variables.pto_count most_doublings)
 
--- probe timeouts are counted anew, but at a client that does not know its address validated, which an ACK of a
--- Handshake packet tells it (RFC 9002, 6.2.1 and 6.2.2.1); a deadlock is counted on from there
+-- the count of probe timeouts is reset, except at a client that does not know its address validated; an ACK of a
+-- Handshake packet validates it (RFC 9002, 6.2.1 and 6.2.2.1). The anti-deadlock timer restarts.
 abbrev pub heard_in : SpaceId → ℕ → Variables → Variables
 heard_in space now variables =
     let known : Variables = record variables {
@@ -70,37 +70,38 @@ heard_in space now variables =
     } in
     record known { pto_count = (if is_address_validated known then 0 else variables.pto_count) }
 
--- the path in use got its first RTT sample then, if it did (RFC 9002, 7.6.2 and B.8: first_rtt_sample)
+-- if this is the first RTT sample of the path in use, its time (RFC 9002, 7.6.2 and B.8: first_rtt_sample)
 abbrev pub sampled_first : Bool → ℕ → Variables → Variables
 sampled_first is_first now variables = record variables { sampled = (if is_first then now else variables.sampled) }
 
--- a deadlock is counted on from there (RFC 9002, 6.2.2.1)
+-- the anti-deadlock timer restarts at this time, if any (RFC 9002, 6.2.2.1)
 abbrev pub based : Option ℕ → Variables → Variables
 based None variables = variables
 based (Some now) variables = record variables { base = now }
 
 -- ---- the probes that the last probe timeout asked for and that were not sent yet (RFC 9002, 6.2.4)
 
--- an ack-eliciting packet of their space takes one off
+-- an ack-eliciting packet of their space counts as one of them
 abbrev pub due_after_packet : SpaceId → DueProbes → Option DueProbes
 due_after_packet space due = if same_space due.space space then
     (if nat_le due.count 1 then None else Some (record due { count = due.count - 1 })) else Some due
 
--- the end of their space takes all off
+-- if their space is discarded, none is left
 abbrev pub due_after_end : SpaceId → DueProbes → Option DueProbes
 due_after_end space due = if same_space due.space space then None else Some due
 
--- an ack-eliciting packet of a space was sent, if one was
+-- an ack-eliciting packet of a space was sent, if any
 abbrev pub probed : Option SpaceId → Variables → Variables
 probed None variables = variables
 probed (Some space) variables =
     record variables { due_probes = option_and_then (due_after_packet space) variables.due_probes }
 
--- one is due in a space
+-- a probe is due in a space
 abbrev pub is_probe_due : Variables → SpaceId → Bool
 is_probe_due variables space = option_map_or (λ due. same_space due.space space) variables.due_probes false
 
--- a space ended: probe timeouts are counted from zero, and none is due there (RFC 9002, 6.2.2 and A.11)
+-- a space was discarded, or all its packets were declared lost: the count of probe timeouts is reset, and no probe is
+-- due there (RFC 9002, 6.2.2 and A.11)
 abbrev pub begun_anew : SpaceId → ℕ → Variables → Variables
 begun_anew space now variables = record variables {
   pto_count = 0;
@@ -108,7 +109,8 @@ begun_anew space now variables = record variables {
   due_probes = option_and_then (due_after_end space) variables.due_probes;
 }
 
--- a probe timeout expired: so many probes are due in a space, in place of those that were (RFC 9002, 6.2.1 and 6.2.4)
+-- a probe timeout expired: `count` probes are due in a space and replace those that were due (RFC 9002, 6.2.1 and
+-- 6.2.4)
 abbrev pub timed_out : SpaceId → ℕ → ℕ → Variables → Variables
 timed_out space count now variables = record variables {
   pto_count = min (variables.pto_count + 1) largest_u32;

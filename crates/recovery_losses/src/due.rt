@@ -1,22 +1,22 @@
-//! What the timer for losses and probes is for (RFC 9002, 6.2 and A.8).
+//! The purposes of the loss detection timer (RFC 9002, 6.2 and A.8).
 ghost use Rattle.std.specs.Prelude.{◌≡◌, option_map};
 ghost use Rattle.recovery_losses.specs.Due.{sooner};
 
 use recovery_base::below::SpaceId;
 use recovery_base::time::Instant;
 
-/// What the timer is for.
+/// The purpose of the loss detection timer.
 #[derive(Clone, Copy)]
 pub enum Due {
     /// Packets of a space may be lost.
     Losses(SpaceId),
-    /// A space is to be probed.
+    /// A probe timeout of a space expires.
     Probes(SpaceId),
-    /// A client is to end what may be a deadlock (RFC 9002, 6.2.2.1).
+    /// A client or server is to end a possible deadlock (RFC 9002, 6.2.2.1).
     AntiDeadlock(SpaceId),
 }
 
-/// The moment at which something is due, where there is one.
+/// Returns the time at which something is due, if any.
 #[inline(always)]
 fn time_of(due: &Option<(Instant, Due)>) -> Option<Instant>
     ensures { result ≡ option_map (λ due. due.0) due.now }
@@ -27,7 +27,7 @@ fn time_of(due: &Option<(Instant, Due)>) -> Option<Instant>
     }
 }
 
-/// The sooner of two moments with what is due at them; of equal ones the first.
+/// Returns the earlier of two times with what is due at it; the first, if both are equal.
 #[inline(always)]
 pub fn sooner(
     first: Option<(Instant, Due)>,

@@ -1,23 +1,23 @@
-//! ACK frames as they come in (RFC 9000, 19.3).
+//! Received ACK frames (RFC 9000, 19.3).
 ghost use Rattle.std.specs.Prelude.{◌≡◌};
 ghost use Rattle.recovery_losses.specs.Frames.{are_ranges, is_apart, is_unsent, largest_of};
 
 use recovery_base::below::EcnCounts;
 use recovery_base::time::Duration;
 
-/// What an ACK frame says beside its ranges, and what the layer above knows at its arrival.
+/// The fields of an ACK frame besides its ranges, and what the caller knows at its arrival.
 #[derive(Clone, Copy)]
 pub struct Ack {
-    /// How long the peer says that it delayed the ACK.
+    /// The ACK delay that the peer reports.
     pub delay: Duration,
-    /// The counts of ECN, where the frame has them.
+    /// The ECN counts, if the frame has them.
     pub ecn: Option<EcnCounts>,
     /// Whether the sender had too little to send to fill its window (RFC 9002, 7.8).
     pub app_limited: bool,
 }
 
-/// Whether there is a range, none ends before it begins, and between each and the next lower there is at least one
-/// number (RFC 9000, 19.3.1).
+/// Returns whether there is a range, none ends before it begins, and two neighbours have at least one number between
+/// them (RFC 9000, 19.3.1).
 pub fn are_ranges(ranges: &[(u64, u64)]) -> bool
     ensures { result ≡ are_ranges ranges.now }
 {
@@ -31,7 +31,7 @@ pub fn are_ranges(ranges: &[(u64, u64)]) -> bool
     above.is_some()
 }
 
-/// Whether a range that ends so has a gap to the one above it, where there is one.
+/// Returns whether a range that ends at `last` has a gap to the one above it, if any.
 fn is_apart(last: u64, above: Option<u64>) -> bool
     ensures { result ≡ is_apart last above }
 {
@@ -41,7 +41,7 @@ fn is_apart(last: u64, above: Option<u64>) -> bool
     }
 }
 
-/// The largest number of ranges, where there is a range.
+/// Returns the largest number of the ranges, if any.
 pub fn largest_of(ranges: &[(u64, u64)]) -> Option<u64>
     ensures { result ≡ largest_of ranges.now }
 {
@@ -51,7 +51,7 @@ pub fn largest_of(ranges: &[(u64, u64)]) -> Option<u64>
     }
 }
 
-/// Whether the largest number of a frame was not sent, where this is the next one.
+/// Returns whether the largest number of a frame was not sent; `next` is the next number to be sent.
 pub fn is_unsent(largest: Option<u64>, next: u64) -> bool
     ensures { result ≡ is_unsent largest next }
 {

@@ -1,7 +1,8 @@
-//! What a look for losses goes by, and what it finds of the packets that it goes over, one after another: which are
-//! lost, when the next one is, what counts as congestion, and whether that persists (RFC 9002, 6.1, 7.6 and A.10); and
-//! the variables of a sender beside its packets, with the probe timeout (A.3 and 6.2.1). It holds no packets and tells
-//! nobody: the sender does. Begin at `looks.rt`, and at `specs/Losses.antt`.
+//! Loss detection (RFC 9002, 6.1, 7.6 and A.10). A pass examines packets in order. It finds which are lost, when the
+//! next one is lost, which losses indicate congestion, and whether the congestion is persistent.
+//!
+//! The crate also has a sender's variables and the probe timeout (A.3 and 6.2.1). It holds no packets: the sender does.
+//! Begin at `looks.rt` and `specs/Losses.antt`.
 #![tactic(auto)]
 
 mod due;

@@ -1,4 +1,4 @@
-//! What a look for losses goes by, and when a packet is lost (RFC 9002, 6.1).
+//! The inputs of a loss detection pass, and when a packet is lost (RFC 9002, 6.1).
 ghost use Rattle.std.specs.Prelude.{◌≡◌, ◌<◌, Decides};
 ghost use Rattle.recovery_losses.specs.Losses.{first_sample_in, lost_at, is_after_sample, is_end, IsLost};
 
@@ -8,7 +8,7 @@ use recovery_base::time::{Duration, Instant};
 /// Which packets of a space were sent after the first RTT sample of the path (RFC 9002, 7.6.2).
 #[derive(Clone, Copy)]
 pub enum FirstSample {
-    /// None: there was no sample, or this pass does not look for persistent congestion.
+    /// None: there was no sample, or this pass does not detect persistent congestion.
     Missing,
     /// The sample was taken in this space: the packets from this number on.
     InSpace(u64),
@@ -16,55 +16,55 @@ pub enum FirstSample {
     Elsewhere(Instant),
 }
 
-/// What a look for losses goes by.
+/// The inputs of a loss detection pass.
 #[derive(Clone, Copy)]
 pub struct LossPass {
-    /// The space whose packets are looked at.
+    /// The space whose packets are examined.
     pub space: SpaceId,
-    /// The moment of it.
+    /// The time of the pass.
     pub at: Instant,
     /// The largest number that was acknowledged in the space.
     pub largest: u64,
     /// How many numbers below the largest acknowledged one a packet is lost (RFC 9002, 6.1.1: kPacketThreshold).
     pub packet_threshold: u64,
-    /// How long after its sending a packet is lost (RFC 9002, 6.1.2).
+    /// How long after its transmission a packet is lost (RFC 9002, 6.1.2).
     pub delay: Duration,
-    /// The number of the MTU's probe in flight, where it may be one of the space's.
+    /// The number of the MTU probe in flight, if this is the space of 1-RTT packets.
     pub probe: Option<u64>,
-    /// That of the path in use: packets of another one count for no congestion (RFC 9000, 9.4).
+    /// The generation of the path in use. Packets of another path do not indicate congestion (RFC 9000, 9.4).
     pub generation: u64,
     /// Which packets may begin or end persistent congestion (RFC 9002, 7.6.2).
     pub first_sample: FirstSample,
-    /// The number that was skipped last in the space. It is no packet, so it does not end a run (RFC 9000, 21.4).
+    /// The number that was skipped last in the space. No packet has it, so it does not end a run (RFC 9000, 21.4).
     pub skipped: Option<u64>,
-    /// How long persistent congestion lasts, in nanoseconds (RFC 9002, 7.6.1).
+    /// The duration of persistent congestion, in nanoseconds (RFC 9002, 7.6.1).
     pub period: u128,
 }
 
-/// A tracked packet, as far as a look needs it.
+/// The fields of a tracked packet that a pass needs.
 #[derive(Clone, Copy)]
 pub struct Candidate {
     /// Its number.
     pub number: u64,
     /// When it was sent.
     pub time_sent: Instant,
-    /// Its bytes in flight; 0 where it holds ACKs alone.
+    /// Its bytes in flight; 0 if it holds ACKs only.
     pub size: u16,
-    /// Whether it elicits an ACK (RFC 9002, 2).
+    /// Whether it is ack-eliciting (RFC 9002, 2).
     pub ack_eliciting: bool,
-    /// By which path it was sent.
+    /// The generation of the path on which it was sent.
     pub path_generation: u64,
 }
 
 impl LossPass {
-    /// When a packet is lost by its age (RFC 9002, 6.1.2).
+    /// Returns when a packet is lost by its age (RFC 9002, 6.1.2).
     pub fn lost_at(&self, packet: &Candidate) -> Instant
         ensures { result ≡ lost_at self.now packet.now.time_sent }
     {
         packet.time_sent + self.delay
     }
 
-    /// Whether a packet is lost: by its number or by its age (RFC 9002, 6.1).
+    /// Returns whether a packet is lost: by its number or by its age (RFC 9002, 6.1).
     pub fn is_lost(&self, packet: &Candidate) -> bool
         requires below { packet.now.number < self.now.largest }
         ensures { Decides result (IsLost self.now packet.now.number packet.now.time_sent) }
@@ -72,7 +72,7 @@ impl LossPass {
         self.largest - packet.number >= self.packet_threshold || self.lost_at(packet) <= self.at
     }
 
-    /// Whether persistent congestion may begin or end with a packet that counts (RFC 9002, 7.6.2).
+    /// Returns whether persistent congestion may begin or end with a packet that counts (RFC 9002, 7.6.2).
     pub(crate) fn is_end(&self, packet: &Candidate) -> bool
         ensures { result ≡ is_end self.now packet.now.number packet.now.time_sent
             packet.now.ack_eliciting }
@@ -82,7 +82,8 @@ impl LossPass {
 }
 
 impl FirstSample {
-    /// What a path's mark, the first packet after a sample, says of a space: `sampled` is when the path got it.
+    /// Returns how a path's mark, the first packet after an RTT sample, divides a space. `sampled` is the time of that
+    /// sample.
     pub fn of(mark: Option<(SpaceId, u64)>, sampled: Instant, space: SpaceId) -> Self
         ensures { result ≡ first_sample_in mark sampled space }
     {
@@ -93,7 +94,7 @@ impl FirstSample {
         }
     }
 
-    /// Whether a packet was sent after it.
+    /// Returns whether a packet was sent after the sample.
     fn precedes(&self, packet: &Candidate) -> bool
         ensures { result ≡ is_after_sample self.now packet.now.number packet.now.time_sent }
     {

@@ -1,4 +1,4 @@
-//! What a look for losses found so far, and whether congestion persists (RFC 9002, 7 and 7.6).
+//! The result of a loss detection pass so far, and whether congestion is persistent (RFC 9002, 7 and 7.6).
 ghost use Rattle.std.specs.Prelude.{◌≡◌, ◌+◌, ◌==◌, option_map};
 ghost use Rattle.recovery_losses.specs.Losses.{no_run, follows, going_on, ending, nothing_found, waiting, counting, cutting, finding_probe};
 
@@ -6,31 +6,31 @@ use crate::looks::{Candidate, LossPass};
 use recovery_base::time::Instant;
 use recovery_base::timer::earlier;
 
-/// What a look found so far.
+/// The result of a pass so far.
 #[derive(Clone, Copy)]
 pub struct Tally {
     /// When the next packet is lost.
     pub loss_time: Option<Instant>,
-    /// The number of the MTU's probe, where it is lost.
+    /// The number of the MTU probe, if it is lost.
     pub probe: Option<u64>,
-    /// When the last of the packets that count was sent, if there is one.
+    /// When the last packet that counts was sent, if any.
     pub last_sent: Option<Instant>,
-    /// The bytes of those that count; they stop at `u64::MAX`.
+    /// The bytes of the packets that count, capped at `u64::MAX`.
     pub bytes: u64,
     /// The run of numbers that are lost.
     pub run: Run,
-    /// Whether allocation failed for a packet that is lost, so that it is still tracked.
+    /// Whether allocation failed for a lost packet, which is then still tracked.
     pub is_cut: bool,
 }
 
-/// Whether one number comes right after another.
+/// Returns whether one number directly follows another.
 fn is_next(last: u64, number: u64) -> bool
     ensures { result ≡ (last + 1 == number) }
 {
     last < number && number - last == 1
 }
 
-/// Whether a number continues a run that ends so: nothing lies between but a number that was skipped.
+/// Returns whether a number continues a run that ends at `previous`: only a skipped number may lie between.
 fn follows(skipped: Option<u64>, previous: Option<u64>, number: u64) -> bool
     ensures { result ≡ follows skipped previous number }
 {
@@ -43,19 +43,19 @@ fn follows(skipped: Option<u64>, previous: Option<u64>, number: u64) -> bool
     }
 }
 
-/// The numbers that are lost one behind another, and whether congestion persists over them (RFC 9002, 7.6).
+/// Consecutive lost numbers, and whether congestion persists over them (RFC 9002, 7.6).
 #[derive(Clone, Copy)]
 pub struct Run {
     /// The number that was lost last.
     previous: Option<u64>,
-    /// When the first was sent, in the run up to that number, of the packets that may begin persistent congestion.
+    /// When the first packet of the run was sent that may begin persistent congestion.
     oldest: Option<Instant>,
     /// Whether congestion is persistent.
     pub is_persistent: bool,
 }
 
 impl Run {
-    /// None is lost yet.
+    /// Returns a run without any loss.
     fn new() -> Self
         ensures { result ≡ no_run }
     {
@@ -66,7 +66,7 @@ impl Run {
         }
     }
 
-    /// A number is lost: the run goes on, where it is the next one.
+    /// Records a lost number, which continues the run or begins a new one.
     fn go_on(&mut self, look: &LossPass, number: u64)
         ensures { self.new ≡ going_on look.now number self.old }
     {
@@ -76,7 +76,7 @@ impl Run {
         self.previous = Some(number);
     }
 
-    /// With the packet that was sent then persistent congestion may begin or end.
+    /// Records a packet sent at `sent` with which persistent congestion may begin or end.
     fn end(&mut self, look: &LossPass, sent: Instant)
         ensures { self.new ≡ ending look.now sent self.old }
     {
@@ -92,7 +92,7 @@ impl Run {
 }
 
 impl Tally {
-    /// Nothing was found yet.
+    /// Returns the result before any packet was examined.
     pub fn new() -> Self
         ensures { result ≡ nothing_found }
     {
@@ -106,7 +106,7 @@ impl Tally {
         }
     }
 
-    /// The bytes of those that count, where there is one.
+    /// Returns the bytes of the packets that count, if any.
     pub fn congestion(&self) -> Option<u64>
         ensures { result ≡ option_map (λ sent. self.now.bytes) self.now.last_sent }
     {
@@ -116,14 +116,14 @@ impl Tally {
         }
     }
 
-    /// A packet waits until this moment.
+    /// Records a packet that becomes lost at `time`.
     pub fn waits(&mut self, time: Instant)
         ensures { self.new ≡ waiting time self.old }
     {
         self.loss_time = earlier(self.loss_time, Some(time));
     }
 
-    /// A packet is lost, but allocation failed when it was declared so: it is still tracked, and due at once.
+    /// Records a lost packet for which allocation failed: it is still tracked, and due at once.
     pub fn cuts(&mut self, look: &LossPass)
         ensures { self.new ≡ cutting look.now self.old }
     {
@@ -131,7 +131,7 @@ impl Tally {
         self.is_cut = true;
     }
 
-    /// The probe of the MTU is lost.
+    /// Records that the MTU probe is lost.
     pub fn finds_probe(&mut self, look: &LossPass, packet: &Candidate)
         ensures { self.new ≡ finding_probe look.now packet.now self.old }
     {
@@ -139,7 +139,7 @@ impl Tally {
         self.run.go_on(look, packet.number);
     }
 
-    /// A packet is lost: where it counts, that is a sign of congestion (RFC 9002, 7).
+    /// Records a lost packet. If it counts, it indicates congestion (RFC 9002, 7).
     pub fn counts(&mut self, look: &LossPass, packet: &Candidate)
         ensures { self.new ≡ counting look.now packet.now self.old }
     {

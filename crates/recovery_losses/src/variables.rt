@@ -1,4 +1,4 @@
-//! What a sender keeps beside the packets that its recovery tracks, and what follows of that alone (RFC 9002, A.3).
+//! The variables of a sender besides its tracked packets, and their consequences (RFC 9002, A.3).
 ghost use Rattle.std.specs.Prelude.{◌≡◌, min, None, if◌then◌else◌};
 ghost use Rattle.recovery_losses.specs.Variables.{ack_delay_in, based, begun_anew, due_after_end, due_after_packet, fresh, heard_in, is_address_validated, is_probe_due, probed, pto_by, sampled_first, timed_out};
 
@@ -7,18 +7,18 @@ use crate::timeouts::probe_timeout;
 use recovery_base::below::SpaceId;
 use recovery_base::time::{Duration, Instant};
 
-/// How late the ACKs of a peer may be that said nothing of it (RFC 9000, 18.2: max_ack_delay), in milliseconds.
+/// The peer's max_ack_delay until it is reported, in milliseconds (RFC 9000, 18.2).
 const DEFAULT_MAX_ACK_DELAY: u64 = 25;
 
-/// The most times that a probe timeout is doubled.
+/// The maximum number of times that a probe timeout is doubled.
 const MOST_DOUBLINGS: u32 = 16;
 
-/// Which end of the connection this is.
+/// The role of the local endpoint.
 #[derive(Clone, Copy, PartialEq, Eq)]
 pub enum Side {
-    /// The end that began the connection.
+    /// The endpoint that opened the connection.
     Client,
-    /// The other end.
+    /// The other endpoint.
     Server,
 }
 
@@ -32,7 +32,8 @@ pub struct DueProbes {
 }
 
 impl DueProbes {
-    /// Those that are left after an ack-eliciting packet of a space was sent: one less, if it is theirs.
+    /// Returns the probes that are left after an ack-eliciting packet of a space was sent: one fewer, if it is their
+    /// space.
     fn after_packet(self, space: SpaceId) -> Option<Self>
         ensures { result ≡ due_after_packet space self }
     {
@@ -48,7 +49,7 @@ impl DueProbes {
         })
     }
 
-    /// Those that are left after a space ended.
+    /// Returns the probes that are left after a space was discarded.
     fn after_end(self, space: SpaceId) -> Option<Self>
         ensures { result ≡ due_after_end space self }
     {
@@ -60,37 +61,36 @@ impl DueProbes {
     }
 }
 
-/// What a sender keeps beside its recovery (RFC 9002, A.3).
+/// The variables of a sender besides its recovery (RFC 9002, A.3).
 #[derive(Clone, Copy)]
 pub struct Variables {
-    /// Which end of the connection this is.
+    /// The role of the local endpoint.
     pub side: Side,
-    /// How late the peer's ACKs may be in the space of 1-RTT packets (RFC 9000, 18.2: max_ack_delay).
+    /// The peer's max_ack_delay, for the space of 1-RTT packets (RFC 9000, 18.2).
     pub max_ack_delay: Duration,
-    /// How many probe timeouts expired in a row; it stops at `u32::MAX`.
+    /// The number of consecutive probe timeouts, at most `u32::MAX`.
     pub pto_count: u32,
     /// Whether the handshake is confirmed (RFC 9001, 4.1.2).
     pub is_handshake_confirmed: bool,
     /// Whether a client knows that the server validated its address (RFC 9002, 6.2.2.1).
     pub is_address_known: bool,
-    /// Whether there are keys of Handshake packets.
+    /// Whether Handshake keys are available.
     pub has_handshake_keys: bool,
-    /// From when on the timer runs that is to end a deadlock (RFC 9002, 6.2.2.1).
+    /// When the anti-deadlock timer was started (RFC 9002, 6.2.2.1).
     pub base: Instant,
-    /// The thresholds of loss detection, which the settings give.
+    /// The thresholds of loss detection, from the settings.
     pub thresholds: Thresholds,
-    /// When a path was given its first RTT sample last; at first the start (RFC 9002, 7.6.2 and B.8:
-    /// first_rtt_sample).
+    /// When a path last got its first RTT sample; initially the start (RFC 9002, 7.6.2 and B.8: first_rtt_sample).
     pub sampled: Instant,
     /// The probes that are due, if any (RFC 9002, 6.2.4).
     pub due_probes: Option<DueProbes>,
-    /// The RTT by which timers go before the first sample of the path in use, in place of that of the settings (RFC
+    /// The RTT that timers use before the first sample of the path in use, instead of the one in the settings (RFC
     /// 9002, 6.2.2).
     pub initial_rtt: Option<Duration>,
 }
 
 impl Variables {
-    /// The variables of a new sender. The peer's max_ack_delay is 25 ms until the sender learns another one.
+    /// Returns the variables of a new sender. The peer's max_ack_delay is 25 ms until the sender learns another one.
     pub fn new(side: Side, thresholds: Thresholds, now: Instant) -> Self
         ensures { result ≡ fresh side thresholds now }
     {
@@ -109,14 +109,15 @@ impl Variables {
         }
     }
 
-    /// Whether this end is no client that has to fear for its address (RFC 9002, A.8: PeerCompletedAddressValidation).
+    /// Returns whether the peer is known to have validated the local address: always at a server (RFC 9002, A.8:
+    /// PeerCompletedAddressValidation).
     pub fn is_address_validated(&self) -> bool
         ensures { result ≡ is_address_validated self.now }
     {
         self.side == Side::Server || self.is_address_known
     }
 
-    /// How late the peer's ACKs may be: that counts in the space of 1-RTT packets alone (RFC 9002, 5.3 and 6.2.1).
+    /// Returns the peer's max_ack_delay in a space: zero except for 1-RTT packets (RFC 9002, 5.3 and 6.2.1).
     pub fn ack_delay_in(&self, space: SpaceId) -> Duration
         ensures { result ≡ ack_delay_in self.now space }
     {
@@ -126,7 +127,7 @@ impl Variables {
         }
     }
 
-    /// What of the delay that an ACK frame says counts: at most as late as the peer's ACKs may be (RFC 9002, 5.3).
+    /// Returns how much of a reported ACK delay counts: at most the peer's max_ack_delay (RFC 9002, 5.3).
     pub fn delay_counted(&self, space: SpaceId, delay: Duration) -> Duration
         ensures { result ≡ min delay (ack_delay_in self.now space) }
     {
@@ -134,8 +135,8 @@ impl Variables {
         if longest < delay { longest } else { delay }
     }
 
-    /// The probe timeout of a space, as often doubled as it expired in a row, but 16 times at most (RFC 9002, 6.2.1).
-    /// `base` is the smoothed RTT with four times its variation, as `rtt.pto_base()` has it.
+    /// Returns the probe timeout of a space, doubled for each consecutive timeout, 16 times at most (RFC 9002, 6.2.1).
+    /// `base` is the smoothed RTT plus four times its variation: `rtt.pto_base()`.
     pub fn pto(&self, base: Duration, space: SpaceId) -> Duration
         ensures { result ≡ pto_by base self.now space }
     {
@@ -143,8 +144,8 @@ impl Variables {
         probe_timeout(base, self.ack_delay_in(space), count)
     }
 
-    /// Something was newly acknowledged in a space: so far the peer was heard. Probe timeouts are counted anew, but at
-    /// a client that does not know its address validated (RFC 9002, 6.2.1): an ACK of a Handshake packet tells it
+    /// Records that a packet of a space was newly acknowledged. Resets the count of probe timeouts, except at a client
+    /// that does not know its address validated (RFC 9002, 6.2.1). An ACK of a Handshake packet validates the address
     /// (6.2.2.1).
     pub fn heard(self, space: SpaceId, now: Instant) -> Self
         ensures { result ≡ heard_in space now self }
@@ -163,14 +164,14 @@ impl Variables {
         }
     }
 
-    /// The initial RTT that the caller set, unless the RTT of the path in use begins anew (RFC 9002, 6.2.2).
+    /// Returns the initial RTT that the caller set, unless the RTT of the path in use is reset (RFC 9002, 6.2.2).
     pub fn initial_rtt_after(&self, forgets: bool) -> Option<Duration>
         ensures { result ≡ (if forgets then None else self.now.initial_rtt) }
     {
         if forgets { None } else { self.initial_rtt }
     }
 
-    /// The path in use got its first RTT sample now, if it did (RFC 9002, 7.6.2).
+    /// Records `now` as the time of the first RTT sample, if it is the first of the path in use (RFC 9002, 7.6.2).
     pub fn sampled_first(self, is_first: bool, now: Instant) -> Self
         ensures { result ≡ sampled_first is_first now self }
     {
@@ -178,7 +179,7 @@ impl Variables {
         Variables { sampled, ..self }
     }
 
-    /// A deadlock is counted on from a moment, if there is one (RFC 9002, 6.2.2.1).
+    /// Restarts the anti-deadlock timer at a time, if any (RFC 9002, 6.2.2.1).
     pub fn based(self, time: Option<Instant>) -> Self
         ensures { result ≡ based time self }
     {
@@ -188,8 +189,8 @@ impl Variables {
         }
     }
 
-    /// A space ended, or all that it tracked was declared lost: probe timeouts are counted from zero, and no probe is
-    /// due there (RFC 9002, 6.2.2 and A.11).
+    /// Records that a space was discarded, or that all its packets were declared lost. Resets the count of probe
+    /// timeouts, and no probe is due there (RFC 9002, 6.2.2 and A.11).
     pub fn begun_anew(self, space: SpaceId, now: Instant) -> Self
         ensures { result ≡ begun_anew space now self }
     {
@@ -205,8 +206,8 @@ impl Variables {
         }
     }
 
-    /// A probe timeout expired, which asks for so many probes in a space, in place of those that were due (RFC 9002,
-    /// 6.2.1 and 6.2.4).
+    /// Records a probe timeout: `count` probes are due in a space and replace those that were due (RFC 9002, 6.2.1 and
+    /// 6.2.4).
     pub fn timed_out(self, space: SpaceId, count: u8, now: Instant) -> Self
         ensures { result ≡ timed_out space count now self }
     {
@@ -218,7 +219,8 @@ impl Variables {
         }
     }
 
-    /// An ack-eliciting packet of a space was sent, if one was: if a probe is due there, one less is (RFC 9002, 6.2.4).
+    /// Records that an ack-eliciting packet of a space was sent, if any. It counts as one of the probes due there (RFC
+    /// 9002, 6.2.4).
     pub fn probed(self, space: Option<SpaceId>) -> Self
         ensures { result ≡ probed space self }
     {
@@ -231,7 +233,7 @@ impl Variables {
         }
     }
 
-    /// Whether a probe is due in a space (RFC 9002, 6.2.4).
+    /// Returns whether a probe is due in a space (RFC 9002, 6.2.4).
     pub fn is_probe_due(&self, space: SpaceId) -> bool
         ensures { result ≡ is_probe_due self.now space }
     {

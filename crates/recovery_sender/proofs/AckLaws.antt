@@ -33,7 +33,7 @@ module _ {P M : Type 0} (from last : ℕ) (packets : Packets P M) where
         first = lowest_from from number packets all;
       }
 
--- ---- whether one elicits an ACK
+-- ---- whether one is ack-eliciting
 
 module _ {P M : Type 0} (packets : Packets P M) where
   one_before : (first : ℕ) (numbers : List ℕ) (last : ℕ) (packet : Packet P M)
@@ -87,7 +87,7 @@ module _ {P M : Type 0} (packets : Packets P M) where
         ],
   )
 
--- ---- a range is gone over
+-- ---- a range is scanned
 
 module _ {P M : Type 0} (packets : Packets P M) (first last : ℕ) (before : List ℕ) where
   pub takes_none : (elicits : Bool) → AreIncreasing 0 before first → Decides elicits (HasAckEliciting packets before)

@@ -1,4 +1,4 @@
--- There is room for the losses that an ACK frame may find: it was made for all that may be tracked then.
+-- There is room for the losses that an ACK frame may find: it was allocated for all packets that may be tracked then.
 use Rattle.std.proofs.Common.{◌≡◌, ◌≢◌, ℕ, ◌+◌, ◌≤◌, ◌<◌, zero, suc, true, Bool, List, [], ◌∷◌, length, get_or, Option, None, Some, Ok, refl, sym, ap, subst, ◌∙◌, inl, inr, arith}
 use Rattle.std.specs.Option.{option_and_then, option_map_or}
 use Rattle.std.specs.Vec.{vec_capacity}
@@ -24,7 +24,7 @@ use Rattle.recovery_sender.specs.Spaces.{packets_in, space_in}
 use Rattle.recovery_sender.specs.Steps.{TakesSteps, occurs}
 use Rattle.recovery_sender.proofs.LeadLaws.{space_same}
 
--- ---- what a frame newly acknowledges lies below the end
+-- ---- what a frame newly acknowledges is below the end
 
 in_range : (number : ℕ) (ranges : List (ℕ × ℕ)) → IsInAckRanges number ranges → (i : ℕ) × (i < length ranges)
     × (number ≤ (get_or ranges i (0, 0)).1)
@@ -58,7 +58,7 @@ numbers_below packets (range ∷ ranges) numbers elicits before whole newly =
           small_all (range ∷ ranges) (range.1 + 2) (are_fine None (range ∷ ranges) whole) (omega arith) found.0 found.1,
         )
 
--- ---- what the steps behind the acknowledgements leave of a space
+-- ---- the packets of a space after the steps that follow the acknowledgements
 
 module _ {K Q S M P : Type 0} (queue : QueueModel Q S M P) (space : SpaceId) (answer : Answer Q)
     (old new : RecoveryState K P M) where

@@ -1,4 +1,4 @@
--- What an acknowledgement leaves of what is tracked.
+-- The tracked packets after an acknowledgement.
 use Rattle.std.proofs.Common.{◌≡◌, ◌≢◌, ℕ, ◌+◌, ◌≤◌, ◌<◌, zero, suc, true, false, Bool, List, [], ◌∷◌, length, take, get_or, Option, None, Some, Ok, Err, refl, sym, ap, subst, ◌∙◌, inl, inr, arith}
 use Rattle.std.proofs.lemmas.Bool.Decides.{eqb_tells}
 use Rattle.std.proofs.lemmas.List.{map-append, take_more}
@@ -28,7 +28,7 @@ use Rattle.recovery_sender.specs.Spaces.{packets_in}
 use Rattle.recovery_sender.specs.Steps.{TakesSteps, occurs}
 use Rattle.recovery_sender.proofs.LeadLaws.{leads_on}
 
--- ---- a tracked packet is acknowledged, and is tracked no more
+-- ---- a tracked packet is acknowledged, and is no longer tracked
 
 module _ {F Q R C K S M P : Type 0} {f : _} {c : _} {q : _} {m : _} {r : _} (space : SpaceId) (now number : ℕ)
     (app_limited : Bool) (recovery : Recovery F Q R C K S M P f c q m r)
@@ -109,7 +109,7 @@ module _ {K Q S M P : Type 0} (queue : QueueModel Q S M P) where
       by_test false kept = rw (same, kept, largest_taken space now number app_limited answer old new changes)
           (either (is_above (space_of space old.spaces).largest_acked_packet number) _ (rw kept at within))
 
--- ---- numbers that rise, one after another
+-- ---- increasing numbers
 
 pub one_at : (numbers : List ℕ) (at : ℕ) → at < length numbers → IsOneOf (get_or numbers at 0) numbers
 one_at [] at within = absurd (omega (arith, within))
@@ -147,7 +147,7 @@ module _ {K P M : Type 0} (recovery : RecoveryState K P M) (packet : Packet P M)
     | inr apart ↦ absurd (apart.1 same)
   ]
 
--- ---- all of a list are acknowledged, one after another
+-- ---- all of a list are acknowledged, in order
 
 module _ {F Q R C K S M P : Type 0} {f : _} {c : _} {q : _} {m : _} {r : _} (space : SpaceId) (now : ℕ)
     (app_limited : Bool) (numbers : List ℕ) (start between : Sender F Q R C K S M P f c q m r) (at : ℕ)

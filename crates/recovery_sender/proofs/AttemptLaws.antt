@@ -1,4 +1,4 @@
--- Packets that are declared lost, one after another: what is tried, what is declared, and what stays tracked.
+-- Packets that are declared lost, in order: which are tried, which are declared lost, and which stay tracked.
 use Rattle.std.proofs.Common.{◌≡◌, ◌≢◌, ℕ, true, false, Bool, List, [], ◌∷◌, ◌++◌, Option, None, Some, Err, refl, sym, ap, subst, ◌∙◌, inl, inr, true≢false, arith}
 use Rattle.std.specs.Prelude.{if◌then◌else◌}
 use Rattle.std.specs.Option.{ForSome}
@@ -75,7 +75,7 @@ cut_first [] more cut = absurd (true≢false (sym cut))
 cut_first ((first, true) ∷ attempts) more cut = refl
 cut_first ((first, false) ∷ attempts) more cut = cut_first attempts more cut
 
--- the probe of the MTU was found lost and is not declared so: it was cut
+-- the MTU probe was found lost and is not declared so: it was cut
 pub probe_cut : (attempts : List LossAttempt) (found probe : Option ℕ) (number : ℕ) → found ≡ Some number
     → (probe ≡ Some number → ⊥) → ForSome probe (λ n. found ≡ Some n)
     → is_cut_in (attempts ++ probe_attempts found probe) ≡ true
@@ -102,7 +102,7 @@ module _ {F Q R C K S M P : Type 0} {f : _} {c : _} {q : _} {m : _} {r : _} (spa
       by true gone = tracked (grind (arith, gone))
       by false kept = tracked (rw kept none)
 
-  -- it is refused for want of memory alone
+  -- it fails for want of memory alone
   pub refused_so : (refusal : Refusal) → TakesSteps (told (Lost space number) (Err refusal) ∷ []) old new
       → TakesSteps (trying space ((number, true) ∷ [])) old new
   refused_so refusal goes = by refusal goes goes.leads.1.told
@@ -116,7 +116,7 @@ module _ {F Q R C K S M P : Type 0} {f : _} {c : _} {q : _} {m : _} {r : _} (spa
       by NotTracked goes (kept, none) = absurd (there none)
       by refusal goes (kept, (found, never)) = absurd never
 
-  -- what is left of what is tracked
+  -- the packets that are still tracked
   pub left_after : (refused : Bool) → TakesSteps (trying space ((number, refused) ∷ [])) old new
       → packets_in (state_in new) space
       ≡ (if refused then packets_in (state_in old) space else without (packets_in (state_in old) space) number)

@@ -1,4 +1,4 @@
--- Every sender keeps its paths within bounds, and so the amplification limit by the events so far.
+-- Every sender keeps its paths within bounds, and so satisfies the amplification limit by the events so far.
 use Rattle.std.proofs.Common.{◌≡◌, ◌≤◌, ◌-◌, ◌*◌, ℕ, max, true, false, Bool, [], ◌∷◌, Option, None, Some, ap, refl, sym, subst, ◌∙◌, arith}
 use Rattle.std.proofs.lemmas.Option.{none-some}
 use Rattle.std.specs.Prelude.{if◌then◌else◌, option_map, sum_by}
@@ -51,9 +51,9 @@ begins_in_bounds {K = K} beginning moves_start starts early recovery came =
       λ found is. absurd (none-some found is),
     )
 
--- ---- what a call hands in
+-- ---- the events of a call
 
--- an event that passes stays in bounds as it takes effect, if it makes a path early
+-- an event that passes stays within bounds as it takes effect, if it makes a path early
 pub passed_stays : {K P M Q S : Type 0} (recovery : RecoveryState K P M) (event : Event Q S M P)
     → IsPassedThrough event → MakesPathEarly (backdated event) → StaysInBounds latest_start recovery (backdated event)
 passed_stays recovery (Transmit now bytes checked) passes early = absurd passes
@@ -108,7 +108,7 @@ module _ {F Q R C K S M P : Type 0} {f : _} {c : _} {q : _} {m : _} {r : _} {IsS
 -- ---- the amplification limit by events
 
 module _ {F K Q S M P : Type 0} (beginning : Beginning F K Q S M P) where
-  -- the bytes of a path by events are those that are kept for it
+  -- the bytes of a path by events are those in its state
   threefold_by : (validated : Bool) (here : History Q S M P) (past : PathHistory K)
       → flow_by validated here ≡ flow_of past → IsThreefold (path_state_of past) → validated ≡ false
       → sum_by bytes_out here ≤ 3 * sum_by bytes_in here

@@ -1,4 +1,4 @@
--- The calls beside ACK frames and losses: what they answer, and that what they ask the recovery for is not refused.
+-- The calls other than ACK frames and losses: their replies, and that their events succeed.
 use Rattle.std.proofs.Common.{◌≡◌, ℕ, ◌∷◌, [], ◌+◌, ◌<◌, ◌≤◌, ◌^◌, true, false, Bool, Option, None, Some, Ok, Err, Result, arith, refl, sym, ap, ◌∙◌}
 use Rattle.std.specs.Prelude.{if◌then◌else◌, nat_lt}
 use Rattle.recovery_base.specs.declared.below.SpaceId.{SpaceId}
@@ -31,12 +31,12 @@ use Rattle.recovery_sender.specs.Calls.{done_of, QueuesProbe, paced_to, bytes_in
 
 -- ---- a datagram
 
--- of a choice with something there is the other side
+-- a space that is found is not discarded
 pub known_from : (gone : Bool) (there found : Bool) → (if gone then None else Some there) ≡ Some found
     → (gone ≡ false) × (there ≡ found)
 known_from gone there found is = grind (arith, is)
 
--- what is transmitted where window and pacer are asked finds room
+-- what is transmitted after a check of window and pacer fits
 within : (blocked full : Bool) (delay : Option ℕ) (window wanted : ℕ) → full ≡ nat_lt window wanted
     → Transmitted ≡ (if blocked then Blocked else if true then (if full then Full else paced_to delay) else Transmitted)
     → wanted ≤ window
@@ -68,7 +68,7 @@ module _ {K P M : Type 0} (words : ControllerSemantics K) (recovery : RecoverySt
       within (is_blocked recovery.paths.current.state bytes) (is_full words recovery bytes) _ _ _ refl
       (rw is_asked at (sym is_sent ∙ sends))
 
--- what the limit lets pass is transmitted or delayed
+-- what the limit permits is transmitted or delayed
 pub always_told : {K Q : Type 0} (words : ControllerSemantics K) (now bytes : ℕ) (checked : Bool) (path : PathState K)
     → is_blocked path bytes ≡ false → (given : Answer Q) → given ≡ transmit_answer words now bytes checked path
     → (given ≡ answers.Transmitted → ⊥) → ((until : ℕ) → given ≡ answers.Delayed until → ⊥) → ⊥
@@ -82,7 +82,7 @@ always_told {Q = Q} words now bytes true path limit given is sent delayed =
 
 -- ---- probes
 
--- in a space that is not discarded a probe is refused for want of memory alone
+-- in a space that is not discarded, a probe fails for want of memory alone
 memory_alone : {K Q S M P : Type 0} (queue : QueueModel Q S M P) (words : ControllerSemantics K)
     (heard : SpaceId → AckState) (known : ReplyInputs K P M) (space : SpaceId) (immediate : Bool) (streams : S)
     (refusal : Refusal) → (known.spaces space).discarded ≡ false
@@ -91,7 +91,7 @@ memory_alone queue words heard known space immediate streams NoMemory kept said 
 memory_alone queue words heard known space immediate streams SpaceDiscarded kept said = absurd cc
 memory_alone queue words heard known space immediate streams refusal kept said = absurd said.1
 
--- in a space that is not discarded what waits is handed out always
+-- in a space that is not discarded, its queue is always returned
 pub pending_given : {K Q S M P : Type 0} (queue : QueueModel Q S M P) (words : ControllerSemantics K)
     (heard : SpaceId → AckState) (known : ReplyInputs K P M) (space : SpaceId) (refusal : Refusal)
     → (known.spaces space).discarded ≡ false

@@ -1,4 +1,4 @@
--- A frame is checked: no range holds a number that was skipped.
+-- A frame is checked: no range holds a skipped number.
 use Rattle.std.proofs.Common.{ℕ, ◌≡◌, ◌+◌, ◌<◌, false, Bool, List, Option, None, Some, get_or, Ok, subst, inl, inr, arith}
 use Rattle.std.proofs.lemmas.Bool.Decides.{leb_tells, nat_tests}
 use Rattle.std.specs.Prelude.{IfSome, if◌then◌else◌}
@@ -31,7 +31,7 @@ module _ {F Q R C K S M P : Type 0} {f : _} {c : _} {q : _} {m : _} {r : _} (spa
     | inr under ↦ before i under.1
   ]
 
--- what is there is there unless it is gone
+-- a space that is found is not discarded
 pub kept_here : {T : Type 0} (gone : Bool) (there found : T) → Some found ≡ (if gone then None else Some there)
     → (gone ≡ false) × (found ≡ there)
 kept_here gone there found is = grind (arith, is)

@@ -1,4 +1,4 @@
--- A look for losses as a whole: its parts, one after another.
+-- A loss detection pass as a whole: its parts in order.
 use Rattle.std.proofs.Common.{◌≡◌, ◌≢◌, ℕ, min, Bool, true, false, true≢false, Decides, List, [], ◌∷◌, ◌++◌, Option, None, Some, option_map, IfSome, IfNone, ◌⊎◌, inl, inr, refl, sym, ap, subst, ◌∙◌, append-nil, arith}
 use Rattle.std.proofs.lemmas.Option.{none-some, same_Some}
 use Rattle.std.specs.Option.{ForSome}
@@ -29,7 +29,7 @@ use Rattle.recovery_sender.specs.Steps.{SenderStep, TakesSteps, StepsLeadTo, los
 use Rattle.recovery_sender.proofs.LeadLaws.{leads_on}
 use Rattle.recovery_sender.proofs.PromiseLaws.{loses_tracked}
 
--- what became of the probe
+-- the outcome of the MTU probe
 module _ {P M : Type 0} (look : LossPass) (packets : Packets P M) (numbers : List ℕ) (tally : Tally) (now : Packets P M)
     (looked : PassSoFar look packets look.largest numbers tally now) where
   pub earliest_behind : (probe : Option ℕ) (after : Tally)
@@ -67,7 +67,7 @@ module _ {P M : Type 0} (look : LossPass) (packets : Packets P M) (numbers : Lis
       by None none = absurd (some.0 none)
       by (Some probe) is = sym (cut_more attempts probe true)
 
--- all that happened, one after another
+-- all steps, in order
 module _ {F Q R C K S M P : Type 0} {f : _} {c : _} {q : _} {m : _} {r : _} (look : LossPass)
     (start found told shown probed new : Sender F Q R C K S M P f c q m r) (attempts last : List LossAttempt)
     (numbers : List ℕ) (reported persistent : Bool) (bytes : ℕ) (sent time : Option ℕ) where
@@ -94,7 +94,7 @@ module _ {F Q R C K S M P : Type 0} {f : _} {c : _} {q : _} {m : _} {r : _} (loo
     variables = times.variables ∙ probes.variables ∙ congests.variables ∙ ends.variables ∙ finds.variables;
   }
 
--- a space in which something was acknowledged lives
+-- a space in which something was acknowledged is not discarded
 kept_where : {K P M : Type 0} (recovery : RecoveryState K P M) (space : SpaceId) (largest : ℕ)
     → largest_in recovery space ≡ Some largest → is_discarded space recovery.discarded ≡ false
 kept_where recovery space largest is = by (is_discarded space recovery.discarded) refl
@@ -104,19 +104,19 @@ kept_where recovery space largest is = by (is_discarded space recovery.discarded
     by true gone = absurd (none-some largest (rw gone at is))
     by false kept = kept
 
--- where nothing is lost, no congestion persists
+-- if nothing is lost, congestion is not persistent
 no_persistence : {P M : Type 0} (look : LossPass) (packets : Packets P M)
     → Decides false (IsPersistentCongestion (IsDeclaredLost [] None) (IsEndAt look packets []) look.skipped look.period)
 no_persistence look packets = ((λ never. absurd (true≢false (sym never))), λ persists. absurd persists.begins.told)
 
--- ---- the look, by the state before and after
+-- ---- the pass, by the state before and after
 
 module _ {F Q R C K S M P : Type 0} {f : _} {c : _} {q : _} {m : _} {r : _} (space : SpaceId) (now : ℕ) (due : Bool)
     (old : Sender F Q R C K S M P f c q m r) (losses : Losses) (new : Sender F Q R C K S M P f c q m r) where
   abbrev look_for : ℕ → LossPass
   look_for largest = look_of (state_in old) old.variables space now due largest
 
-  -- the bytes of those that count
+  -- the bytes of the packets that count
   abbrev counted_in : ℕ → ℕ
   counted_in largest =
       min (bytes_counted (look_for largest) (packets_in (state_in old) space) losses.numbers.items) largest_u64
@@ -135,7 +135,7 @@ module _ {F Q R C K S M P : Type 0} {f : _} {c : _} {q : _} {m : _} {r : _} (spa
   promised largest is attempts time are = loses_tracked space old (kept_where (state_in old) space largest is)
       (look_for largest) attempts losses time refl are
 
-  -- nothing is tracked below what was acknowledged
+  -- nothing is tracked below the largest acknowledged
   pub detects_none : HasNoGap (state_in old) space → IsEmptyLosses losses
       → TakesSteps (loss_time space None ∷ []) old new → DetectsLosses space now due old losses new
   detects_none none nothing goes = record {
@@ -173,7 +173,7 @@ module _ {F Q R C K S M P : Type 0} {f : _} {c : _} {q : _} {m : _} {r : _} (spa
         black_hole = λ none. nothing.black_hole;
       }
 
-  -- all was gone over
+  -- all packets were scanned
   pub detects_all : (largest : ℕ) → largest_in (state_in old) space ≡ Some largest → IsLook largest
       → DetectsLosses space now due old losses new
   detects_all largest known look = record {
@@ -225,7 +225,7 @@ module _ {F Q R C K S M P : Type 0} {f : _} {c : _} {q : _} {m : _} {r : _} (spa
       probe_found None told number none = absurd (none-some number none)
       probe_found (Some probe) told number is = told.0 ∙ is
 
-  -- what is kept beside the recovery stays
+  -- the variables are unchanged
   pub variables_kept : DetectsLosses space now due old losses new → new.variables ≡ old.variables
   variables_kept detects = by_largest (largest_in (state_in old) space) refl
     where

@@ -25,7 +25,7 @@ use Rattle.recovery_sender.specs.Calls.{due_now, space_due}
 use Rattle.recovery_sender.specs.Timer.{soonest, loss_due, probe_in, probe_due, waits, deadlock_space, may_deadlock, due_of, behind, pto_of}
 
 module _ (discarded : DiscardedSpaces) where
-  -- in a space that is not discarded, where something is due
+  -- in a space that is not discarded, if something is due
   abbrev IsThere : Option (ℕ × Due) → Type 0
   IsThere None = Unit {0}
   IsThere (Some due) = is_discarded (space_due due.1) discarded ≡ false
@@ -50,7 +50,7 @@ module _ (discarded : DiscardedSpaces) where
   or_there None second there later = later
   or_there (Some one) second there later = there
 
-  -- what is due in a space by what is kept for it, where it is not discarded
+  -- what is due in a space by its state, if it is not discarded
   within : {P M : Type 0} (gone : Bool) (here : Space P M) (due : Space P M → Option (ℕ × Due))
       → (gone ≡ false → IsThere (due here)) → IsThere (option_and_then due (if gone then None else Some here))
   within true here due there = tt {0}

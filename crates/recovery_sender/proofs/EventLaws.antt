@@ -1,4 +1,4 @@
--- What an event is to a sender, by whether it changes the path in use.
+-- The effect of an event on a sender, by whether it changes the path in use.
 use Rattle.std.proofs.Common.{◌≡◌, true, false, [], ◌∷◌, Result, Ok, Err}
 use Rattle.recovery_events.specs.declared.event.Answer.{Answer}
 use Rattle.recovery_events.specs.declared.event.Event.{Event}

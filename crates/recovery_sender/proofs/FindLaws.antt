@@ -1,4 +1,4 @@
--- A pass goes on by what becomes of the next packet.
+-- A pass proceeds by the outcome of the next packet.
 use Rattle.std.proofs.Common.{◌≡◌, ℕ, ◌+◌, ◌≤◌, true, false, Bool, List, [], ◌∷◌, ◌++◌, length, inl, inr, refl, sym, ap, subst, ◌∙◌, arith, length-append}
 use Rattle.std.specs.Prelude.{if◌then◌else◌}
 use Rattle.std.proofs.lemmas.Option.{none-some}
@@ -22,7 +22,7 @@ use Rattle.recovery_sender.specs.Steps.{StepsLeadTo, TakesSteps}
 use Rattle.recovery_sender.proofs.AttemptLaws.{cut_more, declared_more, left_after, tried_more, trying_more}
 use Rattle.recovery_sender.proofs.LeadLaws.{leads_on}
 
--- what counts leaves the rest of what was found
+-- a packet that counts leaves the rest of the result unchanged
 counting_probe : (look : LossPass) (next : Candidate) (tally : Tally) → (counting look next tally).probe ≡ tally.probe
 counting_probe look next tally = by (is_counted look next.size next.path_generation) refl
   where

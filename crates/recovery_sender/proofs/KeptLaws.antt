@@ -1,4 +1,4 @@
--- What an ACK frame is to the recovery leaves what is kept beside it.
+-- The events of an ACK frame leave the sender's variables unchanged.
 use Rattle.std.proofs.Common.{◌≡◌, ℕ, true, false, Bool, Option, None, Some, ◌∙◌}
 use Rattle.recovery_base.specs.declared.below.SpaceId.{SpaceId}
 use Rattle.recovery_base.specs.declared.below.frames.EcnCounts.{EcnCounts}

@@ -1,4 +1,4 @@
--- Steps of a sender, one after another, and what a loss leaves of what is tracked.
+-- Steps of a sender in order, and the tracked packets after a loss.
 use Rattle.std.proofs.Common.{◌≡◌, ◌≢◌, ℕ, true, false, Bool, List, [], ◌∷◌, ◌++◌, length, ◌==◌, Option, None, Some, Ok, refl, sym, ap, subst, ◌∙◌, true≢false, arith}
 use Rattle.std.specs.Option.{option_map_or}
 use Rattle.recovery_base.specs.declared.below.SpaceId.{SpaceId}
@@ -23,7 +23,7 @@ use Rattle.recovery_sender.specs.Steps.{SenderStep, StepsLeadTo, TakesSteps, tol
 
 module _ {F K Q S M P : Type 0} (built : F → ℕ → ℕ → K) (words : ControllerSemantics K)
     (queue : QueueModel Q S M P) where
-  -- steps behind steps
+  -- steps after steps
   pub leads_on : (steps more : List (SenderStep Q S M P)) (old between new : RecoveryState K P M)
       → StepsLeadTo built words queue steps old between → StepsLeadTo built words queue more between new
       → StepsLeadTo built words queue (steps ++ more) old new
@@ -37,7 +37,7 @@ module _ {F K Q S M P : Type 0} (built : F → ℕ → ℕ → K) (words : Contr
   leads_on (marked marks ∷ steps) more old between new first second =
       leads_on steps more _ between new first second
 
-  -- a packet was told lost: it is tracked no more
+  -- a packet was declared lost: it is no longer tracked
   taken_in : (space : SpaceId) (number : ℕ) (answer : Answer Q) (old new : RecoveryState K P M)
       → StateTransition queue old (Lost space number) (Ok answer) new
       → packets_of (space_of space new.spaces) ≡ without (packets_of (space_of space old.spaces)) number
@@ -62,7 +62,7 @@ pub none_ended : (numbers : List ℕ) → false ≡ (length numbers == 0) → nu
 none_ended [] some none = true≢false (sym some)
 none_ended (number ∷ numbers) some none = absurd cc
 
--- an event that was answered so occurred
+-- an event with such an answer occurred
 module _ {F Q R C K S M P : Type 0} {f : _} {c : _} {q : _} {m : _} {r : _} where
   pub occurred : (event : Event Q S M P) (answer : Answer Q) (old new : Sender F Q R C K S M P f c q m r)
       → TakesSteps (told event (Ok answer) ∷ []) old new → TakesSteps (occurs event ∷ []) old new
@@ -71,7 +71,7 @@ module _ {F Q R C K S M P : Type 0} {f : _} {c : _} {q : _} {m : _} {r : _} wher
     variables = goes.variables;
   }
 
-  -- that all losses were told is answered with whether a black hole is reported
+  -- the end of the losses reports whether there is a black hole
   pub some_ended : (now : ℕ) (answer : Answer Q) (numbers : List ℕ) (old new : Sender F Q R C K S M P f c q m r)
       → false ≡ (length numbers == 0) → TakesSteps (told (LossesDone now) (Ok answer) ∷ []) old new
       → TakesSteps (ended now (is_reported answer) numbers) old new
@@ -81,9 +81,9 @@ module _ {F Q R C K S M P : Type 0} {f : _} {c : _} {q : _} {m : _} {r : _} wher
       subst (λ (a : Answer Q). TakesSteps (told (LossesDone now) (Ok a) ∷ []) old new)
       (is ∙ ap (λ (a : Answer Q). BlackHole (is_reported a)) (sym is)) goes
 
--- ---- what leaves the packets of the spaces as they are
+-- ---- steps that leave the packets of the spaces unchanged
 
--- a space is as it was, if all are and none was discarded
+-- a space is unchanged, if all are and none was discarded
 pub space_same : {K P M : Type 0} (space : SpaceId) (old new : RecoveryState K P M)
     → ((at : SpaceId) → space_of at new.spaces ≡ space_of at old.spaces) → plain_of new ≡ plain_of old
     → space_in new space ≡ space_in old space

@@ -1,4 +1,4 @@
--- A sender never stalls: the timer that each call leaves is set while an answer is owed.
+-- A sender never stalls: each call leaves the timer set while an acknowledgement is due.
 use Rattle.std.proofs.Common.{◌≡◌, ◌≢◌, ◌⊎◌, ◌≤◌, ℕ, ◌||◌, nat_lt, true, false, Bool, ltb-true, ltb-false, true≢false, List, [], ◌∷◌, ◌++◌, Option, None, Some, option_map, inl, inr, refl, sym, ap, ◌∙◌, arith}
 use Rattle.std.proofs.lemmas.Option.{none-some, same_Some}
 use Rattle.std.specs.Option.{option_and_then, option_map_or}
@@ -29,7 +29,7 @@ use Rattle.recovery_sender.specs.Senders.{state_in}
 use Rattle.recovery_sender.specs.Spaces.{space_in}
 use Rattle.recovery_sender.specs.Timer.{TimerIsSet, behind, deadlock_due, deadlock_space, due_of, has_eliciting, loss_due, may_deadlock, probe_due, probes_due, pto_of, soonest}
 
--- ---- where something that elicits an ACK is tracked, one was sent
+-- ---- if an ack-eliciting packet is tracked, one was sent
 
 either_of : (one other : Bool) → (one || other) ≡ true → (one ≡ true) ⊎ (other ≡ true)
 either_of true other is = inl refl
@@ -117,7 +117,7 @@ module _ {P M S : Type 0} (words : QueueSemantics P S) where
   some_sent (emptied ∷ earlier) is = absurd (true≢false (sym is))
   some_sent (entry ∷ earlier) is = some_sent earlier is
 
--- ---- the soonest
+-- ---- the earliest time
 
 sooner_from : (one other : Option (ℕ × Due)) (due : ℕ × Due) → sooner one other ≡ Some due
     → (one ≡ Some due) ⊎ (other ≡ Some due)
@@ -179,7 +179,7 @@ module _ {K P M : Type 0} (recovery : RecoveryState K P M) (variables : Variable
   set_to due is = set ∙ ap (λ (found : Option (ℕ × Due)). option_map (λ due. due.0) found) is
 
   module _ (unblocked : is_blocked recovery.paths.current.state 1 ≡ false) where
-    -- where a space is owed an answer, a probe of it is due
+    -- if an acknowledgement is due in a space, a probe of it is due
     module _ (space : SpaceId) (owed : IsAckOwed recovery variables space) (sent : ℕ)
         (last : owed.here.time_of_last_ack_eliciting_packet ≡ Some sent) where
       probe_is : probe_due recovery variables space
@@ -219,7 +219,7 @@ module _ {K P M : Type 0} (recovery : RecoveryState K P M) (variables : Variable
               loss_time_of (Some time) space due is =
                   ap (λ n. Some n) (ap (λ (due : ℕ × Due). due.0) (same_Some _ due is))
 
-    -- a client's timer against a deadlock
+    -- a client's anti-deadlock timer
     deadlock_set : may_deadlock recovery variables ≡ true
         → is_discarded (deadlock_space recovery variables) recovery.discarded ≡ false
         → moment LossDetection recovery.timers ≢ None

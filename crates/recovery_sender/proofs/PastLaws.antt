@@ -1,4 +1,4 @@
--- What a sender tracks, by the events by which it came here.
+-- What a sender tracks, by the events that led to its state.
 use Rattle.std.proofs.Common.{◌≡◌, ◌≢◌, ◌↔◌, ℕ, ◌∷◌, true, false, Bool, Option, None, Some, Ok, refl, sym, ap, ◌∙◌, arith}
 use Rattle.std.proofs.lemmas.Bool.{false≢true}
 use Rattle.std.proofs.lemmas.Bool.Decides.{nat_tests}
@@ -26,7 +26,7 @@ use Rattle.recovery_sender.specs.Promises.Lost.{at_sending, elicits_by, sent_at}
 use Rattle.recovery_sender.specs.Senders.{state_in}
 use Rattle.recovery_sender.specs.Spaces.{packets_in}
 
--- ---- what a packet was as it went out goes with its number
+-- ---- the fields of a packet when it was sent are found by its number
 
 module _ {F K Q S M P A : Type 0} (beginning : Beginning F K Q S M P) (space : SpaceId) (none : A)
     (say : ℕ → Bool → A) where
@@ -78,7 +78,7 @@ module _ {F Q R C K S M P : Type 0} {f : _} {c : _} {q : _} {m : _} {r : _} (sen
       (keeps_tracked beginning)
       (none_tracked beginning) past came.replies) space n))
 
-  -- what a packet was as it went out, by the events
+  -- the fields of a packet when it was sent, by the events
   pub said_by_past : {A : Type 0} (none : A) (say : ℕ → Bool → A) (n : ℕ) (packet : Packet P M)
       → packet_at (packets_in (state_in sender) space) n ≡ Some packet
       → say packet.time_sent packet.ack_eliciting ≡ at_sending none say space past n

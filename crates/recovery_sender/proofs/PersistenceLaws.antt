@@ -1,4 +1,4 @@
--- Persistent congestion leaves the smallest window, up to the end of the call that reports it (RFC 9002, 7.6.2).
+-- Persistent congestion results in the smallest window, up to the end of the call that reports it (RFC 9002, 7.6.2).
 use Rattle.std.proofs.Common.{◌≡◌, ◌≢◌, ◌≤◌, ◌<◌, ◌+◌, ℕ, max, min, true, false, Bool, List, [], ◌∷◌, ◌++◌, Option, None, Some, Ok, Err, ap, refl, sym, subst, ◌∙◌, inl, inr, true≢false, arith}
 use Rattle.std.proofs.lemmas.Option.{none-some}
 use Rattle.std.specs.Prelude.{◌⊎◌}
@@ -41,7 +41,7 @@ use Rattle.recovery_sender.specs.Steps.{CompletesCall, RearmsTimer, SenderStep, 
 use Rattle.recovery_sender.specs.Timer.{due_of}
 use Rattle.recovery_sender.proofs.BoundLaws.{loss_time_paths}
 
--- a window that is the smallest stays so, if the controller stays as it is
+-- a window that is the smallest remains so, if the controller is unchanged
 stays_least : {K P M : Type 0} (words : ControllerSemantics K) (old new : RecoveryState K P M)
     → new.paths.current.state.controller ≡ old.paths.current.state.controller → IsWindowLeast words old
     → IsWindowLeast words new
@@ -98,7 +98,7 @@ module _ {F K Q S M P : Type 0} (built : F → ℕ → ℕ → K) (queue : Queue
       (stays_least settings.words old leads.0
       (event_leaves_controller queue old (Lost space number) (Err NoMemory) leads.0 refl leads.1) least)
 
-  -- that these were all
+  -- the losses are ended
   ends_bounded : (now : ℕ) (reported : Bool) (numbers : List ℕ) (old new : RecoveryState K P M)
       → Leads (ended now reported numbers) old new → AreBounded old → AreBounded new
   ends_bounded now reported [] old new leads within = subst AreBounded (sym leads) within
@@ -118,7 +118,7 @@ module _ {F K Q S M P : Type 0} (built : F → ℕ → ℕ → K) (queue : Queue
       (Congestion now sent persistent bytes) (Ok answer)).paths (paths_known old.paths) (paths_known new.paths)) same
       step.steps.paths)
 
-  -- persistent congestion leaves the smallest window
+  -- persistent congestion results in the smallest window
   persists_least : (now bytes : ℕ) (sent : Option ℕ) → sent ≢ None → (old new : RecoveryState K P M)
       → Leads (congested now true bytes sent) old new → AreBounded old → IsLeast new
   persists_least now bytes None some old new leads within = absurd (some refl)
@@ -128,7 +128,7 @@ module _ {F K Q S M P : Type 0} (built : F → ℕ → ℕ → K) (queue : Queue
       (laws.persistent (min now latest_start) last_time bytes old.paths.current.state.controller
       (omega (arith, within.1.0.start))))
 
-  -- other congestion keeps it
+  -- other congestion preserves it
   congests_least : (now bytes : ℕ) (sent : Option ℕ) (old new : RecoveryState K P M) → old.settings ≡ settings
       → Leads (congested now false bytes sent) old new → IsLeast old → IsLeast new
   congests_least now bytes None old new same leads least = subst IsLeast (sym leads) least
@@ -159,7 +159,7 @@ module _ {F K Q S M P : Type 0} (built : F → ℕ → ℕ → K) (queue : Queue
 
 -- ---- the calls of a sender
 
--- the event by which the timer is set leaves the controller
+-- the event by which the timer is set leaves the controller unchanged
 timer_leaves : (Q S M P : Type 0) (due : Option (ℕ × Due))
     → is_by leaves_controller (timer_event {Q = Q} {S = S} {M = M} {P = P} due) ≡ true
 timer_leaves Q S M P None = refl
@@ -234,7 +234,7 @@ module _ {F Q R C K S M P : Type 0} {f : _} {c : _} {q : _} {m : _} {r : _} wher
               (last_counted look packets losses.numbers.items) some looks.1 (state_in old) (state_in new)
               (rw persistent at looks.4.leads) (refl, old.bounded)
 
-  -- the counts of ECN
+  -- the ECN counts
   compared_least : (space : SpaceId) (now newly : ℕ) (counts : EcnCounts) (end : EcnOutcome)
       (old new : Sender F Q R C K S M P f c q m r)
       {IsSound : K → Type 0} (laws : ControllerLaws c.words IsSound)
@@ -262,7 +262,7 @@ module _ {F Q R C K S M P : Type 0} {f : _} {c : _} {q : _} {m : _} {r : _} wher
   ecn_least space now newly true (Some counts) true end old new laws starts result least =
       compared_least space now newly counts end old new laws starts result least
 
-  -- a frame, behind what it acknowledges
+  -- a frame, after its acknowledgements
   pub acknowledges_least : (space : SpaceId) (now newly : ℕ) (losses : Losses) (sending : Bool)
       (counts : Option EcnCounts) (raised : Bool) (end : EcnOutcome) (kept : Variables)
       (old looked heard new : Sender F Q R C K S M P f c q m r)

@@ -1,4 +1,4 @@
--- What a sender promises by the events before a call.
+-- The promises of a sender by the events before a call.
 use Rattle.std.proofs.Common.{◌≡◌, ◌≢◌, ◌⊎◌, ◌≤◌, ℕ, true, false, Bool, true≢false, ◌==◌, List, [], ◌∷◌, length, Option, None, Some, inl, inr, refl, sym, ap, subst, ◌∙◌}
 use Rattle.std.proofs.lemmas.Bool.Decides.{eqb_tells}
 use Rattle.std.proofs.lemmas.Option.{none-some, same_Some}
@@ -27,7 +27,7 @@ use Rattle.recovery_sender.specs.Senders.{state_in}
 use Rattle.recovery_sender.specs.Spaces.{packets_in}
 use Rattle.recovery_sender.proofs.PastLaws.{sent_by_past, tracked_by}
 
--- ---- whether a number is one of some
+-- ---- whether a number is in a list
 
 pub some_left : (numbers : Vec ℕ) → false ≡ (numbers.len == 0) → numbers.items ≡ [] → ⊥
 some_left numbers some none = elim (eqb_tells numbers.len 0) [
@@ -49,7 +49,7 @@ none_left numbers none = elim (eqb_tells numbers.len 0) [
 
 module _ {F Q R C K S M P : Type 0} {f : _} {c : _} {q : _} {m : _} {r : _} (space : SpaceId) (now : ℕ)
     (ranges : List (ℕ × ℕ)) (ack : Ack) (old new : Sender F Q R C K S M P f c q m r) where
-  -- what a frame newly acknowledges is told
+  -- the result of `newly_acked`
   pub takes_ack : (newly : NewlyAcked) (acked : Acknowledged) → IsAckAcceptable space ranges old newly
       → ProcessesNewlyAcked space now ranges ack old new newly acked → ProcessesAck space now ranges ack old new acked
   takes_ack newly acked may takes = record {
@@ -121,7 +121,7 @@ module _ {F Q R C K S M P : Type 0} {f : _} {c : _} {q : _} {m : _} {r : _} (spa
         λ named. (newly.each number).1 (named.0, tracked.1 named.1),
       )
 
-  -- what is declared lost of what was sent in vain
+  -- the packets of a space that are declared lost together
   pub loses_all : (all : Retransmitted) (new : Sender F Q R C K S M P f c q m r)
       → TriesAllTracked space sender all.numbers.items all.is_cut new → ForEveryPast sender (LosesWholeSpace space all)
   loses_all all new tries config start random past came number =
@@ -132,7 +132,7 @@ module _ {F Q R C K S M P : Type 0} {f : _} {c : _} {q : _} {m : _} {r : _} (spa
             ((tries.each number).1 (tracked.1 is)),
       )
 
-  -- what a look finds lost
+  -- the packets that a pass finds lost
   pub loses_tracked : (look : LossPass) (attempts : List LossAttempt) (losses : Losses) (time : Option ℕ)
       → look.space ≡ space → PassResult look (packets_in (state_in sender) space) attempts losses time
       → ForEveryPast sender (LosesTracked look losses time)

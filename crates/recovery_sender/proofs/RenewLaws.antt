@@ -1,4 +1,4 @@
--- The loss times of all spaces are found again, one after another.
+-- The loss times of all spaces are computed again, in order.
 use Rattle.std.proofs.Common.{ℕ, [], ◌∷◌, Option}
 use Rattle.recovery_base.specs.declared.below.SpaceId.{SpaceId}
 use Rattle.recovery_base.specs.declared.below.SpaceId.TheVariants.{Initial, Handshake, Data}

@@ -1,4 +1,4 @@
--- What a space tracks is declared lost, one packet after another.
+-- The packets of a space are declared lost, in order.
 use Rattle.std.proofs.Common.{◌≡◌, ◌≢◌, ℕ, ◌+◌, ◌≤◌, ◌<◌, ◌↔◌, true, false, Bool, not, ◌||◌, List, [], ◌∷◌, ◌++◌, length, filter, Option, None, Some, inl, inr, refl, sym, ap, subst, ◌∙◌, arith, length-append}
 use Rattle.std.specs.Prelude.{if◌then◌else◌}
 use Rattle.std.proofs.lemmas.Bool.Decides.{leb_tells}
@@ -198,7 +198,7 @@ module _ {F Q R C K S M P : Type 0} {f : _} {c : _} {q : _} {m : _} {r : _} (spa
               length-append {A = ℕ} numbers (number ∷ []),
             )
 
-    -- the next one was tried, and this is what was found then
+    -- the next one was tried, with this result
     module _ (number : ℕ) (is : IsLeastFrom (left now) from number) (lost : Bool) (after : List ℕ)
         (new : Sender F Q R C K S M P f c q m r) (is_after : after ≡ (if lost then numbers ++ number ∷ [] else numbers))
         (goes : TakesSteps (trying space ((number, not lost) ∷ [])) now new) where

@@ -1,4 +1,4 @@
--- What holds of each call holds over all that a source gives.
+-- What holds for each call holds for all that a source gives.
 use Rattle.std.proofs.Common.{◌≡◌, ◌≤◌, arith, List, [], ◌∷◌, ◌++◌, length, vec_capacity, refl, ap, sym, subst, ◌∙◌}
 use Rattle.std.specs.Global.{Vec}
 use Rattle.recovery_events.specs.Feeding.{PushesInto, TakesAll}
@@ -9,7 +9,7 @@ use Rattle.recovery_sender.specs.declared.calls.Call.{Call}
 use Rattle.recovery_sender.specs.declared.calls.CallRecord.{CallRecord}
 
 module _ {F Q R C K S M P : Type 0} {f : _} {c : _} {q : _} {m : _} {r : _} where
-  -- a sink of calls that passes on what is said to each
+  -- a sink of calls that passes on each reply
   module _ {T A : Type 0} (takes : T → CallRecord Q → T → Type 0) (took : A → Call Q S M P → A → Type 0)
       (sender_of : A → Sender F Q R C K S M P f c q m r) (sink_of : A → T)
       (each : (old : A) (call : Call Q S M P) (new : A) → took old call new
@@ -31,7 +31,7 @@ module _ {F Q R C K S M P : Type 0} {f : _} {c : _} {q : _} {m : _} {r : _} wher
         let over = runs_over calls old new is in
         record { calls = calls; said = over.0; given = given; taken = over.2; runs = over.1 }
 
-  -- to each call one thing is said
+  -- each call has one reply
   even : (calls : List (Call Q S M P)) (said : List (CallRecord Q)) (old new : Sender F Q R C K S M P f c q m r)
       → RunsCalls calls said old new → length said ≡ length calls
   even [] [] old new is = refl
@@ -40,7 +40,7 @@ module _ {F Q R C K S M P : Type 0} {f : _} {c : _} {q : _} {m : _} {r : _} wher
   even [] (one ∷ said) old new is = absurd is
   even (call ∷ calls) [] old new is = absurd is
 
-  -- of two lists, where the second has room
+  -- of two lists, if the second had room
   pub over_lists : (calls : List (Call Q S M P)) (room filled : Vec (CallRecord Q))
       (old new : Sender F Q R C K S M P f c q m r) → room.items ≡ [] → length calls ≤ vec_capacity room
       → CallsOverSource old (λ all. all ≡ calls) (λ all. TakesAll PushesInto room all filled) new

@@ -1,4 +1,4 @@
--- The timer for losses runs while an ack-eliciting packet is outstanding, by the events so far.
+-- The loss detection timer runs while an ack-eliciting packet is outstanding, by the events so far.
 use Rattle.std.proofs.Common.{◌≡◌, ◌≢◌, ◌*◌, ◌+◌, ℕ, Bool, true, false, nat_lt, List, [], ◌∷◌, Option, None, Some, ap, refl, sym, ◌∙◌, arith}
 use Rattle.std.proofs.lemmas.Bool.Decides.{nat_tests}
 use Rattle.std.proofs.lemmas.Option.{none-some}
@@ -34,7 +34,7 @@ use Rattle.recovery_sender.specs.Spaces.{packets_in, space_in}
 use Rattle.recovery_sender.specs.Timer.{has_eliciting}
 use Rattle.recovery_sender.proofs.PastLaws.{elicits_by_past, tracked_by}
 
--- ---- a tracked packet that elicits an ACK
+-- ---- a tracked ack-eliciting packet
 
 eliciting_found : {P M : Type 0} (packets : Packets P M) (number : ℕ) (packet : Packet P M)
     → packet_at packets number ≡ Some packet → packet.ack_eliciting ≡ true → has_eliciting packets ≡ true
@@ -42,9 +42,9 @@ eliciting_found [] number packet found elicits = absurd (none-some packet found)
 eliciting_found (entry ∷ packets) number packet found elicits =
     grind (arith, number_at number entry.0, eliciting_found packets number packet, found, elicits)
 
--- ---- the limit against amplification
+-- ---- the amplification limit
 
--- a byte more is let out
+-- a byte more is permitted
 byte_fits : (validated : Bool) (came went : ℕ) → (validated || nat_lt went (3 * came)) ≡ true
     → (not validated && nat_lt (3 * came) (went + 1)) ≡ false
 byte_fits true came went may = refl

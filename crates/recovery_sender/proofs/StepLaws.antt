@@ -1,4 +1,4 @@
--- Steps behind steps are one list of them.
+-- Steps after steps are one list of steps.
 use Rattle.std.proofs.Common.{◌≡◌, List, [], ◌∷◌, ◌++◌, sym, subst, ◌∙◌}
 use Rattle.recovery_events.specs.declared.event.Event.{Event}
 use Rattle.recovery_history.specs.History.{Reply, queue_model}
@@ -33,7 +33,7 @@ module _ {F Q R C K S M P : Type 0} {f : _} {c : _} {q : _} {m : _} {r : _} wher
     running = does.running;
   }
 
-  -- with variables made of those that were there
+  -- with variables derived from the old ones
   pub does_behind_with : (made : Variables → Variables) (steps : List (SenderStep Q S M P))
       (old between new : Sender F Q R C K S M P f c q m r) → TakesSteps steps old between
       → CompletesCall [] (made between.variables) between new → CompletesCall steps (made old.variables) old new
@@ -45,7 +45,7 @@ module _ {F Q R C K S M P : Type 0} {f : _} {c : _} {q : _} {m : _} {r : _} wher
       → CompletesCall steps old.variables old new
   does_behind = does_behind_with (λ kept. kept)
 
-  -- the same from another that has the same recovery, with variables that are the same
+  -- the same law for another sender with an equal recovery and equal variables
   pub does_as : (kept wanted : Variables) (old from new : Sender F Q R C K S M P f c q m r)
       → state_in old ≡ state_in from → kept ≡ wanted → CompletesCall [] kept from new → CompletesCall [] wanted old new
   does_as kept wanted old from new same is does =

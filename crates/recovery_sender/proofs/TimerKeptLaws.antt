@@ -1,4 +1,4 @@
--- What leaves the timer where it is, as calls of a sender have it.
+-- Calls of a sender that leave the timer unchanged.
 use Rattle.std.proofs.Common.{◌≡◌, ◌∷◌, [], ℕ, true, false, Bool, None, Ok, refl, sym, subst, true≢false}
 use Rattle.std.specs.Prelude.{if◌then◌else◌}
 use Rattle.recovery_events.specs.declared.event.Answer.{Answer}
@@ -43,7 +43,7 @@ module _ {K Q S M P : Type 0} (queue : QueueModel Q S M P) (variables : Variable
       go true = left_by queue variables old new event answer leaves changes set
       go false = left_by queue variables old new event answer leaves changes set
 
--- ---- calls on a path that no limit binds
+-- ---- calls on a path without an amplification limit
 
 module _ {F Q R C K S M P : Type 0} {f : _} {c : _} {q : _} {m : _} {r : _}
     (old new : Sender F Q R C K S M P f c q m r) where

@@ -1,4 +1,4 @@
--- The timer for losses: what it reads, and that setting it changes nothing of that.
+-- The loss detection timer: its inputs, and that setting it changes none of them.
 use Rattle.std.proofs.Common.{◌≡◌, ℕ, true, false, Bool, [], ◌∷◌, Option, None, Some, option_map, Ok, Err, ◌||◌, IsTrue, ◌⊎◌, refl, ap, subst, inl, inr}
 use Rattle.std.specs.Bool.{Decides, one_answer}
 use Rattle.recovery_base.specs.declared.below.SpaceId.{SpaceId}
@@ -29,7 +29,7 @@ use Rattle.recovery_losses.specs.declared.variables.Variables.{Variables}
 use Rattle.recovery_sender.specs.Steps.{StepsLeadTo, told, timed, timer_event}
 use Rattle.recovery_sender.specs.Timer.{due_of, has_eliciting, TimerIsSet}
 
--- ---- what elicits an ACK
+-- ---- ack-eliciting packets
 
 either_decided : (P : Type 0) (one rest : Bool) → Decides rest P → Decides (one || rest) (IsTrue one ⊎ P)
 either_decided P true rest decides = (λ yes. inl refl, λ either. refl)
@@ -47,7 +47,7 @@ pub eliciting_found : {P M : Type 0} (packets : Packets P M) (found : Bool) → 
     → found ≡ has_eliciting packets
 eliciting_found packets found decides = one_answer found _ decides (eliciting_decided packets)
 
--- ---- what is due hangs on the spaces, on which of them are discarded, and on the path in use
+-- ---- what is due depends on the spaces, on which of them are discarded, and on the path in use
 
 abbrev Seen : (K P M : Type 0) → Type 0
 Seen K P M = Spaces P M × DiscardedSpaces × PathState K
@@ -72,7 +72,7 @@ seen_of initial handshake one_rtt discarded state =
 
 -- ---- the timer is set
 
--- what is always done is never refused
+-- events that always succeed
 never_refused : (Q : Type 0) (refusal : Refusal) → AnswersDone {Q = Q} (Err refusal) → ⊥
 never_refused Q NoMemory done = done
 never_refused Q refusal done = done

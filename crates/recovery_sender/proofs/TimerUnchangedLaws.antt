@@ -1,4 +1,4 @@
--- The timer is due as it was where nothing changes that it is found by.
+-- The timer is due at the same time if none of its inputs changes.
 use Rattle.std.proofs.Common.{◌≡◌, ℕ, true, false, Bool, Option, None, Some, option_map, Ok, ◌⊎◌, refl, ap, sym, inl, inr, true≢false, ◌∙◌}
 use Rattle.std.specs.Prelude.{if◌then◌else◌, min, not, ◌&&◌, ◌||◌}
 use Rattle.std.specs.Option.{option_and_then, option_map_or, option_or}
@@ -41,7 +41,7 @@ use Rattle.recovery_sender.specs.Steps.{StepsLeadTo}
 use Rattle.recovery_losses.specs.Variables.{ack_delay_in, is_address_validated}
 use Rattle.recovery_sender.specs.Timer.{behind, deadlock_by, deadlock_due, due_of, has_eliciting, loss_due, may_deadlock, probe_due, probe_in, pto_of, rtt_or, soonest, tracks_eliciting, waits, TimerIsSet}
 
--- ---- what is read of a space
+-- ---- the inputs of a space
 
 abbrev Read : (P M : Type 0) → Type 0
 Read P M = Packets P M × Option ℕ × Option ℕ
@@ -49,7 +49,7 @@ Read P M = Packets P M × Option ℕ × Option ℕ
 abbrev read_of : {P M : Type 0} → Space P M → Read P M
 read_of here = (packets_of here, here.loss_time, here.time_of_last_ack_eliciting_packet)
 
--- what happens in a space, and changes nothing of it
+-- an event of a space that changes nothing of it
 abbrev IsQuiet : {P M : Type 0} → SpaceEntry P M → Type 0
 IsQuiet (heard now number eliciting) = Unit {0}
 IsQuiet (heard_again number) = Unit {0}
@@ -196,7 +196,7 @@ module _ {K P M : Type 0} (variables : Variables) (old new : RecoveryState K P M
       same_set spaces (ap (λ (state : PathState K). state.rtt) state)
       (ap (λ (state : PathState K). is_blocked state 1) state) plain
 
-  -- the path is not limited, and stays so
+  -- the path is not limited, and remains so
   unblocked : old.paths.current.state.validated ≡ true → new.paths.current.state.validated ≡ true
       → is_blocked new.paths.current.state 1 ≡ is_blocked old.paths.current.state 1
   unblocked before after = rw (before, after) refl
@@ -251,7 +251,7 @@ module _ {K Q S M P : Type 0} (queue : QueueModel Q S M P) (variables : Variable
       (λ there. ap read_of (changes.steps.spaces there)) changes.steps.paths (ap plain_same changes.plain)
   left_by event answer is changes = absurd (true≢false (sym is))
 
-  -- nothing goes out or comes in on a path that no limit binds that moves it
+  -- no transmission or reception on a path without an amplification limit moves the timer
   module _ (unlimited : old.paths.current.state.validated ≡ true) where
     by_path : ((space : SpaceId) → space_of space new.spaces ≡ space_of space old.spaces)
         → new.paths.current.state.rtt ≡ old.paths.current.state.rtt

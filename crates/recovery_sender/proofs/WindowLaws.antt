@@ -1,4 +1,4 @@
--- What asks the window goes out or is delayed exactly if it fits, by the events so far.
+-- If the window is checked, a datagram is sent or delayed exactly if it fits, by the events so far.
 use Rattle.std.proofs.Common.{◌≡◌, ◌+◌, ◌≤◌, ℕ, Bool, true, false, Option, None, Some, nat_lt, ap, refl, sym, subst, ◌∙◌, arith}
 use Rattle.std.proofs.lemmas.Bool.Decides.{nat_tests}
 use Rattle.std.specs.Prelude.{if◌then◌else◌}

@@ -1,4 +1,4 @@
--- What an ACK frame comes to (RFC 9002, 5.1, 5.3, 6.2.1, A.7 and B.7; RFC 9000, 13.4.2.1), step after step.
+-- The result of an ACK frame, step by step (RFC 9002, 5.1, 5.3, 6.2.1, A.7 and B.7; RFC 9000, 13.4.2.1).
 use Rattle.std.specs.Prelude.{◌≡◌, ℕ, ◌+◌, ◌-◌, ◌≤◌, ◌||◌, ◌&&◌, ◌==◌, not, max, min, nat_lt, ◌⊎◌, Bool, true, false, List, [], ◌∷◌, length, map, Option, None, Some, IfSome, option_map, is_some, Result, Ok, Err, if◌then◌else◌}
 use Rattle.std.specs.Option.{option_and_then, option_map_or}
 use Rattle.std.specs.Vec.{vec_capacity}
@@ -38,11 +38,11 @@ use Rattle.recovery_sender.specs.Steps.{SenderStep, CompletesCall, TakesSteps, m
 abbrev pub acking : {Q S M P : Type 0} → SpaceId → ℕ → Bool → List ℕ → List (SenderStep Q S M P)
 acking space now app_limited numbers = map (λ number. occurs (Acked space now number app_limited)) numbers
 
--- a number is at most so large, if there is one
+-- a number is at most `bound`, if any
 abbrev pub IsWithin : ℕ → Option ℕ → Type 0
 IsWithin bound number = IfSome number (λ n. n ≤ bound)
 
--- these are no longer tracked, and the largest number that was acknowledged is one of them or as it was
+-- these are no longer tracked, and the largest acknowledged number is one of them or unchanged
 pub record AreAcked {F Q R C K S M P : Type 0} {f : _} {c : _} {q : _} {m : _} {r : _} (space : SpaceId)
     (numbers : List ℕ) (old new : Sender F Q R C K S M P f c q m r) : Type 0 where
   pub packets : packets_in (state_in new) space ≡ without_all (packets_in (state_in old) space) numbers
@@ -50,7 +50,7 @@ pub record AreAcked {F Q R C K S M P : Type 0} {f : _} {c : _} {q : _} {m : _} {
       → IsWithin bound (largest_in (state_in new) space)
 
 module _ {K P M : Type 0} (recovery : RecoveryState K P M) where
-  -- when a tracked packet was sent, where that was on the path in use (RFC 9000, 9.4)
+  -- when a tracked packet was sent, if that was on the path in use (RFC 9000, 9.4)
   abbrev pub sent_here : Option (Packet P M) → Option ℕ
   sent_here packet = option_and_then (λ there. if there.path_generation == recovery.paths.current.ledger.generation
       then Some there.time_sent else None) packet
@@ -58,26 +58,26 @@ module _ {K P M : Type 0} (recovery : RecoveryState K P M) where
   abbrev pub sent_on : SpaceId → ℕ → Option ℕ
   sent_on space number = sent_here (packet_at (packets_in recovery space) number)
 
-  -- what is kept with the path in use
+  -- the marks of the path in use
   abbrev pub marks_now : PathMarks
   marks_now = recovery.paths.current.marks
 
-  -- whether packets are marked on it, and which packet of it is the first one behind a sample, are set anew
+  -- these marks with another ECN marking and another first packet after an RTT sample
   abbrev pub with_marks_now : Bool → Option (SpaceId × ℕ) → PathMarks
   with_marks_now sending first = record marks_now { sending_ecn = sending; first_after_sample = first }
 
-  -- the next packet of a space is the first one behind a sample, where none is (RFC 9002, 7.6.2)
+  -- the next packet of a space is the first one after an RTT sample, if none is marked (RFC 9002, 7.6.2)
   abbrev pub first_marked : {Q S : Type 0} → SpaceId → Option (SpaceId × ℕ) → Option (Space P M) → List
       (SenderStep Q S M P)
   first_marked space None (Some here) =
       marked (with_marks_now marks_now.sending_ecn (Some (space, next_number_of here))) ∷ []
   first_marked space first here = []
 
-  -- packets are marked no more (RFC 9000, 13.4.2.1)
+  -- packets are no longer marked (RFC 9000, 13.4.2.1)
   abbrev pub unmarked : {Q S : Type 0} → SenderStep Q S M P
   unmarked = marked (with_marks_now false marks_now.first_after_sample)
 
--- the largest number that was acknowledged rises
+-- the largest acknowledged number increases
 abbrev pub is_raised : Option ℕ → Option ℕ → Bool
 is_raised before None = false
 is_raised None (Some after) = true
@@ -85,8 +85,8 @@ is_raised (Some before) (Some after) = nat_lt before after
 
 -- ---- what is known of a sample and of ECN
 
--- a sample of the RTT, where there is one: the delay of the ACK counts in the space of 1-RTT packets, up to the longest
--- that the peer said (RFC 9002, 5.3)
+-- an RTT sample, if any: the ACK delay counts in the space of 1-RTT packets, up to the peer's max_ack_delay (RFC 9002,
+-- 5.3)
 module _ {F Q R C K S M P : Type 0} {f : _} {c : _} {q : _} {m : _} {r : _} (space : SpaceId) (delay : ℕ)
     (old new : Sender F Q R C K S M P f c q m r) where
   abbrev pub SamplesRtt : Option ℕ → Type 0
@@ -96,7 +96,7 @@ module _ {F Q R C K S M P : Type 0} {f : _} {c : _} {q : _} {m : _} {r : _} (spa
       × TakesSteps (first_marked (state_in between) space (marks_now (state_in between)).first_after_sample
       (space_in (state_in between) space)) between new
 
--- counts of ECN are answered with more packets marked
+-- the answer to ECN counts reports more marked packets
 abbrev pub is_marked : {Q : Type 0} → Answer Q → Bool
 is_marked (Flag flag) = flag
 is_marked answer = false
@@ -107,8 +107,8 @@ largest_sent recovery space = option_map (λ here. here.largest_acked_packet_sen
 
 module _ {F Q R C K S M P : Type 0} {f : _} {c : _} {q : _} {m : _} {r : _} (space : SpaceId) (now newly : ℕ)
     (old new : Sender F Q R C K S M P f c q m r) where
-  -- the counts of ECN are compared with those before: nothing, more packets were marked, or they cannot be right and
-  -- packets are marked no more (RFC 9000, 13.4.2.1; RFC 9002, B.7)
+  -- the ECN counts are compared with those before: no change, more packets were marked, or the counts are invalid and
+  -- packets are no longer marked (RFC 9000, 13.4.2.1; RFC 9002, B.7)
   abbrev pub EcnCompared : EcnCounts → EcnOutcome → Type 0
   EcnCompared counts Quiet = (answer : Answer Q) × (is_marked answer ≡ false)
       × TakesSteps (told (Ecn space newly counts) (Ok answer) ∷ []) old new
@@ -119,8 +119,8 @@ module _ {F Q R C K S M P : Type 0} {f : _} {c : _} {q : _} {m : _} {r : _} (spa
       × TakesSteps (told (Ecn space newly counts) (Err refusal) ∷ []) old between
       × TakesSteps (unmarked (state_in between) ∷ []) between new
 
-  -- so it is on a path that sends ECN, where the frame raised the largest number acknowledged; one without counts ends
-  -- that
+  -- the counts are compared only on a path that sends ECN, if the frame increased the largest acknowledged number; a
+  -- frame without counts stops ECN on the path
   abbrev pub EcnResult : Bool → Option EcnCounts → Bool → EcnOutcome → Type 0
   EcnResult false counts raised end = (end ≡ Quiet) × TakesSteps [] old new
   EcnResult true None raised end = (end ≡ Quiet) × TakesSteps (unmarked (state_in old) ∷ []) old new
@@ -129,19 +129,19 @@ module _ {F Q R C K S M P : Type 0} {f : _} {c : _} {q : _} {m : _} {r : _} (spa
 
 -- ---- a frame that newly acknowledges something
 
--- the window is not to grow: too little was there to be sent (RFC 9002, 7.8), or the path in use is being validated, so
--- that what comes may be for the path before it (RFC 9000, 9.4)
+-- The window must not grow: the caller had too little to send (RFC 9002, 7.8), or the path in use is being validated.
+-- An ACK may then be for a packet on the path before it (RFC 9000, 9.4).
 abbrev pub is_limited : {K P M : Type 0} → RecoveryState K P M → Bool → Bool
 is_limited recovery app_limited = app_limited || is_some (marks_now recovery).challenge
 
--- a sample of the RTT: since the largest number of the frame was sent, where it is newly acknowledged and was sent on
--- the path in use, and something newly acknowledged elicits an ACK (RFC 9002, 5.1)
+-- An RTT sample: the time since the largest number of the frame was sent, if it is newly acknowledged and was sent on
+-- the path in use. A newly acknowledged packet must be ack-eliciting (RFC 9002, 5.1).
 abbrev pub rtt_of : {K P M : Type 0} → RecoveryState K P M → SpaceId → ℕ → List (ℕ × ℕ) → Bool → Option ℕ
 rtt_of recovery space now ranges elicits = if elicits then
     option_map (λ sent. now - sent) (option_and_then (λ largest. sent_on recovery space largest) (largest_of ranges))
     else None
 
--- it is the first sample of the path in use (RFC 9002, 7.6.2)
+-- the sample is the first of the path in use (RFC 9002, 7.6.2)
 abbrev pub is_first_sample : {K P M : Type 0} → RecoveryState K P M → Option ℕ → Bool
 is_first_sample recovery rtt = is_some rtt && not (is_some (marks_now recovery).first_after_sample)
 
@@ -153,33 +153,33 @@ pub record Acknowledges {F Q R C K S M P : Type 0} {f : _} {c : _} {q : _} {m : 
   pub sampled : Sender F Q R C K S M P f c q m r
   pub looked : Sender F Q R C K S M P f c q m r
   pub heard : Sender F Q R C K S M P f c q m r
-  -- each number is told acknowledged, and that these were all
+  -- each number is acknowledged, and the acknowledgements are ended
   pub acks : TakesSteps (acking space now (is_limited (state_in old) ack.app_limited) acked.numbers.items) old taken
   pub ends : TakesSteps (occurs (EndAcks now (is_limited (state_in old) ack.app_limited)
       (largest_in (state_in taken) space)) ∷ []) taken ended
-  -- the RTT is sampled, losses are looked for, and the counts of ECN compared
+  -- the RTT is sampled, losses are detected, and the ECN counts compared
   pub samples : SamplesRtt space ack.delay ended sampled (rtt_of (state_in old) space now ranges elicits)
   pub detects : DetectsLosses space now true sampled acked.losses looked
   pub compares : EcnResult space now (length acked.numbers.items) looked heard
       (marks_now (state_in looked)).sending_ecn ack.ecn
       (is_raised (largest_in (state_in old) space) (largest_in (state_in looked) space)) acked.ecn
-  -- probe timeouts are counted anew, and the timer is set
+  -- the count of probe timeouts is reset, and the timer is set
   pub does : CompletesCall [] (heard_in space now (sampled_first (is_first_sample (state_in old)
       (rtt_of (state_in old) space now ranges elicits)) now old.variables)) heard new
-  -- persistent congestion leaves the smallest window, whatever the controller (RFC 9002, 7.6.2)
+  -- persistent congestion results in the smallest window, for every controller (RFC 9002, 7.6.2)
   pub least : acked.losses.is_persistent ≡ true → IsWindowLeast c.words (state_in new)
 
 -- ---- a frame
 
--- the end of the numbers below which packets may be lost once a frame is taken: the largest number that was
--- acknowledged, or the one after the largest of the frame
+-- the exclusive end of the numbers that may be lost after a frame: the largest acknowledged number before, or the
+-- number after the largest of the frame
 abbrev pub loss_end : Option ℕ → Option ℕ → ℕ
 loss_end before largest = max (option_map_or (λ known. known) before 0) (option_map_or (λ n. n + 1) largest 0)
 
--- it may be taken, and this is what it newly acknowledges; or it is refused
+-- the frame is valid, with what it newly acknowledges; or it fails
 module _ {F Q R C K S M P : Type 0} {f : _} {c : _} {q : _} {m : _} {r : _} (space : SpaceId) (ranges : List (ℕ × ℕ))
     (sender : Sender F Q R C K S M P f c q m r) where
-  -- there is room for the numbers of all packets that may be lost once it is taken
+  -- there is room for the numbers of all packets that may be lost after the frame
   pub record HasRoomForLosses (found : NewlyAcked) : Type 0 where
     pub none : found.lost.items ≡ []
     pub below : AreIncreasing 0 found.numbers.items (loss_end (largest_in (state_in sender) space) (largest_of ranges))
@@ -191,7 +191,7 @@ module _ {F Q R C K S M P : Type 0} {f : _} {c : _} {q : _} {m : _} {r : _} (spa
     pub sent : WereSent space ranges sender.recovery.recovery
     pub allowed : AreNotSkipped space ranges sender.recovery.recovery
     pub newly : AreNewlyAcked (packets_in (state_in sender) space) ranges 0 found.numbers.items found.elicits
-    -- that is what the events before say
+    -- by the events before it
     pub tracked : ForEveryPast sender (AcksTracked space ranges found.numbers.items)
     pub room : HasRoomForLosses found
 
@@ -208,25 +208,25 @@ module _ {F Q R C K S M P : Type 0} {f : _} {c : _} {q : _} {m : _} {r : _} (spa
     pub ecn : acked.ecn ≡ Quiet
     pub does : CompletesCall [] old.variables old new
 
-  -- it may be taken: what it newly acknowledges is told, or there is nothing
+  -- the frame is valid, and what it newly acknowledges is returned, if anything
   pub record ProcessesAck (acked : Acknowledged) : Type 0 where
     pub whole : IsAckWellFormed space ranges old.recovery.recovery
     pub sent : WereSent space ranges old.recovery.recovery
     pub allowed : AreNotSkipped space ranges old.recovery.recovery
     pub elicits : Bool
     pub newly : AreNewlyAcked (packets_in (state_in old) space) ranges 0 acked.numbers.items elicits
-    -- that is what the events before say
+    -- by the events before it
     pub tracked : ForEveryPast old (AcksTracked space ranges acked.numbers.items)
     pub none : acked.numbers.items ≡ [] → HasNoneNewlyAcked acked
     pub some : (acked.numbers.items ≡ [] → ⊥) → Acknowledges space now ranges ack elicits old acked new
 
-  -- with what it newly acknowledges known
+  -- for a result of `newly_acked`
   pub record ProcessesNewlyAcked (newly : NewlyAcked) (acked : Acknowledged) : Type 0 where
     pub numbers : acked.numbers.items ≡ newly.numbers.items
     pub none : newly.numbers.items ≡ [] → HasNoneNewlyAcked acked
     pub some : (newly.numbers.items ≡ [] → ⊥) → Acknowledges space now ranges ack newly.elicits old acked new
 
-  -- or it is refused, and nothing changes: for what it says, or for want of memory
+  -- or the frame fails for its contents or for want of memory, and nothing changes
   abbrev pub AckResult : Result Acknowledged SenderError → Type 0
   AckResult (Ok acked) = ProcessesAck acked
   AckResult (Err refusal) = (new ≡ old)

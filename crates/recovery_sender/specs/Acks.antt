@@ -1,4 +1,4 @@
--- An ACK frame: what it newly acknowledges, and what it is refused for (RFC 9000, 13.1 and 21.4; RFC 9002, A.7).
+-- An ACK frame: what it newly acknowledges, and its errors (RFC 9000, 13.1 and 21.4; RFC 9002, A.7).
 use Rattle.std.specs.Prelude.{◌≡◌, ◌≢◌, ℕ, ◌<◌, ◌≤◌, ◌↔◌, ◌⊎◌, Decides, Bool, IsTrue, true, false, List, [], ◌∷◌, drop, get_or, length, None, Some, IfSome, Result, Ok, Err}
 use Rattle.recovery_base.specs.declared.below.SpaceId.{SpaceId}
 use Rattle.recovery_events.specs.declared.event.Answer.TheVariants.{Done}
@@ -16,7 +16,7 @@ use Rattle.recovery_sender.specs.declared.sender.SenderError.TheVariants as refu
 
 -- ---- what is newly acknowledged
 
--- one of them elicits an ACK
+-- one of them is ack-eliciting
 abbrev pub HasAckEliciting : {P M : Type 0} → Packets P M → List ℕ → Type 0
 HasAckEliciting packets [] = ⊥
 HasAckEliciting {P} {M} packets (number ∷ numbers) =
@@ -25,7 +25,7 @@ HasAckEliciting {P} {M} packets (number ∷ numbers) =
 
 -- ---- one range after another, from the lowest
 
--- the first tracked number from one on, up to another, and whether its packet elicits an ACK
+-- the first tracked number from `from` up to `last`, and whether its packet is ack-eliciting
 pub record IsFirstIn {P M : Type 0} (packets : Packets P M) (from last : ℕ) (found : ℕ × Bool) : Type 0 where
   pub packet : Packet P M
   pub is : packet_at packets found.0 ≡ Some packet
@@ -39,7 +39,7 @@ abbrev pub HasNoneTracked : {P M : Type 0} → Packets P M → ℕ → ℕ → T
 HasNoneTracked {P} {M} packets from last =
     (number : ℕ) (packet : Packet P M) → packet_at packets number ≡ Some packet → from ≤ number → number ≤ last → ⊥
 
--- the tracked numbers from one on, below an end, stand behind others
+-- the tracked numbers from `first` on and below `end` follow others
 pub record TrackedInRange {P M : Type 0} (packets : Packets P M) (first end : ℕ) (before after : List ℕ) (found : Bool)
     : Type 0
   where
@@ -48,8 +48,8 @@ pub record TrackedInRange {P M : Type 0} (packets : Packets P M) (first end : �
         ↔ (IsOneOf number before ⊎ ((first ≤ number) × (number < end) × (packet_at packets number ≢ None)))
     pub elicits : Decides found (HasAckEliciting packets after)
 
--- of the ranges from a place on, those numbers that are tracked, rising and below all ranges before that place; and
--- whether one of them elicits an ACK
+-- the tracked numbers of the ranges from an index on: increasing, and below all ranges before that index; and whether
+-- one of them is ack-eliciting
 pub record AreNewlyAcked {P M : Type 0} (packets : Packets P M) (ranges : List (ℕ × ℕ)) (place : ℕ) (numbers : List ℕ)
     (found : Bool) : Type 0 where
   pub rising : (end : ℕ) × AreIncreasing 0 numbers end
@@ -58,15 +58,15 @@ pub record AreNewlyAcked {P M : Type 0} (packets : Packets P M) (ranges : List (
       ↔ (IsInAckRanges number (drop place ranges) × (packet_at packets number ≢ None))
   pub elicits : Decides found (HasAckEliciting packets numbers)
 
--- ---- what a frame is refused for
+-- ---- the errors of a frame
 
--- a number of 1-RTT packets that was skipped is acknowledged by none of them (RFC 9000, 21.4)
+-- no range holds a 1-RTT packet number that was skipped (RFC 9000, 21.4)
 abbrev pub AreNotSkipped : {F Q R C K S M P : Type 0} {f : _} {c : _} {q : _} {m : _} {r : _} → SpaceId → List (ℕ × ℕ)
     → Recovery F Q R C K S M P f c q m r → Type 0
 AreNotSkipped space ranges recovery = (at : ℕ) → at < length ranges →
     let range = get_or ranges at (0, 0) in ReadOnlyTransition (CheckAck space range.0 range.1) recovery (Ok Done)
 
--- a space that is not discarded, and ranges as they should be
+-- a space that is not discarded, and valid ranges
 abbrev pub IsAckWellFormed : {F Q R C K S M P : Type 0} {f : _} {c : _} {q : _} {m : _} {r : _} → SpaceId → List (ℕ × ℕ)
     → Recovery F Q R C K S M P f c q m r → Type 0
 IsAckWellFormed space ranges recovery =
@@ -78,8 +78,8 @@ abbrev pub WereSent : {F Q R C K S M P : Type 0} {f : _} {c : _} {q : _} {m : _}
 WereSent space ranges recovery = IfSome (largest_of ranges)
     (λ largest. largest < next_number_of (space_of space (state_of recovery).spaces))
 
--- a frame may be taken, or it is refused for the first of these: a discarded space, ranges that are none, a number that
--- was never sent, a number that was skipped
+-- a frame is valid, or fails with the first error that applies: a discarded space, invalid ranges, a number that was
+-- never sent, a number that was skipped
 abbrev pub AckChecked : {F Q R C K S M P : Type 0} {f : _} {c : _} {q : _} {m : _} {r : _} → SpaceId → List (ℕ × ℕ)
     → Recovery F Q R C K S M P f c q m r → Result (Unit {0}) SenderError → Type 0
 AckChecked space ranges recovery (Ok done) =

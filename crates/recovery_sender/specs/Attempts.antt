@@ -26,7 +26,7 @@ declared_in ((number, true) ∷ attempts) = declared_in attempts
 abbrev pub is_cut_in : List LossAttempt → Bool
 is_cut_in attempts = list_any (λ attempt. attempt.1) attempts
 
--- the probe of the MTU is tried last, if it is lost
+-- the MTU probe is tried last, if it is lost
 abbrev pub probe_attempts : Option ℕ → Option ℕ → List LossAttempt
 probe_attempts None declared = []
 probe_attempts (Some number) declared = (number, not (is_some declared)) ∷ []

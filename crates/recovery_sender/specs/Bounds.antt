@@ -1,5 +1,5 @@
--- Bounds that every sender keeps on each path: on the bytes to an address that is not validated (RFC 9000, 8.1), and on
--- the start of the controller's recovery period (RFC 9002, 7.3.2).
+-- Bounds that every sender maintains on each path: on the bytes to an address that is not validated (RFC 9000, 8.1),
+-- and on the start of the controller's recovery period (RFC 9002, 7.3.2).
 use Rattle.std.specs.Prelude.{ℕ, ◌-◌, ◌≤◌}
 use Rattle.recovery_base.specs.Units.{last_time}
 use Rattle.recovery_congestion.specs.Controllers.{ControllerSemantics, HasLeastWindow}
@@ -16,7 +16,7 @@ latest_start = last_time - 1
 abbrev pub ArePathsBounded : {K P M : Type 0} → ControllerSemantics K → RecoveryState K P M → Type 0
 ArePathsBounded words recovery = AreWithinBounds words latest_start (paths_known recovery.paths)
 
--- the window of the path in use is the smallest that its controller has (RFC 9002, 7.6.2)
+-- the window of the path in use is its controller's minimum (RFC 9002, 7.6.2)
 abbrev pub IsWindowLeast : {K P M : Type 0} → ControllerSemantics K → RecoveryState K P M → Type 0
 IsWindowLeast words recovery = HasLeastWindow words recovery.paths.current.state.controller
 

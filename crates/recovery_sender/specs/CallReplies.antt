@@ -1,5 +1,5 @@
--- What each call of a sender comes to (RFC 9002, Appendices A and B), in one place. What is promised by the events
--- before it, and that it never stalls, is part of it (`ProcessesAck`, `DetectsLosses`, `DeclaresAllLost`,
+-- The reply of each call of a sender (RFC 9002, Appendices A and B), in one place. It includes the promises by the
+-- events before the call, and that the sender never stalls (`ProcessesAck`, `DetectsLosses`, `DeclaresAllLost`,
 -- `CompletesCall`).
 use Rattle.std.specs.Prelude.{◌≡◌, ℕ, ◌+◌, ◌≤◌, true, false, Some, Result, Ok, Err, IfOk, OnOk, OnErr, [], ◌∷◌}
 use Rattle.recovery_base.specs.declared.below.SpaceId.{SpaceId}
@@ -27,15 +27,15 @@ use Rattle.recovery_sender.specs.declared.calls.Datagram.{Datagram}
 use Rattle.recovery_sender.specs.declared.calls.CallReplyValue.{CallReplyValue}
 use Rattle.recovery_sender.specs.declared.calls.CallReplyValue.TheVariants as replies
 
--- done or refused
+-- `Done` or the error
 abbrev pub is_done : {Q : Type 0} → Result (Unit {0}) SenderError → Result (CallReplyValue Q) SenderError
 is_done (Ok done) = Ok replies.Done
 is_done (Err refusal) = Err refusal
 
 module _ {F Q R C K S M P : Type 0} {f : _} {c : _} {q : _} {m : _} {r : _} (old new : Sender F Q R C K S M P f c q m r)
   where
-    -- a datagram goes out, or does not: what counts in flight finds room in the window, where no probe is due (RFC
-    -- 9002, 7; RFC 9000, 8.1)
+    -- a datagram may be sent, or not: what counts in flight fits into the window, if no probe is due (RFC 9002, 7; RFC
+    -- 9000, 8.1)
     pub record TransmitCall (datagram : Datagram) (reply : Result Transmission SenderError) : Type 0 where
       pub is : reply
           ≡ transmit_reply c.words (state_in old) old.variables datagram.now datagram.bytes datagram.space
@@ -43,14 +43,14 @@ module _ {F Q R C K S M P : Type 0} {f : _} {c : _} {q : _} {m : _} {r : _} (old
       pub window : reply ≡ Ok Transmitted → datagram.in_flight ≡ true
           → is_probe_due old.variables datagram.space ≡ false
           → bytes_in_flight (state_in old) + datagram.bytes ≤ window_of c.words (state_in old)
-      -- by the events before, what asks the window goes out or is delayed exactly if it fits
+      -- by the events before: a datagram for which the window is checked is sent or delayed exactly if it fits
       pub fits : IfOk reply (λ sent. ForEveryRun old (λ beginning past. IsByRoom
           (is_checked old.variables datagram.space datagram.in_flight) (FitsWindow beginning past datagram.bytes) sent))
       pub steps : IfOk reply (λ sent. CompletesCall (transmit_steps datagram.now datagram.bytes
           (is_checked old.variables datagram.space datagram.in_flight) sent) old.variables old new)
       pub stays : OnErr reply (new ≡ old)
 
-    -- one event is done, and leaves these variables; or it is refused so, and nothing changes
+    -- one event is applied, with these variables after it; or it fails with this error, and nothing changes
     pub record IsOneEvent (event : Event Q S M P) (kept : Variables)
         (reply is : Result (Unit {0}) SenderError) : Type 0 where
       pub same : reply ≡ is
@@ -65,7 +65,7 @@ module _ {F Q R C K S M P : Type 0} {f : _} {c : _} {q : _} {m : _} {r : _} (old
     DiscardCall space now reply =
         IsOneEvent (DiscardSpace space) (begun_anew space now old.variables) reply (discard_reply (state_in old) space)
 
--- a call is replied so
+-- the reply of each call
 abbrev pub CallReply : {F Q R C K S M P : Type 0} {f : _} {c : _} {q : _} {m : _} {r : _} → Call Q S M P
     → Sender F Q R C K S M P f c q m r → Sender F Q R C K S M P f c q m r → Result (CallReplyValue Q) SenderError
     → Type 0

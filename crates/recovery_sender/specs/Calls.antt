@@ -1,4 +1,4 @@
--- What the calls beside ACK frames and losses come to, by the state before them (RFC 9002, A.5, A.9 and A.11).
+-- The calls other than ACK frames and losses, by the state before them (RFC 9002, A.5, A.9 and A.11).
 use Rattle.std.specs.Prelude.{◌≡◌, ℕ, ◌+◌, ◌-◌, ◌||◌, ◌&&◌, not, nat_lt, nat_le, Bool, true, false, Option, None, Some, Result, Ok, Err, List, [], ◌∷◌, if◌then◌else◌}
 use Rattle.std.specs.Option.{option_and_then}
 use Rattle.recovery_base.specs.declared.below.SpaceId.{SpaceId}
@@ -37,18 +37,18 @@ use Rattle.recovery_sender.specs.Losses.{IsNextLoss}
 use Rattle.recovery_sender.specs.Steps.{SenderStep, loss_time, told, TakesSteps, CompletesCall}
 use Rattle.recovery_sender.specs.Timer.{due_of}
 
--- window and pacer are asked for what counts in flight, if no probe is due in the space (RFC 9002, 7.5 and 7.7)
+-- window and pacer are checked for what counts in flight, if no probe is due in the space (RFC 9002, 7.5 and 7.7)
 abbrev pub is_checked : Variables → SpaceId → Bool → Bool
 is_checked variables space in_flight = in_flight && not (is_probe_due variables space)
 
--- the path in use, with this challenge open or none, and with one that is to be sent or none (RFC 9000, 8.2.1)
+-- the marks of the path in use with this outstanding challenge, and whether one is to be sent (RFC 9000, 8.2.1)
 abbrev pub challenged : {K P M : Type 0} → RecoveryState K P M → Option ℕ → Bool → PathMarks
 challenged recovery challenge pending =
     record recovery.paths.current.marks { challenge = challenge; challenge_pending = pending }
 
--- ---- whether a datagram goes out (RFC 9002, 7; RFC 9000, 8.1)
+-- ---- whether a datagram may be sent (RFC 9002, 7; RFC 9000, 8.1)
 
--- it does, unless the pacer wants it later (RFC 9002, 7.7)
+-- it may, unless the pacer delays it (RFC 9002, 7.7)
 abbrev pub paced_to : Option ℕ → Transmission
 paced_to None = Transmitted
 paced_to (Some until) = Delayed until
@@ -63,11 +63,11 @@ module _ {K P M : Type 0} (words : ControllerSemantics K) (recovery : RecoverySt
   abbrev pub window_of : ℕ
   window_of = words.window recovery.paths.current.state.controller
 
-  -- the window has no room for so many bytes more
+  -- the window has no room for `bytes` more
   abbrev pub is_full : ℕ → Bool
   is_full bytes = nat_lt window_of (bytes_in_flight recovery + bytes)
 
-  -- the limit against amplification comes first, then the window, then the pacer
+  -- the amplification limit is checked first, then the window, then the pacer
   abbrev pub transmission : ℕ → ℕ → Bool → Transmission
   transmission now bytes checked =
       let path = recovery.paths.current.state in
@@ -75,7 +75,7 @@ module _ {K P M : Type 0} (words : ControllerSemantics K) (recovery : RecoverySt
       else if checked then (if is_full bytes then Full else paced_to (path_delay words now bytes path))
       else Transmitted
 
-  -- a discarded space is refused, and then bytes that the total of the path cannot take
+  -- errors: first a discarded space, then bytes that exceed the total of the path
   abbrev pub transmit_reply : Variables → ℕ → ℕ → SpaceId → Bool → Result Transmission SenderError
   transmit_reply variables now bytes space in_flight =
       if is_discarded space recovery.discarded then Err (refused.Event SpaceDiscarded)
@@ -83,7 +83,7 @@ module _ {K P M : Type 0} (words : ControllerSemantics K) (recovery : RecoverySt
       then Ok (transmission now bytes (is_checked variables space in_flight))
       else Err (refused.Event Overflow)
 
--- the recovery is asked for what limit and window let pass
+-- the recovery takes an event for what limit and window permit
 abbrev pub transmit_steps : {Q S M P : Type 0} → ℕ → ℕ → Bool → Transmission → List (SenderStep Q S M P)
 transmit_steps now bytes checked Transmitted = told (events.Transmit now bytes checked) (Ok answers.Transmitted) ∷ []
 transmit_steps now bytes checked (Delayed until) =
@@ -92,14 +92,14 @@ transmit_steps now bytes checked other = []
 
 -- ---- calls that are one event
 
--- a path begins a nanosecond before the event that makes it, so that what is sent at its very time counts as sent after
--- the start of the controller's recovery (RFC 9002, 7.3)
+-- a path begins a nanosecond before the event that makes it: a packet sent at the time of the event counts as sent
+-- after the start of the controller's recovery period (RFC 9002, 7.3)
 abbrev pub backdated : {Q S M P : Type 0} → Event Q S M P → Event Q S M P
 backdated (events.NewPath now remote is_fresh) = events.NewPath (now - 1) remote is_fresh
 backdated (events.ResetPath now) = events.ResetPath (now - 1)
 backdated event = event
 
--- an event by which another path is in use, or the path in use begins anew: with it another RTT
+-- an event that changes or resets the path in use, and with it the RTT
 abbrev pub changes_path : {Q S M P : Type 0} → Event Q S M P → Bool
 changes_path (events.NewPath now remote is_fresh) = true
 changes_path (events.ResetPath now) = true
@@ -117,7 +117,7 @@ to_send (events.Send space now size eliciting largest queue frames) = if nat_lt 
 to_send (events.PollMtu now) = Some now
 to_send event = None
 
--- the answer says that a packet went out
+-- the answer reports a sent packet
 abbrev pub goes_out : {Q : Type 0} → Answer Q → Bool
 goes_out (answers.Sent number forgotten) = true
 goes_out (answers.Probe number size) = true
@@ -126,45 +126,45 @@ goes_out answer = false
 abbrev pub sent_at : {Q : Type 0} → Option ℕ → Answer Q → Option ℕ
 sent_at time answer = if goes_out answer then time else None
 
--- the space of a packet that elicits an ACK, if the event is to send one
+-- the space of an ack-eliciting packet, if the event is to send one
 abbrev pub elicits_in : {Q S M P : Type 0} → Event Q S M P → Option SpaceId
 elicits_in (events.Send space now size eliciting largest queue frames) = if eliciting then Some space else None
 elicits_in event = None
 
--- and if it went out
+-- and if it was sent
 abbrev pub sent_in : {Q : Type 0} → Option SpaceId → Answer Q → Option SpaceId
 sent_in space answer = if goes_out answer then space else None
 
--- the variables after an event that is answered so: what counts in flight moves the base of the timer against a
--- deadlock (RFC 9002, 6.2.2.1), and an ack-eliciting packet takes one off the probes that are due in its space (6.2.4)
+-- The variables after an event with this answer. What counts in flight restarts the anti-deadlock timer (RFC 9002,
+-- 6.2.2.1). An ack-eliciting packet counts as one of the probes due in its space (6.2.4).
 abbrev pub after_event : {Q S M P : Type 0} → Event Q S M P → Answer Q → Variables → Variables
 after_event event answer variables =
     probed (sent_in (elicits_in event) answer) (based (sent_at (to_send event) answer) variables)
 
--- a discarded space is refused (RFC 9002, 6.4)
+-- a discarded space is an error (RFC 9002, 6.4)
 abbrev pub discard_reply : {K P M : Type 0} → RecoveryState K P M → SpaceId → Result (Unit {0}) SenderError
 discard_reply recovery space =
     if is_discarded space recovery.discarded then Err (refused.Event SpaceDiscarded) else Ok (tt {0})
 
--- an event by which the RTT of the path in use begins anew
+-- an event that resets the RTT of the path in use
 abbrev pub forgets_rtt : {Q S M P : Type 0} → Event Q S M P → Bool
 forgets_rtt (events.NewPath now remote is_fresh) = is_fresh
 forgets_rtt (events.ResetPath now) = true
 forgets_rtt event = false
 
--- then the initial RTT that the caller set no longer counts
+-- then the initial RTT that the caller set no longer applies
 abbrev pub rtt_forgotten : {Q S M P : Type 0} → Event Q S M P → Variables → Variables
 rtt_forgotten event variables =
     record variables { initial_rtt = (if forgets_rtt event then None else variables.initial_rtt) }
 
--- they are found again by the RTT of the path in use
+-- the loss times are computed again with the RTT of the path in use
 pub record RenewsLossTimes {F Q R C K S M P : Type 0} {f : _} {c : _} {q : _} {m : _} {r : _}
     (old new : Sender F Q R C K S M P f c q m r) : Type 0 where
   pub times : SpaceId → Option ℕ
   pub next : (space : SpaceId) → IsNextLoss (state_in old) old.variables space (times space)
   pub goes : TakesSteps (renewing times) old new
 
--- these variables are kept, and the loss times go by the RTT that they give; then the timer is set
+-- these variables are stored, the loss times follow from the RTT that they give, and the timer is set
 pub record ChangesRtt {F Q R C K S M P : Type 0} {f : _} {c : _} {q : _} {m : _} {r : _} (kept : Variables)
     (old new : Sender F Q R C K S M P f c q m r) : Type 0 where
   pub set : Sender F Q R C K S M P f c q m r
@@ -176,7 +176,7 @@ pub record ChangesRtt {F Q R C K S M P : Type 0} {f : _} {c : _} {q : _} {m : _}
 
 module _ {F Q R C K S M P : Type 0} {f : _} {c : _} {q : _} {m : _} {r : _} (event : Event Q S M P)
     (old new : Sender F Q R C K S M P f c q m r) where
-  -- the path in use is another, or begins anew: the loss times go by its RTT from now on
+  -- the path in use is another, or is reset: the loss times follow from its RTT
   pub record ChangesPath (answer : Answer Q) : Type 0 where
     pub between : Sender F Q R C K S M P f c q m r
     pub goes : TakesSteps (told event (Ok answer) ∷ []) old between
@@ -189,27 +189,28 @@ module _ {F Q R C K S M P : Type 0} {f : _} {c : _} {q : _} {m : _} {r : _} (eve
 
 module _ {F Q R C K S M P : Type 0} {f : _} {c : _} {q : _} {m : _} {r : _} (event : Event Q S M P)
     (old new : Sender F Q R C K S M P f c q m r) where
-  -- the event is answered so, and the timer set; if it changes the path in use, the loss times are found again
+  -- the event has this answer, and the timer is set; if the event changes the path in use, the loss times are computed
+  -- again
   abbrev pub IsAnsweredEvent : Answer Q → Bool → Type 0
   IsAnsweredEvent answer true = ChangesPath event old new answer
   IsAnsweredEvent answer false =
       CompletesCall (told event (Ok answer) ∷ []) (after_event event answer old.variables) old new
 
-  -- or it is refused so, and all else stays
+  -- or the event fails with this error, and the rest is unchanged
   abbrev pub IsEventResult : Result (Answer Q) SenderError → Type 0
   IsEventResult (Ok answer) = IsAnsweredEvent answer (changes_path event)
   IsEventResult (Err (refused.Event refusal)) = TakesSteps (told event (Err refusal) ∷ []) old new
   IsEventResult (Err refused.Unsent) = ⊥
 
--- so it is of an event that passes, as it takes effect
+-- this holds for an event that passes, as it takes effect
 abbrev pub EventResult : {F Q R C K S M P : Type 0} {f : _} {c : _} {q : _} {m : _} {r : _} → Event Q S M P
     → Sender F Q R C K S M P f c q m r → Sender F Q R C K S M P f c q m r → Result (Answer Q) SenderError → Type 0
 EventResult event = IsEventResult (backdated event)
 
 -- ---- events that pass
 
--- all but those that this layer decides: what is acknowledged and lost and what follows of it, what is probed for, what
--- is transmitted, which spaces end, and the timer for losses
+-- all events except those that the sender itself makes: acknowledgements, losses, congestion, probes, transmissions,
+-- discarded spaces, and the loss detection timer
 abbrev pub IsPassedThrough : {Q S M P : Type 0} → Event Q S M P → Type 0
 IsPassedThrough (events.Acked space now number app_limited) = ⊥
 IsPassedThrough (events.Lost space number) = ⊥
@@ -225,7 +226,7 @@ IsPassedThrough (events.SetTimer LossDetection time) = ⊥
 IsPassedThrough (events.StopTimer LossDetection) = ⊥
 IsPassedThrough event = Unit {0}
 
--- the total of what came in on the path in use has no room for so many bytes (RFC 9000, 8.1)
+-- `Overflow` if the total of received bytes on the path in use has no room for `bytes` (RFC 9000, 8.1)
 abbrev pub datagram_reply : {K P M : Type 0} → RecoveryState K P M → ℕ → Result (Unit {0}) SenderError
 datagram_reply recovery bytes =
     if nat_lt (recovery.paths.current.state.total_recvd + bytes) u64_limit then Ok (tt {0})
@@ -233,7 +234,7 @@ datagram_reply recovery bytes =
 
 -- ---- probes (RFC 9002, 6.2.4 and A.9)
 
--- done or refused, whatever the answer is
+-- done or the error, whatever the answer is
 abbrev pub done_of : {Q : Type 0} → Reply Q → Result (Unit {0}) SenderError
 done_of (Ok answer) = Ok (tt {0})
 done_of (Err refusal) = Err (refused.Event refusal)
@@ -244,14 +245,14 @@ space_due (Losses space) = space
 space_due (Probes space) = space
 space_due (AntiDeadlock space) = space
 
--- what is due now, where something is
+-- what is due now, if anything
 abbrev pub due_now : {K P M : Type 0} → ℕ → RecoveryState K P M → Variables → Option Due
 due_now now recovery variables =
     option_and_then (λ due. if nat_le due.0 now then Some due.1 else None) (due_of recovery variables)
 
 module _ {F Q R C K S M P : Type 0} {f : _} {c : _} {q : _} {m : _} {r : _} (space : SpaceId) (immediate : Bool)
     (streams : S) (old new : Sender F Q R C K S M P f c q m r) where
-  -- contents for a probe are found, or no memory for them
+  -- contents for a probe are queued, or allocation fails
   abbrev pub QueuesProbe : Result (Unit {0}) SenderError → Type 0
   QueuesProbe (Ok done) =
       (answer : Answer Q) × TakesSteps (told (events.QueueProbe space immediate streams) (Ok answer) ∷ []) old new
@@ -259,8 +260,8 @@ module _ {F Q R C K S M P : Type 0} {f : _} {c : _} {q : _} {m : _} {r : _} (spa
       TakesSteps (told (events.QueueProbe space immediate streams) (Err NoMemory) ∷ []) old new
   QueuesProbe (Err other) = ⊥
 
-  -- what a probe carries: what waits in the space, or else the contents of the first packet that has any; or it is
-  -- refused, for a discarded space or for want of memory, and nothing changes
+  -- The contents of a probe: what is queued in the space, or else the contents of the first packet that has any. Or the
+  -- call fails for a discarded space or for want of memory, and nothing changes.
   abbrev pub ProbeResult : Result Q SenderError → Type 0
   ProbeResult (Ok queue) = (is_discarded space (state_in old).discarded ≡ false) × (answer : Answer Q)
       × CompletesCall (told (events.QueueProbe space immediate streams) (Ok answer)
@@ -271,9 +272,9 @@ module _ {F Q R C K S M P : Type 0} {f : _} {c : _} {q : _} {m : _} {r : _} (spa
       × TakesSteps (told (events.QueueProbe space immediate streams) (Err NoMemory) ∷ []) old new
   ProbeResult (Err other) = ⊥
 
--- ---- how a sender begins
+-- ---- new senders
 
--- the address of a client's first path is validated: the limit against amplification binds servers (RFC 9000, 8.1)
+-- the address of a client's first path is validated: the amplification limit applies to servers (RFC 9000, 8.1)
 abbrev pub config_of : {F : Type 0} → Side → RecoveryConfig F → RecoveryConfig F
 config_of side config = record config { validated = config.validated || not (is_server side) }
 
@@ -283,8 +284,8 @@ thresholds_in config = let transport = config.transport in
     thresholds_of transport.packet_threshold transport.time_threshold transport.persistent_congestion_threshold
 
 module _ {F Q R C K S M P : Type 0} {f : _} {c : _} {q : _} {m : _} {r : _} where
-  -- its recovery is made by these settings, a nanosecond earlier (RFC 9002, 7.3); nothing happened to it, and nothing
-  -- is kept of paths and of losses; then the timer is set
+  -- its recovery is made with these settings, a nanosecond earlier (RFC 9002, 7.3), without events, marks or loss
+  -- times; then the timer is set
   pub record IsNewSender (side : Side) (config : RecoveryConfig F) (start : ℕ) (random : Stream)
       (new : Sender F Q R C K S M P f c q m r) : Type 0 where
     pub made : Sender F Q R C K S M P f c q m r

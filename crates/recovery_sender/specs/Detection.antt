@@ -1,4 +1,4 @@
--- What becomes of the packets that a look for losses goes over, one after another.
+-- The outcome of the packets that a loss detection pass scans, in order.
 use Rattle.std.specs.Prelude.{◌≡◌, ◌≢◌, ◌↔◌, ℕ, ◌<◌, ◌⊎◌, Decides, min, List, [], ◌∷◌, ◌++◌, Bool, false, Option, None, Some, option_map, Ok, if◌then◌else◌}
 use Rattle.std.specs.Option.{ForSome}
 use Rattle.recovery_base.specs.declared.below.SpaceId.{SpaceId}
@@ -35,7 +35,7 @@ module _ {F Q R C K S M P : Type 0} {f : _} {c : _} {q : _} {m : _} {r : _} (loo
     pub kept : ¬ IsLost look packet.number packet.time_sent
     pub tally : now ≡ waiting (lost_at look packet.time_sent) found
 
-  -- it is the probe of the MTU, which is tried last
+  -- it is the MTU probe, which is tried last
   pub record IsLostMtuProbe : Type 0 where
     pub goes : TakesSteps [] old new
     pub numbers : behind ≡ before
@@ -54,7 +54,7 @@ module _ {F Q R C K S M P : Type 0} {f : _} {c : _} {q : _} {m : _} {r : _} (loo
   abbrev pub ClassifiesPacket : Type 0
   ClassifiesPacket = IsNotYetLost ⊎ (IsLostMtuProbe ⊎ (is_refused : Bool) × IsTried is_refused)
 
--- the packets below a number were gone over: each that is lost was tried once, but the probe of the MTU
+-- the packets below a number were scanned: each lost packet was tried once, except the MTU probe
 pub record HasScanned {F Q R C K S M P : Type 0} {f : _} {c : _} {q : _} {m : _} {r : _} (look : LossPass)
     (start : Sender F Q R C K S M P f c q m r) (end : ℕ) (numbers : List ℕ) (found : Tally)
     (now : Sender F Q R C K S M P f c q m r) : Type 0 where
@@ -66,34 +66,34 @@ pub record HasScanned {F Q R C K S M P : Type 0} {f : _} {c : _} {q : _} {m : _}
   pub cut : found.is_cut ≡ is_cut_in attempts
   pub goes : TakesSteps (trying look.space attempts) start now
 
--- ---- behind them
+-- ---- after the scan
 
--- an answer says that a black hole is reported
+-- an answer reports a black hole
 abbrev pub is_reported : {Q : Type 0} → Answer Q → Bool
 is_reported (BlackHole reported) = reported
 is_reported answer = false
 
--- that these were all is told, where there was one, and answered with whether a black hole is reported (RFC 8899, 4.3)
+-- the losses are ended, if any; the answer reports whether there is a black hole (RFC 8899, 4.3)
 abbrev pub ended : {Q S M P : Type 0} → ℕ → Bool → List ℕ → List (SenderStep Q S M P)
 ended now reported [] = []
 ended now reported (number ∷ numbers) = told (LossesDone now) (Ok (BlackHole reported)) ∷ []
 
--- congestion is reported, if a packet that counts was sent last at this time (RFC 9002, 7.3.2); if it is persistent,
--- as of a packet that was sent later than every recovery began: the window falls to its least (7.6.2)
+-- Congestion is reported, if the last packet that counts was sent at this time (RFC 9002, 7.3.2). If it is persistent,
+-- it is reported as of a packet sent after the start of every recovery period: the window falls to its minimum (7.6.2).
 abbrev pub congested : {Q S M P : Type 0} → ℕ → Bool → ℕ → Option ℕ → List (SenderStep Q S M P)
 congested now persistent bytes None = []
 congested now persistent bytes (Some sent) =
     occurs (Congestion (min now latest_start) (if persistent then last_time else sent) persistent bytes) ∷ []
 
--- ---- a look as a whole
+-- ---- a whole pass
 
--- what a look comes to, and when the next one is due
+-- the result of a pass, and when the next one is due
 pub record PassResult {P M : Type 0} (look : LossPass) (packets : Packets P M) (attempts : List LossAttempt)
     (losses : Losses) (time : Option ℕ) : Type 0
   where
-    -- the probe of the MTU, if it is lost
+    -- the MTU probe, if it is lost
     pub found : Option ℕ
-    -- each packet that is lost is tried once, in the order of the numbers, and that probe last
+    -- each lost packet is tried once, in the order of the numbers, and the MTU probe last
     pub tries : TriesEachLost look packets look.largest (tried_in attempts) found
     pub declared : losses.numbers.items ≡ declared_in attempts
     pub is_found : ForSome found (λ number. (look.probe ≡ Some number) × IsLostBelow look packets number)
@@ -101,12 +101,12 @@ pub record PassResult {P M : Type 0} (look : LossPass) (packets : Packets P M) (
     pub probe : ForSome losses.probe (λ number. found ≡ Some number)
     -- it is cut exactly if allocation failed for one of them
     pub cut : losses.is_cut ≡ is_cut_in (attempts ++ probe_attempts found losses.probe)
-    -- the next look is due when the next packet is lost by its age, or at once if the look is cut
+    -- the next pass is due when the next packet is lost by its age, or at once if this pass is cut
     pub earliest : IsEarliest look packets look.largest (IsDeclaredLost losses.numbers.items losses.probe) time
     -- whether congestion is persistent (RFC 9002, 7.6)
     pub persistent : Decides losses.is_persistent (IsPersistentCongestion (IsDeclaredLost losses.numbers.items found)
         (IsEndAt look packets losses.numbers.items) look.skipped look.period)
-    -- the bytes of those that count, if there is one
+    -- the bytes of the packets that count, if any
     pub congestion : losses.congestion
         ≡ option_map (λ sent. min (bytes_counted look packets losses.numbers.items) largest_u64)
         (last_counted look packets losses.numbers.items)
@@ -115,7 +115,7 @@ pub record PassResult {P M : Type 0} (look : LossPass) (packets : Packets P M) (
     -- if nothing was declared lost, no black hole is reported
     pub black_hole : losses.numbers.items ≡ [] → losses.is_black_hole ≡ false
 
--- what is told, in its order (RFC 9002, A.10; RFC 9000, 14.4)
+-- the events of a pass, in order (RFC 9002, A.10; RFC 9000, 14.4)
 abbrev pub detecting : {Q S M P : Type 0} → LossPass → List LossAttempt → Option ℕ → Losses → ℕ → Option ℕ
     → Option ℕ → List (SenderStep Q S M P)
 detecting look attempts found losses bytes sent time = trying look.space attempts
@@ -123,12 +123,12 @@ detecting look attempts found losses bytes sent time = trying look.space attempt
     ++ (congested look.at losses.is_persistent bytes sent
     ++ (trying look.space (probe_attempts found losses.probe) ++ loss_time look.space time ∷ [])))
 
--- nothing was acknowledged, or nothing is tracked below what was
+-- nothing was acknowledged, or nothing is tracked below the largest acknowledged
 abbrev pub HasNoGap : {K P M : Type 0} → RecoveryState K P M → SpaceId → Type 0
 HasNoGap {K} {P} {M} recovery space = (largest : ℕ) → largest_in recovery space ≡ Some largest → (number : ℕ)
     (packet : Packet P M) → packet_at (packets_in recovery space) number ≡ Some packet → number < largest → ⊥
 
--- the look at a space, where these are lost
+-- the pass over a space, with these losses
 pub record DetectsLosses {F Q R C K S M P : Type 0} {f : _} {c : _} {q : _} {m : _} {r : _} (space : SpaceId) (now : ℕ)
     (due_to_ack : Bool) (old : Sender F Q R C K S M P f c q m r) (losses : Losses)
     (new : Sender F Q R C K S M P f c q m r) : Type 0 where

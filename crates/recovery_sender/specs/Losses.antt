@@ -1,4 +1,4 @@
--- What a look for losses goes by, as a sender is, and where it finds nothing (RFC 9002, 6.1, 7.6 and A.10).
+-- The inputs of a loss detection pass, and its result if nothing is lost (RFC 9002, 6.1, 7.6 and A.10).
 use Rattle.std.specs.Prelude.{◌≡◌, ℕ, ◌+◌, ◌*◌, ◌≤◌, Bool, false, [], Option, None, Some, option_map, if◌then◌else◌}
 use Rattle.std.specs.Global.{Vec}
 use Rattle.std.specs.Vec.{vec_capacity}
@@ -33,13 +33,13 @@ pub record IsEmptyLosses (losses : Losses) : Type 0 where
 abbrev pub largest_in : {K P M : Type 0} → RecoveryState K P M → SpaceId → Option ℕ
 largest_in recovery space = option_and_then (λ here. here.largest_acked_packet) (space_in recovery space)
 
--- how long after its sending a packet is lost, by the RTT of the path in use (RFC 9002, 6.1.2)
+-- how long after its transmission a packet is lost, with the RTT of the path in use (RFC 9002, 6.1.2)
 abbrev pub loss_delay_in : {K P M : Type 0} → RecoveryState K P M → Variables → ℕ
 loss_delay_in recovery variables = let rtt = rtt_in recovery variables in
     loss_delay_of variables.thresholds.time (rtt_get rtt) rtt.latest
 
--- when the next packet of a space is lost by its age, by the RTT of the path in use, if something was acknowledged
--- there and a packet is tracked below the largest acknowledged (RFC 9002, 6.1.2 and A.10)
+-- When the next packet of a space is lost by its age, with the RTT of the path in use (RFC 9002, 6.1.2 and A.10).
+-- Never, unless a packet is tracked below the largest acknowledged.
 abbrev pub IsNextLoss : {K P M : Type 0} → RecoveryState K P M → Variables → SpaceId → Option ℕ → Type 0
 IsNextLoss recovery variables space time = (sent : Option ℕ)
     × (time ≡ option_map (λ first. behind first (loss_delay_in recovery variables)) sent)
@@ -47,8 +47,8 @@ IsNextLoss recovery variables space time = (sent : Option ℕ)
     → IsEarliestSent (packets_in recovery space) largest sent)
     × (largest_in recovery space ≡ None → sent ≡ None)
 
--- what a look goes by, at a space whose largest acknowledged number is this; only one that is due to an ACK finds
--- persistent congestion
+-- the inputs of a pass over a space with this largest acknowledged number; only a pass after an ACK detects persistent
+-- congestion
 abbrev pub look_of : {K P M : Type 0} → RecoveryState K P M → Variables → SpaceId → ℕ → Bool → ℕ → LossPass
 look_of recovery variables space now due_to_ack largest = let path = recovery.paths.current in record {
   space = space;

@@ -1,5 +1,5 @@
--- What can be read of a sender beside its recovery: what its timer waits for, and what room is left (RFC 9000, 8.1; RFC
--- 9002, 6.2, 7 and A.8).
+-- What can be read of a sender besides its recovery: the purpose of its timer, and the room that is left (RFC 9000,
+-- 8.1; RFC 9002, 6.2, 7 and A.8).
 use Rattle.std.specs.Prelude.{ℕ, ◌*◌, ◌-◌, min, ◌&&◌, not, Bool, Option, None, Some, if◌then◌else◌}
 use Rattle.recovery_base.specs.Units.{largest_u64}
 use Rattle.recovery_base.specs.declared.below.SpaceId.TheVariants.{Data}
@@ -13,8 +13,8 @@ use Rattle.recovery_sender.specs.declared.sender.readings.TimerState.TheVariants
 use Rattle.recovery_sender.specs.Calls.{bytes_in_flight, window_of}
 use Rattle.recovery_sender.specs.Timer.{due_of, tracks_eliciting}
 
--- why nothing is due: the limit against amplification lets no byte out, 1-RTT packets alone are in flight and wait for
--- the handshake, or nothing is in flight that elicits an ACK
+-- why nothing is due: the amplification limit permits no byte, only 1-RTT packets are in flight and wait for the
+-- handshake, or no ack-eliciting packet is in flight
 abbrev pub timer_unset : (blocked unconfirmed : Bool) → TimerState
 timer_unset blocked unconfirmed = if blocked then Blocked else if unconfirmed then Unconfirmed else Idle
 
@@ -28,7 +28,7 @@ module _ {K P M : Type 0} (recovery : RecoveryState K P M) where
   timer_state variables = timer_state_by (due_of recovery variables) (is_blocked recovery.paths.current.state 1)
       (not variables.is_handshake_confirmed && tracks_eliciting recovery variables Data)
 
-  -- how many bytes the limit against amplification lets out, if it binds the path in use
+  -- how many bytes the amplification limit permits, if it applies to the path in use
   abbrev pub amplification_room : Option ℕ
   amplification_room = let path = recovery.paths.current.state in if path.validated then None
       else Some (min (amplification_factor * path.total_recvd - path.total_sent) largest_u64)

@@ -1,4 +1,4 @@
--- What was sent in a space in vain (RFC 9002, 6.3 and 6.4).
+-- The packets of a space that will not be acknowledged are all declared lost (RFC 9002, 6.3 and 6.4).
 use Rattle.std.specs.Prelude.{◌≡◌, ◌≢◌, ℕ, ◌≤◌, ◌⊎◌, ◌↔◌, Bool, true, false, List, None, Some, Result, Ok, Err, [], ◌∷◌}
 use Rattle.recovery_base.specs.declared.below.SpaceId.{SpaceId}
 use Rattle.recovery_base.specs.Units.{u64_limit}
@@ -23,7 +23,7 @@ abbrev pub HasNoneFrom : {P M : Type 0} → Packets P M → ℕ → Type 0
 HasNoneFrom {P} {M} packets from =
     (number : ℕ) (packet : Packet P M) → packet_at packets number ≡ Some packet → from ≤ number → ⊥
 
--- a packet is tracked under this number, and under none that is less, from another on
+-- a packet is tracked with this number, and none with a smaller one at or above `from`
 pub record IsLeastFrom {P M : Type 0} (packets : Packets P M) (from number : ℕ) : Type 0 where
   pub tracked : packet_at packets number ≢ None
   pub from_on : from ≤ number
@@ -31,7 +31,7 @@ pub record IsLeastFrom {P M : Type 0} (packets : Packets P M) (from number : ℕ
 
 module _ {F Q R C K S M P : Type 0} {f : _} {c : _} {q : _} {m : _} {r : _} (space : SpaceId)
     (old : Sender F Q R C K S M P f c q m r) where
-  -- each packet of it is tried once, in the order of the numbers
+  -- each packet of the space is tried once, in the order of the numbers
   pub record TriesAllTracked (numbers : List ℕ) (is_cut : Bool) (new : Sender F Q R C K S M P f c q m r) : Type 0 where
     pub attempts : List LossAttempt
     pub rising : AreIncreasing 0 (tried_in attempts) u64_limit
@@ -41,8 +41,8 @@ module _ {F Q R C K S M P : Type 0} {f : _} {c : _} {q : _} {m : _} {r : _} (spa
     pub cut : is_cut ≡ is_cut_in attempts
     pub goes : TakesSteps (trying space attempts) old new
 
-  -- so all are declared lost, by the events before too, but those for which allocation failed, and the space has no
-  -- loss time; or nothing changes, for a discarded space or for want of memory
+  -- All are declared lost, by the events before too, except those for which allocation failed, and the space has no
+  -- loss time. Or nothing changes, for a discarded space or for want of memory.
   abbrev pub DeclaresAllLost : ℕ → Sender F Q R C K S M P f c q m r → Result Retransmitted SenderError → Type 0
   DeclaresAllLost now new (Ok all) = (is_discarded space (state_in old).discarded ≡ false)
       × (between : Sender F Q R C K S M P f c q m r) × TriesAllTracked all.numbers.items all.is_cut between

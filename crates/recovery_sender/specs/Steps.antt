@@ -1,4 +1,4 @@
--- What a call is to the recovery of a sender: events with their replies, and what the layer sets beside them, in order.
+-- The steps of a call on the recovery of a sender: events with their replies, loss times and path marks, in order.
 use Rattle.std.specs.Prelude.{◌≡◌, ℕ, List, [], ◌∷◌, ◌⊎◌, Option, None, Some, Ok}
 use Rattle.recovery_base.specs.declared.below.SpaceId.{SpaceId}
 use Rattle.recovery_base.specs.declared.timer.Timer.TheVariants.{LossDetection}
@@ -24,16 +24,16 @@ use Rattle.recovery_sender.specs.Senders.{state_in}
 use Rattle.recovery_sender.specs.Timer.{due_of, TimerIsSet}
 
 pub data SenderStep (Q S M P : Type 0) : Type 0 where
-  -- an event is replied so
+  -- an event has this reply
   told : (event : Event Q S M P) (reply : Reply Q) → SenderStep Q S M P
   -- an event is answered, as the recovery says
   occurs : (event : Event Q S M P) → SenderStep Q S M P
-  -- a packet of a space may be lost at this moment, or at none
+  -- a packet of a space may be lost at this time, or at none
   loss_time : (space : SpaceId) (time : Option ℕ) → SenderStep Q S M P
-  -- the path in use is marked so
+  -- the path in use has these marks
   marked : (marks : PathMarks) → SenderStep Q S M P
 
--- the timer for losses is set, or stopped
+-- the loss detection timer is set, or stopped
 abbrev pub timer_event : {Q S M P : Type 0} → Option (ℕ × Due) → Event Q S M P
 timer_event None = StopTimer LossDetection
 timer_event (Some due) = SetTimer LossDetection due.0
@@ -43,8 +43,7 @@ timed due = told (timer_event due) (Ok Done)
 
 module _ {F K Q S M P : Type 0} (built : F → ℕ → ℕ → K) (words : ControllerSemantics K)
     (queue : QueueModel Q S M P) where
-  -- one after another they lead from one recovery to another: all that `LiveRecovery::apply` promises holds at each
-  -- event
+  -- the steps lead from one recovery to another in order: the promises of `LiveRecovery::apply` hold at each event
   abbrev pub StepsLeadTo : List (SenderStep Q S M P) → RecoveryState K P M → RecoveryState K P M → Type 0
   StepsLeadTo [] old new = new ≡ old
   StepsLeadTo (told event reply ∷ steps) old new = (between : RecoveryState K P M)
@@ -57,18 +56,18 @@ module _ {F K Q S M P : Type 0} (built : F → ℕ → ℕ → K) (words : Contr
   StepsLeadTo (loss_time space time ∷ steps) old new = StepsLeadTo steps (with_loss_time_at space time old) new
   StepsLeadTo (marked marks ∷ steps) old new = StepsLeadTo steps (with_marks_at Current marks old) new
 
-  -- the timer is set as it is due, where it is not so already
+  -- the timer is set to what is due, if it is not set so already
   abbrev pub RearmsTimer : Variables → RecoveryState K P M → RecoveryState K P M → Type 0
   RearmsTimer kept old new = TimerIsSet old kept × (new ≡ old)
       ⊎ (TimerIsSet old kept → ⊥) × StepsLeadTo (timed (due_of new kept) ∷ []) old new
 
 module _ {F Q R C K S M P : Type 0} {f : _} {c : _} {q : _} {m : _} {r : _} where
-  -- the same of a sender, whose variables stay
+  -- A sender takes these steps; its variables are unchanged.
   pub record TakesSteps (steps : List (SenderStep Q S M P)) (old new : Sender F Q R C K S M P f c q m r) : Type 0 where
     pub leads : StepsLeadTo f.built c.words (queue_model q.contents q.words q.blank) steps (state_in old) (state_in new)
     pub variables : new.variables ≡ old.variables
 
-  -- a call is these steps, and leaves these variables; then the timer is set as they are, where it is not so already
+  -- a call takes these steps and stores these variables; then the timer is set by them, if it is not set so already
   pub record CompletesCall (steps : List (SenderStep Q S M P)) (kept : Variables)
       (old new : Sender F Q R C K S M P f c q m r)
       : Type 0 where
@@ -77,7 +76,7 @@ module _ {F Q R C K S M P : Type 0} {f : _} {c : _} {q : _} {m : _} {r : _} wher
     pub sets : RearmsTimer f.built c.words (queue_model q.contents q.words q.blank) kept between (state_in new)
     pub variables : new.variables ≡ kept
     pub timer : TimerIsSet (state_in new) new.variables
-    -- until an address is validated, at most three times the bytes received went there
+    -- until an address is validated, at most three times the bytes received from it were sent to it
     pub limited : ForEveryRun new SendsThreefold
     -- so that it never stalls
     pub alive : ForEveryPast new (λ past. NeverStalls (state_in new) new.variables)

@@ -1,4 +1,4 @@
--- What comes of the timer for losses (RFC 9002, 6.2 and A.9).
+-- The results of the loss detection timer (RFC 9002, 6.2 and A.9).
 use Rattle.std.specs.Prelude.{◌≡◌, ℕ, ◌<◌, false, ◌⊎◌, [], Option, None, Some, Result, Ok, Err}
 use Rattle.recovery_base.specs.declared.below.SpaceId.{SpaceId}
 use Rattle.recovery_base.specs.declared.timer.Timer.TheVariants.{LossDetection}
@@ -24,14 +24,14 @@ IsEarly now None = Unit {0}
 IsEarly now (Some time) = now < time
 
 module _ {F Q R C K S M P : Type 0} {f : _} {c : _} {q : _} {m : _} {r : _} where
-  -- the space is looked at, not due to an ACK, and a deadlock is counted on from there
+  -- a pass over the space, not after an ACK; the anti-deadlock timer restarts
   pub record DetectsByTime (space : SpaceId) (now : ℕ) (old : Sender F Q R C K S M P f c q m r) (losses : Losses)
       (new : Sender F Q R C K S M P f c q m r) : Type 0 where
     pub behind : Sender F Q R C K S M P f c q m r
     pub detects : DetectsLosses space now false old losses behind
     pub does : CompletesCall [] (record old.variables { base = now }) behind new
 
-  -- so it is, or there is no room for the numbers of what may be lost: then nothing changes
+  -- the pass is made, or there is no room for the numbers that may be lost: then nothing changes
   abbrev pub SearchesByTime : SpaceId → ℕ → Sender F Q R C K S M P f c q m r → Sender F Q R C K S M P f c q m r
       → Result Timeout SenderError → Type 0
   SearchesByTime space now old new (Ok (Lost found losses)) = (found ≡ space) × DetectsByTime space now old losses new
@@ -40,8 +40,8 @@ module _ {F Q R C K S M P : Type 0} {f : _} {c : _} {q : _} {m : _} {r : _} wher
 
 module _ {F Q R C K S M P : Type 0} {f : _} {c : _} {q : _} {m : _} {r : _} (now : ℕ)
     (old new : Sender F Q R C K S M P f c q m r) where
-  -- what is due now happens: a space is searched for losses, or probes are due, two of them, or one against a deadlock
-  -- (RFC 9002, 6.2.4 and A.9); before its time the timer does nothing, and neither does a search without memory
+  -- What is due now happens: a pass over a space, two probes, or one against a deadlock (RFC 9002, 6.2.4 and A.9).
+  -- Nothing happens before the time, or if allocation fails.
   abbrev pub TimeoutResult : Result Timeout SenderError → Type 0
   TimeoutResult (Ok Nothing) = (due_now now (state_in old) old.variables ≡ None) × (new ≡ old)
   TimeoutResult (Ok (Lost space losses)) =

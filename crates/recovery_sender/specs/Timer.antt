@@ -1,4 +1,4 @@
--- When the timer for losses is due, and what for (RFC 9002, 6.2 and A.8), by what can be read of a sender.
+-- When the loss detection timer is due, and its purpose (RFC 9002, 6.2 and A.8), by what can be read of a sender.
 use Rattle.std.specs.Prelude.{◌≡◌, ℕ, ◌+◌, ◌||◌, ◌&&◌, not, min, Bool, false, Option, None, Some, option_map, if◌then◌else◌}
 use Rattle.std.specs.List.{list_any}
 use Rattle.std.specs.Option.{is_some, option_and_then, option_map_or, option_or}
@@ -21,28 +21,28 @@ use Rattle.recovery_losses.specs.declared.due.Due.TheVariants.{Losses, Probes, A
 use Rattle.recovery_losses.specs.declared.variables.Variables.{Variables}
 use Rattle.recovery_sender.specs.Spaces.{space_in}
 
--- ---- the least of moments
+-- ---- the earliest of several times
 
--- the soonest of all spaces
+-- the earliest of all spaces
 abbrev pub soonest : (SpaceId → Option (ℕ × Due)) → Option (ℕ × Due)
 soonest due = sooner (sooner (due Initial) (due Handshake)) (due Data)
 
--- a span later; it stops at the last moment of the clock
+-- `span` after a time, capped at the last time of the clock
 abbrev pub behind : ℕ → ℕ → ℕ
 behind time span = min (time + span) last_time
 
--- an estimate, or one without a sample by this RTT
+-- an RTT estimate, or one without a sample with this initial RTT
 abbrev pub rtt_or : Option ℕ → Rtt → Rtt
 rtt_or None rtt = rtt
 rtt_or (Some initial) rtt = if is_some rtt.smoothed then rtt else rtt_made initial
 
--- ---- what is asked of packets
+-- ---- tracked packets
 
--- some packet elicits an ACK
+-- a packet is ack-eliciting
 abbrev pub has_eliciting : {P M : Type 0} → Packets P M → Bool
 has_eliciting packets = list_any (λ entry. entry.1.ack_eliciting) packets
 
--- ---- spans
+-- ---- durations
 
 module _ {K P M : Type 0} (recovery : RecoveryState K P M) where
   -- the RTT estimate that timers use: before the first sample of the path in use, the initial RTT that the caller set,
@@ -64,7 +64,7 @@ module _ {K P M : Type 0} (recovery : RecoveryState K P M) (variables : Variable
   abbrev pub waits : SpaceId → Bool
   waits space = same_space space Data && not variables.is_handshake_confirmed
 
-  -- where something tracked elicits an ACK: a probe timeout behind the last packet sent that does
+  -- if a tracked packet is ack-eliciting: a probe timeout after the last ack-eliciting packet was sent
   abbrev pub probe_in : SpaceId → Space P M → Option (ℕ × Due)
   probe_in space here = if has_eliciting (packets_of here)
       then option_map (λ sent. (behind sent (pto_of recovery variables space), Probes space))
@@ -74,24 +74,24 @@ module _ {K P M : Type 0} (recovery : RecoveryState K P M) (variables : Variable
   abbrev pub probe_due : SpaceId → Option (ℕ × Due)
   probe_due space = if waits space then None else option_and_then (probe_in space) (space_in recovery space)
 
-  -- the space in which what may be a deadlock is ended: that of Handshake packets, where it has keys for it and it
-  -- was not discarded (RFC 9002, 6.2.2.1)
+  -- the space of the anti-deadlock probe: Handshake, if it has keys and is not discarded, else Initial (RFC 9002,
+  -- 6.2.2.1)
   abbrev pub deadlock_space : SpaceId
   deadlock_space = if variables.has_handshake_keys && not (is_discarded Handshake recovery.discarded)
       then Handshake else Initial
 
-  -- a space tracks a packet that elicits an ACK
+  -- a space tracks an ack-eliciting packet
   abbrev pub tracks_eliciting : SpaceId → Bool
   tracks_eliciting space =
       option_map_or (λ here. has_eliciting (packets_of here)) (space_in recovery space) false
 
-  -- a client may wait for a server that may not send (RFC 9002, 6.2.2.1); or, until the handshake is confirmed, packets
-  -- of 1-RTT keys fill the window that nobody probes for, while what the handshake needs waits
+  -- A client may wait for a server that must not send (RFC 9002, 6.2.2.1). Or, until the handshake is confirmed, 1-RTT
+  -- packets for which nobody probes fill the window, while the handshake has packets to send.
   abbrev pub may_deadlock : Bool
   may_deadlock = not (is_address_validated variables)
       || (not variables.is_handshake_confirmed && tracks_eliciting Data)
 
-  -- a probe timeout behind its base
+  -- a probe timeout after the anti-deadlock timer was started
   abbrev pub deadlock_by : Bool → Option (ℕ × Due)
   deadlock_by may = if not may || is_discarded deadlock_space recovery.discarded then None
       else Some (behind variables.base (pto_of recovery variables deadlock_space), AntiDeadlock deadlock_space)
@@ -99,7 +99,7 @@ module _ {K P M : Type 0} (recovery : RecoveryState K P M) (variables : Variable
   abbrev pub deadlock_due : Option (ℕ × Due)
   deadlock_due = deadlock_by may_deadlock
 
-  -- while the path in use may send a byte, probes are due, and a deadlock is to be ended (RFC 9000, 8.1)
+  -- probes are due, and a deadlock is to be ended, while the path in use may send a byte (RFC 9000, 8.1)
   abbrev pub probes_due : Option (ℕ × Due)
   probes_due = if is_blocked recovery.paths.current.state 1 then None
       else option_or (soonest probe_due) deadlock_due
@@ -108,6 +108,6 @@ module _ {K P M : Type 0} (recovery : RecoveryState K P M) (variables : Variable
   abbrev pub due_of : Option (ℕ × Due)
   due_of = option_or (soonest (loss_due recovery)) probes_due
 
-  -- the timer is set so
+  -- the timer is set to what is due
   abbrev pub TimerIsSet : Type 0
   TimerIsSet = moment LossDetection recovery.timers ≡ option_map (λ due. due.0) due_of

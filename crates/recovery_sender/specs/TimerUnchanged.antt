@@ -1,5 +1,5 @@
--- Events that leave the timer for losses where it is: packets that come in, ACKs that go out, contents handed out, the
--- pacer's questions, ids, and what changes nothing.
+-- Events that leave the loss detection timer unchanged: received packets, sent ACKs, taken contents, pacer checks, IDs,
+-- and events that change nothing.
 use Rattle.std.specs.Prelude.{Bool, true, false}
 use Rattle.recovery_events.specs.declared.event.Event.{Event}
 use Rattle.recovery_events.specs.declared.event.Event.TheVariants.{Received, AcksSent, AckDelayTimeout, TakePending, PacerCheck, NewId, NextId, InitialId, IssueIds, IdTimeout, PeerRetired, NextTimeout, InFlight, CheckAck}

@@ -17,7 +17,7 @@ pub struct Caller<F: ControllerFactory, Q: RetransmitQueue, R: Rng> {
     pub sender: Sender<F, Q, R>,
 }
 
-/// It is done, or refused.
+/// Returns `Done` or the error.
 fn done<Q>(done: Result<(), SenderError>) -> Result<CallReplyValue<Q>, SenderError>
     ensures { result ≡ is_done done }
 {
@@ -33,7 +33,7 @@ where
     Q: RetransmitQueue,
     R: Rng + Drop,
 {
-    /// One call, as the sender's own of its name does it.
+    /// Makes one call with the method of its name.
     pub fn call(&mut self, call: Call<Q>) -> Result<CallReplyValue<Q>, SenderError>
         ensures { CallReply call self.old.sender self.new.sender result }
     {

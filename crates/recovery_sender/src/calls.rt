@@ -1,4 +1,4 @@
-//! Calls, and what they come to.
+//! Calls of a sender as values, and their replies.
 use crate::sender::{Acknowledged, NewlyAcked, Retransmitted, SenderError, Timeout, Transmission};
 use recovery_base::below::SpaceId;
 use recovery_base::time::{Duration, Instant};
@@ -6,117 +6,117 @@ use recovery_events::event::{Answer, Event};
 use recovery_losses::Ack;
 use recovery_queue::queue::RetransmitQueue;
 
-/// A datagram that is to go out.
+/// A datagram to be sent.
 #[derive(Clone, Copy)]
 pub struct Datagram {
     /// The space of its packets.
     pub space: SpaceId,
-    /// When it is to go.
+    /// The time of transmission.
     pub now: Instant,
     /// Its size in bytes.
     pub bytes: u16,
-    /// Whether something in it counts in flight.
+    /// Whether the datagram counts in flight.
     pub in_flight: bool,
 }
 
-/// An ACK frame that came in.
+/// A received ACK frame.
 #[derive(Drop)]
 pub struct Frame {
     /// The space of the packet that held it.
     pub space: SpaceId,
-    /// When it came in.
+    /// When it was received.
     pub now: Instant,
     /// The first and last number of each of its ranges, the highest range first.
     pub ranges: Vec<(u64, u64)>,
-    /// What it says beside.
+    /// Its other fields.
     pub ack: Ack,
 }
 
-/// What an ACK frame would newly acknowledge is asked for.
+/// A query of what an ACK frame would newly acknowledge.
 #[derive(Drop)]
 pub struct Asked {
     /// The space of the packet that held it.
     pub space: SpaceId,
     /// The first and last number of each of its ranges, the highest range first.
     pub ranges: Vec<(u64, u64)>,
-    /// The list whose memory takes the numbers.
+    /// An empty or used list, whose memory is reused for the numbers.
     pub room: Vec<u64>,
 }
 
-/// A probe is to be sent.
+/// A probe to be sent.
 #[derive(Drop)]
 pub struct Asking<Q: RetransmitQueue> {
     /// The space of its packet.
     pub space: SpaceId,
-    /// Whether it asks for an ACK at once.
+    /// Whether it asks for an immediate ACK.
     pub immediate_ack: bool,
-    /// What queues are asked with.
+    /// What queues take as `streams`.
     pub streams: Q::Streams,
 }
 
 /// A call of a sender.
 #[derive(Drop)]
 pub enum Call<Q: RetransmitQueue> {
-    /// A datagram is to go out.
+    /// Checks whether a datagram may be sent.
     Transmit(Datagram),
-    /// An ACK frame came in.
+    /// An ACK frame was received.
     Ack(Frame),
-    /// The timer for losses may be due.
+    /// The loss detection timer may be due.
     Timeout(Instant),
-    /// A probe is to be sent: what it carries.
+    /// Takes the contents of a probe.
     Probe(Asking<Q>),
-    /// A datagram of so many bytes came in.
+    /// A datagram of this many bytes was received.
     Datagram(u64),
-    /// There are keys of Handshake packets.
+    /// Handshake keys are available.
     HandshakeKeys,
     /// The handshake is confirmed.
     HandshakeConfirmed,
     /// The peer's address is validated.
     AddressValidated,
-    /// The peer delays its ACKs at most so long.
+    /// The peer's max_ack_delay.
     PeerDelay(Duration),
-    /// The RTT before the first sample of the path in use.
+    /// Sets the RTT that timers use before the first sample of the path in use.
     InitialRtt(Duration),
-    /// A PATH_CHALLENGE frame with this data is open, or none is, and whether one is to be sent.
+    /// Stores the data of the outstanding PATH_CHALLENGE frame, if any, and whether a PATH_CHALLENGE is to be sent.
     Challenge(Option<u64>, bool),
-    /// What an ACK frame would newly acknowledge. `Ack` is this and the rest of it.
+    /// Returns what an ACK frame would newly acknowledge, as `Ack` does first.
     NewlyAcked(Asked),
-    /// The keys of a space are dropped.
+    /// Discards a space with its keys.
     Discard(SpaceId, Instant),
-    /// What was sent in a space was sent in vain.
+    /// Declares all packets of a space lost.
     Abandon(SpaceId, Instant),
-    /// An event: a packet is sent, a probe of the MTU asked for, and what else a recovery is told.
+    /// An event, for example a packet that is sent, or a check for an MTU probe.
     Event(Event<Q>),
 }
 
-/// What a call comes to.
+/// The reply to a call.
 #[derive(Drop)]
 pub enum CallReplyValue<Q> {
-    /// Whether a datagram goes out.
+    /// Whether a datagram may be sent.
     Transmission(Transmission),
-    /// What an ACK frame comes to.
+    /// The result of an ACK frame.
     Acknowledged(Acknowledged),
     /// What an ACK frame would newly acknowledge.
     Newly(NewlyAcked),
-    /// What a timeout comes to.
+    /// The result of a timeout.
     Timeout(Timeout),
-    /// What a probe carries.
+    /// The contents of a probe.
     Probe(Q),
-    /// What was declared lost with a space.
+    /// The packets of a space that were declared lost.
     Retransmitted(Retransmitted),
-    /// What an event is answered.
+    /// The answer to an event.
     Answer(Answer<Q>),
-    /// The sender decides the event itself; nothing is done.
+    /// Only the sender itself makes this event; nothing is done.
     Decided,
-    /// It is done.
+    /// The call is done.
     Done,
 }
 
-/// What is said to a call.
+/// The reply to a call, with the timer.
 #[derive(Drop)]
 pub struct CallRecord<Q> {
-    /// What it comes to, or why it is refused.
+    /// The reply, or the error.
     pub reply: Result<CallReplyValue<Q>, SenderError>,
-    /// When the timer for losses is due behind it.
+    /// When the loss detection timer is due after the call.
     pub timer: Option<Instant>,
 }

@@ -1,6 +1,5 @@
-//! The sending half of a connection (RFC 9002, Appendices A and B): which packets are lost, when to probe, and whether
-//! a datagram may go out. One call for an ACK frame, one for the timer. Begin at `sender.rt`, and at
-//! `specs/Timer.antt`.
+//! The sender of one endpoint (RFC 9002, Appendices A and B): which packets are lost, when to probe, and whether a
+//! datagram may be sent. One call for an ACK frame, one for the timer. Begin at `sender.rt` and `specs/Timer.antt`.
 #![tactic(auto)]
 
 mod caller;

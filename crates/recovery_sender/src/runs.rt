@@ -1,4 +1,4 @@
-//! A run of a sender over calls that come, with what they come to going on.
+//! Runs of a sender over a source of calls, with a sink for the replies.
 ghost use Rattle.std.specs.Prelude.{◌≤◌, ◌<◌, ◌⊎◌, IfOk, OnErr, length};
 ghost use Rattle.recovery_base.specs.declared.timer.Timer.TheVariants.{LossDetection};
 ghost use Rattle.recovery_base.specs.Units.{number_limit};
@@ -19,7 +19,7 @@ use recovery_losses::Side;
 use recovery_queue::queue::RetransmitQueue;
 use std::alloc::Global;
 
-/// A sender that takes calls, and the sink of what is said to them.
+/// A sender that takes calls, and the sink of the replies.
 #[derive(Drop)]
 struct Runner<F: ControllerFactory, Q: RetransmitQueue, R: Rng, S> {
     caller: Caller<F, Q, R>,
@@ -43,9 +43,9 @@ where
     }
 }
 
-/// Every call that a source gives, in order: the sender that is left, and the sink that took what was said, to each
-/// call before the next is given. No call and no reply is kept. Whatever ended the source, all that is promised of a
-/// call holds of those that it gave (`Says`).
+/// Makes every call that a source gives, in order. Returns the sender and the sink. The sink takes each reply before
+/// the next call is given; no call and no reply is stored. However the source ends, the promises of each call hold
+/// (`CallReply`).
 pub fn run_over<F, Q, R, E, S>(
     sender: Sender<F, Q, R>,
     calls: &mut E,
@@ -69,9 +69,8 @@ where
     (caller.sender, said)
 }
 
-/// Every call in order, from a sender to which nothing has happened: the sender that is left, and what was said to each
-/// call. Room for that is made first, so that want of memory is `NoMemory` before the first call, and only ever a
-/// refusal from then on.
+/// Makes every call in order, from a new sender. Returns the sender and the replies. Room for the replies is allocated
+/// first. So `run` itself fails with `NoMemory` only before the first call; later allocation failures are replies.
 pub fn run<F, Q, R>(
     alloc: Global,
     side: Side,
@@ -87,8 +86,8 @@ where
     requires issued { config.issued ≤ number_limit }
     requires skips { IsSkips config.skips }
 
-    // Each call has one reply, and all that is promised of a call holds of it: by the state before, and by the events
-    // before (`Says`).
+    // Each call has one reply, and the promises of the call hold for it: by the state before, and by the events before
+    // (`CallReply`).
     ensures runs { IfOk result
         (λ ran. IsRun side config start (R.stream rng) calls.items ran.1.items ran.0) }
     ensures memory { OnErr result ((0 < config.issued) ⊎ (0 < length calls.items)) }

@@ -1,4 +1,4 @@
-//! The sender: one recovery, and the little that decides beside it (RFC 9002, A.3).
+//! The sender: one recovery, and the variables by which it decides (RFC 9002, A.3).
 ghost use Rattle.std.specs.Prelude.{◌≡◌, true};
 ghost use Rattle.quic_recovery.specs.State.{state_of};
 ghost use Rattle.recovery_sender.specs.Bounds.{ArePathsBounded};
@@ -30,12 +30,12 @@ pub use packets::Transmission;
 pub use probes::Timeout;
 pub use readings::TimerState;
 
-/// Why a call is refused.
+/// Why a call fails.
 #[derive(Clone, Copy)]
 pub enum SenderError {
-    /// As an event of the recovery is.
+    /// The error of the recovery's event.
     Event(Refusal),
-    /// A number was acknowledged that was never sent (RFC 9000, 13.1).
+    /// A packet number was acknowledged that was never sent (RFC 9000, 13.1).
     Unsent,
 }
 
@@ -45,13 +45,13 @@ impl From<Refusal> for SenderError {
     }
 }
 
-/// The sending half of a connection: what is in flight is what its recovery tracks, and no second list is kept.
+/// The sender of one endpoint. Its recovery tracks the packets in flight; the sender has no second list.
 #[derive(Drop)]
 pub struct Sender<F: ControllerFactory, Q: RetransmitQueue, R: Rng> {
     alloc: Global,
     recovery: LiveRecovery<F, Q, R>,
     variables: Variables,
-    /// Whether the timer for losses is known to be set as it is due; then it is left alone where nothing moves it.
+    /// Whether the loss detection timer is known to be set correctly. Then it is not set again if no input changes.
     is_timer_current: bool,
     ghost bounded: { ArePathsBounded F.Controller.words (state_of recovery.recovery) },
     ghost timed: { is_timer_current ≡ true → TimerIsSet (state_of recovery.recovery) variables },
@@ -63,14 +63,14 @@ where
     Q: RetransmitQueue,
     R: Rng + Drop,
 {
-    /// The recovery, to look at.
+    /// Returns the recovery, for reading.
     pub fn recovery(&self) -> &Recovery<F, Q, R>
         ensures { result.now ≡ self.now.recovery.recovery }
     {
         self.recovery.recovery()
     }
 
-    /// What is kept beside it.
+    /// Returns the variables besides the recovery.
     pub fn variables(&self) -> &Variables
         ensures { result.now ≡ self.now.variables }
     {

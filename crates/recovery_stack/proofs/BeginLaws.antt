@@ -1,4 +1,4 @@
--- What is made of settings in which nothing is wrong: `begin` rests on it.
+-- The result of `begin` with valid settings.
 use Rattle.std.proofs.Common.{◌≡◌, ℕ, false, List, Option, Some, None, length, nat_lt, is_some, refl, subst, sym, arith, inl, ◌∙◌}
 use Rattle.std.proofs.lemmas.Bool.Decides.{nat_tests}
 use Rattle.std.specs.Prelude.{if◌then◌else◌}
@@ -11,7 +11,7 @@ use Rattle.recovery_engine.specs.declared.numbers.TheConstants.{NEW_CID_TOO_LONG
 use Rattle.recovery_stack.specs.declared.settings.Settings.{Settings}
 use Rattle.recovery_stack.specs.declared.stack.Stack.{Stack}
 
--- an id that was taken is the one that was given, and not too long
+-- an ID that was accepted is the given one, and not too long
 taken : (bytes id : List ℕ) → Some id ≡ cid bytes → (nat_lt 20 (length bytes) ≡ false) × (id ≡ bytes)
 taken bytes id is = grind (arith, nat_tests, is)
 

@@ -1,4 +1,4 @@
--- What is said of a handle follows from what is said of the stack that it holds.
+-- What holds for a handle follows from what holds for the stack in it.
 use Rattle.std.proofs.Common.{◌≡◌, ℕ, Bool, List, Option, Some, subst, sym}
 use Rattle.recovery_paths.specs.PathStates.{PathMarks}
 use Rattle.recovery_paths.specs.declared.path_pair.PathName.{PathName}

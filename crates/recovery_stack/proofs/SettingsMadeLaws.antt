@@ -1,4 +1,4 @@
--- What is made is what was asked for.
+-- The recovery is made as the settings request.
 use Rattle.std.proofs.Common.{◌≡◌, ℕ, Bool, true, false, List, Option, subst}
 use Rattle.std.specs.declared.net.socket_addr.SocketAddr.{SocketAddr}
 use Rattle.recovery_engine.specs.declared.controllers.ChosenConfig.{ChosenConfig}

@@ -1,4 +1,4 @@
--- What a call of a pacer comes to that stands alone (RFC 9002, 7.7).
+-- The calls of a pacer without a recovery (RFC 9002, 7.7).
 use Rattle.std.specs.Prelude.{◌≡◌, ◌⊎◌, ℕ, ◌<◌, ◌==◌, ◌||◌, if◌then◌else◌, Option, Some, None}
 use Rattle.recovery_congestion.specs.Pacing as Pacing
 use Rattle.recovery_congestion.specs.Pacing.{PacerCall, IsBucketSound, bucket_made, paced, pacer_delay, less_tokens}
@@ -7,7 +7,7 @@ use Rattle.recovery_stack.specs.declared.pacer.Bucket.{Bucket}
 use Rattle.recovery_engine.specs.declared.spelling.EncodedReply.{EncodedReply}
 use Rattle.recovery_engine.specs.Replies.{plain, bad_argument}
 
--- the bucket that these numbers are, and its numbers
+-- a bucket from its numbers, and its numbers
 abbrev pub bucket_in : Bucket → Pacing.Bucket
 bucket_in given = record {
   capacity = given.capacity;
@@ -29,12 +29,12 @@ bucket_shown bucket = record {
 abbrev pub no_bucket : Bucket
 no_bucket = record { capacity = 0; window = 0; tokens = 0; last = 0; mtu = 0 }
 
--- a full bucket; none of a window or an MTU of zero
+-- a full bucket; none if the window or the MTU is zero
 abbrev pub bucket_first : ℕ → ℕ → ℕ → ℕ → Bucket
 bucket_first rtt window mtu now =
     if (window == 0) || (mtu == 0) then no_bucket else bucket_shown (bucket_made rtt window mtu now)
 
--- what is no bucket is refused, and stays
+-- a call without a bucket fails, and nothing changes
 abbrev pub IsNoBucket : Type 0 → Bucket → EncodedReply → Bucket → Type 0
 IsNoBucket Sound old reply new = (¬ Sound) × (reply ≡ bad_argument) × (new ≡ old)
 

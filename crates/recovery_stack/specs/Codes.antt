@@ -1,4 +1,4 @@
--- Enums and what else crosses by numbers.
+-- Enums and other values of the interface, by numbers.
 use Rattle.std.specs.Prelude.{◌≡◌, ℕ, ◌+◌, ◌*◌, ◌&&◌, Bool, IsTrue, IsFalse, List, length, Option, Some, None, option_map, option_and_then, min, take, slice_get, if◌then◌else◌, ◌==◌, nat_lt, nat_le}
 use Rattle.std.specs.Net.Addr.{ipv4_octets, ipv6_segments, segments_of}
 use Rattle.std.specs.Net.Socket.{v4_ip, v4_port, v6_ip, v6_port, v6_flowinfo, v6_scope_id}
@@ -21,7 +21,7 @@ use Rattle.recovery_losses.specs.declared.variables.Side.TheVariants.{Client, Se
 use Rattle.recovery_stack.specs.declared.codes.Address.{Address}
 use Rattle.recovery_stack.specs.declared.codes.Id.{Id}
 
--- ---- what a number names, if anything
+-- ---- the value of a number, if any
 
 abbrev pub space_coded : ℕ → Option SpaceId
 space_coded code =
@@ -39,11 +39,11 @@ side_coded client = if client then Client else Server
 abbrev pub maybe : Bool → ℕ → Option ℕ
 maybe some number = if some then Some number else None
 
--- nanoseconds that stop at the end of 64 bits
+-- nanoseconds, capped at 64 bits
 abbrev pub nanos_shown : ℕ → ℕ
 nanos_shown span = min span largest_u64
 
--- the address that is given
+-- the given address
 abbrev pub IsSocketAddress : Address → SocketAddr → Type 0
 IsSocketAddress given (V4 address) =
     IsFalse given.v6 × (ipv4_octets (v4_ip address) ≡ take 4 given.octets) × (v4_port address ≡ given.port)
@@ -51,13 +51,13 @@ IsSocketAddress given (V6 address) =
     IsTrue given.v6 × (ipv6_segments (v6_ip address) ≡ segments_of given.octets) × (v6_port address ≡ given.port)
     × (v6_flowinfo address ≡ given.flowinfo) × (v6_scope_id address ≡ given.scope_id)
 
--- an id as it is issued
+-- an ID in the form in which it is issued
 abbrev pub issued_of : Id → IssuedCid
 issued_of given = record { sequence = given.sequence; id = take given.len given.bytes; reset_token = given.token }
 
--- ---- spans, ids and frames, from the numbers and bytes that cross, where these are in their ranges
+-- ---- durations, IDs and frames from their numbers and bytes, if these are in range
 
--- seconds and nanoseconds, which are fewer than a second's
+-- seconds and nanoseconds, which are below 10^9
 abbrev pub span : ℕ → ℕ → Option ℕ
 span secs nanos = if nat_lt nanos seconds then Some (secs * seconds + nanos) else None
 
@@ -69,7 +69,7 @@ spans delay_secs delay_nanos rtt_secs rtt_nanos =
 abbrev pub cid : List ℕ → Option (List ℕ)
 cid bytes = if nat_le (length bytes) longest_cid then Some bytes else None
 
--- the numbers of a frame lie below 2^62
+-- the numbers of a frame are below 2^62
 abbrev pub request : ℕ → ℕ → ℕ → ℕ → Option AckFrequency
 request sequence threshold micros reordering =
     if nat_lt sequence number_limit && nat_lt threshold number_limit && nat_lt micros number_limit

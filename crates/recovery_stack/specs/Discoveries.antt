@@ -1,4 +1,4 @@
--- What a call of an MTU discovery comes to that stands alone (RFC 8899).
+-- The calls of an MTU discovery without a recovery (RFC 8899).
 use Rattle.std.specs.Prelude.{◌≡◌, ◌⊎◌, ◌≢◌, ℕ, Bool, true, false, ◌&&◌, not, nat_lt, max, ◌==◌, if◌then◌else◌, Option, Some, None, is_some, unwrap_or}
 use Rattle.recovery_mtud.specs.Discovery.{Discovery, discovery_made, poll_of, probe_of, is_probe, is_searching_of, reports}
 use Rattle.recovery_mtud.specs.DiscoveryLog.{MtuCall, discovery_after, polls, is_limited, acks, loses_probe, loses, losses_end, resets}
@@ -11,7 +11,7 @@ use Rattle.recovery_engine.specs.declared.spelling.EncodedReply.{EncodedReply}
 use Rattle.recovery_engine.specs.Replies.{plain, bad_argument, no_recovery}
 use Rattle.recovery_stack.specs.Settings.{discovery_of, settings_fault}
 
--- the call as the discovery is told it: packets are those of Data
+-- the call in terms of the discovery: packets are those of the space Data
 abbrev pub call_of : Call → MtuCall
 call_of (Poll now number) = polls now number
 call_of (Limit size) = is_limited size
@@ -24,7 +24,7 @@ call_of (Reset mtu min_mtu) = resets mtu min_mtu
 abbrev pub told_to : Call → Discovery → Discovery
 told_to call = discovery_after (call_of call)
 
--- sizes are above zero, and the peer's limit comes while no search runs
+-- sizes are above zero, and the peer's limit is set while no search is running
 abbrev pub is_allowed : Call → Discovery → Bool
 is_allowed (Limit size) discovery = nat_lt 0 size && not (is_searching_of discovery)
 is_allowed (Reset mtu min_mtu) discovery = nat_lt 0 mtu && nat_lt 0 min_mtu
@@ -34,15 +34,14 @@ abbrev pub probe_spelled : Option ℕ → ℕ → EncodedReply
 probe_spelled (Some size) number = record (plain ANSWER_PROBE) { first = number; size = size }
 probe_spelled None number = plain ANSWER_NO_PROBE
 
--- a probe that is due, whether it was the probe, whether a black hole is reported, and else that it is done
+-- the reply: a probe that is due, whether it was the probe, whether a black hole is reported, or else done
 abbrev pub discovery_told : Call → Discovery → EncodedReply
 discovery_told (Poll now number) discovery = probe_spelled (poll_of now discovery) number
 discovery_told (Acked number bytes) discovery = record (plain ANSWER_ACKED) { flag = is_probe number discovery }
 discovery_told (LossesDone now) discovery = record (plain ANSWER_BLACK_HOLE) { flag = reports discovery }
 discovery_told call discovery = plain ANSWER_DONE
 
--- a call that is allowed is answered and told; where none is held, and where it is not allowed, it is refused, and
--- nothing changes
+-- a call that is allowed is answered; if it is not allowed, or none is held, it fails and nothing changes
 abbrev pub DiscoveryAnswers : Option Discovery → Call → EncodedReply → Option Discovery → Type 0
 DiscoveryAnswers None call reply new = (reply ≡ no_recovery) × (new ≡ None)
 DiscoveryAnswers (Some old) call reply new =
@@ -50,15 +49,15 @@ DiscoveryAnswers (Some old) call reply new =
     (reply ≡ (if allowed then discovery_told call old else bad_argument))
     × (new ≡ Some (if allowed then told_to call old else old))
 
--- a discovery as a path of these settings has it, for a peer that takes packets of at most so many bytes; 0 says that
--- it did not tell
+-- the discovery of a path with these settings, for a peer that accepts packets of at most `limit` bytes, or 0 if it
+-- stated no limit
 abbrev pub discovery_by : Settings → ℕ → Discovery
 discovery_by settings limit =
     discovery_made (max settings.initial_mtu settings.min_mtu) settings.min_mtu
     (if limit == 0 then None else Some limit)
     (if settings.allow_mtud then discovery_of settings else None)
 
--- where nothing is wrong with the settings it is held from then on, or there was no memory; what is held stays
+-- if the settings are valid, a new discovery is held, or there was no memory; a discovery that was held already stays
 abbrev pub NewDiscovery : ℕ → Settings → ℕ → Option Discovery → Option Discovery → Type 0
 NewDiscovery code settings limit (Some old) new = (code ≡ NEW_HELD) × (new ≡ Some old)
 NewDiscovery code settings limit None new =
@@ -66,7 +65,7 @@ NewDiscovery code settings limit None new =
     ⊎ ((settings_fault settings ≡ NEW_MADE) × (code ≡ NEW_NO_MEMORY) × (new ≡ None))
     ⊎ ((settings_fault settings ≢ NEW_MADE) × (code ≡ settings_fault settings) × (new ≡ None))
 
--- what can be read of it; of a handle that holds none, that there is nothing
+-- the readable state; if none is held, the empty view
 abbrev pub mtu_shown : Discovery → MtuView
 mtu_shown discovery = record {
   probe = unwrap_or (probe_of discovery) 0;

@@ -1,4 +1,4 @@
--- What a handle owns: what a box owns, or nothing. Of a recovery's stack and of an MTU discovery alike.
+-- The contents of a handle: what a box owns, or nothing. For a recovery's stack and an MTU discovery alike.
 use base.Fml.{Fml, ftrue}
 use Rattle.std.specs.Coded.{Coded, coded_option}
 use denote.RattleType.{RattleType}
@@ -35,7 +35,7 @@ abbrev pub IsHeld : {T : Type 0} → Option T → Type 0
 IsHeld None = ⊥
 IsHeld (Some value) = Unit {0}
 
--- it is held where it was made, and else nothing
+-- it is held if it was made, and else nothing
 abbrev pub HoldsIf : {T : Type 0} → Bool → T → Option T → Type 0
 HoldsIf true value held = held ≡ Some value
 HoldsIf false value held = held ≡ None

@@ -1,4 +1,4 @@
--- What the layer above keeps with a path, in numbers.
+-- The caller's marks of a path, in numbers.
 use Rattle.std.specs.Prelude.{◌≡◌, ℕ, Bool, IsFalse, true, false, [], Option, Some, None, is_some, option_map, if◌then◌else◌}
 use Rattle.std.specs.Option.{option_map_or}
 use Rattle.recovery_base.specs.declared.below.SpaceId.{SpaceId}
@@ -10,13 +10,13 @@ use Rattle.recovery_engine.specs.Kept.{MarksKept}
 use Rattle.recovery_stack.specs.declared.marks.Marks.{Marks}
 use Rattle.recovery_stack.specs.declared.stack.Stack.{Stack}
 
--- the first packet that was sent after a sample, where there is one; nothing is given where it has no space
+-- the first packet that was sent after an RTT sample, if any; no marks if its space is invalid
 abbrev pub first_of : Marks → Option (Option (SpaceId × ℕ))
 first_of given =
     if given.has_first then option_map (λ space. Some (space, given.first_number)) (space_coded given.first_space)
     else Some None
 
--- marks as they are given; no PATH_RESPONSE frames are among them
+-- the given marks, without PATH_RESPONSE frames
 abbrev pub marks_given : Marks → Option PathMarks
 marks_given given = option_map (λ first. record {
   challenge = maybe given.has_challenge given.challenge;
@@ -49,20 +49,20 @@ marks_shown (Some marks) = record {
   lives = true;
 }
 
--- a sender sets them itself (`MarksKept`); what was handed out stays
+-- a sender sets its marks itself (`MarksKept`); the last results are unchanged
 pub record MarksStack (name : PathName) (marks : PathMarks) (is_set : Bool) (old new : Stack) : Type 0 where
   pub kept : MarksKept name marks is_set old.kept new.kept
   pub taken : new.taken ≡ old.taken
   pub token : new.token ≡ old.token
 
--- the same of what is held
+-- the marks of the held recovery are set
 pub record HandsMarks (name : PathName) (marks : PathMarks) (is_set : Bool) (was : Stack) (new : Option Stack)
     : Type 0 where
   pub is : Stack
   pub holds : new ≡ Some is
   pub changes : MarksStack name marks is_set was is
 
--- where nothing is held, or no marks are given, nothing changes
+-- nothing changes if none is held, or the marks are invalid
 abbrev pub SetsMarks : PathName → Option PathMarks → Bool → Option Stack → Option Stack → Type 0
 SetsMarks name None is_set old new = IsFalse is_set × (new ≡ old)
 SetsMarks name (Some marks) is_set None new = IsFalse is_set × (new ≡ None)

@@ -1,4 +1,4 @@
--- What a call of a sender comes to, of what a handle holds.
+-- The calls of a sender, on a handle.
 use Rattle.std.specs.Prelude.{◌≡◌, ℕ, Bool, List, [], Option, None, Some, Result, Ok, Err, option_map, option_and_then, if◌then◌else◌}
 use Rattle.recovery_base.specs.declared.below.SpaceId.{SpaceId}
 use Rattle.recovery_base.specs.Units.{largest_u64}
@@ -29,16 +29,16 @@ pub record HandsOn (was : Stack) (call : Call) (given : List AckRange) (spelling
     pub holds : new ≡ Some is
     pub asks : AsksStack call given was spelling is
 
--- where a handle holds none, the call is refused
+-- if the handle holds none, the call fails
 abbrev pub AsksWith : Option Stack → Call → List AckRange → EncodedReply → Option Stack → Type 0
 AsksWith None call given spelling new = (spelling ≡ no_recovery) × (new ≡ None)
 AsksWith (Some was) call given spelling new = HandsOn was call given spelling new
 
--- a call of anything but an ACK frame
+-- a call other than an ACK frame
 abbrev pub CallsSender : Option Stack → Call → EncodedReply → Option Stack → Type 0
 CallsSender old call spelling new = AsksWith old call [] spelling new
 
--- the call of what an argument names, where it names something
+-- the call of an argument's value, if the argument is valid
 abbrev pub CallsSenderTo : {C : Type 0} → Option C → (C → Call) → Option Stack → EncodedReply → Option Stack → Type 0
 CallsSenderTo None call old spelling new = IsBadArgument old spelling new
 CallsSenderTo (Some named) call old spelling new = CallsSender old (call named) spelling new
@@ -49,7 +49,7 @@ abbrev pub probe_spelled : Result (List ℕ) EncodedReply → EncodedReply
 probe_spelled (Ok queue) = plain ANSWER_QUEUE
 probe_spelled (Err refusal) = refusal
 
--- the queue that was taken last is then what the probe carries
+-- the queue that was taken last is then the contents of the probe
 abbrev pub probe_taken : Result (List ℕ) EncodedReply → List ℕ → List ℕ
 probe_taken (Ok queue) taken = queue
 probe_taken (Err refusal) taken = taken
@@ -69,17 +69,17 @@ pub record ProbesHeld (was : Stack) (space : SpaceId) (immediate : Bool) (spelli
     pub holds : new ≡ Some is
     pub probes : ProbesStack space immediate was spelling is
 
--- where a handle holds none, the call is refused
+-- if the handle holds none, the call fails
 abbrev pub ProbesHandle : Option Stack → SpaceId → Bool → EncodedReply → Option Stack → Type 0
 ProbesHandle None space immediate spelling new = (spelling ≡ no_recovery) × (new ≡ None)
 ProbesHandle (Some was) space immediate spelling new = ProbesHeld was space immediate spelling new
 
--- in the space that a number names, where it names one
+-- in the space with a number, if there is one
 abbrev pub ProbesIn : Option SpaceId → Bool → Option Stack → EncodedReply → Option Stack → Type 0
 ProbesIn None immediate old spelling new = IsBadArgument old spelling new
 ProbesIn (Some space) immediate old spelling new = ProbesHandle old space immediate spelling new
 
--- ---- an ACK frame as it is given
+-- ---- an ACK frame as given
 
 abbrev pub ack_with : AckFrame → ℕ → Ack
 ack_with frame delay = record {
@@ -88,7 +88,7 @@ ack_with frame delay = record {
   app_limited = frame.app_limited;
 }
 
--- the delay has fewer nanoseconds than a second
+-- the delay has less than 10^9 nanoseconds
 abbrev pub ack_given : AckFrame → Option Ack
 ack_given frame = option_map (ack_with frame) (span frame.delay_secs frame.delay_nanos)
 

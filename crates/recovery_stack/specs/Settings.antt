@@ -1,4 +1,4 @@
--- What a recovery is made with.
+-- The settings of a recovery.
 use Rattle.std.specs.Prelude.{ℕ, ◌*◌, ◌≤◌, ◌<◌, ◌==◌, ◌||◌, nat_lt, nat_le, min, max, true, false, List, Option, None, Some, if◌then◌else◌}
 use Rattle.std.specs.declared.net.socket_addr.SocketAddr.{SocketAddr}
 use Rattle.rand_core.specs.Pcg32Seed.{pcg32_seed}
@@ -22,7 +22,7 @@ use Rattle.recovery_engine.specs.declared.numbers.TheConstants.{CONTROLLER_CUBIC
 use Rattle.recovery_stack.specs.declared.settings.Settings.{Settings}
 use Rattle.recovery_stack.specs.Codes.{maybe}
 
--- the first thing that is wrong with settings; `NEW_MADE` where nothing is
+-- the first error in settings; `NEW_MADE` if there is none
 abbrev pub settings_fault : Settings → ℕ
 settings_fault settings =
     if nat_lt number_limit settings.issued then NEW_TOO_MANY_ISSUED else
@@ -33,7 +33,7 @@ settings_fault settings =
     (if nat_lt CONTROLLER_CUBIC settings.controller then NEW_UNKNOWN_CONTROLLER else
     (if nat_lt SKIPS_STARTING settings.skips then NEW_UNKNOWN_SKIPS else NEW_MADE))))))
 
--- what the parts of a recovery require of settings in which nothing is wrong
+-- what the parts of a recovery require of valid settings
 pub record AreSettingsSound (settings : Settings) : Type 0 where
   pub issued : settings.issued ≤ number_limit
   pub first_skip : settings.first_skip < first_skip_limit
@@ -59,8 +59,8 @@ controller_of settings =
     if settings.controller == CONTROLLER_NEW_RENO then Reno (reno_of settings) else
     (if settings.controller == CONTROLLER_FIXED then Fixed settings.initial_window else Cubic settings.initial_window)
 
--- how the MTU is searched for: a bound above what UDP carries, and a step of nothing, are stored as the nearest that
--- serve
+-- the configuration of MTU discovery: a bound above the limit of UDP, and a step of zero, are replaced by the nearest
+-- valid ones
 abbrev pub discovery_of : Settings → Option MtuDiscoveryConfig
 discovery_of settings =
     if settings.searches
@@ -94,7 +94,7 @@ config_of settings cid remote = record (config_with (transport_of settings) remo
   skips = skips_of settings.skips settings.first_skip;
 }
 
--- the settings that are used by default (RFC 9000, 14 and 18.2; RFC 9002, 6.1, 6.2.2, 7.2 and 7.6.1)
+-- the default settings (RFC 9000, 14 and 18.2; RFC 9002, 6.1, 6.2.2, 7.2 and 7.6.1)
 abbrev pub default_settings : Settings
 default_settings = record {
   max_ack_delay = 25 * milliseconds;
@@ -125,6 +125,6 @@ default_settings = record {
   searches = true;
 }
 
--- the words that are drawn: those of PCG32 with the seed
+-- the random stream: that of PCG32 with the seed
 abbrev pub words_of : ℕ → Stream
 words_of seed = stream_of (steps_u32 pcg32) (pcg32_of_seed (pcg32_seed 16 seed))

@@ -1,4 +1,4 @@
--- What of a recovery can be read in a few instructions, in numbers.
+-- Readings of a recovery that cost a few instructions, in numbers.
 use Rattle.std.specs.Prelude.{◌≡◌, ℕ, true, false, length, is_some, Option, None, Some}
 use Rattle.std.specs.Option.{option_map_or}
 use Rattle.recovery_congestion.specs.Rtt.{rtt_get, pto_base_of}

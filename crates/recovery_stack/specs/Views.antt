@@ -1,4 +1,4 @@
--- What of a recovery can be read, in numbers.
+-- What can be read of a recovery, in numbers.
 use Rattle.std.specs.Prelude.{◌≡◌, ℕ, List, [], length, true, false, IsTrue, Option, Some, None, is_some, option_and_then, option_map, if◌then◌else◌}
 use Rattle.std.specs.Option.{option_map_or}
 use Rattle.std.specs.declared.ops.Range.{Range}
@@ -68,7 +68,7 @@ no_path = record {
   validated = false;
 }
 
--- of a path, where it lives
+-- of a path, if it exists
 abbrev pub path_view : Option (Path Chosen) → PathView
 path_view None = no_path
 path_view (Some path) = path_shown path
@@ -78,7 +78,7 @@ abbrev pub space_kept : {K P M : Type 0} → SpaceId → RecoveryState K P M →
 space_kept space parts =
     if is_discarded space parts.discarded then None else Some (space_of space parts.spaces)
 
--- of the space that a number names
+-- of the space with a number
 abbrev pub space_named : {K P M : Type 0} → ℕ → RecoveryState K P M → Option (Space P M)
 space_named code parts = option_and_then (λ space. space_kept space parts) (space_coded code)
 
@@ -92,7 +92,7 @@ no_space = record {
   other = false;
 }
 
--- of a space, where it is kept
+-- of a space that is not discarded
 abbrev pub IsSpaceShown : {M : Type 0} → Option (Space (List ℕ) M) → SpaceView → Type 0
 IsSpaceShown None view = view ≡ no_space
 IsSpaceShown (Some space) view =
@@ -101,7 +101,7 @@ IsSpaceShown (Some space) view =
     × IsSendable item_words (tt {0}) (heard_of space) (queued_of space)
     (record { acks = view.acks; other = view.other })
 
--- the ranges of numbers that are to be acknowledged in a space, where it is kept
+-- the ranges of packet numbers to be acknowledged in a space that is not discarded
 abbrev pub ranges_in : {P M : Type 0} → Option (Space P M) → List (Range ℕ)
 ranges_in None = []
 ranges_in (Some space) = (acks_of space).ranges
@@ -114,11 +114,11 @@ abbrev pub moment_shown : Option ℕ → TimeView
 moment_shown (Some moment) = record { nanos = moment; some = true }
 moment_shown None = record { nanos = 0; some = false }
 
--- of the timer that a number names
+-- of the timer with a number
 abbrev pub moment_named : ℕ → TimerTable → TimeView
 moment_named code timers = moment_shown (option_and_then (λ timer. moment timer timers) (timer_coded code))
 
--- how long ago the largest packet came in the space that a number names
+-- how long ago the largest packet was received in the space with a number
 abbrev pub ack_delay_named : {K P M : Type 0} → ℕ → ℕ → RecoveryState K P M → TimeView
 ack_delay_named code now parts =
     let delay_in : Space _ _ → ℕ = λ space. nanos_shown (delay_at now (acks_of space).counts.largest) in

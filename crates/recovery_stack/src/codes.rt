@@ -1,4 +1,4 @@
-//! Enums by their numbers, and what else crosses.
+//! Enums by their numbers, and other values of the interface.
 ghost use Rattle.std.specs.Prelude.{◌≡◌, ◌≤◌, ◌<◌, Decides, IfOk, OnErr, length, map};
 ghost use Rattle.std.specs.List.{All};
 ghost use Rattle.recovery_base.specs.Ids.{longest_cid};
@@ -20,7 +20,7 @@ use std::net::{Ipv4Addr, Ipv6Addr, SocketAddr, SocketAddrV4, SocketAddrV6};
 #[repr(C)]
 #[derive(Clone, Copy)]
 pub struct Address {
-    /// The octets of an IPv6 address; of an IPv4 address the first four.
+    /// The octets of an IPv6 address; for an IPv4 address, the first four.
     pub octets: [u8; 16],
     /// The flow information of an IPv6 address.
     pub flowinfo: u32,
@@ -32,11 +32,11 @@ pub struct Address {
     pub v6: bool,
 }
 
-/// An id that this end issues (RFC 9000, 19.15).
+/// A connection ID that the local endpoint issues (RFC 9000, 19.15).
 #[repr(C)]
 #[derive(Clone, Copy)]
 pub struct Id {
-    /// Its number.
+    /// Its sequence number.
     pub sequence: u64,
     /// Its bytes, of which the first `len` count.
     pub bytes: [u8; 20],
@@ -46,7 +46,7 @@ pub struct Id {
     pub len: u8,
 }
 
-/// The packet number space of a number (RFC 9000, 12.3); none has any other.
+/// Returns the packet number space with a number, if any (RFC 9000, 12.3).
 pub fn space_coded(code: u8) -> Option<SpaceId>
     ensures { result ≡ space_coded code }
 {
@@ -58,14 +58,14 @@ pub fn space_coded(code: u8) -> Option<SpaceId>
     }
 }
 
-/// The timer of a number: its place in the enum, from 0 on. None has any other.
+/// Returns the timer with a number, if any: its index in the enum, from 0.
 pub fn timer_coded(code: u8) -> Option<Timer>
     ensures { result ≡ timer_coded code }
 {
     Timer::VALUES.get(usize::from(code)).copied()
 }
 
-/// Which of the two paths: the previous one, or else the one in use.
+/// Returns which of the two paths: the previous one, or else the one in use.
 pub fn path_coded(previous: bool) -> PathName
     ensures { result ≡ path_coded previous }
 {
@@ -76,14 +76,14 @@ pub fn path_coded(previous: bool) -> PathName
     }
 }
 
-/// The number where it is said to be there, and else none; any number is then passed over.
+/// Returns the number if `some`. Otherwise the number is ignored.
 pub fn maybe(some: bool, number: u64) -> Option<u64>
     ensures { result ≡ maybe some number }
 {
     if some { Some(number) } else { None }
 }
 
-/// What an ACK_FREQUENCY frame asks for, where each of its numbers is below 2^62.
+/// Returns the contents of an ACK_FREQUENCY frame, if each of its numbers is below 2^62.
 pub fn request(sequence: u64, threshold: u64, micros: u64, reordering: u64) -> Option<AckFrequency>
     ensures { result ≡ request sequence threshold micros reordering }
 {
@@ -95,7 +95,7 @@ pub fn request(sequence: u64, threshold: u64, micros: u64, reordering: u64) -> O
     })
 }
 
-/// A connection id, where it has at most 20 bytes.
+/// Returns a connection ID, if it has at most 20 bytes.
 pub fn cid(bytes: &[u8]) -> Option<ConnectionId>
     ensures { result ≡ cid bytes.now }
 {
@@ -106,7 +106,7 @@ pub fn cid(bytes: &[u8]) -> Option<ConnectionId>
     }
 }
 
-/// A queue of these items; where there are none, it takes no memory.
+/// Returns a queue of these items. Allocates nothing if there are none.
 pub fn queue_of(alloc: Global, items: &[u64]) -> Result<ItemQueue, NoMemory>
     ensures items { IfOk result (λ queue. queue ≡ items.now) }
     ensures memory { OnErr result (0 < length items.now) }
@@ -116,14 +116,14 @@ pub fn queue_of(alloc: Global, items: &[u64]) -> Result<ItemQueue, NoMemory>
     Ok(ItemQueue::from_items(queue))
 }
 
-/// How many items there are; they are written where there is room for all.
+/// Returns the count of the items, and writes them if there is room for all.
 pub fn copy_items(queue: &ItemQueue, out: &mut [u64]) -> usize
     ensures { IsWritten queue.now out.old result out.new }
 {
     copy_numbers(queue.items(), out)
 }
 
-/// An id as it is issued.
+/// Returns an ID in the form in which it is issued.
 fn issued_of(given: &Id) -> IssuedCid
     requires { given.now.len ≤ longest_cid }
     ensures { result ≡ issued_of given.now }
@@ -135,14 +135,14 @@ fn issued_of(given: &Id) -> IssuedCid
     }
 }
 
-/// Whether each id has at most 20 bytes.
+/// Returns whether each ID has at most 20 bytes.
 pub fn are_ids(given: &[Id]) -> bool
     ensures { Decides result (All (λ id. id.len ≤ longest_cid) given.now) }
 {
     given.iter().all(|id| id.len <= 20)
 }
 
-/// Ids as they are issued, in the same order; where there are none, it takes no memory.
+/// Returns IDs in the form in which they are issued, in the same order. Allocates nothing if there are none.
 pub fn ids_of(alloc: Global, given: &[Id]) -> Result<Vec<IssuedCid>, NoMemory>
     requires { All (λ id. id.len ≤ longest_cid) given.now }
     ensures ids { IfOk result (λ ids. ids.items ≡ map issued_of given.now) }
@@ -156,7 +156,7 @@ pub fn ids_of(alloc: Global, given: &[Id]) -> Result<Vec<IssuedCid>, NoMemory>
     Ok(ids)
 }
 
-/// The address that is given.
+/// Returns the given address.
 pub fn socket_of(given: &Address) -> SocketAddr
     ensures { IsSocketAddress given.now result }
 {
@@ -174,7 +174,7 @@ pub fn socket_of(given: &Address) -> SocketAddr
     }
 }
 
-/// A span of seconds and nanoseconds, where these are fewer than a second's.
+/// Returns a duration of seconds and nanoseconds, if these are below 10^9.
 pub fn span(secs: u64, nanos: u32) -> Option<Duration>
     ensures { result ≡ span secs nanos }
 {
@@ -185,7 +185,7 @@ pub fn span(secs: u64, nanos: u32) -> Option<Duration>
     }
 }
 
-/// Two such spans.
+/// Returns two durations.
 pub fn spans(
     delay_secs: u64,
     delay_nanos: u32,
@@ -197,7 +197,7 @@ pub fn spans(
     Some((span(delay_secs, delay_nanos)?, span(rtt_secs, rtt_nanos)?))
 }
 
-/// The nanoseconds of a span, which stop at `u64::MAX`.
+/// Returns the nanoseconds of a duration, at most `u64::MAX`.
 pub fn nanos_shown(span: Duration) -> u64
     ensures { result ≡ nanos_shown span }
 {

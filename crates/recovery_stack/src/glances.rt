@@ -1,5 +1,5 @@
-//! Readings of a few instructions, for a stack that reads more often than it changes: of the path in use, of the id in
-//! use, and of what a space tracks.
+//! Readings that cost a few instructions, for a stack that reads more often than it changes. They read the path in use,
+//! the connection ID in use, and the tracked packets of a space.
 ghost use Rattle.std.specs.Prelude.{◌≡◌, false, Some, Decides};
 ghost use Rattle.recovery_ids.specs.CidQueue.{active_of};
 ghost use Rattle.recovery_stack.specs.Answers.{ReadsHandle};
@@ -17,24 +17,24 @@ use std::alloc::Global;
 #[repr(C)]
 #[derive(Clone, Copy)]
 pub struct WindowView {
-    /// How many bytes may be in flight (RFC 9002, 7); 0 where there is no recovery.
+    /// How many bytes may be in flight (RFC 9002, 7); 0 if there is no recovery.
     pub window: u64,
-    /// How many are (RFC 9002, B.2).
+    /// How many bytes are in flight (RFC 9002, B.2).
     pub in_flight: u64,
 }
 
-/// The round-trip time of the path in use, in nanoseconds, which stop at `u64::MAX`.
+/// The round-trip time of the path in use, in nanoseconds, at most `u64::MAX`.
 #[repr(C)]
 #[derive(Clone, Copy)]
 pub struct RttView {
-    /// The best estimate: the smoothed one, or the initial one before the first sample (RFC 9002, 5.3); 0 where there
-    /// is no recovery.
+    /// The RTT estimate: the smoothed one, or the initial one before the first sample (RFC 9002, 5.3); 0 if there is no
+    /// recovery.
     pub rtt: u64,
-    /// The probe timeout without the peer's delay of ACKs (RFC 9002, 6.2.1).
+    /// The probe timeout without the peer's max_ack_delay (RFC 9002, 6.2.1).
     pub pto_base: u64,
 }
 
-/// What a packet number space tracks.
+/// The tracked packets of a packet number space.
 #[repr(C)]
 #[derive(Clone, Copy)]
 pub struct TrackedView {
@@ -152,7 +152,7 @@ impl Stack {
 }
 
 impl Handle {
-    /// Window and bytes in flight of the path in use.
+    /// Returns the window and the bytes in flight of the path in use.
     pub fn window(&mut self, alloc: Global) -> WindowView
         ensures { ReadsHandle self.old.slot.held self.new.slot.held (λ stack.
             result ≡ window_shown (parts_kept stack.kept).paths.current) (result ≡ no_window) }
@@ -168,7 +168,7 @@ impl Handle {
         view
     }
 
-    /// The round-trip time of the path in use.
+    /// Returns the round-trip time of the path in use.
     pub fn rtt(&mut self, alloc: Global) -> RttView
         ensures { ReadsHandle self.old.slot.held self.new.slot.held (λ stack.
             result ≡ rtt_shown (parts_kept stack.kept).paths.current) (result ≡ no_rtt) }
@@ -184,7 +184,7 @@ impl Handle {
         view
     }
 
-    /// The number of the peer's id in use (RFC 9000, 5.1.1); 0 where there is no recovery.
+    /// Returns the sequence number of the peer's connection ID in use (RFC 9000, 5.1.1); 0 if there is no recovery.
     pub fn active_id(&mut self, alloc: Global) -> u64
         ensures { ReadsHandle self.old.slot.held self.new.slot.held (λ stack.
             result ≡ active_of (parts_kept stack.kept).remote_cids) (result ≡ 0) }
@@ -197,7 +197,7 @@ impl Handle {
         active
     }
 
-    /// Whether a packet that counts in flight is tracked in a space (RFC 9002, 2), by whichever path it went.
+    /// Returns whether a space tracks a packet that counts in flight (RFC 9002, 2), on either path.
     pub fn has_in_flight(&mut self, alloc: Global, space: u8) -> bool
         ensures { ReadsHandle self.old.slot.held self.new.slot.held (λ stack.
             Decides result (HasInFlight (space_named space (parts_kept stack.kept))))
@@ -211,7 +211,7 @@ impl Handle {
         has
     }
 
-    /// The smallest packet number that a space tracks; none if there is no such space, or if it is discarded.
+    /// Returns the smallest packet number that a space tracks; none if there is no such space, or if it is discarded.
     pub fn smallest_tracked(&mut self, alloc: Global, space: u8) -> NumberView
         ensures { ReadsHandle self.old.slot.held self.new.slot.held (λ stack.
             ShowsSmallest (space_named space (parts_kept stack.kept)) result)
@@ -225,7 +225,7 @@ impl Handle {
         NumberView::of(number)
     }
 
-    /// What a space tracks.
+    /// Returns how many packets a space tracks, and when the next is lost.
     pub fn tracked(&mut self, alloc: Global, space: u8) -> TrackedView
         ensures { ReadsHandle self.old.slot.held self.new.slot.held (λ stack.
             result ≡ tracked_in (space_named space (parts_kept stack.kept))) (result ≡ no_tracked) }

@@ -1,4 +1,4 @@
-//! What C holds of a stack.
+//! The handle by which C holds a stack.
 ghost use Rattle.std.specs.Prelude.{◌≡◌, ◌≤◌, Some, None, is_some, IfSome, MatchOption};
 ghost use Rattle.std.specs.List.{All};
 ghost use Rattle.recovery_base.specs.Ids.{longest_cid};
@@ -17,7 +17,7 @@ use recovery_events::event::Event;
 use recovery_queue::items::ItemQueue;
 use std::alloc::Global;
 
-/// What a caller holds a recovery by. It begins as all zeros, which holds none; from then on it is the library's own.
+/// The handle of a recovery. It begins as all zeros, which holds none; from then on only the library changes it.
 #[repr(C)]
 pub struct Handle {
     pub slot: Slot,
@@ -26,7 +26,7 @@ pub struct Handle {
 }
 
 impl Handle {
-    /// Takes out the stack that is held, where one is; the handle then holds none.
+    /// Takes the stack out of the handle, if any; the handle then holds none.
     #[inline(always)]
     pub fn take(&mut self, alloc: Global) -> Option<Box<Stack>>
         ensures taken { MatchOption result (self.old.slot.held ≡ None)
@@ -40,7 +40,7 @@ impl Handle {
         Some(self.slot.take(alloc))
     }
 
-    /// Holds this stack, in a handle that holds none. It takes no memory.
+    /// Stores a stack in a handle that holds none. Allocates nothing.
     #[inline(always)]
     pub fn put(&mut self, stack: Box<Stack>)
         requires { self.old.slot.held ≡ None }
@@ -50,21 +50,21 @@ impl Handle {
         self.holds = true;
     }
 
-    /// Frees the stack that is held, where one is; the handle then holds none.
+    /// Frees the stack, if any; the handle then holds none.
     pub fn free(&mut self, alloc: Global)
         ensures { self.new.slot.held ≡ None }
     {
         drop(self.take(alloc));
     }
 
-    /// Whether it holds a stack.
+    /// Returns whether the handle holds a stack.
     pub fn holds(&self) -> bool
         ensures { result ≡ is_some self.now.slot.held }
     {
         self.holds
     }
 
-    /// One event; refused where no stack is held.
+    /// Applies an event; an error if no stack is held.
     #[inline(always)]
     pub fn apply(&mut self, alloc: Global, event: Event<ItemQueue>) -> EncodedReply
         ensures { HandleApplies self.old.slot.held event result self.new.slot.held }
@@ -77,14 +77,14 @@ impl Handle {
         reply
     }
 
-    /// One call of a sender that is no ACK frame; refused where no stack is held.
+    /// Makes a call of a sender other than an ACK frame; an error if no stack is held.
     pub fn call_sender(&mut self, alloc: Global, call: Call) -> EncodedReply
         ensures { CallsSender self.old.slot.held call result self.new.slot.held }
     {
         self.call_sender_with(alloc, call, &[])
     }
 
-    /// One call of a sender, with the ranges of an ACK frame; refused where no stack is held.
+    /// Makes a call of a sender, with the ranges of an ACK frame; an error if no stack is held.
     pub fn call_sender_with(
         &mut self,
         alloc: Global,
@@ -101,7 +101,7 @@ impl Handle {
         reply
     }
 
-    /// What a probe of a sender carries is handed out; refused where no stack is held.
+    /// Takes the contents of a sender's probe; an error if no stack is held.
     pub fn probe(&mut self, alloc: Global, space: SpaceId, immediate_ack: bool) -> EncodedReply
         ensures { ProbesHandle self.old.slot.held space immediate_ack result self.new.slot.held }
     {
@@ -113,7 +113,7 @@ impl Handle {
         reply
     }
 
-    /// Holds a stack; false where there is no memory.
+    /// Stores a stack. Returns false if allocation fails.
     pub fn make(&mut self, alloc: Global, stack: Stack) -> bool
         requires { self.old.slot.held ≡ None }
         ensures { HoldsIf result stack self.new.slot.held }
@@ -127,7 +127,7 @@ impl Handle {
         }
     }
 
-    /// This end issues these ids (RFC 9000, 5.1.1): the event `IssueIds`; an id has at most 20 bytes.
+    /// Issues connection IDs of at most 20 bytes (RFC 9000, 5.1.1): the event `IssueIds`.
     pub fn issue_ids(&mut self, alloc: Global, now: u64, given: &[Id]) -> EncodedReply
         ensures short { All (λ id. id.len ≤ longest_cid) given.now
             → IssuesIdsOrNoMemory self.old.slot.held now given.now result self.new.slot.held }
@@ -150,7 +150,7 @@ impl Handle {
     }
 }
 
-/// A value in a box; nothing where there is no memory.
+/// Returns a value in a box, or nothing if allocation fails.
 fn boxed<T: Drop>(alloc: Global, value: T) -> Option<Box<T>>
     ensures { IfSome result (λ held. held.value ≡ value) }
 {

@@ -1,6 +1,5 @@
-//! What stands behind the exports of `recovery_ffi`: the handles by which a program in another language holds a
-//! recovery, the numbers and bytes that spell what it hands in, settings, and what can be read. Begin at `handle.rt`,
-//! and at `specs/Answers.antt`.
+//! The implementation of the exports of `recovery_ffi`. It has the handles by which a program in another language holds
+//! a recovery, the encoding of arguments, settings, and readings. Begin at `handle.rt` and `specs/Answers.antt`.
 #![tactic(auto)]
 
 pub mod codes;

@@ -1,4 +1,4 @@
-//! A recovery is made of settings and of the peer's address and id.
+//! Makes a recovery from settings and the peer's address and connection ID.
 ghost use Rattle.std.specs.Prelude.{◌≡◌, None};
 ghost use Rattle.recovery_stack.specs.Made.{MadeOrNoMemory, NewOr};
 ghost use Rattle.recovery_stack.specs.Settings.{AreSettingsSound};
@@ -15,7 +15,7 @@ use recovery_engine::kept::Form;
 use recovery_engine::numbers::{NEW_CID_TOO_LONG, NEW_HELD, NEW_MADE, NEW_NO_MEMORY};
 use std::alloc::Global;
 
-/// A handle that holds none comes to hold a recovery in this form. `NEW_MADE`, or the number of what is wrong.
+/// Makes a recovery of this form in a handle that holds none. Returns `NEW_MADE`, or the number of what is wrong.
 pub fn begin(
     alloc: Global,
     handle: &mut Handle,
@@ -45,10 +45,10 @@ pub fn begin(
     }
 }
 
-/// Holds a recovery that is made of sound settings; false where there is no memory.
+/// Stores a recovery with valid settings. Returns false if allocation fails.
 ///
-/// Never inlined: its frame is large, and where clang puts the probe of a large frame behind the tests of a caller's
-/// arguments, the probe overwrites a register that a test has set.
+/// Never inlined: its frame is large. If it is inlined, clang puts the probe of that frame after the tests of the
+/// caller's arguments, and the probe overwrites a register that a test has set.
 #[inline(never)]
 fn make(
     alloc: Global,

@@ -1,5 +1,5 @@
-//! What the layer above keeps with a path (RFC 9000, 8.2 and 13.4; RFC 9002, 7.6): it is read and set, and no event
-//! changes it.
+//! The caller's marks of a path (RFC 9000, 8.2 and 13.4; RFC 9002, 7.6). The caller reads and sets them; no event
+//! changes them.
 ghost use Rattle.std.specs.Prelude.{◌≡◌, None};
 ghost use Rattle.recovery_history.specs.CallerState.{marks_at};
 ghost use Rattle.recovery_stack.specs.Answers.{ReadsHandle};
@@ -17,30 +17,30 @@ use recovery_paths::paths::PathMarks;
 use recovery_paths::responses::PathResponses;
 use std::alloc::Global;
 
-/// What the layer above keeps with a path, but for its PATH_RESPONSE frames.
+/// The caller's marks of a path, except its PATH_RESPONSE frames.
 #[repr(C)]
 #[derive(Clone, Copy)]
 pub struct Marks {
-    /// What its PATH_CHALLENGE frame says, where one was sent (RFC 9000, 8.2.1).
+    /// The data of its PATH_CHALLENGE frame, if one was sent (RFC 9000, 8.2.1).
     pub challenge: u64,
-    /// The number of the first packet that was sent after a sample of the round-trip time (RFC 9002, 7.6.2), where
-    /// there is one.
+    /// The number of the first packet that was sent after an RTT sample (RFC 9002, 7.6.2), if any.
     pub first_number: u64,
     /// The space of that packet.
     pub first_space: u8,
     /// Whether a PATH_CHALLENGE frame was sent.
     pub has_challenge: bool,
-    /// Whether a packet was sent after a sample.
+    /// Whether a packet was sent after an RTT sample.
     pub has_first: bool,
     /// Whether a PATH_CHALLENGE frame is to be sent.
     pub challenge_pending: bool,
     /// Whether packets are marked on the path (RFC 9000, 13.4).
     pub sending_ecn: bool,
-    /// Whether there is such a path; if not, all else is 0. To set marks it is not looked at.
+    /// Whether there is such a path; if not, all else is 0. Ignored if marks are set.
     pub lives: bool,
 }
 
-/// The first packet that was sent after a sample: none where there is none; no marks are given where it has no space.
+/// Returns the first packet that was sent after an RTT sample, if any. Marks whose packet has no valid space are
+/// invalid.
 fn first_of(given: &Marks) -> Option<Option<(SpaceId, u64)>>
     ensures { result ≡ first_of given.now }
 {
@@ -65,7 +65,7 @@ fn marks_of(given: &Marks) -> Option<PathMarks>
 }
 
 impl Marks {
-    /// There is no such path.
+    /// Returns the marks if there is no such path.
     fn none() -> Marks
         ensures { result ≡ marks_shown None }
     {
@@ -123,7 +123,7 @@ impl Stack {
 }
 
 impl Handle {
-    /// What the layer above keeps with a path.
+    /// Returns the caller's marks of a path.
     pub fn marks(&mut self, alloc: Global, previous: bool) -> Marks
         ensures { ReadsHandle self.old.slot.held self.new.slot.held (λ stack.
             let parts = parts_kept stack.kept in
@@ -138,8 +138,8 @@ impl Handle {
         marks
     }
 
-    /// The layer above keeps this with a path from now on. False, and nothing changes, where there is no such path or
-    /// no such space, and where a sender is held: it sets marks itself.
+    /// Stores the caller's marks of a path. Returns false and changes nothing if there is no such path or no such
+    /// space, or if a sender is held: a sender sets its marks itself.
     pub fn set_marks(&mut self, alloc: Global, previous: bool, marks: &Marks) -> bool
         ensures { SetsMarks (path_coded previous) (marks_given marks.now) result
             self.old.slot.held self.new.slot.held }

@@ -1,4 +1,4 @@
-//! An MTU discovery is made of settings, and what can be read of it (RFC 8899).
+//! Makes an MTU discovery from settings, and reads it (RFC 8899).
 ghost use Rattle.std.specs.Prelude.{◌≡◌};
 ghost use Rattle.recovery_stack.specs.Answers.{ReadsHandle};
 ghost use Rattle.recovery_stack.specs.Discoveries.{NewDiscovery, discovery_by, mtu_shown, no_mtu};
@@ -10,19 +10,19 @@ use recovery_engine::numbers::{NEW_HELD, NEW_MADE, NEW_NO_MEMORY};
 use recovery_mtud::mtud::MtuDiscovery;
 use std::alloc::Global;
 
-/// What is known of an MTU.
+/// The state of an MTU discovery.
 #[repr(C)]
 #[derive(Clone, Copy)]
 pub struct MtuView {
-    /// The number of the probe in flight, where there is one; otherwise 0.
+    /// The number of the probe in flight, if any; otherwise 0.
     pub probe: u64,
     /// The MTU in use, in bytes.
     pub mtu: u16,
     /// Whether a probe is in flight.
     pub probes: bool,
-    /// Whether a search runs.
+    /// Whether a search is running.
     pub searches: bool,
-    /// Whether a discovery is held; if not, all else is 0.
+    /// Whether the handle holds a discovery; if not, all else is 0.
     pub some: bool,
 }
 
@@ -57,8 +57,8 @@ fn show(discovery: &MtuDiscovery) -> MtuView
 }
 
 impl MtuHandle {
-    /// A handle that holds none comes to hold a discovery, for a peer that takes datagrams of at most `limit` bytes; 0
-    /// says that it did not tell. `NEW_MADE`, or the number of what is wrong.
+    /// Makes a discovery in a handle that holds none. The peer accepts datagrams of at most `limit` bytes, or 0 if it
+    /// stated no limit. Returns `NEW_MADE`, or the number of what is wrong.
     pub fn begin(&mut self, alloc: Global, settings: &Settings, limit: u16) -> u8
         ensures { NewDiscovery result settings.now limit self.old.slot.held self.new.slot.held }
     {
@@ -76,7 +76,7 @@ impl MtuHandle {
         }
     }
 
-    /// What is known.
+    /// Returns the state of the discovery.
     pub fn view(&mut self, alloc: Global) -> MtuView
         ensures { ReadsHandle self.old.slot.held self.new.slot.held
             (λ discovery. result ≡ mtu_shown discovery) (result ≡ no_mtu) }

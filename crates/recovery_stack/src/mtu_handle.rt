@@ -1,4 +1,4 @@
-//! What C holds of an MTU discovery.
+//! The handle by which C holds an MTU discovery.
 ghost use Rattle.std.specs.Prelude.{◌≡◌, Some, None, is_some, MatchOption, true};
 ghost use Rattle.recovery_stack.specs.Discoveries.{DiscoveryAnswers, discovery_told, is_allowed, told_to, probe_spelled};
 ghost use Rattle.recovery_stack.specs.Held.{HoldsIf};
@@ -13,8 +13,7 @@ use recovery_engine::spelling::{EncodedReply, encode_flag};
 use recovery_mtud::mtud::MtuDiscovery;
 use std::alloc::Global;
 
-/// What a caller holds an MTU discovery by. It begins as all zeros, which holds none; from then on it is the library's
-/// own.
+/// The handle of an MTU discovery. It begins as all zeros, which holds none; from then on only the library changes it.
 #[repr(C)]
 pub struct MtuHandle {
     pub slot: MtuSlot,
@@ -22,12 +21,12 @@ pub struct MtuHandle {
     ghost tells: { holds ≡ is_some slot.held },
 }
 
-/// What a discovery is told or asked.
+/// A call of a discovery.
 #[derive(Clone, Copy)]
 pub enum Call {
-    /// Is a probe due? It would be the packet of this number.
+    /// Checks whether a probe is due. It would be the packet of this number.
     Poll { now: Instant, number: u64 },
-    /// The peer takes no larger packets.
+    /// The peer accepts no larger packets.
     Limit { size: u16 },
     /// A packet was acknowledged.
     Acked { number: u64, bytes: u16 },
@@ -35,14 +34,14 @@ pub enum Call {
     ProbeLost,
     /// Another packet was lost.
     Lost { number: u64, bytes: u16 },
-    /// All losses of a moment were told.
+    /// All packets that were lost together were reported.
     LossesDone { now: Instant },
-    /// All begins anew, with these sizes.
+    /// Resets the discovery with these sizes.
     Reset { mtu: u16, min_mtu: u16 },
 }
 
 impl MtuHandle {
-    /// Takes out the discovery that is held, where one is; the handle then holds none.
+    /// Takes the discovery out of the handle, if any; the handle then holds none.
     #[inline(always)]
     pub fn take(&mut self, alloc: Global) -> Option<Box<MtuDiscovery>>
         ensures taken { MatchOption result (self.old.slot.held ≡ None)
@@ -56,7 +55,7 @@ impl MtuHandle {
         Some(self.slot.take(alloc))
     }
 
-    /// Holds this discovery, in a handle that holds none. It takes no memory.
+    /// Stores a discovery in a handle that holds none. Allocates nothing.
     #[inline(always)]
     pub fn put(&mut self, discovery: Box<MtuDiscovery>)
         requires { self.old.slot.held ≡ None }
@@ -66,21 +65,21 @@ impl MtuHandle {
         self.holds = true;
     }
 
-    /// Frees the discovery that is held, where one is; the handle then holds none.
+    /// Frees the discovery, if any; the handle then holds none.
     pub fn free(&mut self, alloc: Global)
         ensures { self.new.slot.held ≡ None }
     {
         drop(self.take(alloc));
     }
 
-    /// Whether it holds a discovery.
+    /// Returns whether the handle holds a discovery.
     pub fn holds(&self) -> bool
         ensures { result ≡ is_some self.now.slot.held }
     {
         self.holds
     }
 
-    /// Holds a discovery; false where there is no memory.
+    /// Stores a discovery. Returns false if allocation fails.
     pub fn make(&mut self, alloc: Global, discovery: MtuDiscovery) -> bool
         requires { self.old.slot.held ≡ None }
         ensures { HoldsIf result discovery self.new.slot.held }
@@ -94,7 +93,7 @@ impl MtuHandle {
         }
     }
 
-    /// One call; refused where no discovery is held, or it is not allowed then.
+    /// Makes a call; an error if no discovery is held, or if the call is not allowed then.
     pub fn call(&mut self, alloc: Global, call: Call) -> EncodedReply
         ensures { DiscoveryAnswers self.old.slot.held call result self.new.slot.held }
     {
@@ -107,7 +106,7 @@ impl MtuHandle {
     }
 }
 
-/// Whether a call may come: sizes are above zero, and the peer's limit comes while no search runs.
+/// Returns whether a call is allowed: sizes are above zero, and the peer's limit is set while no search is running.
 fn allows(discovery: &MtuDiscovery, call: &Call) -> bool
     ensures { result ≡ is_allowed call.now discovery.now }
 {
@@ -118,7 +117,7 @@ fn allows(discovery: &MtuDiscovery, call: &Call) -> bool
     }
 }
 
-/// A call of the discovery that is held; refused where it is not allowed.
+/// Makes a call of the discovery that is held; an error if it is not allowed.
 fn hand_in(discovery: &mut MtuDiscovery, call: Call) -> EncodedReply
     ensures { DiscoveryAnswers (Some discovery.old) call result (Some discovery.new) }
 {

@@ -1,5 +1,4 @@
-//! A pacer that stands alone, without a recovery (RFC 9002, 7.7). The bucket is the caller's, and takes no memory of
-//! the library.
+//! A pacer without a recovery (RFC 9002, 7.7). The caller owns the bucket; the library allocates nothing for it.
 ghost use Rattle.std.specs.Prelude.{◌≡◌, None, MatchOption};
 ghost use Rattle.recovery_congestion.specs.Pacing.{IsBucketSound};
 ghost use Rattle.recovery_stack.specs.Buckets.{Delays, PacerTransmits, bucket_first, bucket_in, bucket_shown};
@@ -9,19 +8,19 @@ use recovery_congestion::pacing::{Pacer, PacerState};
 use recovery_engine::numbers::{ANSWER_DELAYED, ANSWER_READY, ANSWER_TRANSMITTED};
 use recovery_engine::spelling::{EncodedReply, encode_number};
 
-/// A bucket of tokens, one a byte. All zeros is none, and refused.
+/// A bucket of tokens, one per byte. All zeros is no bucket, and an error.
 #[repr(C)]
 #[derive(Clone, Copy)]
 pub struct Bucket {
-    /// The most bytes that it takes.
+    /// The most bytes that it holds.
     pub capacity: u64,
-    /// The congestion window that this was computed for, in bytes.
+    /// The congestion window, in bytes, for which the capacity was computed.
     pub window: u64,
     /// The bytes in it.
     pub tokens: u64,
-    /// The latest moment at which it was refilled, or made, in nanoseconds.
+    /// When it was last refilled, or made, in nanoseconds.
     pub last: u64,
-    /// The MTU that its capacity was computed for, in bytes.
+    /// The MTU, in bytes, for which the capacity was computed.
     pub mtu: u16,
 }
 
@@ -52,7 +51,7 @@ fn bucket_of(pacer: &Pacer) -> Bucket
 }
 
 impl Bucket {
-    /// A full bucket at the moment `now`; of a window or an MTU of 0 it is all zeros, which is none.
+    /// Returns a full bucket at time `now`. If the window or the MTU is 0, it is all zeros, which is no bucket.
     pub fn full(rtt: u64, window: u64, mtu: u16, now: u64) -> Bucket
         ensures { result ≡ bucket_first rtt window mtu now }
     {
@@ -73,7 +72,7 @@ impl Bucket {
         ))
     }
 
-    /// A packet of so many bytes was sent. Refused where the bucket is none.
+    /// Takes the tokens of a sent packet. An error if there is no bucket.
     pub fn transmit(&mut self, bytes: u16) -> EncodedReply
         ensures { PacerTransmits bytes self.old result self.new }
     {
@@ -85,7 +84,7 @@ impl Bucket {
         EncodedReply::plain(ANSWER_TRANSMITTED)
     }
 
-    /// Whether so many bytes may be sent. Refused where the window or the MTU is 0, or the bucket is none.
+    /// Returns whether this many bytes may be sent. An error if the window or the MTU is 0, or if there is no bucket.
     pub fn delay(&mut self, rtt: u64, bytes: u64, mtu: u16, window: u64, now: u64) -> EncodedReply
         ensures { Delays
             (record { bytes = bytes; rtt = rtt; mtu = mtu; window = window; now = now })

@@ -1,15 +1,15 @@
-//! A box with its fields in sight.
+//! The fields of a box.
 ghost use Rattle.std.specs.Prelude.{◌≡◌};
 ghost use Rattle.std.specs.Box.Ownership.{box_owns};
 
 use std::alloc::Allocator;
 use std::marker::Model;
 
-/// The pointer and the allocator of a box. What the box owns is theirs: as they are, nothing frees it.
+/// The pointer and the allocator of a box. They own what the box owns; if dropped in this form, they leak it.
 pub struct Parts<T, A: Allocator> {
-    /// Where the value stands.
+    /// The address of the value.
     pub ptr: *mut T,
-    /// What the memory came from.
+    /// The allocator of the memory.
     pub alloc: A,
     /// The value of the box.
     pub ghost value: { T },
@@ -20,7 +20,7 @@ impl<T, A: Allocator> Model for Parts<T, A> {
 }
 
 impl<T, A: Allocator> Parts<T, A> {
-    /// The parts of a box. The value stays where it is.
+    /// Returns the parts of a box. The value does not move.
     #[inline(always)]
     pub fn of(b: Box<T, A>) -> Parts<T, A>
     where
@@ -31,7 +31,7 @@ impl<T, A: Allocator> Parts<T, A> {
         Parts { ptr, alloc }
     }
 
-    /// The box that they are the parts of. It takes no memory.
+    /// Returns the box with these parts. Allocates nothing.
     #[inline(always)]
     pub fn into_box(self) -> Box<T, A>
         ensures { result.value ≡ self.value }

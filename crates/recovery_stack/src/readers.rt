@@ -1,5 +1,5 @@
-//! What can be read of what a handle holds: paths, spaces, ranges to be acknowledged, timers, ids, and what was handed
-//! out last. Of a handle that holds none it is what there is where there is nothing.
+//! Readings of a handle: paths, spaces, ranges to be acknowledged, timers, connection IDs, and the last results. If the
+//! handle holds none, each returns its empty value.
 ghost use Rattle.std.specs.Prelude.{◌≡◌, slice_get, replicate, Decides, IsFalse, None};
 ghost use Rattle.recovery_base.specs.Ids.{reset_token_size};
 ghost use Rattle.recovery_ids.specs.LocalIds.{first_moment};
@@ -17,7 +17,7 @@ use recovery_base::time::Instant;
 use std::alloc::Global;
 
 impl Handle {
-    /// What is kept for a path.
+    /// Returns the state of a path.
     pub fn path(&mut self, alloc: Global, previous: bool) -> PathView
         ensures { ReadsHandle self.old.slot.held self.new.slot.held (λ stack.
             let paths = (parts_kept stack.kept).paths in
@@ -31,7 +31,7 @@ impl Handle {
         view
     }
 
-    /// What a space has to send; of one that there is not what is said of a discarded one.
+    /// Returns what a space has to send. A space that does not exist is read as a discarded one.
     pub fn space(&mut self, alloc: Global, space: u8) -> SpaceView
         ensures { ReadsHandle self.old.slot.held self.new.slot.held (λ stack.
             IsSpaceShown (space_named space (parts_kept stack.kept)) result)
@@ -45,7 +45,7 @@ impl Handle {
         view
     }
 
-    /// One of the ranges of numbers that are to be acknowledged in a space, in ascending order.
+    /// Returns one of the ranges of packet numbers to be acknowledged in a space, in ascending order.
     pub fn range(&mut self, alloc: Global, space: u8, index: usize) -> RangeView
         ensures { ReadsHandle self.old.slot.held self.new.slot.held (λ stack.
             let kept = space_named space (parts_kept stack.kept) in
@@ -59,7 +59,8 @@ impl Handle {
         view
     }
 
-    /// How long ago the largest packet of a space came, which an ACK frame tells (RFC 9000, 13.2.5).
+    /// Returns how long ago the largest packet of a space was received, for the ACK Delay of an ACK frame (RFC 9000,
+    /// 13.2.5).
     pub fn ack_delay(&mut self, alloc: Global, space: u8, now: u64) -> TimeView
         ensures { ReadsHandle self.old.slot.held self.new.slot.held (λ stack.
             result ≡ ack_delay_named space now (parts_kept stack.kept))
@@ -73,7 +74,7 @@ impl Handle {
         view
     }
 
-    /// When a timer expires.
+    /// Returns when a timer expires.
     pub fn timer(&mut self, alloc: Global, timer: u8) -> TimeView
         ensures { ReadsHandle self.old.slot.held self.new.slot.held (λ stack.
             let timers = (parts_kept stack.kept).timers in
@@ -87,7 +88,7 @@ impl Handle {
         view
     }
 
-    /// The ids of both ends, and how late ACKs may be.
+    /// Returns the connection IDs of both endpoints, and their max_ack_delay.
     pub fn ids(&mut self, alloc: Global) -> IdsView
         ensures { ReadsHandle self.old.slot.held self.new.slot.held (λ stack.
             result ≡ ids_shown (parts_kept stack.kept)) (result ≡ no_ids) }
@@ -100,7 +101,7 @@ impl Handle {
         view
     }
 
-    /// When the oldest of this end's ids is to be retired (RFC 9000, 5.1.2), where they end.
+    /// Returns when the oldest of the local connection IDs is to be retired (RFC 9000, 5.1.2), if they expire.
     pub fn next_id_timeout(&mut self, alloc: Global) -> TimeView
         ensures { ReadsHandle self.old.slot.held self.new.slot.held (λ stack.
             let ids = (parts_kept stack.kept).local_ids in
@@ -114,7 +115,7 @@ impl Handle {
         view
     }
 
-    /// How many items the queue that was taken last has; they are written where there is room for all.
+    /// Returns the item count of the queue that was taken last, and writes the items if there is room for all.
     pub fn taken(&mut self, alloc: Global, out: &mut [u64]) -> usize
         ensures { ReadsHandle self.old.slot.held self.new.slot.held
             (λ stack. IsWritten stack.taken out.old result out.new)
@@ -128,7 +129,7 @@ impl Handle {
         count
     }
 
-    /// Writes the bytes of the token that was answered last; all zeros before there was one.
+    /// Writes the bytes of the token that was returned last; all zeros before the first.
     pub fn token(&mut self, alloc: Global, out: &mut [u8; 16])
         ensures { ReadsHandle self.old.slot.held self.new.slot.held
             (λ stack. out.new ≡ stack.token) (out.new ≡ replicate reset_token_size 0) }
@@ -142,7 +143,7 @@ impl Handle {
         self.put(stack);
     }
 
-    /// Whether this is the token that was answered last.
+    /// Returns whether this is the token that was returned last.
     pub fn is_token(&mut self, alloc: Global, token: &[u8; 16]) -> bool
         ensures { ReadsHandle self.old.slot.held self.new.slot.held
             (λ stack. Decides result (stack.token ≡ token.now)) (IsFalse result) }

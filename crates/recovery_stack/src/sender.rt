@@ -1,4 +1,4 @@
-//! The calls of a sender that take more than numbers, and what it told last (RFC 9002).
+//! Calls of a sender with more than numbers, and its last outcome (RFC 9002).
 ghost use Rattle.std.specs.Prelude.{◌≡◌};
 ghost use Rattle.recovery_engine.specs.Kept.{numbers_told, packets_told, pto_count_of};
 ghost use Rattle.recovery_engine.specs.Replies.{IsWritten};
@@ -18,13 +18,13 @@ use recovery_engine::views::SenderView;
 use recovery_losses::{Ack, Side};
 use std::alloc::Global;
 
-/// What an ACK frame says beside its ranges, and what the stack knows at its arrival.
+/// The fields of an ACK frame besides its ranges, and what the caller knows at its arrival.
 #[repr(C)]
 #[derive(Clone, Copy)]
 pub struct AckFrame {
-    /// How long the peer says that it delayed the ACK, in whole seconds.
+    /// The ACK delay that the peer reports, in whole seconds.
     pub delay_secs: u64,
-    /// The count of ECT(0), where the frame has counts (RFC 9000, 19.3.2).
+    /// The count of ECT(0), if the frame has counts (RFC 9000, 19.3.2).
     pub ect0: u64,
     /// The count of ECT(1).
     pub ect1: u64,
@@ -34,18 +34,18 @@ pub struct AckFrame {
     pub packets_room: u64,
     /// If `is_limited`: how many lost numbers of `recovery_ffi_told_numbers` it has room for.
     pub lost_room: u64,
-    /// The nanoseconds of that delay beside its seconds, below 10^9.
+    /// The rest of the ACK delay in nanoseconds, below 10^9.
     pub delay_nanos: u32,
-    /// Whether the frame has counts of ECN.
+    /// Whether the frame has ECN counts.
     pub has_ecn: bool,
     /// Whether the sender had too little to send to fill its window (RFC 9002, 7.8).
     pub app_limited: bool,
-    /// Whether the frame is taken only if the caller has room for all that it may read of the outcome. If not, the
-    /// caller reads the outcome in its own time.
+    /// Whether the frame is processed only if the caller has room for all that it may read of the outcome. If not, the
+    /// caller may read the outcome later.
     pub is_limited: bool,
 }
 
-/// What a frame says, where its delay has fewer nanoseconds than a second.
+/// Returns the fields of a frame, if its delay has less than 10^9 nanoseconds.
 fn ack_of(given: &AckFrame) -> Option<Ack>
     ensures { result ≡ ack_given given.now }
 {
@@ -62,14 +62,14 @@ fn ack_of(given: &AckFrame) -> Option<Ack>
     })
 }
 
-/// Its space and what it says.
+/// Returns the space and the fields of a frame.
 fn frame_of(space: u8, given: &AckFrame) -> Option<(SpaceId, Ack)>
     ensures { result ≡ frame_given space given.now }
 {
     Some((space_coded(space)?, ack_of(given)?))
 }
 
-/// The room that the caller has for the outcome.
+/// Returns the room that the caller has for the outcome.
 fn room_of(given: &AckFrame) -> AckRoom
     ensures { result ≡ room_given given.now }
 {
@@ -86,7 +86,7 @@ fn room_of(given: &AckFrame) -> AckRoom
     }
 }
 
-/// The end of a connection that a sender is of.
+/// Returns the role of a sender's endpoint.
 pub fn side_of(client: bool) -> Side
     ensures { result ≡ side_coded client }
 {
@@ -94,8 +94,8 @@ pub fn side_of(client: bool) -> Side
 }
 
 impl Handle {
-    /// An ACK frame came in (RFC 9002, A.7), with its ranges, the highest first, as on the wire. It is rejected if
-    /// there is no such space, or if its delay has the nanoseconds of a second. Nothing is done if the caller has too
+    /// Processes a received ACK frame (RFC 9002, A.7), with its ranges, the highest first, as on the wire. An error if
+    /// there is no such space, or if its delay has 10^9 nanoseconds or more. Nothing changes if the caller has too
     /// little room.
     pub fn take_ack(
         &mut self,
@@ -123,7 +123,7 @@ impl Handle {
         )
     }
 
-    /// How many probe timeouts expired in a row (RFC 9002, 6.2.1); 0 where there is no sender.
+    /// Returns the number of consecutive probe timeouts (RFC 9002, 6.2.1); 0 if there is no sender.
     pub fn pto_count(&mut self, alloc: Global) -> u32
         ensures { ReadsHandle self.old.slot.held self.new.slot.held (λ stack.
             result ≡ pto_count_of stack.kept) (result ≡ 0) }
@@ -136,7 +136,8 @@ impl Handle {
         count
     }
 
-    /// What the timer of the sender waits for, and what room is left on the path in use; nothing if there is no sender.
+    /// Returns the purpose of the sender's timer, and the room that is left on the path in use; empty if there is no
+    /// sender.
     pub fn sender_view(&mut self, alloc: Global) -> SenderView
         ensures { ReadsHandle self.old.slot.held self.new.slot.held (λ stack.
             result ≡ sender_view_of stack.kept) (result ≡ no_sender_view) }
@@ -149,7 +150,7 @@ impl Handle {
         view
     }
 
-    /// The last outcome; an empty one before the first, or if there is no sender.
+    /// Returns the last outcome; an empty one before the first, or if there is no sender.
     pub fn last_outcome(&mut self, alloc: Global) -> OutcomeView
         ensures { ReadsHandle self.old.slot.held self.new.slot.held (λ stack.
             result ≡ told_view stack.kept) (result ≡ no_told) }
@@ -162,8 +163,8 @@ impl Handle {
         view
     }
 
-    /// How many numbers were newly acknowledged as something was told last, or found lost; they are written where there
-    /// is room for all.
+    /// Returns how many numbers the last outcome newly acknowledged, or found lost, and writes them if there is room
+    /// for all.
     pub fn told_numbers(&mut self, alloc: Global, lost: bool, out: &mut [u64]) -> usize
         ensures { ReadsHandle self.old.slot.held self.new.slot.held (λ stack.
             IsWritten (numbers_told lost stack.kept) out.old result out.new)
@@ -177,8 +178,8 @@ impl Handle {
         count
     }
 
-    /// The packets that were newly acknowledged as something was told last, with their items: how many words they are;
-    /// they are written where there is room for all.
+    /// Returns how many words the packets that the last outcome newly acknowledged and their items need, and writes
+    /// them if there is room for all.
     pub fn told_packets(&mut self, alloc: Global, out: &mut [u64]) -> usize
         ensures { ReadsHandle self.old.slot.held self.new.slot.held (λ stack.
             IsWritten (packets_told stack.kept) out.old result out.new)

@@ -1,4 +1,4 @@
-//! What a recovery is made with.
+//! The settings of a recovery.
 ghost use Rattle.std.specs.Prelude.{◌≡◌, ◌<◌, None, Some};
 ghost use Rattle.recovery_packet_numbers.specs.Skips.{IsSkips, first_skip_limit};
 ghost use Rattle.recovery_stack.specs.Codes.{maybe};
@@ -21,70 +21,69 @@ use recovery_mtud::config::MtuDiscoveryConfig;
 use recovery_packet_numbers::Skips;
 use std::net::SocketAddr;
 
-/// The settings: times are in nanoseconds, and sizes in bytes.
+/// The settings of a recovery: times are in nanoseconds, and sizes in bytes.
 #[repr(C)]
 #[derive(Clone, Copy)]
 pub struct Settings {
-    /// The longest delay of this end's ACKs (RFC 9000, 18.2).
+    /// The local max_ack_delay (RFC 9000, 18.2).
     pub max_ack_delay: u64,
-    /// How long this end's ids last, where they end.
+    /// The lifetime of local connection IDs, if they expire.
     pub cid_lifetime: u64,
-    /// How many ids this end has issued, at most 2^62; memory grows with it, by 16 bytes an id.
+    /// How many connection IDs the local endpoint has issued, at most 2^62; memory grows with it, by 16 bytes per ID.
     pub issued: u64,
-    /// The seed of the skips that are drawn.
+    /// The seed with which skips are drawn.
     pub seed: u64,
-    /// The first number that is skipped, below 64, where it is given.
+    /// The first number that is skipped, below 64, if it is given.
     pub first_skip: u64,
     /// The RTT before the first sample (RFC 9002, 6.2.2).
     pub initial_rtt: u64,
-    /// From the end of a search for the MTU to the next one.
+    /// The time from the end of an MTU search to the next one.
     pub mtu_interval: u64,
-    /// From the report of a black hole to the next search.
+    /// The time from the report of a black hole to the next MTU search.
     pub black_hole_cooldown: u64,
-    /// The congestion window at first, above zero (RFC 9002, 7.2).
+    /// The initial congestion window, above zero (RFC 9002, 7.2).
     pub initial_window: u64,
-    /// What the window is multiplied by at a loss (RFC 9002, 7.3.2).
+    /// The numerator of the factor by which a loss reduces the window (RFC 9002, 7.3.2).
     pub loss_numerator: u64,
-    /// Above zero.
+    /// Its denominator, above zero.
     pub loss_denominator: u64,
-    /// The time threshold, a fraction of an RTT: a sender declares a packet lost so long after it was sent, if a
-    /// later one is acknowledged; 1 stands for a smaller fraction (RFC 9002, 6.1.2).
+    /// The numerator of the time threshold, in RTTs: a sender declares a packet lost this long after it was sent, if a
+    /// later one is acknowledged. A smaller fraction than 1 counts as 1 (RFC 9002, 6.1.2).
     pub time_numerator: u64,
-    /// Above zero.
+    /// Its denominator, above zero.
     pub time_denominator: u64,
-    /// The packet threshold: a sender declares a packet lost that was sent so many packets before an acknowledged one;
-    /// 1 stands for 0 (RFC 9002, 6.1.1).
+    /// The packet threshold: a sender declares a packet lost that was sent this many packets before an acknowledged
+    /// one; 0 counts as 1 (RFC 9002, 6.1.1).
     pub packet_threshold: u32,
-    /// How many probe timeouts losses span, for a sender, that are persistent congestion; 1 stands for 0 (RFC 9002,
-    /// 7.6.1).
+    /// How many probe timeouts persistent congestion lasts, for a sender; 0 counts as 1 (RFC 9002, 7.6.1).
     pub persistent_congestion_threshold: u32,
     /// The size of datagrams before the search, above zero.
     pub initial_mtu: u16,
-    /// The size that the path is known to carry, above zero.
+    /// The datagram size that the path is known to carry, above zero.
     pub min_mtu: u16,
-    /// The largest size that is probed.
+    /// The largest datagram size that is probed.
     pub mtu_upper_bound: u16,
-    /// The least step that is worth a probe.
+    /// The smallest difference that is worth a probe.
     pub mtu_minimum_change: u16,
-    /// The bytes of this end's ids.
+    /// The length of local connection IDs.
     pub cid_len: u8,
     /// Which congestion controller paths have: `CONTROLLER_NEW_RENO`, `CONTROLLER_FIXED` or `CONTROLLER_CUBIC`.
     pub controller: u8,
     /// How numbers are skipped: `SKIPS_DISABLED`, `SKIPS_DRAWN` or `SKIPS_STARTING`.
     pub skips: u8,
-    /// Whether ids last no longer than `cid_lifetime`.
+    /// Whether local connection IDs expire after `cid_lifetime`.
     pub ids_end: bool,
-    /// Whether the peer was seen to receive at its address.
+    /// Whether the peer's address is validated.
     pub validated: bool,
-    /// Whether the MTU is searched for at all.
+    /// Whether MTU discovery is allowed.
     pub allow_mtud: bool,
-    /// Whether the settings of paths say how.
+    /// Whether MTU discovery is configured; if not, there is none.
     pub searches: bool,
 }
 
 impl Default for Settings {
-    /// Those of RFC 9000, 14 and 18.2, and RFC 9002, 6.1, 6.2.2, 7.2 and 7.6.1, over NewReno;
-    /// `recovery_ffi_default_settings` says each.
+    /// Returns the defaults of RFC 9000, 14 and 18.2, and RFC 9002, 6.1, 6.2.2, 7.2 and 7.6.1, with NewReno;
+    /// `recovery_ffi_default_settings` lists them.
     fn default() -> Settings
         ensures defaults { result ≡ default_settings }
         ensures sound { settings_fault result ≡ NEW_MADE }
@@ -120,7 +119,7 @@ impl Default for Settings {
     }
 }
 
-/// The first thing that is wrong with settings, by its number; `NEW_MADE` where nothing is.
+/// Returns the number of the first error in settings; `NEW_MADE` if there is none.
 pub fn fault(settings: &Settings) -> u8
     ensures fault { result ≡ settings_fault settings.now }
     ensures sound { result ≡ NEW_MADE → AreSettingsSound settings.now }
@@ -144,7 +143,8 @@ pub fn fault(settings: &Settings) -> u8
     }
 }
 
-/// What a recovery starts with by these settings, whose peer is at this address and has this id. Nothing is refused.
+/// Returns the configuration of a recovery with these settings, whose peer is at this address and has this connection
+/// ID. Never fails.
 pub fn config(
     settings: &Settings,
     initial_cid: ConnectionId,
@@ -185,7 +185,7 @@ fn controller(settings: &Settings) -> ChosenConfig
     }
 }
 
-/// How the MTU is searched for, where settings say how.
+/// Returns the configuration of MTU discovery, if there is one.
 pub fn discovery(settings: &Settings) -> Option<MtuDiscoveryConfig>
     ensures { result ≡ discovery_of settings.now }
 {

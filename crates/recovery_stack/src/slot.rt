@@ -1,4 +1,4 @@
-//! Where a stack is held, or none.
+//! A place for a stack, or none.
 ghost use Rattle.std.specs.Prelude.{◌≡◌, Some, None};
 ghost use Rattle.std.specs.declared.option.Option.{Option};
 ghost use Rattle.recovery_stack.specs.declared.stack.Stack.{Stack};
@@ -11,7 +11,7 @@ use std::marker::Model;
 use std::mem::replace;
 use std::ptr::null_mut;
 
-/// A pointer that owns what a box owns, or nothing.
+/// A pointer that owns the contents of a box, or nothing.
 #[repr(C)]
 pub struct Slot {
     ptr: *mut u8,
@@ -82,7 +82,7 @@ impl Slot {
         parts.into_box()
     }
 
-    /// Takes out the stack that is held; the slot then holds none.
+    /// Takes the stack out of the slot; the slot then holds none.
     #[inline(always)]
     pub fn take(&mut self, alloc: Global) -> Box<Stack>
         requires { IsHeld self.old.held }
@@ -93,7 +93,7 @@ impl Slot {
         full.into_box()
     }
 
-    /// Holds this stack, in a slot that holds none. It takes no memory.
+    /// Stores a stack in a slot that holds none. Allocates nothing.
     #[inline(always)]
     pub fn put(&mut self, stack: Box<Stack>)
         requires { self.old.held ≡ None }

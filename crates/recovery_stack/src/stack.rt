@@ -1,4 +1,4 @@
-//! What a handle holds: a recovery, and what its last answers hold beside numbers.
+//! A stack: a recovery, and those of its last results that are not numbers.
 ghost use Rattle.std.specs.Prelude.{◌≡◌, ◌≤◌, IfOk};
 ghost use Rattle.rand_core.specs.Steps.{stream_of, steps_u32};
 ghost use Rattle.recovery_base.specs.Units.{number_limit};
@@ -27,24 +27,24 @@ use recovery_queue::items::ItemQueue;
 use recovery_spaces::spaces::PacketSpace;
 use std::alloc::Global;
 
-/// One of a recovery's paths.
+/// A path of a recovery.
 pub type ItemPath = PathData<Chosen>;
 
-/// One of its packet number spaces.
+/// A packet number space of a recovery.
 pub type ItemSpace = PacketSpace<ItemQueue>;
 
-/// A recovery, and what of its answers is no number.
+/// A recovery, and those of its results that are not numbers.
 #[derive(Drop)]
 pub struct Stack {
     pub kept: Engine,
-    /// The queue that was taken last; none before one was.
+    /// The queue that was taken last; empty before the first.
     pub taken: ItemQueue,
-    /// The token that was answered last; all zeros before one was.
+    /// The token that was returned last; all zeros before the first.
     pub token: ResetToken,
 }
 
 impl Stack {
-    /// A recovery to which nothing has happened yet, in this form.
+    /// Returns a recovery of this form, without any event.
     pub fn new(
         alloc: Global,
         form: Form,
@@ -65,14 +65,14 @@ impl Stack {
         })
     }
 
-    /// The recovery, to look at.
+    /// Returns the recovery, for reading.
     pub fn recovery(&self) -> &Recovery<ChosenConfig, ItemQueue, Pcg32>
         ensures { state_of result.now ≡ parts_kept self.now.kept }
     {
         self.kept.recovery()
     }
 
-    /// One event; refused where a sender decides it itself.
+    /// Applies an event; an error if only a sender itself makes it.
     #[inline(always)]
     pub fn apply(&mut self, event: Event<ItemQueue>) -> EncodedReply
         ensures { AppliesOrRejects self.old event result self.new }
@@ -83,7 +83,7 @@ impl Stack {
         self.hand_in(event)
     }
 
-    /// One event that it lets pass.
+    /// Applies an event that the engine accepts.
     #[inline(always)]
     fn hand_in(&mut self, event: Event<ItemQueue>) -> EncodedReply
         requires { AcceptsEvent self.old.kept event }
@@ -95,7 +95,7 @@ impl Stack {
         spelling
     }
 
-    /// What of a reply is no number is kept.
+    /// Stores the part of a reply that is not a number.
     #[inline(always)]
     fn keep(&mut self, reply: Result<Answer<ItemQueue>, Refusal>)
         ensures kept { self.new.kept ≡ self.old.kept }
@@ -109,14 +109,14 @@ impl Stack {
         }
     }
 
-    /// One call of a sender; refused where there is none.
+    /// Makes a call of a sender; an error if there is none.
     pub fn call_sender(&mut self, alloc: Global, call: Call, ranges: &[AckRange]) -> EncodedReply
         ensures { AsksStack call ranges.now self.old result self.new }
     {
         self.kept.call_sender(alloc, call, ranges)
     }
 
-    /// What a probe of a sender carries is handed out; refused where there is none.
+    /// Takes the contents of a sender's probe; an error if there is no sender.
     pub fn probe(&mut self, space: SpaceId, immediate_ack: bool) -> EncodedReply
         ensures { ProbesStack space immediate_ack self.old result self.new }
     {

@@ -1,4 +1,4 @@
-//! What of a recovery can be read.
+//! What can be read of a recovery.
 ghost use Rattle.std.specs.Prelude.{◌≡◌, Some, Decides, option_copied, slice_get};
 ghost use Rattle.recovery_ids.specs.LocalIds.{first_moment};
 ghost use Rattle.recovery_paths.specs.PathLog.{path_of};
@@ -14,7 +14,7 @@ use recovery_congestion::congestion::Controller;
 use recovery_paths::path_pair::PathName;
 use std::ops::Range;
 
-/// What is kept for a path: times in nanoseconds, which stop at `u64::MAX`, and sizes in bytes.
+/// The state of a path: times in nanoseconds, at most `u64::MAX`, and sizes in bytes.
 #[repr(C)]
 #[derive(Clone, Copy)]
 pub struct PathView {
@@ -22,60 +22,59 @@ pub struct PathView {
     pub window: u64,
     /// The bytes in flight (RFC 9002, B.2).
     pub in_flight: u64,
-    /// How many packets in flight elicit an ACK.
+    /// How many packets in flight are ack-eliciting.
     pub ack_eliciting: u64,
     /// The bytes of the datagrams transmitted.
     pub total_sent: u64,
-    /// The bytes of the datagrams that came in.
+    /// The bytes of the datagrams received.
     pub total_recvd: u64,
-    /// The best estimate of the RTT: the smoothed one, or the initial one before the first sample (RFC 9002, 5.3).
+    /// The RTT estimate: the smoothed one, or the initial one before the first sample (RFC 9002, 5.3).
     pub rtt: u64,
-    /// The estimate that losses are judged by: the greater of that and the last sample (RFC 9002, 6.1.2).
+    /// The larger of that estimate and the last sample, for loss detection (RFC 9002, 6.1.2).
     pub rtt_conservative: u64,
-    /// The least sample (RFC 9002, 5.2).
+    /// The smallest sample (RFC 9002, 5.2).
     pub rtt_min: u64,
     /// The last sample, or the initial RTT before the first one (RFC 9002, 5.1).
     pub rtt_latest: u64,
     /// The mean deviation of the samples, or half of the initial RTT before the first one (RFC 9002, 5.3).
     pub rtt_variance: u64,
-    /// The probe timeout without the peer's delay of ACKs (RFC 9002, 6.2.1).
+    /// The probe timeout without the peer's max_ack_delay (RFC 9002, 6.2.1).
     pub pto_base: u64,
     /// The most bytes that the pacer's bucket holds (RFC 9002, 7.7).
     pub pacer_capacity: u64,
-    /// The bytes in that bucket, as the last datagram or question left it: what time has brought since is not among
-    /// them.
+    /// The bytes in that bucket after the last datagram or check, without those of the time since.
     pub pacer_tokens: u64,
-    /// The slow start threshold, where there is one: `u64::MAX` before the first loss (RFC 9002, 7.3.1).
+    /// The slow start threshold, if any: `u64::MAX` before the first loss (RFC 9002, 7.3.1).
     pub ssthresh: u64,
     /// The MTU in use (RFC 9000, 14.3).
     pub mtu: u16,
-    /// Whether there is a slow start threshold: a window that stays has none.
+    /// Whether there is a slow start threshold: a fixed window has none.
     pub has_ssthresh: bool,
     /// Whether there is such a path; if not, all else is 0.
     pub lives: bool,
-    /// Whether the peer was seen to receive there (RFC 9000, 8).
+    /// Whether the peer's address is validated (RFC 9000, 8).
     pub validated: bool,
 }
 
-/// What a packet number space has to send, and what is to be acknowledged in it.
+/// What a packet number space has to send, and which of its packet numbers are to be acknowledged.
 #[repr(C)]
 #[derive(Clone, Copy)]
 pub struct SpaceView {
     /// The largest packet number received; 0 before the first.
     pub largest_received: u64,
-    /// How many ranges of numbers are to be acknowledged.
+    /// How many ranges of packet numbers are to be acknowledged.
     pub ranges: u64,
     /// The number of the next packet, unless it is skipped.
     pub next_packet_number: u64,
     /// Whether the space is not discarded; if it is, all else is 0.
     pub lives: bool,
-    /// Whether an ACK is required, and some number is to be acknowledged.
+    /// Whether an ACK is required, and some packet number is to be acknowledged.
     pub acks: bool,
-    /// Whether there is something else to be sent.
+    /// Whether there is something else to send.
     pub other: bool,
 }
 
-/// A range of numbers, from the first to one above the last.
+/// A range of packet numbers.
 #[repr(C)]
 #[derive(Clone, Copy)]
 pub struct RangeView {
@@ -87,7 +86,7 @@ pub struct RangeView {
     pub some: bool,
 }
 
-/// A moment, or a span, if there is one.
+/// A time or a duration, if there is one.
 #[repr(C)]
 #[derive(Clone, Copy)]
 pub struct TimeView {
@@ -97,19 +96,19 @@ pub struct TimeView {
     pub some: bool,
 }
 
-/// The ids of both ends, and how late ACKs may be.
+/// The connection IDs of both endpoints, and their max_ack_delay.
 #[repr(C)]
 #[derive(Clone, Copy)]
 pub struct IdsView {
-    /// The number of the peer's id in use.
+    /// The sequence number of the peer's connection ID in use.
     pub active: u64,
-    /// How many ids this end has issued.
+    /// How many connection IDs the local endpoint has issued.
     pub issued: u64,
-    /// The peer is asked to retire this end's ids below this number.
+    /// The peer is asked to retire the local connection IDs below this sequence number.
     pub retire_prior_to: u64,
-    /// How late this end's ACKs may be, in nanoseconds, which stop at `u64::MAX`.
+    /// The local max_ack_delay, in nanoseconds, at most `u64::MAX`.
     pub max_ack_delay: u64,
-    /// How late the peer's ACKs may be, in nanoseconds, which stop at `u64::MAX`.
+    /// The peer's max_ack_delay, in nanoseconds, at most `u64::MAX`.
     pub peer_max_ack_delay: u64,
 }
 
@@ -141,7 +140,7 @@ fn show_path(path: &ItemPath) -> PathView
 }
 
 impl PathView {
-    /// There is no such path.
+    /// Returns the view if there is no such path.
     pub fn none() -> PathView
         ensures { result ≡ no_path }
     {
@@ -169,7 +168,7 @@ impl PathView {
 }
 
 impl SpaceView {
-    /// There is no such space, or it is discarded.
+    /// Returns the view if there is no such space, or it is discarded.
     pub fn none() -> SpaceView
         ensures { result ≡ no_space }
     {
@@ -185,7 +184,7 @@ impl SpaceView {
 }
 
 impl RangeView {
-    /// The range, if there is one.
+    /// Returns the view of a range, if there is one.
     pub fn of(range: Option<&Range<u64>>) -> RangeView
         ensures { result ≡ range_shown (option_copied range.entry) }
     {
@@ -205,7 +204,7 @@ impl RangeView {
 }
 
 impl TimeView {
-    /// So many nanoseconds, if any.
+    /// Returns the view of a time, if there is one.
     pub fn of(nanos: Option<u64>) -> TimeView
         ensures { result ≡ moment_shown nanos }
     {
@@ -220,7 +219,7 @@ impl TimeView {
 }
 
 impl IdsView {
-    /// There is no recovery.
+    /// Returns the view if there is no recovery.
     pub fn none() -> IdsView
         ensures { result ≡ no_ids }
     {
@@ -249,7 +248,7 @@ fn show_space(space: &ItemSpace) -> SpaceView
 }
 
 impl Stack {
-    /// What is kept for a path.
+    /// Returns the state of a path.
     pub fn path(&self, previous: bool) -> PathView
         ensures { let paths = (parts_kept self.now.kept).paths in
             result ≡ path_view (path_of (path_coded previous) paths) }
@@ -263,7 +262,7 @@ impl Stack {
         }
     }
 
-    /// The space of a number, where there is one that is not discarded.
+    /// Returns the space with a number, if there is one that is not discarded.
     pub fn named(&self, space: u8) -> Option<&ItemSpace>
         ensures { option_copied result
             ≡ space_named space (parts_kept self.now.kept) }
@@ -271,7 +270,7 @@ impl Stack {
         self.recovery().space(space_coded(space)?)
     }
 
-    /// What a space has to send.
+    /// Returns what a space has to send.
     pub fn space(&self, space: u8) -> SpaceView
         ensures { let parts = parts_kept self.now.kept in
             IsSpaceShown (space_named space parts) result }
@@ -282,7 +281,7 @@ impl Stack {
         }
     }
 
-    /// One of the ranges of numbers that are to be acknowledged in a space, in ascending order.
+    /// Returns one of the ranges of packet numbers to be acknowledged in a space, in ascending order.
     pub fn range(&self, space: u8, index: usize) -> RangeView
         ensures { let kept = space_named space (parts_kept self.now.kept) in
             result ≡ range_shown (slice_get (ranges_in kept) index) }
@@ -293,7 +292,7 @@ impl Stack {
         }
     }
 
-    /// How long ago the largest packet came, which an ACK frame tells (RFC 9000, 13.2.5).
+    /// Returns how long ago the largest packet was received, for the ACK Delay of an ACK frame (RFC 9000, 13.2.5).
     pub fn ack_delay(&self, space: u8, now: Instant) -> TimeView
         ensures { result
             ≡ ack_delay_named space now (parts_kept self.now.kept) }
@@ -304,7 +303,7 @@ impl Stack {
         }
     }
 
-    /// When a timer expires.
+    /// Returns when a timer expires.
     pub fn timer(&self, timer: u8) -> TimeView
         ensures { let timers = (parts_kept self.now.kept).timers in
             result ≡ moment_named timer timers }
@@ -318,7 +317,7 @@ impl Stack {
         }
     }
 
-    /// The ids of both ends.
+    /// Returns the connection IDs of both endpoints.
     pub fn ids(&self) -> IdsView
         ensures { result ≡ ids_shown (parts_kept self.now.kept) }
     {
@@ -332,7 +331,7 @@ impl Stack {
         }
     }
 
-    /// When the oldest of this end's ids is to be retired, where they end.
+    /// Returns when the oldest of the local connection IDs is to be retired, if they expire.
     pub fn next_id_timeout(&self) -> TimeView
         ensures { let ids = (parts_kept self.now.kept).local_ids in
             result ≡ moment_shown (first_moment ids.deadlines) }
@@ -343,14 +342,14 @@ impl Stack {
         }
     }
 
-    /// The bytes of the token that was answered last.
+    /// Returns the bytes of the token that was returned last.
     pub fn token_bytes(&self) -> [u8; 16]
         ensures { result ≡ self.now.token }
     {
         self.token.to_bytes()
     }
 
-    /// Whether this is the token that was answered last.
+    /// Returns whether this is the token that was returned last.
     pub fn is_token(&self, token: &[u8; 16]) -> bool
         ensures { Decides result (self.now.token ≡ token.now) }
     {

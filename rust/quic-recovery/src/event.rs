@@ -1,5 +1,5 @@
-//! What happens to a connection, what is answered, and why an event is refused: written by `tests/rust.py --write` from the
-//! sources of the library, and compared with them by its tests.
+//! Events, answers and errors: written by `tests/rust.py --write` from the sources of the library, and compared with them by
+//! its tests.
 use crate::ffi;
 use crate::timer::Timer;
 use crate::types::{
@@ -12,8 +12,8 @@ use std::net::SocketAddr;
 use std::ops::Range;
 use std::time::Duration;
 
-/// What happens. A packet carries the numbers of items that are to be sent again when it is lost: what they stand for the
-/// layer above knows.
+/// An event. A packet carries the numbers of items that are retransmitted if it is lost. The caller defines what the items
+/// are.
 #[derive(Clone, Copy, Debug, PartialEq, Eq)]
 #[non_exhaustive]
 pub enum Event<'a> {
@@ -258,7 +258,7 @@ pub enum Event<'a> {
     },
     /// Return the retransmission queue and empty it (RFC 9000, 13.3). Rejected with `SpaceDiscarded`.
     ///
-    /// Refused by `NoMemory` too, where this crate finds none for the answer: the items can then still be read by
+    /// Fails with `NoMemory` too if this crate cannot allocate the answer. The items can then still be read by
     /// [`Recovery::last_items`](crate::Recovery::last_items).
     TakePending {
         /// The packet number space.
@@ -323,13 +323,13 @@ pub enum Answer {
     /// The range of the peer's ID numbers to retire (RFC 9000, 5.1.2), and the stateless reset token of the ID that is
     /// now active. `None` if the active ID is unchanged.
     ///
-    /// The token is read by [`Recovery::reset_token`](crate::Recovery::reset_token).
+    /// Read the token by [`Recovery::reset_token`](crate::Recovery::reset_token).
     Retire(Option<Range<u64>>),
     /// Yes or no, as the event defines.
     ///
-    /// `true` says of `IdTimeout` that the peer is to be asked, by a NEW_CONNECTION_ID frame, to retire a number that it did not
-    /// retire yet; of `PeerRetired` that the peer is ready to hold one id more; of `AckFrequencyIn` that the frame is newer than
-    /// the last one, and taken; of `Ecn` that more packets were marked as congested.
+    /// `true` means, for `IdTimeout`: ask the peer, by a NEW_CONNECTION_ID frame, to retire a connection ID that it did not
+    /// retire yet. For `PeerRetired`: the peer can hold one more connection ID. For `AckFrequencyIn`: the frame is newer than
+    /// the last one, and applies. For `Ecn`: more packets were marked with CE.
     Flag(bool),
     /// The earliest running timer, if any.
     Timeout(Option<Instant>),
@@ -368,19 +368,19 @@ pub enum Answer {
     Done,
 }
 
-/// What is wrong with the peer's counts of ECN (RFC 9000, 13.4.2.1).
+/// What is wrong with the peer's ECN counts (RFC 9000, 13.4.2.1).
 #[derive(Clone, Copy, Debug, PartialEq, Eq, Hash)]
 #[non_exhaustive]
 pub enum EcnFault {
-    /// The count of ECT(0) fell.
+    /// The count of ECT(0) decreased.
     Ect0Falls,
-    /// The count of ECT(1) fell.
+    /// The count of ECT(1) decreased.
     Ect1Falls,
-    /// The count of ECN-CE fell.
+    /// The count of ECN-CE decreased.
     CeFalls,
-    /// Packets that are newly acknowledged are in no count.
+    /// The counts do not include newly acknowledged packets.
     Bleached,
-    /// Packets were counted that were not sent so.
+    /// The counts include packets that were not sent with this marking.
     Corrupted,
 }
 
@@ -457,7 +457,7 @@ pub enum Refusal {
 }
 
 impl Refusal {
-    /// By the number that the library gives it; of one by ECN with the number of the fault.
+    /// Returns the error with this number of the library; for the ECN error, with the number of the fault.
     pub(crate) fn from_number(number: u8, fault: u64) -> Self {
         match number {
             ffi::REFUSAL_NO_MEMORY => Refusal::NoMemory,
@@ -484,7 +484,7 @@ impl Refusal {
         }
     }
 
-    /// The number by which scripts and logs know the refusal.
+    /// Returns the number of the error in scripts and logs.
     pub fn number(self) -> u8 {
         match self {
             Refusal::NoMemory => ffi::REFUSAL_NO_MEMORY,

@@ -1,8 +1,8 @@
-//! What timers are for, and their names: written by `tests/rust.py --write` from the sources of the library, and compared with
+//! Timers, and their names: written by `tests/rust.py --write` from the sources of the library, and compared with
 //! them by its tests.
 use crate::ffi;
 
-/// What a timer is for.
+/// The timers of a connection.
 #[derive(Clone, Copy, Debug, PartialEq, Eq, PartialOrd, Ord, Hash)]
 #[repr(u8)]
 pub enum Timer {
@@ -40,7 +40,7 @@ impl Timer {
         Timer::MaxAckDelay,
     ];
 
-    /// The timer's name in scripts and logs: small letters with hyphens.
+    /// Returns the timer's name in scripts and logs: small letters with hyphens.
     pub fn name(self) -> &'static str {
         match self {
             Timer::LossDetection => "loss-detection",
@@ -55,7 +55,7 @@ impl Timer {
         }
     }
 
-    /// The timer of this name, or `None` where none has it.
+    /// Returns the timer with this name, or `None` if none has it.
     pub fn named(name: &str) -> Option<Self> {
         Timer::VALUES.into_iter().find(|it| it.name() == name)
     }

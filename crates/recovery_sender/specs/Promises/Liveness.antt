@@ -1,4 +1,4 @@
--- It never stalls (RFC 9002, 6.2 and 6.2.2.1): while an answer is owed, the timer for losses is set.
+-- It never stalls (RFC 9002, 6.2 and 6.2.2.1): the loss detection timer is set while an acknowledgement is due.
 use Rattle.std.specs.Prelude.{◌≡◌, ◌≢◌, ℕ, ◌*◌, ◌≤◌, ◌⊎◌, ◌&&◌, ◌||◌, not, nat_lt, sum_by, Bool, true, false, None, Some}
 use Rattle.std.specs.Option.{option_and_then}
 use Rattle.recovery_base.specs.declared.below.SpaceId.{SpaceId}
@@ -22,15 +22,15 @@ use Rattle.recovery_sender.specs.Spaces.{space_in}
 use Rattle.recovery_sender.specs.Timer.{behind, deadlock_space, has_eliciting, may_deadlock, pto_of, waits}
 
 module _ {K P M : Type 0} (recovery : RecoveryState K P M) (variables : Variables) where
-  -- the space lives, and something tracked there elicits an ACK; it does not wait for the handshake
+  -- the space is not discarded, tracks an ack-eliciting packet, and does not wait for the handshake
   pub record IsAckOwed (space : SpaceId) : Type 0 where
     pub here : Space P M
     pub lives : space_in recovery space ≡ Some here
     pub elicits : has_eliciting (packets_of here) ≡ true
     pub goes : waits recovery variables space ≡ false
 
-  -- the timer is set to the loss time of a space, or so that a probe comes in time: a probe timeout behind the last
-  -- packet of the space that elicits an ACK, at most
+  -- The timer is set to the loss time of a space, or for a probe: at most a probe timeout after the last ack-eliciting
+  -- packet of the space.
   pub record IsSetFor (space : SpaceId) : Type 0 where
     pub time : ℕ
     pub set : moment LossDetection recovery.timers ≡ Some time
@@ -38,26 +38,26 @@ module _ {K P M : Type 0} (recovery : RecoveryState K P M) (variables : Variable
         ⊎ ((sent : ℕ) × (option_and_then (λ here. here.time_of_last_ack_eliciting_packet) (space_in recovery space)
         ≡ Some sent) × (time ≤ behind sent (pto_of recovery variables space)))
 
-  -- while the limit against amplification lets a byte out (RFC 9000, 8.1)
+  -- while the amplification limit permits a byte (RFC 9000, 8.1)
   pub record NeverStalls : Type 0 where
     pub probes : is_blocked recovery.paths.current.state 1 ≡ false → (space : SpaceId) → IsAckOwed space
         → IsSetFor space
-    -- what may be a deadlock is ended: a client that does not know its address validated has the timer set, whatever it
-    -- tracks (RFC 9002, 6.2.2.1), and so has each end while packets of 1-RTT keys are in flight before the handshake is
-    -- confirmed
+    -- a possible deadlock is ended. The timer is set at a client that does not know its address validated, whatever it
+    -- tracks (RFC 9002, 6.2.2.1). It is set at both endpoints while 1-RTT packets are in flight before the handshake is
+    -- confirmed.
     pub deadlock : is_blocked recovery.paths.current.state 1 ≡ false → may_deadlock recovery variables ≡ true
         → is_discarded (deadlock_space recovery variables) recovery.discarded ≡ false
         → moment LossDetection recovery.timers ≢ None
 
 module _ {F K Q S M P : Type 0} (beginning : Beginning F K Q S M P) (past : History Q S M P) where
-  -- the limit against amplification lets a byte out on the path in use, by the events so far (RFC 9000, 8.1)
+  -- the amplification limit permits a byte on the path in use, by the events so far (RFC 9000, 8.1)
   abbrev pub may_send : Bool
   may_send = is_validated beginning.config.validated Current past
       || nat_lt (sum_by bytes_out (datagrams_on Current past))
       (amplification_factor * sum_by bytes_in (datagrams_on Current past))
 
-  -- by the events so far the timer for losses is set while a packet that elicits an ACK is outstanding, in a space that
-  -- is neither discarded nor waits for the handshake
+  -- by the events so far, the loss detection timer is set while an ack-eliciting packet is outstanding in a space that
+  -- is not discarded and does not wait for the handshake
   abbrev pub IsTimerRunning : Variables → Type 0
   IsTimerRunning variables = may_send ≡ true → (space : SpaceId) → was_discarded space past ≡ false
       → (same_space space Data && not variables.is_handshake_confirmed) ≡ false

@@ -1,6 +1,6 @@
--- Lost (RFC 9002, 6.1 and A.10): a pass declares lost exactly the packets that are tracked in its space by the events
--- before it, below the largest number acknowledged, so many numbers or so long a time earlier. If allocation failed for
--- one, the pass says that it is cut, and the next one is due at once.
+-- Lost (RFC 9002, 6.1 and A.10): a pass declares lost exactly the packets that are tracked below the largest
+-- acknowledged in its space and meet a threshold, by the events before it. If allocation failed for one, the pass is
+-- cut, and the next one is due at once.
 use Rattle.std.specs.Prelude.{◌≡◌, ℕ, ◌<◌, ◌≤◌, ◌⊎◌, ◌==◌, ◌&&◌, Bool, true, false, [], ◌∷◌, Option, Some, Ok, if◌then◌else◌}
 use Rattle.recovery_base.specs.declared.below.SpaceId.{SpaceId}
 use Rattle.recovery_base.specs.declared.below.SpaceId.TheVariants.{Data}
@@ -14,7 +14,7 @@ use Rattle.recovery_history.specs.Promises.Tracked.{is_tracked}
 use Rattle.recovery_sender.specs.declared.sender.losses.Losses.{Losses}
 
 module _ {Q S M P : Type 0} where
-  -- what the packet of a number was as it went out, by its time and by whether it elicits an ACK
+  -- a property of the packet with a number when it was sent: from its time, and whether it is ack-eliciting
   abbrev pub at_sending : {A : Type 0} → A → (ℕ → Bool → A) → SpaceId → History Q S M P → ℕ → A
   at_sending none say space [] n = none
   at_sending none say space ((Send there now size eliciting largest queue frames, Ok (Sent number forgotten)) ∷ earlier)
@@ -23,11 +23,11 @@ module _ {Q S M P : Type 0} where
       if same_space Data space && number == n then say now true else at_sending none say space earlier n
   at_sending none say space (happened ∷ earlier) n = at_sending none say space earlier n
 
-  -- when it went out
+  -- when it was sent
   abbrev pub sent_at : SpaceId → History Q S M P → ℕ → ℕ
   sent_at = at_sending 0 (λ now eliciting. now)
 
-  -- whether it elicits an ACK
+  -- whether it is ack-eliciting
   abbrev pub elicits_by : SpaceId → History Q S M P → ℕ → Bool
   elicits_by = at_sending false (λ now eliciting. eliciting)
 
@@ -36,7 +36,7 @@ module _ {Q S M P : Type 0} where
   IsLostBy look past number = (is_tracked look.space number past ≡ true) × (number < look.largest)
       × IsLost look number (sent_at look.space past number)
 
-  -- these are told, and the next look is at that moment
+  -- these are declared lost, and the next pass is at this time
   pub record LosesTracked (look : LossPass) (losses : Losses) (time : Option ℕ) (past : History Q S M P) : Type 0 where
     pub told : (number : ℕ) → IsDeclaredLost losses.numbers.items losses.probe number → IsLostBy look past number
     pub all : (number : ℕ) → IsLostBy look past number → IsDeclaredLost losses.numbers.items losses.probe number

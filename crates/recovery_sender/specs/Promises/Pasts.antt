@@ -1,4 +1,4 @@
--- The past of a sender: the events, with their replies, by which its recovery came to be what it is.
+-- The past of a sender: the events, with their replies, by which the state of its recovery was reached.
 use Rattle.std.specs.Prelude.{ℕ}
 use Rattle.rand_core.specs.Stream.{Stream}
 use Rattle.recovery_history.specs.declared.config.RecoveryConfig.{RecoveryConfig}
@@ -9,13 +9,13 @@ use Rattle.recovery_sender.specs.Senders.{state_in}
 
 module _ {F Q R C K S M P : Type 0} {f : _} {c : _} {q : _} {m : _} {r : _} (sender : Sender F Q R C K S M P f c q m r)
   where
-    -- it holds by every beginning and every list of events by which the sender may have come here; there are such
-    -- (`LiveRecovery`), and each call says by which events it goes on (`StepsLeadTo`)
+    -- it holds for every beginning and every list of events by which the sender's state may have been reached; one
+    -- exists (`LiveRecovery`), and each call states its further events (`StepsLeadTo`)
     abbrev pub ForEveryRun : (Beginning F K Q S M P → History Q S M P → Type 0) → Type 0
     ForEveryRun Holds = (config : RecoveryConfig F) (start : ℕ) (random : Stream) (past : History Q S M P)
         → (let beginning = begins f.built c.words (queue_model q.contents q.words q.blank) config start random in
         ReachedBy beginning past (state_in sender) → Holds beginning past)
 
-    -- whatever the beginning
+    -- for every beginning
     abbrev pub ForEveryPast : (History Q S M P → Type 0) → Type 0
     ForEveryPast Holds = ForEveryRun (λ beginning past. Holds past)

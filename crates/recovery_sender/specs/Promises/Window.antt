@@ -1,4 +1,4 @@
--- The window (RFC 9002, 7): what is in flight on the path in use, and the window of its controller, by the events so
+-- The window (RFC 9002, 7): the bytes in flight on the path in use, and the window of its controller, by the events so
 -- far.
 use Rattle.std.specs.Prelude.{◌≡◌, ℕ, ◌+◌, ◌≤◌, Bool, true, false}
 use Rattle.recovery_history.specs.History.{Beginning, History}
@@ -8,15 +8,16 @@ use Rattle.recovery_history.specs.RepliesAfter.{pasts_of}
 use Rattle.recovery_sender.specs.declared.sender.packets.Transmission.{Transmission}
 use Rattle.recovery_sender.specs.declared.sender.packets.Transmission.TheVariants.{Blocked, Full}
 
--- what asks the window goes out or is delayed only if it fits, and is `Full` only if it asks and does not fit
+-- if the window is checked, a datagram is sent or delayed only if it fits; it is `Full` only if it is checked and does
+-- not fit
 abbrev pub IsByRoom : Bool → Type 0 → Transmission → Type 0
 IsByRoom checked Fits Full = (checked ≡ true) × ¬ Fits
 IsByRoom checked Fits Blocked = Unit {0}
 IsByRoom checked Fits sent = checked ≡ true → Fits
 
 module _ {F K Q S M P : Type 0} (beginning : Beginning F K Q S M P) (past : History Q S M P) where
-  -- the sizes of the packets that went out on the path and were not acknowledged, lost, forgotten or discarded since
-  -- (RFC 9002, B.2)
+  -- the sizes of the packets that were sent on the path and not acknowledged, lost, forgotten or discarded since (RFC
+  -- 9002, B.2)
   abbrev pub flight_by : ℕ
   flight_by = sum_on (λ size eliciting. size) (generations past).current (λ space n. false) past
 
@@ -24,6 +25,6 @@ module _ {F K Q S M P : Type 0} (beginning : Beginning F K Q S M P) (past : Hist
   abbrev pub window_by : ℕ
   window_by = beginning.words.window (pasts_of beginning past).current.kept.controller
 
-  -- so many bytes more fit into the window
+  -- `bytes` more fit into the window
   abbrev pub FitsWindow : ℕ → Type 0
   FitsWindow bytes = flight_by + bytes ≤ window_by

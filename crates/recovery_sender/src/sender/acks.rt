@@ -1,4 +1,4 @@
-//! An ACK frame comes in (RFC 9002, A.7; RFC 9000, 13.1 and 13.4.2).
+//! Received ACK frames (RFC 9002, A.7; RFC 9000, 13.1 and 13.4.2).
 ghost use Rattle.std.specs.Prelude.{◌≡◌, ◌≢◌, ◌∷◌, [], None, ◌+◌, ◌≤◌, ◌<◌, true, false, Decides, MatchOption, IfSome, IfOk, IfErr, OnOk, ℕ, Err, length, get_or, option_copied};
 ghost use Rattle.recovery_base.specs.Units.{u64_limit};
 ghost use Rattle.recovery_events.specs.declared.event.Event.TheVariants.{CheckAck, EndAcks};
@@ -30,40 +30,40 @@ use recovery_paths::responses::PathResponses;
 use recovery_queue::queue::RetransmitQueue;
 use recovery_spaces::spaces::SentPacket;
 
-/// What the counts of ECN of a frame come to (RFC 9000, 13.4.2.1).
+/// The outcome of a frame's ECN counts (RFC 9000, 13.4.2.1).
 #[derive(Clone, Copy)]
 pub enum EcnOutcome {
-    /// Nothing.
+    /// No congestion. If the frame has no counts, packets are no longer marked on the path.
     Quiet,
-    /// More packets were marked: there is congestion (RFC 9002, 7.1).
+    /// More packets were marked with CE: congestion (RFC 9002, 7.1).
     Marked,
-    /// The check failed: packets are marked no more on the path.
+    /// Validation failed: packets are no longer marked on the path.
     Failed,
 }
 
-/// What an ACK frame comes to.
+/// The result of an ACK frame.
 #[derive(Drop)]
 pub struct Acknowledged {
-    /// The numbers that it newly acknowledges, rising.
+    /// The newly acknowledged numbers, increasing.
     pub numbers: Vec<u64>,
-    /// What was found lost.
+    /// The packets that were found lost.
     pub losses: Losses,
-    /// What its counts of ECN come to.
+    /// The outcome of its ECN counts.
     pub ecn: EcnOutcome,
 }
 
-/// What a frame newly acknowledges, before anything is done.
+/// What a frame newly acknowledges, before any change.
 #[derive(Drop)]
 pub struct NewlyAcked {
-    /// The numbers, rising.
+    /// The numbers, increasing.
     pub numbers: Vec<u64>,
-    /// Whether one of them elicits an ACK.
+    /// Whether one of them is ack-eliciting.
     pub elicits: bool,
-    /// Room for the numbers of the packets that may be lost once these are acknowledged.
+    /// Room for the numbers of the packets that may be lost after these ACKs.
     pub lost: Vec<u64>,
 }
 
-/// Whether the largest number that was acknowledged rises.
+/// Returns whether the largest acknowledged number increases.
 fn is_raised(before: Option<u64>, after: Option<u64>) -> bool
     ensures { result ≡ is_raised before after }
 {
@@ -74,8 +74,8 @@ fn is_raised(before: Option<u64>, after: Option<u64>) -> bool
     }
 }
 
-/// The end of the numbers below which packets may be lost in a space, once a frame is taken: the largest number that
-/// was acknowledged, or the one after the largest of the frame.
+/// Returns the exclusive end of the numbers that may be lost in a space after a frame: the largest acknowledged number
+/// before, or the number after the largest of the frame.
 fn loss_end(before: Option<u64>, largest: Option<u64>) -> u64
     requires small { IfSome largest (λ largest. largest + 1 < u64_limit) }
     ensures { result ≡ loss_end before largest }
@@ -87,7 +87,7 @@ fn loss_end(before: Option<u64>, largest: Option<u64>) -> u64
     }
 }
 
-/// Whether counts of ECN were answered with more packets marked.
+/// Returns whether an answer reports newly marked packets.
 fn is_marked<Q>(answer: &Answer<Q>) -> bool
     ensures { result ≡ is_marked answer.now }
 {
@@ -103,17 +103,19 @@ where
     Q: RetransmitQueue,
     R: Rng + Drop,
 {
-    /// An ACK frame came in (RFC 9002, A.7: OnAckReceived), with the first and last number of each of its ranges, the
-    /// highest range first, as on the wire. What it newly acknowledges is told, the round-trip time sampled, and losses
-    /// are looked for.
+    /// Processes a received ACK frame (RFC 9002, A.7: OnAckReceived). `ranges` has the first and last number of each
+    /// range, the highest range first, as on the wire. Returns what is newly acknowledged, takes an RTT sample, and
+    /// detects losses.
     ///
-    /// A refusal changes nothing: `SpaceDiscarded`; `BadRange` where there is no range, one ends before it begins, or
-    /// two have no number between them (RFC 9000, 19.3.1); `Unsent` where a number was never sent (RFC 9000, 13.1);
-    /// `SkippedAcked` where it holds the number that was skipped last (RFC 9000, 21.4); `NoMemory` where there is no
-    /// room for the list of what is acknowledged. While a PATH_CHALLENGE frame is open on the path in use
-    /// ([`Sender::set_challenge`]) the window does not grow, as where the stack has too little to send. It costs its
-    /// ranges, what it newly acknowledges and what is lost or lies below the largest acknowledged, each with a
-    /// logarithm.
+    /// While a PATH_CHALLENGE frame is outstanding on the path in use ([`Sender::set_challenge`]), the window does not
+    /// grow, as if the caller had too little to send. Cost: logarithmic for each range, each newly acknowledged packet,
+    /// and each packet tracked below the largest acknowledged.
+    ///
+    /// # Errors
+    /// The first that applies; nothing changes. `SpaceDiscarded`. `BadRange` if there is no range, one ends before it
+    /// begins, or two have no number between them (RFC 9000, 19.3.1). `Unsent` if a number was never sent (RFC 9000,
+    /// 13.1). `SkippedAcked` if a range holds the number that was skipped last (RFC 9000, 21.4). `NoMemory` if there is
+    /// no room for the numbers that are acknowledged or may be lost.
     pub fn on_ack(
         &mut self,
         space: SpaceId,
@@ -127,8 +129,8 @@ where
         self.on_ack_into(space, now, ranges, ack, room)
     }
 
-    /// As [`Sender::on_ack`], where the list of what is acknowledged takes the memory of another, in place of what that
-    /// held; it takes more only where it has to grow.
+    /// Does the same as [`Sender::on_ack`], but reuses the memory of `room` for the acknowledged numbers and clears its
+    /// contents. Allocates more only if that list has to grow.
     pub fn on_ack_into(
         &mut self,
         space: SpaceId,
@@ -146,8 +148,8 @@ where
         Ok(self.on_newly_acked(space, now, ranges, ack, newly))
     }
 
-    /// What a frame with these ranges would newly acknowledge, were it taken now: so that what its packets carry can be
-    /// looked at while they are tracked. The list takes the memory of another. Refused as [`Sender::on_ack`].
+    /// Returns what a frame with these ranges would newly acknowledge, while its packets are still tracked and their
+    /// contents can be read. Reuses the memory of `room`. The errors are those of [`Sender::on_ack`].
     pub fn newly_acked(
         &self,
         space: SpaceId,
@@ -171,7 +173,8 @@ where
         Ok(newly)
     }
 
-    /// The second half of [`Sender::on_ack`], with what [`Sender::newly_acked`] says of the frame now.
+    /// Makes the second half of [`Sender::on_ack`], with the result of [`Sender::newly_acked`] for the same frame and
+    /// state.
     pub fn on_newly_acked(
         &mut self,
         space: SpaceId,
@@ -196,8 +199,8 @@ where
         self.acknowledge(space, now, ranges, ack, newly)
     }
 
-    /// Whether a frame may be taken. Refused by `SpaceDiscarded`, by `BadRange` where its ranges are none, by `Unsent`
-    /// where a number was never sent, or by `SkippedAcked`, in this order.
+    /// Checks a frame. Fails with `SpaceDiscarded`, `BadRange` if the ranges are invalid, `Unsent` if a number was
+    /// never sent, or `SkippedAcked`, in this order.
     fn check_ack(&self, space: SpaceId, ranges: &[(u64, u64)]) -> Result<(), SenderError>
         ensures small { OnOk result (IfSome (largest_of ranges.now)
             (λ largest. largest + 1 < u64_limit)) }
@@ -218,7 +221,7 @@ where
         }
     }
 
-    /// None of the ranges holds the number that was skipped last (RFC 9000, 21.4).
+    /// Fails with `SkippedAcked` if a range holds the number that was skipped last (RFC 9000, 21.4).
     fn check_ranges(&self, space: SpaceId, ranges: &[(u64, u64)]) -> Result<(), Refusal>
         ensures ok { OnOk result (AreNotSkipped space ranges.now self.now.recovery.recovery) }
         ensures refused { IfErr result (λ refusal. (at : ℕ) × (at < length ranges.now)
@@ -234,7 +237,7 @@ where
         Ok(())
     }
 
-    /// The first tracked number from one on, up to another, and whether its packet elicits an ACK.
+    /// Returns the first tracked number from `from` up to `last`, and whether its packet is ack-eliciting.
     fn first_in(&self, space: SpaceId, from: u64, last: u64) -> Option<(u64, bool)>
         requires small { last + 1 < u64_limit }
         ensures { MatchOption result
@@ -246,7 +249,7 @@ where
         Some((number, packet.ack_eliciting))
     }
 
-    /// The tracked numbers of a range are put behind those below it. Refused by `NoMemory`.
+    /// Appends the tracked numbers of a range. Fails with `NoMemory`.
     fn take_range(
         &self,
         space: SpaceId,
@@ -275,8 +278,8 @@ where
         Ok(())
     }
 
-    /// What a frame newly acknowledges, in place of what a list held. Refused by `NoMemory`. It costs its ranges and
-    /// what they newly acknowledge, each with a logarithm.
+    /// Returns what a frame newly acknowledges, in the memory of `room`. Fails with `NoMemory`. Cost: logarithmic for
+    /// each range and each newly acknowledged packet.
     fn find_newly(
         &self,
         space: SpaceId,
@@ -310,7 +313,7 @@ where
         Ok(newly)
     }
 
-    /// Each of these numbers is told acknowledged.
+    /// Acknowledges each of these numbers.
     fn tell_acked(&mut self, space: SpaceId, now: Instant, app_limited: bool, numbers: &[u64])
         requires tracked { (number : ℕ) → IsOneOf number numbers.now
             → packet_at (packets_in (state_in self.old) space) number ≢ None }
@@ -328,7 +331,7 @@ where
         }
     }
 
-    /// A packet that is tracked in a space, by its number. It costs a logarithm.
+    /// Returns a packet that is tracked in a space, by its number. Cost: logarithmic.
     pub fn tracked(&self, space: SpaceId, number: u64) -> Option<&SentPacket<Q>>
         ensures { option_copied result ≡ packet_at (packets_in (state_in self.now) space) number }
     {
@@ -336,7 +339,7 @@ where
         here.sent_packets.get(number)
     }
 
-    /// When a tracked packet was sent, where that was on the path in use (RFC 9000, 9.4).
+    /// Returns when a tracked packet was sent, if that was on the path in use (RFC 9000, 9.4).
     fn sent_on(&self, space: SpaceId, number: u64) -> Option<Instant>
         ensures { result ≡ sent_on (state_in self.now) space number }
     {
@@ -347,8 +350,8 @@ where
         Some(packet.time_sent)
     }
 
-    /// A sample of the round-trip time, where there is one (RFC 9002, 5.1 and 5.3): the peer's delay counts in the
-    /// space of 1-RTT packets, up to the longest that it said.
+    /// Takes an RTT sample, if any (RFC 9002, 5.1 and 5.3). In the space of 1-RTT packets the ACK delay is subtracted,
+    /// up to the peer's max_ack_delay.
     fn sample(&mut self, space: SpaceId, delay: Duration, rtt: Option<Duration>)
         ensures { SamplesRtt space delay self.old self.new rtt }
     {
@@ -360,7 +363,7 @@ where
         self.mark_first_packet(space);
     }
 
-    /// The next packet of a space is the first one behind a sample, where none is (RFC 9002, 7.6.2).
+    /// Marks the next packet of a space as the first one after an RTT sample, if none is marked (RFC 9002, 7.6.2).
     fn mark_first_packet(&mut self, space: SpaceId)
         ensures { let old = state_in self.old in TakesSteps (first_marked old space
             (marks_now old).first_after_sample (space_in old space)) self.old self.new }
@@ -377,7 +380,7 @@ where
         self.set_marks(sending_ecn, Some((space, next)));
     }
 
-    /// Packets are marked no more on the path in use (RFC 9000, 13.4.2.1).
+    /// Stops ECN marking on the path in use (RFC 9000, 13.4.2.1).
     fn stop_ecn(&mut self)
         ensures { TakesSteps (unmarked (state_in self.old) ∷ []) self.old self.new }
     {
@@ -385,7 +388,7 @@ where
         self.set_marks(false, first);
     }
 
-    /// Whether packets are marked on the path in use, and which of them is the first one behind a sample, are set anew.
+    /// Sets whether packets are marked on the path in use, and which of them is the first one after an RTT sample.
     fn set_marks(&mut self, sending_ecn: bool, first: Option<(SpaceId, u64)>)
         ensures { TakesSteps (marked (with_marks_now (state_in self.old) sending_ecn first) ∷ [])
             self.old self.new }
@@ -396,7 +399,7 @@ where
         self.mark(sending_ecn, challenge, pending, first);
     }
 
-    /// Keeps these marks with the path in use; its PATH_RESPONSE frames stay.
+    /// Stores these marks with the path in use; its PATH_RESPONSE frames are unchanged.
     pub(super) fn mark(
         &mut self,
         sending_ecn: bool,
@@ -434,7 +437,7 @@ where
         );
     }
 
-    /// The counts of ECN of a frame (RFC 9002, A.7 and B.7; RFC 9000, 13.4.2.1).
+    /// Processes the ECN counts of a frame (RFC 9002, A.7 and B.7; RFC 9000, 13.4.2.1).
     fn process_ecn(
         &mut self,
         space: SpaceId,
@@ -459,7 +462,7 @@ where
         self.compare_ecn(space, now, newly_acked, counts)
     }
 
-    /// The same, where they are to be compared with those before.
+    /// Compares the ECN counts with those before.
     fn compare_ecn(
         &mut self,
         space: SpaceId,
@@ -485,7 +488,7 @@ where
         EcnOutcome::Marked
     }
 
-    /// When the largest acknowledged number of a space was sent.
+    /// Returns when the largest acknowledged number of a space was sent.
     fn largest_acked_sent(&self, space: SpaceId) -> Option<Instant>
         ensures { result ≡ largest_sent (state_in self.now) space }
     {
@@ -493,15 +496,14 @@ where
         Some(here.largest_acked_packet_sent)
     }
 
-    /// The largest number acknowledged in a space, if any.
+    /// Returns the largest number acknowledged in a space, if any.
     pub(super) fn largest_acked(&self, space: SpaceId) -> Option<u64>
         ensures { result ≡ largest_in (state_in self.now) space }
     {
         self.space(space)?.largest_acked_packet
     }
 
-    /// How long the largest number of a frame was on its way, where that is a sample of the round-trip time (RFC 9002,
-    /// 5.1).
+    /// Returns the time since the largest number of a frame was sent, if it is an RTT sample (RFC 9002, 5.1).
     fn rtt_of(
         &self,
         space: SpaceId,
@@ -518,22 +520,22 @@ where
         Some(now - sent)
     }
 
-    /// Whether the window is not to grow: the stack had too little to send to fill it (RFC 9002, 7.8), or the path in
-    /// use is being validated, so that what comes may be for the path before it (RFC 9000, 9.4).
+    /// Returns whether the window must not grow: the caller had too little to send (RFC 9002, 7.8), or the path in use
+    /// is being validated. An ACK may then be for a packet on the path before it (RFC 9000, 9.4).
     fn is_limited(&self, app_limited: bool) -> bool
         ensures { result ≡ is_limited (state_in self.now) app_limited }
     {
         app_limited || self.path().challenge.is_some()
     }
 
-    /// Whether a sample is the first one of the path in use (RFC 9002, 7.6.2).
+    /// Returns whether a sample is the first one of the path in use (RFC 9002, 7.6.2).
     fn is_first_sample(&self, rtt: &Option<Duration>) -> bool
         ensures { result ≡ is_first_sample (state_in self.now) rtt.now }
     {
         rtt.is_some() && self.path().first_packet_after_rtt_sample.is_none()
     }
 
-    /// The acknowledged numbers were all (RFC 9002, 7).
+    /// Ends the acknowledgements of a frame (RFC 9002, 7).
     fn end_acks(&mut self, space: SpaceId, now: Instant, app_limited: bool)
         ensures { TakesSteps (occurs (EndAcks now app_limited
             (largest_in (state_in self.old) space)) ∷ []) self.old self.new }
@@ -546,7 +548,7 @@ where
         });
     }
 
-    /// A frame that newly acknowledges something is taken (RFC 9002, A.7).
+    /// Processes a frame that newly acknowledges something (RFC 9002, A.7).
     fn acknowledge(
         &mut self,
         space: SpaceId,
@@ -582,7 +584,8 @@ where
         }
     }
 
-    /// The peer was heard at this time, perhaps with the first RTT sample of the path. The timer is set.
+    /// Records that the peer acknowledged something now, perhaps with the first RTT sample of the path, and sets the
+    /// timer.
     fn hear(&mut self, space: SpaceId, now: Instant, is_first: bool)
         ensures { CompletesCall []
             (heard_in space now (sampled_first is_first now self.old.variables)) self.old self.new }

@@ -1,4 +1,4 @@
-//! Spaces that end, and what was sent in vain (RFC 9002, 6.2.2, 6.3 and 6.4).
+//! Discarded spaces, and packets that will not be acknowledged (RFC 9002, 6.2.2, 6.3 and 6.4).
 ghost use Rattle.std.specs.Prelude.{◌≡◌, ◌≤◌, ◌∷◌, [], true, false, length, Ok, IfOk, IfErr, OnOk, OnErr, MatchOption};
 ghost use Rattle.std.specs.Vec.{vec_capacity};
 ghost use Rattle.recovery_base.specs.Units.{u64_limit};
@@ -19,12 +19,12 @@ use recovery_congestion::congestion::ControllerFactory;
 use recovery_events::event::{Answer, Event, Refusal};
 use recovery_queue::queue::RetransmitQueue;
 
-/// What was declared lost in a space, all of which was sent in vain.
+/// The packets of a space that were declared lost together.
 #[derive(Drop)]
 pub struct Retransmitted {
     /// The numbers of the packets that are lost, increasing.
     pub numbers: Vec<u64>,
-    /// Whether allocation failed for a packet, which is still tracked then.
+    /// Whether allocation failed for a packet, which is then still tracked.
     pub is_cut: bool,
 }
 
@@ -34,8 +34,8 @@ where
     Q: RetransmitQueue,
     R: Rng + Drop,
 {
-    /// The keys of a space are dropped, and with them all that it tracks; probe timeouts are counted anew (RFC 9002,
-    /// 6.2.2, 6.4 and A.11). Refused by `SpaceDiscarded`.
+    /// Discards a space with its keys and its tracked packets, and resets the count of probe timeouts (RFC 9002, 6.2.2,
+    /// 6.4 and A.11). Fails with `SpaceDiscarded`, without a change.
     pub fn discard(&mut self, space: SpaceId, now: Instant) -> Result<(), SenderError>
         ensures reply { result ≡ discard_reply (state_in self.old) space }
         ensures steps { OnOk result
@@ -51,14 +51,14 @@ where
         Ok(())
     }
 
-    /// Whether a space is discarded.
+    /// Returns whether a space is discarded.
     pub(super) fn is_discarded(&self, space: SpaceId) -> bool
         ensures { result ≡ is_discarded space (state_in self.now).discarded }
     {
         self.space(space).is_none()
     }
 
-    /// The keys of a space are dropped that is not discarded.
+    /// Discards a space that is not discarded yet.
     fn drop_keys(&mut self, space: SpaceId)
         requires { is_discarded space (state_in self.old).discarded ≡ false }
         ensures { TakesSteps (told (Event.DiscardSpace space) (Ok Answer.Done) ∷ []) self.old
@@ -67,18 +67,19 @@ where
         self.tell(Event::DiscardSpace { space });
     }
 
-    /// Probe timeouts are counted from zero, and no probe is due in a space that ended (RFC 9002, 6.2.2).
+    /// Resets the count of probe timeouts, and drops the probes due in a discarded space (RFC 9002, 6.2.2).
     pub(super) fn begin_anew(&mut self, space: SpaceId, now: Instant)
         ensures { CompletesCall [] (begun_anew space now self.old.variables) self.old self.new }
     {
         self.complete(self.variables.begun_anew(space, now));
     }
 
-    /// What a space tracks was sent in vain: before a Retry (RFC 9002, 6.3), or if 0-RTT is rejected (RFC 9002, 6.4).
-    /// Declares each packet lost, which is no sign of congestion, so that its contents wait to be sent again. Probe
-    /// timeouts are counted from zero. If a retransmission queue cannot take the contents of a packet, that packet
-    /// stays tracked, the others are lost all the same, and `is_cut` says so: the same call goes on with the rest.
-    /// It costs what is tracked, each packet with a logarithm.
+    /// Declares all packets of a space lost, because they will not be acknowledged: after a Retry (RFC 9002, 6.3), or
+    /// if 0-RTT is rejected (RFC 9002, 6.4). Their contents are queued for retransmission. This does not indicate
+    /// congestion. Resets the count of probe timeouts.
+    ///
+    /// If a retransmission queue cannot take the contents of a packet, that packet is still tracked, the others are
+    /// lost, and `is_cut` is true: the same call continues with the rest. Cost: logarithmic for each tracked packet.
     ///
     /// # Errors
     /// `SpaceDiscarded`, or `NoMemory` if there is no room for the numbers. Then nothing has changed.
@@ -102,7 +103,7 @@ where
         Ok(Retransmitted { numbers, is_cut })
     }
 
-    /// Room for the numbers of all packets that a space tracks.
+    /// Returns room for the numbers of all packets that a space tracks.
     fn room_for_all(&self, space: SpaceId) -> Result<Vec<u64>, SenderError>
         ensures none { IfOk result (λ room. room.items ≡ []) }
         ensures room { IfOk result (λ room.
@@ -117,8 +118,7 @@ where
         self.room_for(count)
     }
 
-    /// Declares each packet lost that a space tracks, the smallest number first. Returns whether allocation failed for
-    /// one.
+    /// Declares each packet of a space lost, the smallest number first. Returns whether allocation failed for one.
     fn lose_all(&mut self, space: SpaceId, numbers: &mut Vec<u64>) -> bool
         requires none { numbers.old.items ≡ [] }
         requires room { length (packets_in (state_in self.old) space) ≤ vec_capacity numbers.old }
@@ -137,7 +137,7 @@ where
         is_cut
     }
 
-    /// The smallest number that a space tracks, from another on.
+    /// Returns the smallest number that a space tracks at or above `from`.
     pub(super) fn first_tracked(&self, space: SpaceId, from: u64) -> Option<u64>
         ensures { MatchOption result
             (HasNoneFrom (packets_in (state_in self.now) space) from)

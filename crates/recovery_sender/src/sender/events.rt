@@ -1,4 +1,4 @@
-//! How a sender begins, and the events that pass through it.
+//! New senders, and the events that a sender passes to its recovery.
 ghost use Rattle.std.specs.Prelude.{◌≡◌, Some, true, ◌<◌, ◌≤◌, ◌+◌, ◌-◌, ◌∷◌, [], Ok, IfOk, OnOk, OnErr, Decides};
 ghost use Rattle.recovery_base.specs.Units.{number_limit, u64_limit};
 ghost use Rattle.recovery_packet_numbers.specs.Skips.{IsSkips};
@@ -26,7 +26,7 @@ use recovery_paths::path_pair::PathName;
 use recovery_queue::queue::RetransmitQueue;
 use std::alloc::Global;
 
-/// The settings of the recovery of a side's sender.
+/// Returns the settings of the recovery for a side.
 fn config_of<F>(side: Side, config: RecoveryConfig<F>) -> RecoveryConfig<F>
     ensures { result ≡ config_of side config }
 {
@@ -35,7 +35,7 @@ fn config_of<F>(side: Side, config: RecoveryConfig<F>) -> RecoveryConfig<F>
     config
 }
 
-/// The thresholds of loss detection that the settings give.
+/// Returns the thresholds of loss detection in the settings.
 fn thresholds_of<F>(config: &RecoveryConfig<F>) -> Thresholds
     ensures { result ≡ thresholds_in config.now }
 {
@@ -47,7 +47,7 @@ fn thresholds_of<F>(config: &RecoveryConfig<F>) -> Thresholds
     )
 }
 
-/// A nanosecond earlier; the epoch has nothing before it.
+/// Returns a nanosecond earlier, or the epoch if that is `now`.
 fn nanosecond_before(now: Instant) -> Instant
     ensures value { result ≡ now - 1 }
     ensures early { result ≤ latest_start }
@@ -55,8 +55,8 @@ fn nanosecond_before(now: Instant) -> Instant
     Instant::from_nanos(now.as_nanos().saturating_sub(1))
 }
 
-/// A path begins a nanosecond before an event that makes one, so that what is sent at its very time counts as sent
-/// after the start of the controller's recovery (RFC 9002, 7.3).
+/// Moves the start of a new path a nanosecond back: a packet sent at the time of the event then counts as sent after
+/// the start of the controller's recovery period (RFC 9002, 7.3).
 #[inline(always)]
 fn backdate<Q: RetransmitQueue>(event: &mut Event<Q>)
     ensures value { event.new ≡ backdated event.old }
@@ -69,7 +69,7 @@ fn backdate<Q: RetransmitQueue>(event: &mut Event<Q>)
     }
 }
 
-/// Whether by an event another path is in use, or the path in use begins anew.
+/// Returns whether an event changes or resets the path in use.
 #[inline(always)]
 fn changes_path<Q: RetransmitQueue>(event: &Event<Q>) -> bool
     ensures { result ≡ changes_path event.now }
@@ -80,7 +80,7 @@ fn changes_path<Q: RetransmitQueue>(event: &Event<Q>) -> bool
     }
 }
 
-/// Whether by an event the RTT of the path in use begins anew.
+/// Returns whether an event resets the RTT of the path in use.
 fn forgets_rtt<Q: RetransmitQueue>(event: &Event<Q>) -> bool
     ensures { result ≡ forgets_rtt event.now }
 {
@@ -91,7 +91,7 @@ fn forgets_rtt<Q: RetransmitQueue>(event: &Event<Q>) -> bool
     }
 }
 
-/// When an event is to send what counts in flight.
+/// Returns when an event is to send what counts in flight.
 #[inline(always)]
 fn to_send<Q: RetransmitQueue>(event: &Event<Q>) -> Option<Instant>
     ensures { result ≡ to_send event.now }
@@ -103,7 +103,7 @@ fn to_send<Q: RetransmitQueue>(event: &Event<Q>) -> Option<Instant>
     }
 }
 
-/// The space of a packet that elicits an ACK, if an event is to send one.
+/// Returns the space of an ack-eliciting packet, if an event is to send one.
 #[inline(always)]
 fn elicits_in<Q: RetransmitQueue>(event: &Event<Q>) -> Option<SpaceId>
     ensures { result ≡ elicits_in event.now }
@@ -118,9 +118,8 @@ fn elicits_in<Q: RetransmitQueue>(event: &Event<Q>) -> Option<SpaceId>
     }
 }
 
-/// Whether an event may be handed in by [`Sender::on_event`]: the sender decides itself what is acknowledged and lost
-/// and what follows of it, what is probed for, what is transmitted, which spaces end, and when the timer for losses is
-/// due.
+/// Returns whether [`Sender::on_event`] passes an event. The sender itself decides which packets are acknowledged and
+/// lost, congestion, probes, transmissions, discarded spaces and the loss detection timer.
 #[inline(always)]
 pub fn passes<Q: RetransmitQueue>(event: &Event<Q>) -> bool
     ensures { Decides result (IsPassedThrough event.now) }
@@ -144,7 +143,8 @@ pub fn passes<Q: RetransmitQueue>(event: &Event<Q>) -> bool
     }
 }
 
-/// Whether an event changes nothing of what the timer for losses is found by. Of others it is found anew.
+/// Returns whether an event leaves all inputs of the loss detection timer unchanged. After other events the timer is
+/// computed again.
 #[inline(always)]
 fn leaves_timer<Q: RetransmitQueue>(event: &Event<Q>) -> bool
     ensures { result ≡ leaves_timer event.now }
@@ -174,9 +174,9 @@ where
     Q: RetransmitQueue,
     R: Rng + Drop,
 {
-    /// A new sender, made at the time `now`. The first path of a client is validated, whatever the settings say (RFC
-    /// 9000, 8.1). Its recovery begins a nanosecond earlier, so that what is sent at `now` counts as sent after that
-    /// (RFC 9002, 7.3). `NoMemory` as of [`LiveRecovery::new`].
+    /// Returns a new sender, made at time `now`. The first path of a client is validated, whatever the settings say
+    /// (RFC 9000, 8.1). Its recovery begins a nanosecond earlier, so that packets sent at `now` count as sent after
+    /// that (RFC 9002, 7.3). Fails with `NoMemory`, as [`LiveRecovery::new`].
     pub fn new(
         alloc: Global,
         side: Side,
@@ -206,9 +206,9 @@ where
         Ok(sender)
     }
 
-    /// The sender of a connection that is established, made at the time `now`: [`Sender::new`], then
-    /// [`Sender::on_address_validated`], [`Sender::on_handshake_confirmed`], and the Initial and Handshake spaces
-    /// discarded (RFC 9001, 4.1.2 and 4.9). 1-RTT packets alone are sent, and probed for. `NoMemory` as of
+    /// Returns the sender of an established connection, made at time `now`. It makes [`Sender::new`],
+    /// [`Sender::on_address_validated`], [`Sender::on_handshake_confirmed`], and discards the Initial and Handshake
+    /// spaces (RFC 9001, 4.1.2 and 4.9). It sends and probes for 1-RTT packets only. Fails with `NoMemory`, as
     /// [`LiveRecovery::new`].
     pub fn established(
         alloc: Global,
@@ -231,10 +231,10 @@ where
         Ok(sender)
     }
 
-    /// An event that passes, [`Event::Send`] and [`Event::PollMtu`] among them, as [`LiveRecovery::apply`] does it; and
-    /// it is refused as there. [`Event::NewPath`] and [`Event::ResetPath`] take effect a nanosecond earlier, as
-    /// [`Sender::new`] does. After these and [`Event::RevertPath`] the loss time of each space is found again by the
-    /// RTT of the path then in use, which costs what is tracked below the largest acknowledged.
+    /// Applies an event, as [`LiveRecovery::apply`] does and with the same errors, for example [`Event::Send`] or
+    /// [`Event::PollMtu`]. [`Event::NewPath`] and [`Event::ResetPath`] take effect a nanosecond earlier, as in
+    /// [`Sender::new`]. After these and [`Event::RevertPath`] the loss times are computed again with the RTT of the
+    /// path then in use. That cost is logarithmic for each packet tracked below the largest acknowledged.
     #[inline(always)]
     pub fn on_event(&mut self, event: Event<Q>) -> Result<Answer<Q>, SenderError>
         requires passes { IsPassedThrough event }
@@ -257,7 +257,7 @@ where
         }
     }
 
-    /// An event by which another path is in use, or the path in use begins anew: the loss times go by its RTT then.
+    /// Applies an event that changes or resets the path in use. Loss times then follow from its RTT.
     fn change_path(&mut self, event: Event<Q>) -> Result<Answer<Q>, SenderError>
         requires stays { StaysInBounds latest_start (state_in self.old) event }
         ensures { PathEventResult event self.old self.new result }
@@ -273,11 +273,11 @@ where
         }
     }
 
-    /// Sets the RTT that timers use before the first RTT sample of the path in use, in place of that of the settings
-    /// (RFC 9002, 6.2.2): for example that of an earlier connection to the same peer, or the time that a Retry took.
-    /// Probe timeout, loss delay and timer follow at once; the pacer uses the settings until the first sample. If the
-    /// RTT of the path begins anew ([`Event::NewPath`] that is fresh, [`Event::ResetPath`]), the settings count again.
-    /// It costs what is tracked below the largest acknowledged.
+    /// Sets the RTT that timers use before the first RTT sample of the path in use, instead of the one in the settings
+    /// (RFC 9002, 6.2.2). Use the RTT of an earlier connection to the same peer, or the time that a Retry took. Probe
+    /// timeout, loss delay and timer follow at once; the pacer uses the settings until the first sample. If the RTT of
+    /// the path is reset (by a fresh [`Event::NewPath`], or [`Event::ResetPath`]), the settings apply again. Cost:
+    /// logarithmic for each packet tracked below the largest acknowledged.
     pub fn set_initial_rtt(&mut self, rtt: Duration)
         ensures { ChangesRtt (record self.old.variables { initial_rtt = Some rtt }) self.old
             self.new }
@@ -285,7 +285,7 @@ where
         self.change_rtt(Some(rtt));
     }
 
-    /// Keeps this as the initial RTT: the loss times are found again, and the timer is set.
+    /// Stores the initial RTT, computes the loss times again, and sets the timer.
     fn change_rtt(&mut self, initial_rtt: Option<Duration>)
         ensures { ChangesRtt (record self.old.variables { initial_rtt = initial_rtt }) self.old
             self.new }
@@ -295,7 +295,7 @@ where
         self.set_loss_detection_timer();
     }
 
-    /// Keeps this as the initial RTT. It may move the timer.
+    /// Stores the initial RTT. This may move the timer.
     fn keep_initial_rtt(&mut self, initial_rtt: Option<Duration>)
         ensures same { state_in self.new ≡ state_in self.old }
         ensures variables { self.new.variables
@@ -308,17 +308,17 @@ where
         };
     }
 
-    /// A probe of the MTU goes out, where one is due, as [`Event::PollMtu`] has it, and is refused. The window is
-    /// not asked: a probe of the MTU is let pass it (RFC 9000, 14.4).
+    /// Sends an MTU probe if one is due, as [`Event::PollMtu`] and with its errors. The window is not checked: an MTU
+    /// probe may exceed it (RFC 9000, 14.4).
     pub fn poll_mtu(&mut self, now: Instant) -> Result<Answer<Q>, SenderError>
         ensures { EventResult (Event.PollMtu now) self.old self.new result }
     {
         self.on_event(Event::PollMtu { now })
     }
 
-    /// A datagram of so many bytes came in on the path in use: what may be sent grows, where its address is not
-    /// validated, so that the timer may be due at once (RFC 9000, 8.1; RFC 9002, A.6). Refused by `Overflow` where the
-    /// bytes that came in on the path would pass `u64::MAX`.
+    /// Records a received datagram of this many bytes on the path in use. If its address is not validated, more may be
+    /// sent, so that the timer may be due at once (RFC 9000, 8.1; RFC 9002, A.6). Fails with `Overflow`, without a
+    /// change, if the bytes received on the path would exceed `u64::MAX`.
     pub fn on_datagram(&mut self, bytes: u64) -> Result<(), SenderError>
         ensures reply { result ≡ datagram_reply (state_in self.old) bytes }
         ensures steps { let event = Event.DatagramIn PathName.Current bytes in
@@ -335,7 +335,7 @@ where
         Ok(())
     }
 
-    /// The peer was seen to receive at the address of the path in use (RFC 9000, 8.1 and 8.2).
+    /// Validates the peer's address on the path in use (RFC 9000, 8.1 and 8.2).
     pub fn on_address_validated(&mut self)
         ensures { CompletesCall (told (Event.Validated PathName.Current) (Ok Answer.Done) ∷ [])
             self.old.variables self.old self.new }
@@ -344,9 +344,9 @@ where
         self.set_loss_detection_timer();
     }
 
-    /// A PATH_CHALLENGE frame with this data is open on the path in use, or none is, and whether one is to be sent (RFC
-    /// 9000, 8.2.1). While one is open the window does not grow: what is acknowledged may have gone by the path before
-    /// it (RFC 9000, 9.4).
+    /// Stores the data of the outstanding PATH_CHALLENGE frame on the path in use, if any, and whether a PATH_CHALLENGE
+    /// is to be sent (RFC 9000, 8.2.1). While one is outstanding, the window does not grow: an acknowledged packet may
+    /// have been sent on the path before it (RFC 9000, 9.4).
     pub fn set_challenge(&mut self, challenge: Option<u64>, pending: bool)
         ensures { CompletesCall (marked (challenged (state_in self.old) challenge pending) ∷ [])
             self.old.variables self.old self.new }
@@ -356,7 +356,7 @@ where
         self.time_on(was_timed);
     }
 
-    /// Whether the timer is known to be set, and an event leaves it so.
+    /// Returns whether the timer is known to be set, and an event does not move it.
     #[inline(always)]
     fn is_left_by(&self, event: &Event<Q>) -> bool
         ensures timed { result ≡ true → TimerIsSet (state_in self.now) self.now.variables }
@@ -365,7 +365,7 @@ where
         self.is_timer_current && leaves_timer(event)
     }
 
-    /// The path in use is marked so.
+    /// Stores these challenge marks with the path in use.
     fn mark_challenge(&mut self, challenge: Option<u64>, pending: bool)
         ensures { TakesSteps (marked (challenged (state_in self.old) challenge pending) ∷ [])
             self.old self.new }
@@ -376,7 +376,7 @@ where
         self.mark(sending_ecn, challenge, pending, first);
     }
 
-    /// A datagram came in of which the total has room.
+    /// Records a received datagram that the total has room for.
     fn receive(&mut self, bytes: u64)
         requires { (state_in self.old).paths.current.state.total_recvd + bytes < u64_limit }
         ensures { TakesSteps (told (Event.DatagramIn PathName.Current bytes) (Ok Answer.Done) ∷ [])
@@ -388,7 +388,7 @@ where
         });
     }
 
-    /// The address of the path in use is validated.
+    /// Validates the address of the path in use.
     fn validate(&mut self)
         ensures { TakesSteps (told (Event.Validated PathName.Current) (Ok Answer.Done) ∷ [])
             self.old self.new }

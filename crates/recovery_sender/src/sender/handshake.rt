@@ -1,4 +1,4 @@
-//! What is told of the handshake and of the peer (RFC 9001, 4.1.2; RFC 9002, A.8).
+//! What the handshake reports (RFC 9001, 4.1.2; RFC 9002, A.8).
 ghost use Rattle.std.specs.Prelude.{true, []};
 ghost use Rattle.recovery_sender.specs.Steps.{CompletesCall};
 
@@ -15,7 +15,7 @@ where
     Q: RetransmitQueue,
     R: Rng + Drop,
 {
-    /// There are keys of Handshake packets (RFC 9002, A.8).
+    /// Records that Handshake keys are available (RFC 9002, A.8).
     pub fn on_handshake_keys(&mut self)
         ensures { CompletesCall [] (record self.old.variables { has_handshake_keys = true })
             self.old self.new }
@@ -26,8 +26,8 @@ where
         });
     }
 
-    /// The handshake is confirmed (RFC 9001, 4.1.2): packets of 1-RTT keys are probed for from now on, and a client
-    /// knows its address validated (RFC 9002, 6.2.1 and 6.2.2.1).
+    /// Records that the handshake is confirmed (RFC 9001, 4.1.2). From then on 1-RTT packets are probed for, and a
+    /// client knows its address validated (RFC 9002, 6.2.1 and 6.2.2.1).
     pub fn on_handshake_confirmed(&mut self)
         ensures { CompletesCall [] (record self.old.variables {
           is_handshake_confirmed = true;
@@ -41,7 +41,7 @@ where
         });
     }
 
-    /// The peer delays its ACKs of 1-RTT packets at most so long (RFC 9000, 18.2: max_ack_delay).
+    /// Sets the peer's max_ack_delay, for 1-RTT packets (RFC 9000, 18.2).
     pub fn set_peer_max_ack_delay(&mut self, span: Duration)
         ensures { CompletesCall [] (record self.old.variables { max_ack_delay = span })
             self.old self.new }

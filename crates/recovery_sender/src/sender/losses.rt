@@ -26,17 +26,18 @@ use recovery_losses::{Candidate, FirstSample, LossPass, Tally, Variables, loss_d
 use recovery_queue::queue::RetransmitQueue;
 use std::alloc::Global;
 
-/// The latest start of a recovery, in nanoseconds: so that the clock's end is later than each.
+/// The latest start of a recovery period, in nanoseconds: the clock's end is later than each.
 const LATEST_START: u64 = u64::MAX - 1;
 
-/// When a recovery begins that congestion at this time begins: before the clock's end.
+/// Returns the start of a recovery period that congestion at this time begins: before the clock's end.
 fn start_at(now: Instant) -> Instant
     ensures { result ≡ min now latest_start }
 {
     now.min(Instant::from_nanos(LATEST_START))
 }
 
-/// When the packet was sent by which congestion is reported: if it is persistent, later than every recovery began.
+/// Returns when the packet was sent for which congestion is reported. If congestion is persistent, it is later than the
+/// start of every recovery period.
 fn sent_for(persistent: bool, sent: Instant) -> Instant
     ensures { result ≡ (if persistent then last_time else sent) }
 {
@@ -47,7 +48,7 @@ fn sent_for(persistent: bool, sent: Instant) -> Instant
     }
 }
 
-/// So many probe timeouts, each of so many nanoseconds.
+/// Returns `count` times `once`, in nanoseconds.
 fn times(count: u32, once: u128) -> u128
     requires small { once < 2 * span_limit }
     ensures { result ≡ count * once }
@@ -55,26 +56,26 @@ fn times(count: u32, once: u128) -> u128
     u128::from(count) * once
 }
 
-/// What a look for losses found.
+/// The result of a loss detection pass.
 #[derive(Drop)]
 pub struct Losses {
-    /// The numbers that are lost, rising; without that of the MTU's probe.
+    /// The numbers of the lost packets, increasing; without that of the MTU probe.
     pub numbers: Vec<u64>,
-    /// The number of the MTU's probe, where that is lost: no sign of congestion (RFC 9000, 14.4).
+    /// The number of the MTU probe, if it is lost: this does not indicate congestion (RFC 9000, 14.4).
     pub probe: Option<u64>,
-    /// The bytes lost on the path in use, where there is congestion (RFC 9002, 7.3.2).
+    /// The bytes lost on the path in use, if there is congestion (RFC 9002, 7.3.2).
     pub congestion: Option<u64>,
     /// Whether congestion is persistent (RFC 9002, 7.6).
     pub is_persistent: bool,
     /// Whether a black hole was reported (RFC 8899, 4.3).
     pub is_black_hole: bool,
-    /// Whether allocation failed for a packet that is lost: its contents could not join the retransmission queue. It is
-    /// still tracked, and the timer is due at once, so that the next timeout declares it lost.
+    /// Whether allocation failed for a lost packet: its contents could not join the retransmission queue. It is still
+    /// tracked, and the timer is due at once, so that the next timeout declares it lost.
     pub is_cut: bool,
 }
 
 impl Losses {
-    /// Nothing was lost. It takes no memory.
+    /// Returns a result without losses. Allocates nothing.
     pub(super) fn none(alloc: Global) -> Self
         ensures { IsEmptyLosses result }
     {
@@ -89,7 +90,7 @@ impl Losses {
     }
 }
 
-/// Whether a black hole is reported.
+/// Returns whether an answer reports a black hole.
 fn is_reported<Q>(answer: &Answer<Q>) -> bool
     ensures { result ≡ is_reported answer.now }
 {
@@ -105,7 +106,7 @@ where
     Q: RetransmitQueue,
     R: Rng + Drop,
 {
-    /// What a look at a space goes by, of which this is the largest number acknowledged.
+    /// Returns the inputs of a pass over a space with this largest acknowledged number.
     fn look(&self, space: SpaceId, now: Instant, due_to_ack: bool, largest: u64) -> LossPass
         ensures { result
             ≡ look_of (state_in self.now) self.now.variables space now due_to_ack largest }
@@ -145,8 +146,8 @@ where
         }
     }
 
-    /// When the next packet of a space is lost by its age, by the RTT of the path in use. It costs what is tracked
-    /// below the largest acknowledged, each packet with a logarithm.
+    /// Returns when the next packet of a space is lost by its age, with the RTT of the path in use. Cost: logarithmic
+    /// for each packet tracked below the largest acknowledged.
     fn next_loss(&self, space: SpaceId) -> Option<Instant>
         ensures { IsNextLoss (state_in self.now) self.now.variables space result }
     {
@@ -157,7 +158,7 @@ where
         Some(sent + look.delay)
     }
 
-    /// When the first of the packets was sent that lie below the largest acknowledged.
+    /// Returns when the first packet below the largest acknowledged was sent.
     fn earliest_sent(&self, look: &LossPass) -> Option<Instant>
         ensures { IsEarliestSent (packets_in (state_in self.now) look.now.space) look.now.largest
             result }
@@ -171,8 +172,8 @@ where
         earliest
     }
 
-    /// Keeps with each space when its next packet is lost, by the RTT of the path in use: by that of another path the
-    /// time may lie seconds ahead, and while one is set no probe is due (RFC 9002, 6.2.1 and A.8).
+    /// Stores for each space when its next packet is lost, with the RTT of the path in use. With that of another path
+    /// the time may be seconds too late, and while one is set no probe is due (RFC 9002, 6.2.1 and A.8).
     pub(super) fn renew_loss_times(&mut self)
         ensures { RenewsLossTimes self.old self.new }
     {
@@ -184,7 +185,7 @@ where
         self.set_loss_time(SpaceId::Data, data);
     }
 
-    /// The first tracked packet from a number on that lies below the largest acknowledged.
+    /// Returns the first tracked packet at or above `from` and below the largest acknowledged.
     fn candidate(&self, look: &LossPass, from: u64) -> Option<Candidate>
         ensures fits { IfSome result (λ found. found.number + 1 < u64_limit) }
         ensures next { MatchOption result
@@ -203,7 +204,7 @@ where
         })
     }
 
-    /// Declares a tracked packet lost. Returns false if allocation failed: then it is still tracked, with its contents.
+    /// Declares a tracked packet lost. Returns false if allocation fails: then it is still tracked, with its contents.
     fn declare_lost(&mut self, space: SpaceId, number: u64) -> bool
         requires tracked { packet_at (packets_in (state_in self.old) space) number ≢ None }
         ensures { TakesSteps (trying space ((number, not result) ∷ [])) self.old self.new }
@@ -214,8 +215,8 @@ where
         true
     }
 
-    /// Declares a tracked packet lost, and appends its number to others. Returns false, and appends nothing, if
-    /// allocation failed.
+    /// Declares a tracked packet lost, and appends its number to `numbers`. Returns false, and appends nothing, if
+    /// allocation fails.
     pub(super) fn lose(&mut self, space: SpaceId, number: u64, numbers: &mut Vec<u64>) -> bool
         requires tracked { packet_at (packets_in (state_in self.old) space) number ≢ None }
         requires room { vec_len numbers.old < vec_capacity numbers.old }
@@ -231,7 +232,7 @@ where
         true
     }
 
-    /// Room for so many numbers.
+    /// Returns room for `count` numbers.
     pub(super) fn room_for(&self, count: usize) -> Result<Vec<u64>, SenderError>
         ensures none { IfOk result (λ room. room.items ≡ []) }
         ensures room { IfOk result (λ room. count ≤ vec_capacity room) }
@@ -244,7 +245,7 @@ where
         }
     }
 
-    /// Room for the numbers of the packets that a space tracks below a number, but for so many of them.
+    /// Returns room for the numbers of the packets that a space tracks below `end`, less `taken` of them.
     pub(super) fn room_below(
         &self,
         space: SpaceId,
@@ -263,7 +264,7 @@ where
         self.room_for(count.saturating_sub(taken))
     }
 
-    /// What becomes of a packet below the largest acknowledged.
+    /// Classifies a packet below the largest acknowledged.
     fn judge(
         &mut self,
         look: &LossPass,
@@ -290,8 +291,8 @@ where
         }
     }
 
-    /// Goes over the packets of a space, below the largest acknowledged: each that is lost is declared so, except the
-    /// probe of the MTU.
+    /// Scans the packets of a space below the largest acknowledged, and declares each lost one so, except the MTU
+    /// probe.
     fn find_lost(&mut self, look: &LossPass, numbers: &mut Vec<u64>) -> Tally
         requires none { numbers.old.items ≡ [] }
         requires room { count_below look.now.largest
@@ -307,7 +308,7 @@ where
         tally
     }
 
-    /// All that was found lost was told, where something was: whether a black hole is reported (RFC 8899, 4.3).
+    /// Ends the losses of a pass, if any. Returns whether a black hole is reported (RFC 8899, 4.3).
     fn losses_done(&mut self, now: Instant, numbers: &[u64]) -> bool
         ensures goes { TakesSteps (ended now result numbers.now) self.old self.new }
         ensures none { numbers.now ≡ [] → result ≡ false }
@@ -319,9 +320,9 @@ where
         is_reported(&answer)
     }
 
-    /// Reports congestion, if a packet that counts was sent last at this time (RFC 9002, 7.3.2). If it is persistent,
-    /// it is reported as of a packet sent later than every recovery began, so that the window falls to its least also
-    /// within a recovery (7.6.2).
+    /// Reports congestion, if the last packet that counts was sent at `sent` (RFC 9002, 7.3.2). If it is persistent, it
+    /// is reported as of a packet sent after the start of every recovery period. The window then falls to its minimum
+    /// during one too (7.6.2).
     pub(super) fn congested(
         &mut self,
         now: Instant,
@@ -341,7 +342,7 @@ where
         }
     }
 
-    /// Declares the probe of the MTU lost, if it is. If allocation fails, it is still tracked, and due at once.
+    /// Declares the MTU probe lost, if it is. If allocation fails, it is still tracked, and due at once.
     fn lose_probe(&mut self, look: &LossPass, tally: &mut Tally) -> Option<u64>
         requires tracked { ForSome tally.old.probe (λ number.
             packet_at (packets_in (state_in self.old) look.now.space) number ≢ None) }
@@ -360,7 +361,7 @@ where
         None
     }
 
-    /// The largest number acknowledged in a space, where a packet is tracked below it: most ACKs leave none.
+    /// Returns the largest number acknowledged in a space, if a packet is tracked below it: after most ACKs none is.
     fn gap(&self, space: SpaceId) -> Option<u64>
         ensures none { IfNone result (HasNoGap (state_in self.now) space) }
         ensures some { IfSome result
@@ -372,9 +373,9 @@ where
         Some(largest)
     }
 
-    /// Declares lost the packets of a space that are lost now, and keeps when the next one is (RFC 9002, A.10:
-    /// DetectAndRemoveLostPackets). Only a pass that is due to an ACK finds persistent congestion. It costs what is
-    /// lost and what is tracked below the largest acknowledged, each with a logarithm.
+    /// Declares the lost packets of a space so, and stores when the next one is lost (RFC 9002, A.10:
+    /// DetectAndRemoveLostPackets). Only a pass after an ACK detects persistent congestion. Cost: logarithmic for each
+    /// packet tracked below the largest acknowledged.
     pub(super) fn detect_and_remove_lost_packets(
         &mut self,
         space: SpaceId,

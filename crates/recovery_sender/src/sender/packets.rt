@@ -1,4 +1,4 @@
-//! What goes out (RFC 9002, 7; RFC 9000, 8.1).
+//! Transmissions (RFC 9002, 7; RFC 9000, 8.1).
 ghost use Rattle.std.specs.Prelude.{◌≡◌, ◌<◌, ◌≤◌, ◌+◌, ◌∷◌, [], true, false, None, Some, if◌then◌else◌, nat_lt, Ok, IfOk, OnOk, OnErr};
 ghost use Rattle.recovery_base.specs.Units.{u64_limit};
 ghost use Rattle.recovery_spaces.specs.Discarded.{is_discarded};
@@ -19,34 +19,34 @@ use recovery_congestion::congestion::{Controller, ControllerFactory};
 use recovery_events::event::{Answer, Event, Refusal};
 use recovery_queue::queue::RetransmitQueue;
 
-/// Whether a datagram goes out.
+/// Whether a datagram may be sent.
 #[derive(Clone, Copy)]
 pub enum Transmission {
-    /// It does, and is counted.
+    /// It may, and is counted.
     Transmitted,
-    /// The limit against amplification forbids it (RFC 9000, 8.1).
+    /// The amplification limit forbids it (RFC 9000, 8.1).
     Blocked,
     /// The window has no room for it (RFC 9002, 7).
     Full,
-    /// The pacer wants it later: it is to be asked for again at this moment (RFC 9002, 7.7).
+    /// The pacer delays it: ask again at this time (RFC 9002, 7.7).
     Delayed(Instant),
 }
 
-/// When a packet counts in flight that is sent now: where it has a size (RFC 9002, 2).
+/// Returns `now` if a packet counts in flight: if it has a size (RFC 9002, 2).
 pub(super) fn counted_at(now: Instant, size: u16) -> Option<Instant>
     ensures { result ≡ (if nat_lt 0 size then Some now else None) }
 {
     if size > 0 { Some(now) } else { None }
 }
 
-/// The space of a packet that is sent now, if it elicits an ACK.
+/// Returns the space of a packet if it is ack-eliciting.
 pub(super) fn eliciting_in(space: SpaceId, ack_eliciting: bool) -> Option<SpaceId>
     ensures { result ≡ (if ack_eliciting then Some space else None) }
 {
     if ack_eliciting { Some(space) } else { None }
 }
 
-/// The space of a packet that elicits an ACK, if the answer says that it went out.
+/// Returns the space of an ack-eliciting packet, if the answer reports that it was sent.
 fn sent_in<Q>(space: Option<SpaceId>, answer: &Answer<Q>) -> Option<SpaceId>
     ensures { result ≡ sent_in space answer.now }
 {
@@ -56,7 +56,7 @@ fn sent_in<Q>(space: Option<SpaceId>, answer: &Answer<Q>) -> Option<SpaceId>
     }
 }
 
-/// When a packet went out, where the answer says so.
+/// Returns when a packet was sent, if the answer reports so.
 fn sent_at<Q>(time: Option<Instant>, answer: &Answer<Q>) -> Option<Instant>
     ensures { result ≡ sent_at time answer.now }
 {
@@ -72,10 +72,10 @@ where
     Q: RetransmitQueue,
     R: Rng + Drop,
 {
-    /// Whether a datagram of so many bytes goes out now, with packets of a space. Where nothing in it counts in flight,
-    /// or a probe is due in the space, the limit against amplification alone is asked (RFC 9002, 7, 7.5 and 7.7). What
-    /// goes is counted; the packets in it are told by `send` before the next datagram is asked for. Refused by
-    /// `SpaceDiscarded`, then by `Overflow` where the bytes transmitted on the path would pass `u64::MAX`.
+    /// Returns whether a datagram with packets of a space may be sent now, and counts it if so. The caller reports its
+    /// packets by `send` before the next datagram. If nothing in it counts in flight, or a probe is due in the space,
+    /// only the amplification limit is checked (RFC 9002, 7, 7.5 and 7.7). Fails, without a change, with
+    /// `SpaceDiscarded`, then with `Overflow` if the bytes transmitted on the path would exceed `u64::MAX`.
     pub fn transmit(
         &mut self,
         now: Instant,
@@ -88,19 +88,19 @@ where
             ≡ transmit_reply F.Controller.words (state_in self.old) self.old.variables now bytes
             space in_flight }
 
-        // so that what counts in flight finds room in the window, where no probe is due (RFC 9002, 7).
+        // so that what counts in flight fits into the window, if no probe is due (RFC 9002, 7).
         ensures window { result ≡ Ok Transmission.Transmitted → in_flight ≡ true
             → is_probe_due self.old.variables space ≡ false
             → bytes_in_flight (state_in self.old) + bytes
             ≤ window_of F.Controller.words (state_in self.old) }
 
-        // By the events before it, what asks the window goes out or is delayed only if it fits, and it is `Full` only
-        // if it does not.
+        // By the events before it: a datagram for which the window is checked is sent or delayed only if it fits, and
+        // is `Full` only if it does not.
         ensures fits { IfOk result (λ sent. ForEveryRun self.old (λ beginning past. IsByRoom
             (is_checked self.old.variables space in_flight) (FitsWindow beginning past bytes)
             sent)) }
 
-        // The recovery is asked for what limit and window let pass.
+        // The recovery takes an event for what limit and window permit.
         ensures steps { IfOk result (λ sent. let old = state_in self.old in
             CompletesCall (transmit_steps now bytes
             (is_checked self.old.variables space in_flight) sent)
@@ -119,8 +119,8 @@ where
         Ok(sent)
     }
 
-    /// A packet goes out, as [`Event::Send`] has it, and is refused. What has no size counts for no probe timeout (RFC
-    /// 9002, A.5).
+    /// Records a sent packet, as [`Event::Send`] and with its errors. A packet without a size does not start the probe
+    /// timeout (RFC 9002, A.5).
     pub fn send(
         &mut self,
         space: SpaceId,
@@ -158,8 +158,8 @@ where
         }
     }
 
-    /// What was answered was sent at this time, if it counts in flight, and in this space, if it elicits an ACK (RFC
-    /// 9002, 6.2.4 and A.5); the timer is set, if it is not known to be.
+    /// Records a transmission: at `time` if it counts in flight, in `space` if it is ack-eliciting (RFC 9002, 6.2.4 and
+    /// A.5). Sets the timer, unless it is known to be set.
     #[inline(always)]
     pub(super) fn goes_on(
         &mut self,
@@ -180,7 +180,8 @@ where
         self.time_on(was_timed);
     }
 
-    /// Whether window and pacer are asked for a datagram with packets of a space that is not discarded.
+    /// Returns whether window and pacer are checked for a datagram with packets of a space; `None` if that is
+    /// discarded.
     fn is_checked(&self, space: SpaceId, in_flight: bool) -> Option<bool>
         ensures { result ≡ (if is_discarded space (state_in self.now).discarded then None
             else Some (is_checked self.now.variables space in_flight)) }
@@ -189,7 +190,7 @@ where
         Some(in_flight && !self.variables.is_probe_due(space))
     }
 
-    /// The datagram goes out, where limit, window and pacer let it.
+    /// Sends the datagram, if limit, window and pacer permit.
     fn transmit_where_it_may(&mut self, now: Instant, bytes: u16, is_checked: bool) -> Transmission
         requires total { (state_in self.old).paths.current.state.total_sent + bytes < u64_limit }
         ensures value { result
@@ -205,7 +206,7 @@ where
         }
     }
 
-    /// Whether the window has no room for so many bytes more (RFC 9002, 7).
+    /// Returns whether the window has no room for `bytes` more (RFC 9002, 7).
     fn is_full(&self, bytes: u16) -> bool
         ensures { result ≡ is_full F.Controller.words (state_in self.now) bytes }
     {
@@ -214,7 +215,7 @@ where
         after > u128::from(path.congestion.window())
     }
 
-    /// The datagram goes out, where the pacer lets it.
+    /// Sends the datagram, if the pacer permits.
     fn transmit_now(&mut self, now: Instant, bytes: u16, is_checked: bool) -> Transmission
         requires total { (state_in self.old).paths.current.state.total_sent + bytes < u64_limit }
         requires limit { is_blocked (state_in self.old).paths.current.state bytes ≡ false }

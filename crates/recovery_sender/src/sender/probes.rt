@@ -1,4 +1,4 @@
-//! The timer for losses expires, and what probes carry (RFC 9002, 6.2 and A.9).
+//! Timeouts of the loss detection timer, and the contents of probes (RFC 9002, 6.2 and A.9).
 ghost use Rattle.std.specs.Prelude.{◌≡◌, ◌∷◌, [], false, IfSome, Ok};
 ghost use Rattle.recovery_events.specs.declared.event.Answer.{Answer};
 ghost use Rattle.recovery_events.specs.declared.event.Event.TheVariants.{TakePending};
@@ -19,16 +19,16 @@ use recovery_events::event::{Answer, Event, Refusal};
 use recovery_losses::{Due, Variables};
 use recovery_queue::queue::RetransmitQueue;
 
-/// What a timeout results in.
+/// The result of a timeout.
 #[derive(Drop)]
 pub enum Timeout {
     /// The timer is not due.
     Nothing,
-    /// A space was searched for losses.
+    /// A loss detection pass was made over a space.
     Lost {
         /// The space.
         space: SpaceId,
-        /// What was found lost.
+        /// The packets that were found lost.
         losses: Losses,
     },
     /// Probes are due in a space (RFC 9002, 6.2.4).
@@ -40,7 +40,7 @@ pub enum Timeout {
     },
 }
 
-/// Done or refused, whatever the answer is.
+/// Returns done or the error, without the answer.
 fn done<Q: Drop>(reply: Result<Answer<Q>, Refusal>) -> Result<(), SenderError>
     ensures { result ≡ done_of reply }
 {
@@ -56,15 +56,15 @@ where
     Q: RetransmitQueue,
     R: Rng + Drop,
 {
-    /// The timer for losses may be due (RFC 9002, A.9: OnLossDetectionTimeout). Before its time nothing happens. If a
-    /// space may have lost packets, they are declared lost. Otherwise two probes are due in the space whose timer
-    /// expired, or one against a deadlock, in place of those that were due before; for each the caller asks
-    /// [`Sender::transmit`], takes its contents by [`Sender::probe`] and sends it by [`Sender::send`]. It costs what is
-    /// lost and what is tracked below the largest acknowledged, each with a logarithm.
+    /// Handles the loss detection timer, which may be due (RFC 9002, A.9: OnLossDetectionTimeout). Before its time
+    /// nothing happens. If a space may have lost packets, they are declared lost. Otherwise two probes are due in the
+    /// space whose timer expired, or one against a deadlock; they replace those that were due before. For each the
+    /// caller asks [`Sender::transmit`], takes its contents by [`Sender::probe`] and sends it by [`Sender::send`].
+    /// Cost: logarithmic for each packet tracked below the largest acknowledged.
     ///
     /// # Errors
     /// `NoMemory` if there is no room for the numbers of the packets that may be lost. Then nothing has changed. A
-    /// timeout that asks for probes takes no memory.
+    /// timeout that asks for probes allocates nothing.
     pub fn on_timeout(&mut self, now: Instant) -> Result<Timeout, SenderError>
         ensures comes { TimeoutResult now self.old self.new result }
         ensures early { WaitsForItsTime now self.old self.new result }
@@ -73,7 +73,7 @@ where
         self.act_on(due, now)
     }
 
-    /// What is due at this time happens: a space is searched for losses, or probes are asked for.
+    /// Does what is due at this time: a loss detection pass, or a request for probes.
     fn act_on(&mut self, due: Option<Due>, now: Instant) -> Result<Timeout, SenderError>
         requires due { due ≡ due_now now (state_in self.old) self.old.variables }
         ensures { TimeoutResult now self.old self.new result }
@@ -92,10 +92,10 @@ where
         }
     }
 
-    /// Hands out what a probe of a space carries (RFC 9002, 6.2.4): what waits there to be sent again, or else the
-    /// contents of the first packet in flight that has any. If both probes of a timeout ask so, each carries the
-    /// contents of another packet; an empty queue asks for a PING frame. `immediate_ack` asks the peer for an ACK at
-    /// once, and `streams` is what queues are asked with.
+    /// Returns the contents of a probe in a space (RFC 9002, 6.2.4): what is queued for retransmission, or else the
+    /// contents of the first packet in flight that has any. If called for both probes of a timeout, each carries the
+    /// contents of another packet; an empty queue calls for a PING frame. `immediate_ack` asks the peer for an
+    /// immediate ACK, and `streams` is passed to the queues.
     ///
     /// # Errors
     /// `SpaceDiscarded`, or `NoMemory` if the queues cannot be joined. Then nothing has changed.
@@ -118,7 +118,7 @@ where
         Ok(queue)
     }
 
-    /// Packets of a space may be lost: they are looked for, if there is room for their numbers.
+    /// Makes a loss detection pass over a space, if there is room for the numbers.
     fn time_losses_out(&mut self, space: SpaceId, now: Instant) -> Result<Timeout, SenderError>
         ensures { SearchesByTime space now self.old self.new result }
     {
@@ -131,7 +131,7 @@ where
         Ok(Timeout::Lost { space, losses })
     }
 
-    /// Packets of a space may be lost: they are looked for. The timer against a deadlock runs from now on.
+    /// Makes a loss detection pass over a space. Restarts the anti-deadlock timer.
     fn find_losses(&mut self, space: SpaceId, now: Instant, room: Vec<u64>) -> Losses
         requires none { room.items ≡ [] }
         requires room { HasRoomBelowLargest space self.old room }
@@ -145,7 +145,7 @@ where
         losses
     }
 
-    /// What is due now, where something is.
+    /// Returns what is due now, if anything.
     fn due_now(&self, now: Instant) -> Option<Due>
         ensures value { result ≡ due_now now (state_in self.now) self.now.variables }
         ensures there { IfSome result (λ due.
@@ -157,7 +157,7 @@ where
         }
     }
 
-    /// Contents for a probe are put with what waits in a space that is not discarded. Refused by `NoMemory`.
+    /// Queues the contents of a probe in a space that is not discarded. Fails with `NoMemory`.
     fn queue_probe(
         &mut self,
         space: SpaceId,
@@ -174,7 +174,7 @@ where
         }))
     }
 
-    /// Hands out what waits in a space that is not discarded.
+    /// Returns the retransmission queue of a space that is not discarded.
     fn take_pending(&mut self, space: SpaceId) -> Q
         requires there { is_discarded space (state_in self.old).discarded ≡ false }
         ensures { TakesSteps (told (TakePending space) (Ok (Answer.Queue result)) ∷ []) self.old
@@ -186,7 +186,7 @@ where
         }
     }
 
-    /// A probe timeout expired, which asks for so many probes in a space (RFC 9002, 6.2.1 and 6.2.4).
+    /// Records a probe timeout that asks for `count` probes in a space (RFC 9002, 6.2.1 and 6.2.4).
     fn time_out(&mut self, space: SpaceId, count: u8, now: Instant)
         ensures { CompletesCall [] (timed_out space count now self.old.variables) self.old
             self.new }

@@ -1,4 +1,4 @@
-//! What can be read of a sender (RFC 9000, 8.1; RFC 9002, 6.2, 7 and A.8).
+//! Readings of a sender (RFC 9000, 8.1; RFC 9002, 6.2, 7 and A.8).
 ghost use Rattle.std.specs.Prelude.{◌≡◌, ◌*◌, ◌-◌, min, MatchOption};
 ghost use Rattle.recovery_base.specs.Units.{largest_u64};
 ghost use Rattle.recovery_paths.specs.PathStates.{amplification_factor};
@@ -15,12 +15,12 @@ use recovery_congestion::congestion::{Controller, ControllerFactory};
 use recovery_losses::Due;
 use recovery_queue::queue::RetransmitQueue;
 
-/// What the timer for losses waits for, or why it is not set (RFC 9002, 6.2 and A.8).
+/// The purpose of the loss detection timer, or why it is not set (RFC 9002, 6.2 and A.8).
 #[derive(Clone, Copy)]
 pub enum TimerState {
-    /// It is set to this time, for this.
+    /// It is set to this time, for this purpose.
     Set(Instant, Due),
-    /// The amplification limit lets no byte out (RFC 9000, 8.1). The next datagram from the peer sets the timer.
+    /// The amplification limit permits no byte (RFC 9000, 8.1). The next datagram from the peer sets the timer.
     Blocked,
     /// Only 1-RTT packets are in flight. They are probed for once the handshake is confirmed (RFC 9002, 6.2.1): if it
     /// is, `on_handshake_confirmed` was not called.
@@ -29,7 +29,7 @@ pub enum TimerState {
     Idle,
 }
 
-/// How many bytes may still be sent to an address that is not validated, at most `u64::MAX` (RFC 9000, 8.1).
+/// Returns how many bytes may still be sent to an address that is not validated, at most `u64::MAX` (RFC 9000, 8.1).
 fn room_within_limit(received: u64, sent: u64) -> u64
     ensures { result ≡ min (amplification_factor * received - sent) largest_u64 }
 {
@@ -47,8 +47,8 @@ where
     Q: RetransmitQueue,
     R: Rng + Drop,
 {
-    /// Returns what the timer for losses is set for, or why it is not set (RFC 9002, 6.2 and A.8): to find out why a
-    /// transfer waits.
+    /// Returns the purpose of the loss detection timer, or why it is not set (RFC 9002, 6.2 and A.8). Use it to find
+    /// out why a transfer waits.
     pub fn timer_state(&self) -> TimerState
         ensures { result ≡ timer_state (state_in self.now) self.now.variables }
     {
@@ -63,8 +63,8 @@ where
         }
     }
 
-    /// Returns how many bytes more fit into the congestion window of the path in use (RFC 9002, 7): 0 if it is full. A
-    /// datagram that counts in flight and is larger is `Full`.
+    /// Returns how many more bytes fit into the congestion window of the path in use (RFC 9002, 7): 0 if it is full. A
+    /// larger datagram that counts in flight is `Full`.
     pub fn window_room(&self) -> u64
         ensures { result ≡ window_room F.Controller.words (state_in self.now) }
     {
@@ -74,8 +74,8 @@ where
             .saturating_sub(path.in_flight().bytes)
     }
 
-    /// Returns how many bytes the amplification limit still lets out on the path in use (RFC 9000, 8.1), at most
-    /// `u64::MAX`; `None` if its address is validated, so that no limit binds it.
+    /// Returns how many more bytes the amplification limit permits on the path in use (RFC 9000, 8.1), at most
+    /// `u64::MAX`; `None` if its address is validated, so that no limit applies.
     pub fn amplification_room(&self) -> Option<u64>
         ensures { result ≡ amplification_room (state_in self.now) }
     {
@@ -87,7 +87,7 @@ where
     }
 
     /// Returns the smallest packet number that is tracked in a space, if any: all smaller ones are acknowledged, lost,
-    /// forgotten or discarded. It costs a logarithm.
+    /// forgotten or discarded. Cost: logarithmic.
     pub fn smallest_tracked(&self, space: SpaceId) -> Option<u64>
         ensures { MatchOption result
             (HasNoneFrom (packets_in (state_in self.now) space) 0)

@@ -1,4 +1,4 @@
-//! The timer for losses and probes (RFC 9002, 6.2 and A.8).
+//! The loss detection timer (RFC 9002, 6.2 and A.8).
 ghost use Rattle.std.specs.Prelude.{◌≡◌, ◌∷◌, [], true, Decides, Ok, Err, option_copied, option_map};
 ghost use Rattle.recovery_base.specs.declared.timer.Timer.TheVariants.{LossDetection};
 ghost use Rattle.recovery_base.specs.Timers.{moment};
@@ -25,7 +25,7 @@ use recovery_paths::paths::PathData;
 use recovery_queue::queue::RetransmitQueue;
 use recovery_spaces::spaces::PacketSpace;
 
-/// Whether some packet tracked in a space elicits an ACK (RFC 9002, 2).
+/// Returns whether a packet tracked in a space is ack-eliciting (RFC 9002, 2).
 fn has_eliciting<Q>(here: &PacketSpace<Q>) -> bool
 where
     Q: RetransmitQueue,
@@ -40,14 +40,14 @@ where
     Q: RetransmitQueue,
     R: Rng + Drop,
 {
-    /// The moment of the timer for losses (RFC 9002, A.8), as each call leaves it.
+    /// Returns when the loss detection timer is due, as the last call set it (RFC 9002, A.8).
     pub fn loss_detection_timer(&self) -> Option<Instant>
         ensures { result ≡ moment LossDetection (state_in self.now).timers }
     {
         self.recovery.recovery().timers().get(Timer::LossDetection)
     }
 
-    /// Sets the timer, or stops it (RFC 9002, A.8: SetLossDetectionTimer); where it is so already, no event is told.
+    /// Sets or stops the timer (RFC 9002, A.8: SetLossDetectionTimer), by an event only if it changes.
     pub(super) fn set_loss_detection_timer(&mut self)
         ensures { CompletesCall [] self.old.variables self.old self.new }
     {
@@ -60,7 +60,7 @@ where
         self.is_timer_current = true;
     }
 
-    /// Whether the timer is known to be set as it is due.
+    /// Returns whether the timer is known to be set correctly.
     #[inline(always)]
     pub(super) fn is_known_timed(&self) -> bool
         ensures { result ≡ true → TimerIsSet (state_in self.now) self.now.variables }
@@ -68,7 +68,8 @@ where
         self.is_timer_current
     }
 
-    /// The same on a path that no limit against amplification binds (RFC 9000, 8.1).
+    /// Returns whether the timer is known to be set correctly, and no amplification limit applies to the path (RFC
+    /// 9000, 8.1).
     #[inline(always)]
     pub(super) fn is_timed_unlimited(&self) -> bool
         ensures timed { result ≡ true → TimerIsSet (state_in self.now) self.now.variables }
@@ -78,7 +79,7 @@ where
         self.is_timer_current && self.path().validated
     }
 
-    /// Sets it behind what moved nothing of it, where it was not known to be set.
+    /// Sets the timer, unless it was known to be set and its inputs are unchanged (`was_timed`).
     #[inline(always)]
     pub(super) fn time_on(&mut self, was_timed: bool)
         requires { was_timed ≡ true → TimerIsSet (state_in self.old) self.old.variables }
@@ -91,7 +92,7 @@ where
         self.set_loss_detection_timer();
     }
 
-    /// Whether the timer is set to the moment of what is due, or to none where nothing is.
+    /// Returns whether the timer is set to the time of what is due, or stopped if nothing is.
     fn is_set_to(&self, due: &Option<(Instant, Due)>) -> bool
         ensures { Decides result (moment LossDetection (state_in self.now).timers
             ≡ option_map (λ due. due.0) due.now) }
@@ -103,7 +104,7 @@ where
         }
     }
 
-    /// The timer is set to the moment of what is due, or stopped where nothing is.
+    /// Sets the timer to the time of what is due, or stops it if nothing is.
     fn tell_timer(&mut self, due: Option<(Instant, Due)>) -> Answer<Q>
         ensures { TakesSteps (told (timer_event due) (Ok result) ∷ []) self.old self.new }
     {
@@ -114,7 +115,7 @@ where
         }
     }
 
-    /// When the timer is due, and what for.
+    /// Returns what is due next, and when.
     pub(super) fn due(&self) -> Option<(Instant, Due)>
         ensures { result ≡ due_of (state_in self.now) self.now.variables }
     {
@@ -144,7 +145,7 @@ where
         self.deadlock_due()
     }
 
-    /// When packets of a space may be lost.
+    /// Returns when packets of a space may be lost.
     #[inline(always)]
     fn loss_due(&self, space: SpaceId) -> Option<(Instant, Due)>
         ensures { result ≡ loss_due (state_in self.now) space }
@@ -153,7 +154,8 @@ where
         Some((time, Due::Losses(space)))
     }
 
-    /// When a space is to be probed: that of 1-RTT packets only once the handshake is confirmed (RFC 9002, 6.2.1).
+    /// Returns when a space is to be probed: that of 1-RTT packets only once the handshake is confirmed (RFC 9002,
+    /// 6.2.1).
     #[inline(always)]
     fn probe_due(&self, space: SpaceId) -> Option<(Instant, Due)>
         ensures { result ≡ probe_due (state_in self.now) self.now.variables space }
@@ -164,7 +166,7 @@ where
         self.probe_in(space, self.space(space)?)
     }
 
-    /// When it is, by what is kept for it.
+    /// Returns when a space is to be probed, by its state.
     #[inline(always)]
     fn probe_in(&self, space: SpaceId, here: &PacketSpace<Q>) -> Option<(Instant, Due)>
         ensures { result ≡ probe_in (state_in self.now) self.now.variables space here.now }
@@ -176,7 +178,7 @@ where
         Some((sent + self.pto(space), Due::Probes(space)))
     }
 
-    /// Whether a space tracks a packet that elicits an ACK.
+    /// Returns whether a space tracks an ack-eliciting packet.
     pub(super) fn tracks_eliciting(&self, space: SpaceId) -> bool
         ensures { result ≡ tracks_eliciting (state_in self.now) self.now.variables space }
     {
@@ -186,9 +188,9 @@ where
         }
     }
 
-    /// Whether nothing may be probed for while a packet that ends the handshake waits: at a client that does not know
-    /// its address validated (RFC 9002, 6.2.2.1), and at both ends while packets of 1-RTT keys are in flight, which
-    /// nobody probes for before the handshake is confirmed.
+    /// Returns whether a deadlock is possible, because nothing may be probed for while a packet that completes the
+    /// handshake waits. That is so at a client that does not know its address validated (RFC 9002, 6.2.2.1). It is so
+    /// at both endpoints while 1-RTT packets are in flight, for which nobody probes before the handshake is confirmed.
     fn may_deadlock(&self) -> bool
         ensures { result ≡ may_deadlock (state_in self.now) self.now.variables }
     {
@@ -196,7 +198,7 @@ where
             || !self.variables.is_handshake_confirmed && self.tracks_eliciting(SpaceId::Data)
     }
 
-    /// When a probe is sent that ends what may be a deadlock (RFC 9002, 6.2.2.1).
+    /// Returns when a probe is sent that ends a possible deadlock (RFC 9002, 6.2.2.1).
     fn deadlock_due(&self) -> Option<(Instant, Due)>
         ensures { result ≡ deadlock_due (state_in self.now) self.now.variables }
     {
@@ -211,7 +213,7 @@ where
         ))
     }
 
-    /// In which space it sends then.
+    /// Returns the space of the anti-deadlock probe.
     fn deadlock_space(&self) -> SpaceId
         ensures { result ≡ deadlock_space (state_in self.now) self.now.variables }
     {
@@ -222,7 +224,7 @@ where
         }
     }
 
-    /// The probe timeout of a space, by the path in use (RFC 9002, 6.2.1).
+    /// Returns the probe timeout of a space on the path in use (RFC 9002, 6.2.1).
     fn pto(&self, space: SpaceId) -> Duration
         ensures { result ≡ pto_of (state_in self.now) self.now.variables space }
     {
@@ -242,21 +244,21 @@ where
         }
     }
 
-    /// What is kept for a space that is not discarded.
+    /// Returns the state of a space that is not discarded.
     pub(super) fn space(&self, space: SpaceId) -> Option<&PacketSpace<Q>>
         ensures { option_copied result ≡ space_in (state_in self.now) space }
     {
         self.recovery.recovery().space(space)
     }
 
-    /// The path in use.
+    /// Returns the path in use.
     pub(super) fn path(&self) -> &PathData<F::Controller>
         ensures { result.now ≡ (state_in self.now).paths.current }
     {
         self.recovery.recovery().current()
     }
 
-    /// An event that is never refused here.
+    /// Applies an event that cannot fail here.
     #[inline(always)]
     pub(super) fn tell(&mut self, event: Event<Q>) -> Answer<Q>
         requires answered { (refusal : Refusal)
@@ -270,7 +272,7 @@ where
         }
     }
 
-    /// An event of the recovery, with its reply. It may move the timer.
+    /// Applies an event of the recovery and returns its reply. This may move the timer.
     #[inline(always)]
     pub(super) fn apply(&mut self, event: Event<Q>) -> Result<Answer<Q>, Refusal>
         requires stays { StaysInBounds latest_start (state_in self.old) event }
@@ -280,7 +282,7 @@ where
         self.recovery.apply(event)
     }
 
-    /// Keeps with a space when its next packet is lost (RFC 9002, A.3: loss_time). It may move the timer.
+    /// Stores when the next packet of a space is lost (RFC 9002, A.3: loss_time). This may move the timer.
     pub(super) fn set_loss_time(&mut self, space: SpaceId, time: Option<Instant>)
         ensures { TakesSteps (loss_time space time ∷ []) self.old self.new }
     {
@@ -288,7 +290,7 @@ where
         self.recovery.set_loss_time(space, time);
     }
 
-    /// Ends a call with these variables: the timer is set by them.
+    /// Ends a call with these variables and sets the timer by them.
     pub(super) fn complete(&mut self, variables: Variables)
         ensures { CompletesCall [] variables self.old self.new }
     {

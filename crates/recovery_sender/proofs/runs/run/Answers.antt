@@ -11,7 +11,7 @@ returns-clause-runs g c = record {
       c.run_over.ensures;
 }
 
--- room was asked for where it was refused
+-- an allocation that failed asked for some room
 asked : (n : ℕ) → (n ≡ 0 → false ≡ true) → 0 < n
 asked zero none = let never : false ≡ true = none refl in absurd cc
 asked (suc n) none = omega arith

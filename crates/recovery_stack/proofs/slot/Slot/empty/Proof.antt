@@ -1,4 +1,4 @@
--- `empty` puts the two fields together, and keeps nothing at the pointer.
+-- `empty` joins the two fields, and owns nothing at the pointer.
 use Rattle.std.specs.Prelude.{None}
 use mathlib.Core.Path.{refl, sym, subst}
 use mathlib.Core.Bool.{Bool, true, false, ◌&&◌}

@@ -1,4 +1,4 @@
--- `of_parts` moves two fields, and what they own goes with them.
+-- `of_parts` moves two fields, and what they own moves with them.
 use Rattle.std.specs.Prelude.{Some}
 use mathlib.Core.Path.{refl, sym, subst}
 use mathlib.Core.List.{List, [], ◌∷◌, ◌++◌}
