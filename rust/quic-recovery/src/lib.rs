@@ -21,7 +21,7 @@
 //! }
 //! let acked = sender.on_ack(space, at(100), &Ack::default(), &[(2, 3)])?;
 //! assert_eq!(acked.numbers, [2, 3]);
-//! // 1 is lost where nothing is heard of it for nine eighths of the round-trip time (RFC 9002, 6.1.2)
+//! // 1 is lost if it is not acknowledged within 9/8 of the RTT (RFC 9002, 6.1.2)
 //! assert_eq!(acked.losses.numbers, [0]);
 //! assert_eq!(sender.timer(), Some(Instant::from_nanos(112_500_000)));
 //! # Ok::<(), Box<dyn std::error::Error>>(())
