@@ -39,8 +39,8 @@ pub const ANSWER_SENDABLE: u8 = 16;
 pub const ANSWER_QUEUE: u8 = 17;
 /// The event has no other answer.
 pub const ANSWER_DONE: u8 = 18;
-/// The window has no room for a sender's datagram. The answers of senders alone are above those of events, so that new
-/// answers of events do not move them.
+/// The window has no room for a sender's datagram. The answers of senders alone are above those of events, so that
+/// new answers of events do not move them.
 pub const ANSWER_FULL: u8 = 128;
 /// A sender processed an ACK frame.
 pub const ANSWER_ACKNOWLEDGED: u8 = 129;
@@ -55,8 +55,8 @@ pub const ANSWER_NEEDS_ROOM: u8 = 133;
 /// The call fails. The number is far from the answers, so that new ones do not move it.
 pub const ANSWER_REFUSED: u8 = 255;
 
-/// A number was acknowledged that was never sent (RFC 9000, 13.1): of a sender alone. The errors of senders are above
-/// those of events, so that new errors of events do not meet them.
+/// A number was acknowledged that was never sent (RFC 9000, 13.1): of a sender alone. The errors of senders are
+/// above those of events, so that new errors of events do not meet them.
 pub const REFUSAL_UNSENT: u8 = 128;
 /// Only the sender itself makes this event; a caller cannot.
 pub const REFUSAL_DECIDED: u8 = 252;
@@ -64,8 +64,8 @@ pub const REFUSAL_DECIDED: u8 = 252;
 pub const REFUSAL_NO_SENDER: u8 = 253;
 /// The handle holds no recovery.
 pub const REFUSAL_NO_RECOVERY: u8 = 254;
-/// An argument is out of range: a space or timer that does not exist, a connection ID of more than 20 bytes, a frame's
-/// number of 2^62 or more, or nanoseconds of 10^9 or more.
+/// An argument is out of range. A space or timer does not exist, a connection ID has more than 20 bytes, a number of
+/// a frame is 2^62 or more, or nanoseconds are 10^9 or more.
 pub const REFUSAL_BAD_ARGUMENT: u8 = 255;
 
 /// The count of ECT(0) decreased.

@@ -1,5 +1,5 @@
-//! Events, answers and errors: written by `tests/rust.py --write` from the sources of the library, and compared with them by
-//! its tests.
+//! Events, answers and errors. `tests/rust.py --write` writes them from the sources of the library, and its tests
+//! compare them.
 use crate::ffi;
 use crate::timer::Timer;
 use crate::types::{
