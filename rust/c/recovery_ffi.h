@@ -61,7 +61,7 @@ enum recovery_answer {
     RECOVERY_ANSWER_ACKNOWLEDGED = 129,
     // No timer of the sender is due.
     RECOVERY_ANSWER_NOTHING = 130,
-    // A loss detection pass was made; for a timeout, `first` is its space.
+    // Packets were declared lost, if any. For a timeout, `first` is their space.
     RECOVERY_ANSWER_LOSSES = 131,
     // Probes are due.
     RECOVERY_ANSWER_PROBES = 132,
@@ -136,15 +136,16 @@ enum recovery_fault {
     RECOVERY_FAULT_ECT1_FALLS = 1,
     // The count of ECN-CE decreased.
     RECOVERY_FAULT_CE_FALLS = 2,
-    // The counts do not include newly acknowledged packets.
+    // The three counts increased by less than the newly acknowledged packets.
     RECOVERY_FAULT_BLEACHED = 3,
-    // The counts include packets that were not sent with this marking.
+    // ECT(0) and ECN-CE increased by less than the newly acknowledged packets, or ECT(1) increased.
     RECOVERY_FAULT_CORRUPTED = 4,
 };
 
 // The outcome of an ACK frame's ECN counts for a sender (RFC 9000, 13.4.2.1).
 enum recovery_ecn {
-    // No congestion. If the frame has no ECN counts, packets are no longer marked on the path.
+    // No congestion. If the frame newly acknowledges packets and has no ECN counts, packets are no longer marked on the
+    // path.
     RECOVERY_ECN_QUIET = 0,
     // More packets were marked with CE: congestion (RFC 9002, 7.1).
     RECOVERY_ECN_MARKED = 1,
@@ -482,7 +483,7 @@ struct recovery_settings {
     bool validated;
     // Whether MTU discovery is allowed.
     bool allow_mtud;
-    // Whether MTU discovery is configured; if not, there is none.
+    // Whether an MTU search is configured; if not, there is none.
     bool searches;
 };
 
@@ -631,7 +632,7 @@ struct recovery_encoded_reply recovery_ffi_acks_sent(struct recovery_handle *han
 // Handles the ACK delay timer: the event `AckDelayTimeout`.
 struct recovery_encoded_reply recovery_ffi_ack_delay_timeout(struct recovery_handle *handle, uint8_t space);
 
-// Sends an MTU probe if one is due (RFC 9000, 14.3): the event `PollMtu`.
+// Returns an MTU probe to send, if one is due (RFC 9000, 14.3), and tracks it: the event `PollMtu`.
 struct recovery_encoded_reply recovery_ffi_poll_mtu(struct recovery_handle *handle, uint64_t now);
 
 // Sets the largest datagram that the peer accepts (RFC 9000, 18.2): the event `PeerLimit`.

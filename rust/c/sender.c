@@ -1,7 +1,7 @@
 // A sender from C. Four packets are sent, and the last one is acknowledged. The others are lost: the first by its
-// number, two by their age (RFC 9002, 6.1), and their items are retransmitted. No ACK is received for a fifth packet:
-// two probes are sent, and the first carries its items (RFC 9002, 6.2.4). In the end all packets are declared lost (RFC
-// 9002, 6.4).
+// number, two by their age (RFC 9002, 6.1), and their items are taken for retransmission. No ACK is received for a
+// fifth packet: two probes are sent, and the first carries its items (RFC 9002, 6.2.4). In the end all packets are
+// declared lost (RFC 9002, 6.4).
 #include "recovery_ffi.h"
 #include <inttypes.h>
 #include <stdio.h>

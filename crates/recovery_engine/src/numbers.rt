@@ -46,7 +46,7 @@ pub const ANSWER_FULL: u8 = 128;
 pub const ANSWER_ACKNOWLEDGED: u8 = 129;
 /// No timer of the sender is due.
 pub const ANSWER_NOTHING: u8 = 130;
-/// A loss detection pass was made; for a timeout, `first` is its space.
+/// Packets were declared lost, if any. For a timeout, `first` is their space.
 pub const ANSWER_LOSSES: u8 = 131;
 /// Probes are due.
 pub const ANSWER_PROBES: u8 = 132;
@@ -74,12 +74,13 @@ pub const FAULT_ECT0_FALLS: u64 = 0;
 pub const FAULT_ECT1_FALLS: u64 = 1;
 /// The count of ECN-CE decreased.
 pub const FAULT_CE_FALLS: u64 = 2;
-/// The counts do not include newly acknowledged packets.
+/// The three counts increased by less than the newly acknowledged packets.
 pub const FAULT_BLEACHED: u64 = 3;
-/// The counts include packets that were not sent with this marking.
+/// ECT(0) and ECN-CE increased by less than the newly acknowledged packets, or ECT(1) increased.
 pub const FAULT_CORRUPTED: u64 = 4;
 
-/// No congestion. If the frame has no ECN counts, packets are no longer marked on the path.
+/// No congestion. If the frame newly acknowledges packets and has no ECN counts, packets are no longer marked on the
+/// path.
 pub const ECN_QUIET: u8 = 0;
 /// More packets were marked with CE: congestion (RFC 9002, 7.1).
 pub const ECN_MARKED: u8 = 1;

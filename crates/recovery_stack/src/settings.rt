@@ -78,7 +78,7 @@ pub struct Settings {
     pub validated: bool,
     /// Whether MTU discovery is allowed.
     pub allow_mtud: bool,
-    /// Whether MTU discovery is configured; if not, there is none.
+    /// Whether an MTU search is configured; if not, there is none.
     pub searches: bool,
 }
 

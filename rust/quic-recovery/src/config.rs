@@ -97,8 +97,8 @@ pub struct TransportConfig {
     pub mtu_discovery_config: Option<MtuDiscoveryConfig>,
     /// The congestion controller of each path.
     pub congestion: Congestion,
-    /// The packet threshold of a [`Sender`](crate::Sender): a packet is lost if a packet sent this many later is
-    /// acknowledged. RFC 9002, 6.1.1 recommends at least 3; 0 counts as 1.
+    /// The packet threshold of a [`Sender`](crate::Sender): a packet is lost if one with a number at least this much
+    /// larger is acknowledged. RFC 9002, 6.1.1 recommends at least 3; 0 counts as 1.
     pub packet_threshold: u32,
     /// The time threshold of a [`Sender`](crate::Sender), in RTTs: numerator and denominator, which is above zero. A
     /// packet is lost this long after it was sent, if a later one is acknowledged (RFC 9002, 6.1.2). A smaller fraction

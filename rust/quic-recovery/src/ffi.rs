@@ -46,7 +46,7 @@ pub const ANSWER_FULL: u8 = 128;
 pub const ANSWER_ACKNOWLEDGED: u8 = 129;
 /// No timer of the sender is due.
 pub const ANSWER_NOTHING: u8 = 130;
-/// A loss detection pass was made; for a timeout, `first` is its space.
+/// Packets were declared lost, if any. For a timeout, `first` is their space.
 pub const ANSWER_LOSSES: u8 = 131;
 /// Probes are due.
 pub const ANSWER_PROBES: u8 = 132;
@@ -115,12 +115,13 @@ pub const FAULT_ECT0_FALLS: u64 = 0;
 pub const FAULT_ECT1_FALLS: u64 = 1;
 /// The count of ECN-CE decreased.
 pub const FAULT_CE_FALLS: u64 = 2;
-/// The counts do not include newly acknowledged packets.
+/// The three counts increased by less than the newly acknowledged packets.
 pub const FAULT_BLEACHED: u64 = 3;
-/// The counts include packets that were not sent with this marking.
+/// ECT(0) and ECN-CE increased by less than the newly acknowledged packets, or ECT(1) increased.
 pub const FAULT_CORRUPTED: u64 = 4;
 
-/// No congestion. If the frame has no ECN counts, packets are no longer marked on the path.
+/// No congestion. If the frame newly acknowledges packets and has no ECN counts, packets are no longer marked on the
+/// path.
 pub const ECN_QUIET: u8 = 0;
 /// More packets were marked with CE: congestion (RFC 9002, 7.1).
 pub const ECN_MARKED: u8 = 1;
@@ -467,7 +468,7 @@ pub struct Settings {
     pub validated: bool,
     /// Whether MTU discovery is allowed.
     pub allow_mtud: bool,
-    /// Whether MTU discovery is configured; if not, there is none.
+    /// Whether an MTU search is configured; if not, there is none.
     pub searches: bool,
 }
 
@@ -648,7 +649,7 @@ unsafe extern "C" {
     /// Handles the ACK delay timer: the event `AckDelayTimeout`.
     pub fn recovery_ffi_ack_delay_timeout(handle: *mut Handle, space: u8) -> EncodedReply;
 
-    /// Sends an MTU probe if one is due (RFC 9000, 14.3): the event `PollMtu`.
+    /// Returns an MTU probe to send, if one is due (RFC 9000, 14.3), and tracks it: the event `PollMtu`.
     pub fn recovery_ffi_poll_mtu(handle: *mut Handle, now: u64) -> EncodedReply;
 
     /// Sets the largest datagram that the peer accepts (RFC 9000, 18.2): the event `PeerLimit`.

@@ -93,7 +93,8 @@ pub struct Ack {
 /// The outcome of a frame's ECN counts (RFC 9000, 13.4.2.1).
 #[derive(Clone, Copy, Debug, Default, PartialEq, Eq)]
 pub enum EcnOutcome {
-    /// No congestion. If the frame has no ECN counts, packets are no longer marked on the path.
+    /// No congestion. If the frame newly acknowledges packets and has no ECN counts, packets are no longer marked on
+    /// the path.
     #[default]
     Quiet,
     /// More packets were marked with CE: congestion (RFC 9002, 7.1).
@@ -379,8 +380,8 @@ impl Sender {
         })
     }
 
-    /// Sends an MTU probe if one is due, as [`Event::PollMtu`] and with its errors. The window is not checked: an MTU
-    /// probe may exceed it (RFC 9000, 14.4).
+    /// Returns an MTU probe to send, if one is due, and tracks it, as [`Event::PollMtu`] and with its errors. The
+    /// window is not checked: an MTU probe may exceed it (RFC 9000, 14.4).
     pub fn poll_mtu(&mut self, now: Instant) -> Result<Option<MtuProbe>, SenderError> {
         let reply = taken(self.recovery.reply_to(Event::PollMtu { now }))?;
         match reply.kind {
