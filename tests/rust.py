@@ -232,8 +232,8 @@ def crossing(name, kind, in_c):
 
 
 def declared_in_rust():
-    yield "//! The declarations of the proved library and its exports: written by `tests/rust.py --write` from the sources of the"
-    yield "//! library, and compared with them by its tests."
+    yield "//! The declarations of the proved library. `tests/rust.py --write` writes them from its sources, and its tests"
+    yield "//! compare them."
     for group, found in constants().items():
         yield ""
         for name, number, docs in found:
@@ -252,7 +252,7 @@ def declared_in_rust():
         yield "}"
     yield ""
     yield 'unsafe extern "C" {'
-    yield "    /// Does nothing; a library of another layout does not have it."
+    yield "    /// Does nothing. A library of another layout does not have it."
     yield f'    #[link_name = "recovery_ffi_layout_{checksum()}"]'
     yield "    pub fn recovery_ffi_layout();"
     yield ""
@@ -312,8 +312,8 @@ def readers_in_c():
 
 
 def declared_in_c():
-    yield "// The declarations of the proved library and its exports: written by tests/rust.py --write from the sources of the library,"
-    yield "// and compared with them by its tests. docs/C.md says what a caller must ensure. A handle begins as all zeros."
+    yield "// The declarations of the proved library. tests/rust.py --write writes them from its sources, and its tests compare"
+    yield "// them. docs/C.md states what a caller must ensure. A handle begins as all zeros."
     yield "#ifndef RECOVERY_FFI_H"
     yield "#define RECOVERY_FFI_H"
     yield ""
@@ -325,7 +325,7 @@ def declared_in_c():
     yield 'extern "C" {'
     yield "#endif"
     yield ""
-    yield "// No error: the result of `recovery_ffi_new` and of similar functions, and the `refusal` of a reply, if nothing is wrong."
+    yield "// No error: the result of `recovery_ffi_new` and its like, and the `refusal` of a reply, if nothing is wrong."
     yield "enum recovery_ok { RECOVERY_OK = 0 };"
     for group, found in constants().items():
         yield ""
@@ -354,7 +354,7 @@ def declared_in_c():
     yield from texts_in_c()
     yield from readers_in_c()
     yield ""
-    yield "// Does nothing; a library of another layout does not have it, and a program with this header does not link with that one."
+    yield "// Does nothing. A library of another layout does not have it, so a program with this header does not link with it."
     yield f'void recovery_ffi_layout(void) __asm__("recovery_ffi_layout_{checksum()}");'
     yield "__attribute__((used)) static void (*const recovery_ffi_has_this_layout)(void) = recovery_ffi_layout;"
     yield ""
@@ -470,8 +470,8 @@ def refusals_in_rust():
 
 
 def events_in_rust():
-    yield "//! Events, answers and errors: written by `tests/rust.py --write` from the sources of the library, and compared with them by"
-    yield "//! its tests."
+    yield "//! Events, answers and errors. `tests/rust.py --write` writes them from the sources of the library, and its tests"
+    yield "//! compare them."
     yield "use crate::ffi;"
     yield "use crate::timer::Timer;"
     yield "use crate::types::{AckFrequency, ConnectionId, EcnCounts, Instant, IssuedCid, NewConnectionId, PathName, SendableFrames, SpaceId};"
@@ -492,8 +492,8 @@ def events_in_rust():
 
 
 def timers_in_rust():
-    yield "//! Timers, and their names: written by `tests/rust.py --write` from the sources of the library, and compared with"
-    yield "//! them by its tests."
+    yield "//! Timers, and their names. `tests/rust.py --write` writes them from the sources of the library, and its tests"
+    yield "//! compare them."
     yield "use crate::ffi;"
     yield ""
     yield "/// The timers of a connection."

@@ -1,4 +1,4 @@
-// A packet goes out, is lost, and its items are sent again: from C.
+// Sends a packet, declares it lost, and retransmits its items: from C.
 #include "recovery_ffi.h"
 #include <inttypes.h>
 #include <stdio.h>

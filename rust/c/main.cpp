@@ -1,4 +1,4 @@
-// The same declarations from C++: a recovery that is freed where its owner ends.
+// The same declarations from C++: a recovery that is freed when its owner is destroyed.
 #include "recovery_ffi.h"
 #include <cstdio>
 #include <stdexcept>

@@ -1,4 +1,4 @@
-// Calls that spell nothing, from C: each is refused with a number, and changes nothing. What went wrong is told, and counts.
+// Invalid calls from C: each fails with an error number, and changes nothing. Failed checks are printed and counted.
 #include "recovery_ffi.h"
 #include <stdio.h>
 #include <string.h>
@@ -23,7 +23,7 @@ static unsigned made(struct recovery_handle *handle, struct recovery_settings se
     return recovery_ffi_new(handle, &settings, &remote, id, len, 0);
 }
 
-// Spaces, timers, numbers, spans and ids that there are not.
+// Spaces, timers, numbers, durations and connection IDs that are out of range.
 static void arguments(struct recovery_handle *recovery) {
     const unsigned bad = RECOVERY_REFUSAL_BAD_ARGUMENT;
     refused("a packet goes out in space 7", recovery_ffi_send(recovery, 7, 0, 100, true, false, 0, NULL, 0), bad);
@@ -45,7 +45,7 @@ static void arguments(struct recovery_handle *recovery) {
     expect("no marks of no path", !recovery_ffi_set_marks(recovery, true, &(struct recovery_marks){0}));
 }
 
-// Settings of which no recovery is made, each with the number that says why.
+// Settings of which no recovery is made, each with its error number.
 static void settings(void) {
     const struct recovery_settings sound = recovery_ffi_default_settings();
     struct recovery_settings zero = {0}, mtu = sound, factor = sound, window = sound, skip = sound, many = sound;
@@ -92,7 +92,7 @@ static void nothing(struct recovery_handle *none) {
     recovery_ffi_drop(none);
 }
 
-// Calls of a sender where a recovery stands alone, and events that a sender decides itself.
+// Calls of a sender on a bare recovery, and events that only the sender itself makes.
 static void senders(struct recovery_handle *alone) {
     const unsigned none = RECOVERY_REFUSAL_NO_SENDER, bad = RECOVERY_REFUSAL_BAD_ARGUMENT;
     const struct recovery_ack_frame frame = {0}, slow = {.delay_nanos = 1000000000};

@@ -1,5 +1,5 @@
-// The declarations of the proved library and its exports: written by tests/rust.py --write from the sources of the library,
-// and compared with them by its tests. docs/C.md says what a caller must ensure. A handle begins as all zeros.
+// The declarations of the proved library. tests/rust.py --write writes them from its sources, and its tests compare
+// them. docs/C.md states what a caller must ensure. A handle begins as all zeros.
 #ifndef RECOVERY_FFI_H
 #define RECOVERY_FFI_H
 
@@ -11,7 +11,7 @@
 extern "C" {
 #endif
 
-// No error: the result of `recovery_ffi_new` and of similar functions, and the `refusal` of a reply, if nothing is wrong.
+// No error: the result of `recovery_ffi_new` and its like, and the `refusal` of a reply, if nothing is wrong.
 enum recovery_ok { RECOVERY_OK = 0 };
 
 // The answers: `kind` of a reply.
@@ -54,14 +54,14 @@ enum recovery_answer {
     RECOVERY_ANSWER_QUEUE = 17,
     // The event has no other answer.
     RECOVERY_ANSWER_DONE = 18,
-    // The window has no room for a sender's datagram. The answers of senders alone are above those of events, so that new
-    // answers of events do not move them.
+    // The window has no room for a sender's datagram. The answers of senders alone are above those of events, so that
+    // new answers of events do not move them.
     RECOVERY_ANSWER_FULL = 128,
     // A sender processed an ACK frame.
     RECOVERY_ANSWER_ACKNOWLEDGED = 129,
     // No timer of the sender is due.
     RECOVERY_ANSWER_NOTHING = 130,
-    // A loss detection pass was made; for a timeout, `first` is its space.
+    // Packets were declared lost, if any. For a timeout, `first` is their space.
     RECOVERY_ANSWER_LOSSES = 131,
     // Probes are due.
     RECOVERY_ANSWER_PROBES = 132,
@@ -114,8 +114,8 @@ enum recovery_refusal {
     RECOVERY_REFUSAL_BAD_RANGE = 19,
     // The peer's ID number is held with another ID, or with another token (RFC 9000, 19.15).
     RECOVERY_REFUSAL_CONFLICT = 20,
-    // A number was acknowledged that was never sent (RFC 9000, 13.1): of a sender alone. The errors of senders are above
-    // those of events, so that new errors of events do not meet them.
+    // A number was acknowledged that was never sent (RFC 9000, 13.1): of a sender alone. The errors of senders are
+    // above those of events, so that new errors of events do not meet them.
     RECOVERY_REFUSAL_UNSENT = 128,
     // Only the sender itself makes this event; a caller cannot.
     RECOVERY_REFUSAL_DECIDED = 252,
@@ -123,8 +123,8 @@ enum recovery_refusal {
     RECOVERY_REFUSAL_NO_SENDER = 253,
     // The handle holds no recovery.
     RECOVERY_REFUSAL_NO_RECOVERY = 254,
-    // An argument is out of range: a space or timer that does not exist, a connection ID of more than 20 bytes, a frame's
-    // number of 2^62 or more, or nanoseconds of 10^9 or more.
+    // An argument is out of range. A space or timer does not exist, a connection ID has more than 20 bytes, a number of
+    // a frame is 2^62 or more, or nanoseconds are 10^9 or more.
     RECOVERY_REFUSAL_BAD_ARGUMENT = 255,
 };
 
@@ -136,15 +136,16 @@ enum recovery_fault {
     RECOVERY_FAULT_ECT1_FALLS = 1,
     // The count of ECN-CE decreased.
     RECOVERY_FAULT_CE_FALLS = 2,
-    // The counts do not include newly acknowledged packets.
+    // The three counts increased by less than the newly acknowledged packets.
     RECOVERY_FAULT_BLEACHED = 3,
-    // The counts include packets that were not sent with this marking.
+    // ECT(0) and ECN-CE increased by less than the newly acknowledged packets, or ECT(1) increased.
     RECOVERY_FAULT_CORRUPTED = 4,
 };
 
 // The outcome of an ACK frame's ECN counts for a sender (RFC 9000, 13.4.2.1).
 enum recovery_ecn {
-    // No congestion. If the frame has no ECN counts, packets are no longer marked on the path.
+    // No congestion. If the frame newly acknowledges packets and has no ECN counts, packets are no longer marked on the
+    // path.
     RECOVERY_ECN_QUIET = 0,
     // More packets were marked with CE: congestion (RFC 9002, 7.1).
     RECOVERY_ECN_MARKED = 1,
@@ -471,7 +472,8 @@ struct recovery_settings {
     uint16_t mtu_minimum_change;
     // The length of local connection IDs.
     uint8_t cid_len;
-    // Which congestion controller paths have: `RECOVERY_CONTROLLER_NEW_RENO`, `RECOVERY_CONTROLLER_FIXED` or `RECOVERY_CONTROLLER_CUBIC`.
+    // Which congestion controller paths have: `RECOVERY_CONTROLLER_NEW_RENO`, `RECOVERY_CONTROLLER_FIXED` or
+    // `RECOVERY_CONTROLLER_CUBIC`.
     uint8_t controller;
     // How numbers are skipped: `RECOVERY_SKIPS_DISABLED`, `RECOVERY_SKIPS_DRAWN` or `RECOVERY_SKIPS_STARTING`.
     uint8_t skips;
@@ -481,7 +483,7 @@ struct recovery_settings {
     bool validated;
     // Whether MTU discovery is allowed.
     bool allow_mtud;
-    // Whether MTU discovery is configured; if not, there is none.
+    // Whether an MTU search is configured; if not, there is none.
     bool searches;
 };
 
@@ -614,8 +616,8 @@ struct recovery_ids_view {
     uint64_t peer_max_ack_delay;
 };
 
-// Makes a recovery, whose peer is at this address and has this connection ID of at most 20 bytes. Returns `RECOVERY_NEW_MADE`,
-// or the number of what is wrong, which leaves the handle unchanged.
+// Makes a recovery, whose peer is at this address and has this connection ID of at most 20 bytes. Returns
+// `RECOVERY_NEW_MADE`, or the number of what is wrong, which leaves the handle unchanged.
 uint8_t recovery_ffi_new(struct recovery_handle *handle, const struct recovery_settings *settings, const struct recovery_address *remote, const uint8_t *initial_cid, size_t initial_cid_len, uint64_t now);
 
 // Frees a recovery. The handle then holds none. A handle that holds none is unchanged.
@@ -630,7 +632,7 @@ struct recovery_encoded_reply recovery_ffi_acks_sent(struct recovery_handle *han
 // Handles the ACK delay timer: the event `AckDelayTimeout`.
 struct recovery_encoded_reply recovery_ffi_ack_delay_timeout(struct recovery_handle *handle, uint8_t space);
 
-// Sends an MTU probe if one is due (RFC 9000, 14.3): the event `PollMtu`.
+// Returns an MTU probe to send, if one is due (RFC 9000, 14.3), and tracks it: the event `PollMtu`.
 struct recovery_encoded_reply recovery_ffi_poll_mtu(struct recovery_handle *handle, uint64_t now);
 
 // Sets the largest datagram that the peer accepts (RFC 9000, 18.2): the event `PeerLimit`.
@@ -690,8 +692,8 @@ struct recovery_marks recovery_ffi_marks(struct recovery_handle *handle, bool pr
 bool recovery_ffi_set_marks(struct recovery_handle *handle, bool previous, const struct recovery_marks *marks);
 
 // Makes an MTU discovery from `initial_mtu`, `min_mtu`, `allow_mtud` and the settings of the search, as a path has it.
-// The peer accepts datagrams of at most `limit` bytes, or 0 if it stated no limit. Returns `RECOVERY_NEW_MADE`, or the number
-// of what is wrong, which leaves the handle unchanged.
+// The peer accepts datagrams of at most `limit` bytes, or 0 if it stated no limit. Returns `RECOVERY_NEW_MADE`, or the
+// number of what is wrong, which leaves the handle unchanged.
 uint8_t recovery_ffi_mtu_new(struct recovery_mtu_handle *mtu, const struct recovery_settings *settings, uint16_t limit);
 
 // Frees a discovery. The handle then holds none. A handle that holds none is unchanged.
@@ -700,16 +702,16 @@ void recovery_ffi_mtu_drop(struct recovery_mtu_handle *mtu);
 // Returns the state of the discovery.
 struct recovery_mtu_view recovery_ffi_mtu(struct recovery_mtu_handle *mtu);
 
-// Checks whether a probe is due. The reply is `RECOVERY_ANSWER_PROBE` with its size, or `RECOVERY_ANSWER_NO_PROBE`. The caller sends the
-// probe as the packet of this number.
+// Checks whether a probe is due. The reply is `RECOVERY_ANSWER_PROBE` with its size, or `RECOVERY_ANSWER_NO_PROBE`. The
+// caller sends the probe as the packet of this number.
 struct recovery_encoded_reply recovery_ffi_mtu_poll(struct recovery_mtu_handle *mtu, uint64_t now, uint64_t number);
 
 // Sets the largest datagram that the peer accepts, in bytes. An error if it is 0, or while a search is running: set
 // the limit before the first poll.
 struct recovery_encoded_reply recovery_ffi_mtu_limit(struct recovery_mtu_handle *mtu, uint16_t size);
 
-// Records that a packet of this many bytes was acknowledged (`RECOVERY_ANSWER_ACKED`). The flag is true if it was the probe in
-// flight, whose size is then the MTU.
+// Records that a packet of this many bytes was acknowledged (`RECOVERY_ANSWER_ACKED`). The flag is true if it was the
+// probe in flight, whose size is then the MTU.
 struct recovery_encoded_reply recovery_ffi_mtu_acked(struct recovery_mtu_handle *mtu, uint64_t number, uint16_t bytes);
 
 // Records that the probe in flight was lost. Changes nothing if there is none.
@@ -733,9 +735,9 @@ struct recovery_bucket recovery_ffi_pacer(uint64_t rtt, uint64_t window, uint16_
 // Takes the tokens of a sent packet (`RECOVERY_ANSWER_TRANSMITTED`), at most all. An error if there is no bucket.
 struct recovery_encoded_reply recovery_ffi_pacer_transmit(struct recovery_bucket *bucket, uint16_t bytes);
 
-// Checks whether this many bytes may be sent at time `now` (`RECOVERY_ANSWER_READY`), or when to ask again (`RECOVERY_ANSWER_DELAYED`).
-// The RTT (nanoseconds), the MTU and the congestion window (bytes) are those of that time. An error if the window or
-// the MTU is 0, or if there is no bucket.
+// Checks whether this many bytes may be sent at time `now` (`RECOVERY_ANSWER_READY`), or when to ask again
+// (`RECOVERY_ANSWER_DELAYED`). The RTT (nanoseconds), the MTU and the congestion window (bytes) are those of that time.
+// An error if the window or the MTU is 0, or if there is no bucket.
 struct recovery_encoded_reply recovery_ffi_pacer_delay(struct recovery_bucket *bucket, uint64_t rtt, uint64_t bytes, uint16_t mtu, uint64_t window, uint64_t now);
 
 // Records a received packet (RFC 9000, 12.3): the event `Received`.
@@ -839,37 +841,38 @@ uint8_t recovery_ffi_sender_new(struct recovery_handle *handle, bool client, con
 // for. The results are those of `recovery_ffi_sender_new`.
 uint8_t recovery_ffi_sender_established(struct recovery_handle *handle, bool client, const struct recovery_settings *settings, const struct recovery_address *remote, const uint8_t *initial_cid, size_t initial_cid_len, uint64_t now);
 
-// Checks whether a datagram with packets of a space may be sent now. The reply is `RECOVERY_ANSWER_TRANSMITTED`, and the
-// datagram is counted; `RECOVERY_ANSWER_BLOCKED` by the amplification limit (RFC 9000, 8.1); `RECOVERY_ANSWER_FULL` if the window has no
-// room (RFC 9002, 7); or `RECOVERY_ANSWER_DELAYED` by the pacer, until `first` (RFC 9002, 7.7). If nothing in it counts in
-// flight, or a probe is due in the space, only the amplification limit is checked. Report its packets by
-// `recovery_ffi_send` before the next datagram. Errors: `RECOVERY_REFUSAL_SPACE_DISCARDED`, then `RECOVERY_REFUSAL_OVERFLOW`.
+// Checks whether a datagram with packets of a space may be sent now. The reply is `RECOVERY_ANSWER_TRANSMITTED`, and
+// the datagram is counted; `RECOVERY_ANSWER_BLOCKED` by the amplification limit (RFC 9000, 8.1); `RECOVERY_ANSWER_FULL`
+// if the window has no room (RFC 9002, 7); or `RECOVERY_ANSWER_DELAYED` by the pacer, until `first` (RFC 9002, 7.7). If
+// nothing in it counts in flight, or a probe is due in the space, only the amplification limit is checked. Report its
+// packets by `recovery_ffi_send` before the next datagram. Errors: `RECOVERY_REFUSAL_SPACE_DISCARDED`, then
+// `RECOVERY_REFUSAL_OVERFLOW`.
 struct recovery_encoded_reply recovery_ffi_sender_transmit(struct recovery_handle *handle, uint64_t now, uint16_t bytes, uint8_t space, bool in_flight);
 
 // Processes a received ACK frame (RFC 9002, A.7), with its ranges, the highest first, as on the wire. The reply
-// `RECOVERY_ANSWER_ACKNOWLEDGED` has in `first` how many packets are newly acknowledged, in `second` how many are declared
-// lost, and in `flag` whether `recovery_ffi_last_outcome` has more than that. Read the packets by
+// `RECOVERY_ANSWER_ACKNOWLEDGED` has in `first` how many packets are newly acknowledged, in `second` how many are
+// declared lost, and in `flag` whether `recovery_ffi_last_outcome` has more than that. Read the packets by
 // `recovery_ffi_told_numbers` and `recovery_ffi_told_packets`. Errors, which change nothing:
-// `RECOVERY_REFUSAL_SPACE_DISCARDED`; `RECOVERY_REFUSAL_BAD_RANGE` if there is no range, one ends before it begins, or two have no
-// number between them (RFC 9000, 19.3.1); `RECOVERY_REFUSAL_UNSENT`; `RECOVERY_REFUSAL_SKIPPED_ACKED` (RFC 9000, 21.4);
-// `RECOVERY_REFUSAL_NO_MEMORY`. If the caller limits its room (`is_limited`) and has too little, the reply is
-// `RECOVERY_ANSWER_NEEDS_ROOM`, and nothing changes. `first` is then how many words of packets, and `second` how many lost
-// numbers, it needs room for.
+// `RECOVERY_REFUSAL_SPACE_DISCARDED`; `RECOVERY_REFUSAL_BAD_RANGE` if there is no range, one ends before it begins, or
+// two have no number between them (RFC 9000, 19.3.1); `RECOVERY_REFUSAL_UNSENT`; `RECOVERY_REFUSAL_SKIPPED_ACKED` (RFC
+// 9000, 21.4); `RECOVERY_REFUSAL_NO_MEMORY`. If the caller limits its room (`is_limited`) and has too little, the reply
+// is `RECOVERY_ANSWER_NEEDS_ROOM`, and nothing changes. `first` is then how many words of packets, and `second` how
+// many lost numbers, it needs room for.
 struct recovery_encoded_reply recovery_ffi_sender_ack(struct recovery_handle *handle, uint8_t space, uint64_t now, const struct recovery_ack_frame *frame, const struct recovery_ack_range *ranges, size_t ranges_len);
 
-// Handles the loss detection timer, which may be due (RFC 9002, A.9). The reply is `RECOVERY_ANSWER_NOTHING` if it is not. It
-// is `RECOVERY_ANSWER_LOSSES` after a loss detection pass over the space in `first`: read the losses by
-// `recovery_ffi_last_outcome` and `recovery_ffi_told_numbers`. It is `RECOVERY_ANSWER_PROBES` if probes are due in the space in
-// `first`; `second` is how many, 1 or 2. For each, call `recovery_ffi_sender_transmit`, take its contents by
-// `recovery_ffi_sender_probe`, and send it by `recovery_ffi_send`. The error is `RECOVERY_REFUSAL_NO_MEMORY` if there is no
-// room for the numbers of the packets that may be lost; then nothing has changed. A timeout that asks for probes
+// Handles the loss detection timer, which may be due (RFC 9002, A.9). The reply is `RECOVERY_ANSWER_NOTHING` if it is
+// not. It is `RECOVERY_ANSWER_LOSSES` after a loss detection pass over the space in `first`: read the losses by
+// `recovery_ffi_last_outcome` and `recovery_ffi_told_numbers`. It is `RECOVERY_ANSWER_PROBES` if probes are due in the
+// space in `first`; `second` is how many, 1 or 2. For each, call `recovery_ffi_sender_transmit`, take its contents by
+// `recovery_ffi_sender_probe`, and send it by `recovery_ffi_send`. The error is `RECOVERY_REFUSAL_NO_MEMORY` if there
+// is no room for the numbers of the packets that may be lost; then nothing has changed. A timeout that asks for probes
 // allocates nothing.
 struct recovery_encoded_reply recovery_ffi_sender_on_timeout(struct recovery_handle *handle, uint64_t now);
 
-// Takes the contents of a probe in a space (RFC 9002, 6.2.4), to be read by `recovery_ffi_last_items`: `RECOVERY_ANSWER_QUEUE`.
-// They are what is queued for retransmission, or else the contents of the first packet in flight that has any. If
-// there are no items, send a PING frame. `immediate_ack` asks for an IMMEDIATE_ACK frame in it. Errors, which change
-// nothing: `RECOVERY_REFUSAL_SPACE_DISCARDED`, then `RECOVERY_REFUSAL_NO_MEMORY`.
+// Takes the contents of a probe in a space (RFC 9002, 6.2.4), to be read by `recovery_ffi_last_items`:
+// `RECOVERY_ANSWER_QUEUE`. They are what is queued for retransmission, or else the contents of the first packet in
+// flight that has any. If there are no items, send a PING frame. `immediate_ack` asks for an IMMEDIATE_ACK frame in
+// it. Errors, which change nothing: `RECOVERY_REFUSAL_SPACE_DISCARDED`, then `RECOVERY_REFUSAL_NO_MEMORY`.
 struct recovery_encoded_reply recovery_ffi_sender_probe(struct recovery_handle *handle, uint8_t space, bool immediate_ack);
 
 // Discards a space with its keys and its tracked packets, and resets the count of probe timeouts (RFC 9002, 6.2.2, 6.4
@@ -878,23 +881,25 @@ struct recovery_encoded_reply recovery_ffi_sender_discard(struct recovery_handle
 
 // Declares all packets of a space lost, because they will not be acknowledged: after a Retry, or if 0-RTT is rejected
 // (RFC 9002, 6.3 and 6.4). This does not indicate congestion. Resets the count of probe timeouts. The reply is
-// `RECOVERY_ANSWER_LOSSES`; read the packets by `recovery_ffi_told_numbers`. If `is_cut` in `recovery_ffi_last_outcome`,
-// allocation failed for some packets, which are still tracked: the same call continues with them. Errors, which change
-// nothing: `RECOVERY_REFUSAL_SPACE_DISCARDED`, `RECOVERY_REFUSAL_NO_MEMORY`.
+// `RECOVERY_ANSWER_LOSSES`; read the packets by `recovery_ffi_told_numbers`. If `is_cut` in
+// `recovery_ffi_last_outcome`, allocation failed for some packets, which are still tracked: the same call continues
+// with them. Errors, which change nothing: `RECOVERY_REFUSAL_SPACE_DISCARDED`, `RECOVERY_REFUSAL_NO_MEMORY`.
 struct recovery_encoded_reply recovery_ffi_sender_retransmit_all(struct recovery_handle *handle, uint8_t space, uint64_t now);
 
 // Records that Handshake keys are available (RFC 9002, A.8): `RECOVERY_ANSWER_DONE`.
 struct recovery_encoded_reply recovery_ffi_sender_handshake_keys(struct recovery_handle *handle);
 
-// Records that the handshake is confirmed (RFC 9001, 4.1.2): `RECOVERY_ANSWER_DONE`. From then on 1-RTT packets are probed for,
-// and a client knows its address validated (RFC 9002, 6.2.1 and 6.2.2.1).
+// Records that the handshake is confirmed (RFC 9001, 4.1.2): `RECOVERY_ANSWER_DONE`. From then on 1-RTT packets are
+// probed for, and a client knows its address validated (RFC 9002, 6.2.1 and 6.2.2.1).
 struct recovery_encoded_reply recovery_ffi_sender_handshake_confirmed(struct recovery_handle *handle);
 
-// Sets the peer's max_ack_delay, for 1-RTT packets (RFC 9000, 18.2): `RECOVERY_ANSWER_DONE`. Nanoseconds are below 10^9.
+// Sets the peer's max_ack_delay, for 1-RTT packets (RFC 9000, 18.2): `RECOVERY_ANSWER_DONE`. Nanoseconds are below
+// 10^9.
 struct recovery_encoded_reply recovery_ffi_sender_peer_delay(struct recovery_handle *handle, uint64_t secs, uint32_t nanos);
 
 // Sets the RTT that timers use before the first RTT sample of the path in use, instead of the one in the settings (RFC
-// 9002, 6.2.2): `RECOVERY_ANSWER_DONE`. If the RTT of the path is reset, the settings apply again. Nanoseconds are below 10^9.
+// 9002, 6.2.2): `RECOVERY_ANSWER_DONE`. If the RTT of the path is reset, the settings apply again. Nanoseconds are
+// below 10^9.
 struct recovery_encoded_reply recovery_ffi_sender_initial_rtt(struct recovery_handle *handle, uint64_t secs, uint32_t nanos);
 
 // Returns the purpose of the loss detection timer, or why it is not set, and how many more bytes the window and the
@@ -902,8 +907,8 @@ struct recovery_encoded_reply recovery_ffi_sender_initial_rtt(struct recovery_ha
 struct recovery_sender_view recovery_ffi_sender_view(struct recovery_handle *handle);
 
 // Stores whether a PATH_CHALLENGE frame with this data is outstanding on the path in use (`is_open`), and whether one
-// is to be sent (`pending`) (RFC 9000, 8.2.1): `RECOVERY_ANSWER_DONE`. While one is outstanding, the window does not grow: an
-// acknowledged packet may have been sent on the path before it (RFC 9000, 9.4).
+// is to be sent (`pending`) (RFC 9000, 8.2.1): `RECOVERY_ANSWER_DONE`. While one is outstanding, the window does not
+// grow: an acknowledged packet may have been sent on the path before it (RFC 9000, 9.4).
 struct recovery_encoded_reply recovery_ffi_sender_challenge(struct recovery_handle *handle, uint64_t content, bool is_open, bool pending);
 
 // Returns the number of consecutive probe timeouts, each of which doubles the next (RFC 9002, 6.2.1); 0 if there is no
@@ -1077,7 +1082,7 @@ static inline uint64_t recovery_needs_room_lost(struct recovery_encoded_reply re
 // The fault, if the error is `RECOVERY_REFUSAL_ECN`.
 static inline uint64_t recovery_refused_fault(struct recovery_encoded_reply reply) { return reply.first; }
 
-// Does nothing; a library of another layout does not have it, and a program with this header does not link with that one.
+// Does nothing. A library of another layout does not have it, so a program with this header does not link with it.
 void recovery_ffi_layout(void) __asm__("recovery_ffi_layout_75e3d1fc");
 __attribute__((used)) static void (*const recovery_ffi_has_this_layout)(void) = recovery_ffi_layout;
 

@@ -1,6 +1,7 @@
-// A sender from C: four packets go out, the last one is acknowledged, and the others are lost: the first by its number, two by
-// their age (RFC 9002, 6.1). What they carried is to be sent again. No ACK comes for a fifth packet: two probes go out, and the
-// first carries what the packet did (RFC 9002, 6.2.4). In the end all of them are declared lost (RFC 9002, 6.4).
+// A sender from C. Four packets are sent, and the last one is acknowledged. The others are lost: the first by its
+// number, two by their age (RFC 9002, 6.1), and their items are taken for retransmission. No ACK is received for a
+// fifth packet: two probes are sent, and the first carries its items (RFC 9002, 6.2.4). In the end all packets are
+// declared lost (RFC 9002, 6.4).
 #include "recovery_ffi.h"
 #include <inttypes.h>
 #include <stdio.h>
@@ -16,7 +17,7 @@ static void numbers(struct recovery_handle *sender, const char *what, bool lost)
     }
 }
 
-// The packets that were acknowledged, each with its items.
+// Prints the packets that were acknowledged, each with its items.
 static void packets(struct recovery_handle *sender) {
     uint64_t out[16];
     size_t count = recovery_ffi_told_packets(sender, out, 16);
@@ -49,7 +50,7 @@ static void tell(struct recovery_handle *sender, struct recovery_encoded_reply r
     timer(sender);
 }
 
-// The timer expires at this time: for each probe that is due the datagram is asked for, then what it carries, and it goes out.
+// Handles the timer, which expires at this time. Checks the datagram of each probe, takes its contents, and sends it.
 static void probe(struct recovery_handle *sender, uint64_t now) {
     struct recovery_encoded_reply due = recovery_ffi_sender_on_timeout(sender, now);
     if (due.kind != RECOVERY_ANSWER_PROBES) {

@@ -1,5 +1,6 @@
-// A transfer from C: numbered items go over a simulated link that loses datagrams both ways, 0 to 30 of a hundred. The stack asks
-// for each datagram, sends again what was lost, and sends both probes of a timeout with what they carry (RFC 9002, 6.2.4).
+// A transfer from C: numbered items are sent over a simulated link that loses 0 to 30 percent of the datagrams, both
+// ways. The stack checks each datagram, retransmits lost items, and sends both probes of a timeout with their contents
+// (RFC 9002, 6.2.4).
 #include "recovery_ffi.h"
 #include <inttypes.h>
 #include <stdio.h>
@@ -19,7 +20,7 @@ struct ack {
     size_t count;
 };
 
-// Both ends, the link between them, and what is to be sent.
+// Both endpoints, the link between them, and the items to be sent.
 struct link {
     struct recovery_handle sender;
     uint64_t now, wakes, dice, percent;
@@ -46,7 +47,7 @@ static void is_to_send(struct link *it, const uint64_t *items, size_t count) {
     }
 }
 
-// What was lost waits in the recovery: it is sent again before the rest.
+// Takes lost items from the recovery: they are sent before the rest.
 static void take_lost(struct link *it) {
     uint64_t items[ITEMS];
     if (recovery_ffi_take_pending(&it->sender, space).kind == RECOVERY_ANSWER_QUEUE) {
@@ -61,7 +62,7 @@ static void send(struct link *it, const uint64_t *items, size_t count) {
     }
 }
 
-// Sends what waits, as far as window and pacer let it.
+// Sends queued items, as far as window and pacer permit.
 static void send_waiting(struct link *it) {
     it->wakes = UINT64_MAX;
     while (it->waiting_from < it->waiting_to) {
@@ -81,7 +82,7 @@ static void send_waiting(struct link *it) {
     }
 }
 
-// A packet arrives: the other end acknowledges all that came, the highest range first.
+// Receives a packet: the receiver acknowledges all received packets, the highest range first.
 static void receive(struct link *it, uint64_t number) {
     it->received[number] = true;
     struct ack ack = {.arrives = it->now + DELAY};
@@ -138,7 +139,7 @@ static uint64_t earlier(uint64_t one, uint64_t other) {
     return one < other ? one : other;
 }
 
-// What happens next: a packet or an ACK arrives, the timer expires, or the pacer lets the next datagram go.
+// Makes the next step: a packet or an ACK arrives, the timer expires, or the pacer permits the next datagram.
 static void step(struct link *it) {
     struct recovery_time_view timer = recovery_ffi_timer(&it->sender, RECOVERY_TIMER_LOSS_DETECTION);
     uint64_t packet = it->packets_from < it->packets_to ? it->packets[it->packets_from % MOST].arrives : UINT64_MAX;
@@ -156,7 +157,8 @@ static void step(struct link *it) {
     send_waiting(it);
 }
 
-// A client whose handshake is over. What `recovery_ffi_sender_established` returns: RECOVERY_OK, or the number of what is wrong.
+// Makes a client whose handshake is confirmed. Returns what `recovery_ffi_sender_established` returns: RECOVERY_OK, or
+// the number of what is wrong.
 static uint8_t connect_ends(struct link *it, uint64_t percent) {
     struct recovery_settings settings = recovery_ffi_default_settings();
     struct recovery_address remote = {.octets = {192, 0, 2, 1}, .port = 4433};

@@ -1,9 +1,9 @@
-// A tunnel that is not QUIC: the search for a path's MTU, and a burst that is paced. docs/TUNNEL.md shows it.
+// A tunnel other than QUIC: MTU discovery of a path, and a burst that is paced. docs/TUNNEL.md shows it.
 #include "recovery_ffi.h"
 #include <inttypes.h>
 #include <stdio.h>
 
-// Probes over a link that carries so many bytes, from a packet number on; the number behind them.
+// Probes over a link that carries `link` bytes, from a packet number on. Returns the number after the probes.
 static uint64_t search(struct recovery_mtu_handle *mtu, uint16_t link, uint64_t number) {
     for (;;) {
         struct recovery_encoded_reply probe = recovery_ffi_mtu_poll(mtu, 0, number);

@@ -39,14 +39,14 @@ pub const ANSWER_SENDABLE: u8 = 16;
 pub const ANSWER_QUEUE: u8 = 17;
 /// The event has no other answer.
 pub const ANSWER_DONE: u8 = 18;
-/// The window has no room for a sender's datagram. The answers of senders alone are above those of events, so that new
-/// answers of events do not move them.
+/// The window has no room for a sender's datagram. The answers of senders alone are above those of events, so that
+/// new answers of events do not move them.
 pub const ANSWER_FULL: u8 = 128;
 /// A sender processed an ACK frame.
 pub const ANSWER_ACKNOWLEDGED: u8 = 129;
 /// No timer of the sender is due.
 pub const ANSWER_NOTHING: u8 = 130;
-/// A loss detection pass was made; for a timeout, `first` is its space.
+/// Packets were declared lost, if any. For a timeout, `first` is their space.
 pub const ANSWER_LOSSES: u8 = 131;
 /// Probes are due.
 pub const ANSWER_PROBES: u8 = 132;
@@ -55,8 +55,8 @@ pub const ANSWER_NEEDS_ROOM: u8 = 133;
 /// The call fails. The number is far from the answers, so that new ones do not move it.
 pub const ANSWER_REFUSED: u8 = 255;
 
-/// A number was acknowledged that was never sent (RFC 9000, 13.1): of a sender alone. The errors of senders are above
-/// those of events, so that new errors of events do not meet them.
+/// A number was acknowledged that was never sent (RFC 9000, 13.1): of a sender alone. The errors of senders are
+/// above those of events, so that new errors of events do not meet them.
 pub const REFUSAL_UNSENT: u8 = 128;
 /// Only the sender itself makes this event; a caller cannot.
 pub const REFUSAL_DECIDED: u8 = 252;
@@ -64,8 +64,8 @@ pub const REFUSAL_DECIDED: u8 = 252;
 pub const REFUSAL_NO_SENDER: u8 = 253;
 /// The handle holds no recovery.
 pub const REFUSAL_NO_RECOVERY: u8 = 254;
-/// An argument is out of range: a space or timer that does not exist, a connection ID of more than 20 bytes, a frame's
-/// number of 2^62 or more, or nanoseconds of 10^9 or more.
+/// An argument is out of range. A space or timer does not exist, a connection ID has more than 20 bytes, a number of
+/// a frame is 2^62 or more, or nanoseconds are 10^9 or more.
 pub const REFUSAL_BAD_ARGUMENT: u8 = 255;
 
 /// The count of ECT(0) decreased.
@@ -74,12 +74,13 @@ pub const FAULT_ECT0_FALLS: u64 = 0;
 pub const FAULT_ECT1_FALLS: u64 = 1;
 /// The count of ECN-CE decreased.
 pub const FAULT_CE_FALLS: u64 = 2;
-/// The counts do not include newly acknowledged packets.
+/// The three counts increased by less than the newly acknowledged packets.
 pub const FAULT_BLEACHED: u64 = 3;
-/// The counts include packets that were not sent with this marking.
+/// ECT(0) and ECN-CE increased by less than the newly acknowledged packets, or ECT(1) increased.
 pub const FAULT_CORRUPTED: u64 = 4;
 
-/// No congestion. If the frame has no ECN counts, packets are no longer marked on the path.
+/// No congestion. If the frame newly acknowledges packets and has no ECN counts, packets are no longer marked on the
+/// path.
 pub const ECN_QUIET: u8 = 0;
 /// More packets were marked with CE: congestion (RFC 9002, 7.1).
 pub const ECN_MARKED: u8 = 1;

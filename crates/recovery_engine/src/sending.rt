@@ -46,8 +46,8 @@ pub struct LastOutcome {
 #[derive(Drop)]
 pub struct Sending {
     pub sender: ItemSender,
-    /// The outcome of the last ACK frame, of the last timeout that made a loss detection pass, or of the last space
-    /// whose packets were all declared lost, whichever came last; empty before the first.
+    /// The latest outcome: of an ACK frame, of a timeout that made a loss detection pass, or of a space whose packets
+    /// were all declared lost. It is empty before the first.
     pub told: LastOutcome,
     /// The ranges of an ACK frame, kept for their memory.
     pub ranges: Vec<(u64, u64)>,

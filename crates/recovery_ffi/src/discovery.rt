@@ -8,7 +8,7 @@ use recovery_events::event::Event;
 use recovery_stack::handle::Handle;
 use std::alloc::Global;
 
-/// Sends an MTU probe if one is due (RFC 9000, 14.3): the event `PollMtu`.
+/// Returns an MTU probe to send, if one is due (RFC 9000, 14.3), and tracks it: the event `PollMtu`.
 #[unsafe(no_mangle)]
 pub extern "C" fn recovery_ffi_poll_mtu(
     alloc: Global,

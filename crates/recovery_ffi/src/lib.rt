@@ -30,8 +30,8 @@ use recovery_stack::making::begin;
 use recovery_stack::settings::Settings;
 use std::alloc::Global;
 
-/// Makes a recovery, whose peer is at this address and has this connection ID of at most 20 bytes. Returns `NEW_MADE`,
-/// or the number of what is wrong, which leaves the handle unchanged.
+/// Makes a recovery, whose peer is at this address and has this connection ID of at most 20 bytes. Returns
+/// `NEW_MADE`, or the number of what is wrong, which leaves the handle unchanged.
 #[unsafe(no_mangle)]
 pub extern "C" fn recovery_ffi_new(
     alloc: Global,

@@ -13,8 +13,8 @@ use recovery_stack::settings::Settings;
 use std::alloc::Global;
 
 /// Makes an MTU discovery from `initial_mtu`, `min_mtu`, `allow_mtud` and the settings of the search, as a path has it.
-/// The peer accepts datagrams of at most `limit` bytes, or 0 if it stated no limit. Returns `NEW_MADE`, or the number
-/// of what is wrong, which leaves the handle unchanged.
+/// The peer accepts datagrams of at most `limit` bytes, or 0 if it stated no limit. Returns `NEW_MADE`, or the
+/// number of what is wrong, which leaves the handle unchanged.
 #[unsafe(no_mangle)]
 pub extern "C" fn recovery_ffi_mtu_new(
     alloc: Global,
@@ -44,8 +44,8 @@ pub extern "C" fn recovery_ffi_mtu(alloc: Global, mtu: &mut MtuHandle) -> MtuVie
     mtu.view(alloc)
 }
 
-/// Checks whether a probe is due. The reply is `ANSWER_PROBE` with its size, or `ANSWER_NO_PROBE`. The caller sends the
-/// probe as the packet of this number.
+/// Checks whether a probe is due. The reply is `ANSWER_PROBE` with its size, or `ANSWER_NO_PROBE`. The
+/// caller sends the probe as the packet of this number.
 #[unsafe(no_mangle)]
 pub extern "C" fn recovery_ffi_mtu_poll(
     alloc: Global,
@@ -77,8 +77,8 @@ pub extern "C" fn recovery_ffi_mtu_limit(
     mtu.call(alloc, Call::Limit { size })
 }
 
-/// Records that a packet of this many bytes was acknowledged (`ANSWER_ACKED`). The flag is true if it was the probe in
-/// flight, whose size is then the MTU.
+/// Records that a packet of this many bytes was acknowledged (`ANSWER_ACKED`). The flag is true if it was the
+/// probe in flight, whose size is then the MTU.
 #[unsafe(no_mangle)]
 pub extern "C" fn recovery_ffi_mtu_acked(
     alloc: Global,

@@ -23,9 +23,9 @@ pub extern "C" fn recovery_ffi_pacer_transmit(bucket: &mut Bucket, bytes: u16) -
     bucket.transmit(bytes)
 }
 
-/// Checks whether this many bytes may be sent at time `now` (`ANSWER_READY`), or when to ask again (`ANSWER_DELAYED`).
-/// The RTT (nanoseconds), the MTU and the congestion window (bytes) are those of that time. An error if the window or
-/// the MTU is 0, or if there is no bucket.
+/// Checks whether this many bytes may be sent at time `now` (`ANSWER_READY`), or when to ask again
+/// (`ANSWER_DELAYED`). The RTT (nanoseconds), the MTU and the congestion window (bytes) are those of that time.
+/// An error if the window or the MTU is 0, or if there is no bucket.
 #[unsafe(no_mangle)]
 pub extern "C" fn recovery_ffi_pacer_delay(
     bucket: &mut Bucket,

@@ -80,11 +80,12 @@ pub extern "C" fn recovery_ffi_sender_established(
     )
 }
 
-/// Checks whether a datagram with packets of a space may be sent now. The reply is `ANSWER_TRANSMITTED`, and the
-/// datagram is counted; `ANSWER_BLOCKED` by the amplification limit (RFC 9000, 8.1); `ANSWER_FULL` if the window has no
-/// room (RFC 9002, 7); or `ANSWER_DELAYED` by the pacer, until `first` (RFC 9002, 7.7). If nothing in it counts in
-/// flight, or a probe is due in the space, only the amplification limit is checked. Report its packets by
-/// `recovery_ffi_send` before the next datagram. Errors: `REFUSAL_SPACE_DISCARDED`, then `REFUSAL_OVERFLOW`.
+/// Checks whether a datagram with packets of a space may be sent now. The reply is `ANSWER_TRANSMITTED`, and
+/// the datagram is counted; `ANSWER_BLOCKED` by the amplification limit (RFC 9000, 8.1); `ANSWER_FULL`
+/// if the window has no room (RFC 9002, 7); or `ANSWER_DELAYED` by the pacer, until `first` (RFC 9002, 7.7). If
+/// nothing in it counts in flight, or a probe is due in the space, only the amplification limit is checked. Report its
+/// packets by `recovery_ffi_send` before the next datagram. Errors: `REFUSAL_SPACE_DISCARDED`, then
+/// `REFUSAL_OVERFLOW`.
 #[unsafe(no_mangle)]
 pub extern "C" fn recovery_ffi_sender_transmit(
     alloc: Global,
@@ -112,14 +113,14 @@ pub extern "C" fn recovery_ffi_sender_transmit(
 }
 
 /// Processes a received ACK frame (RFC 9002, A.7), with its ranges, the highest first, as on the wire. The reply
-/// `ANSWER_ACKNOWLEDGED` has in `first` how many packets are newly acknowledged, in `second` how many are declared
-/// lost, and in `flag` whether `recovery_ffi_last_outcome` has more than that. Read the packets by
+/// `ANSWER_ACKNOWLEDGED` has in `first` how many packets are newly acknowledged, in `second` how many are
+/// declared lost, and in `flag` whether `recovery_ffi_last_outcome` has more than that. Read the packets by
 /// `recovery_ffi_told_numbers` and `recovery_ffi_told_packets`. Errors, which change nothing:
-/// `REFUSAL_SPACE_DISCARDED`; `REFUSAL_BAD_RANGE` if there is no range, one ends before it begins, or two have no
-/// number between them (RFC 9000, 19.3.1); `REFUSAL_UNSENT`; `REFUSAL_SKIPPED_ACKED` (RFC 9000, 21.4);
-/// `REFUSAL_NO_MEMORY`. If the caller limits its room (`is_limited`) and has too little, the reply is
-/// `ANSWER_NEEDS_ROOM`, and nothing changes. `first` is then how many words of packets, and `second` how many lost
-/// numbers, it needs room for.
+/// `REFUSAL_SPACE_DISCARDED`; `REFUSAL_BAD_RANGE` if there is no range, one ends before it begins, or
+/// two have no number between them (RFC 9000, 19.3.1); `REFUSAL_UNSENT`; `REFUSAL_SKIPPED_ACKED` (RFC
+/// 9000, 21.4); `REFUSAL_NO_MEMORY`. If the caller limits its room (`is_limited`) and has too little, the reply
+/// is `ANSWER_NEEDS_ROOM`, and nothing changes. `first` is then how many words of packets, and `second` how
+/// many lost numbers, it needs room for.
 #[unsafe(no_mangle)]
 pub extern "C" fn recovery_ffi_sender_ack(
     alloc: Global,
@@ -135,12 +136,12 @@ pub extern "C" fn recovery_ffi_sender_ack(
     handle.take_ack(alloc, space, now, frame, ranges)
 }
 
-/// Handles the loss detection timer, which may be due (RFC 9002, A.9). The reply is `ANSWER_NOTHING` if it is not. It
-/// is `ANSWER_LOSSES` after a loss detection pass over the space in `first`: read the losses by
-/// `recovery_ffi_last_outcome` and `recovery_ffi_told_numbers`. It is `ANSWER_PROBES` if probes are due in the space in
-/// `first`; `second` is how many, 1 or 2. For each, call `recovery_ffi_sender_transmit`, take its contents by
-/// `recovery_ffi_sender_probe`, and send it by `recovery_ffi_send`. The error is `REFUSAL_NO_MEMORY` if there is no
-/// room for the numbers of the packets that may be lost; then nothing has changed. A timeout that asks for probes
+/// Handles the loss detection timer, which may be due (RFC 9002, A.9). The reply is `ANSWER_NOTHING` if it is
+/// not. It is `ANSWER_LOSSES` after a loss detection pass over the space in `first`: read the losses by
+/// `recovery_ffi_last_outcome` and `recovery_ffi_told_numbers`. It is `ANSWER_PROBES` if probes are due in the
+/// space in `first`; `second` is how many, 1 or 2. For each, call `recovery_ffi_sender_transmit`, take its contents by
+/// `recovery_ffi_sender_probe`, and send it by `recovery_ffi_send`. The error is `REFUSAL_NO_MEMORY` if there
+/// is no room for the numbers of the packets that may be lost; then nothing has changed. A timeout that asks for probes
 /// allocates nothing.
 #[unsafe(no_mangle)]
 pub extern "C" fn recovery_ffi_sender_on_timeout(
@@ -153,10 +154,10 @@ pub extern "C" fn recovery_ffi_sender_on_timeout(
     handle.call_sender(alloc, Call::Expire(Instant::from_nanos(now)))
 }
 
-/// Takes the contents of a probe in a space (RFC 9002, 6.2.4), to be read by `recovery_ffi_last_items`: `ANSWER_QUEUE`.
-/// They are what is queued for retransmission, or else the contents of the first packet in flight that has any. If
-/// there are no items, send a PING frame. `immediate_ack` asks for an IMMEDIATE_ACK frame in it. Errors, which change
-/// nothing: `REFUSAL_SPACE_DISCARDED`, then `REFUSAL_NO_MEMORY`.
+/// Takes the contents of a probe in a space (RFC 9002, 6.2.4), to be read by `recovery_ffi_last_items`:
+/// `ANSWER_QUEUE`. They are what is queued for retransmission, or else the contents of the first packet in
+/// flight that has any. If there are no items, send a PING frame. `immediate_ack` asks for an IMMEDIATE_ACK frame in
+/// it. Errors, which change nothing: `REFUSAL_SPACE_DISCARDED`, then `REFUSAL_NO_MEMORY`.
 #[unsafe(no_mangle)]
 pub extern "C" fn recovery_ffi_sender_probe(
     alloc: Global,
@@ -199,9 +200,9 @@ pub extern "C" fn recovery_ffi_sender_discard(
 
 /// Declares all packets of a space lost, because they will not be acknowledged: after a Retry, or if 0-RTT is rejected
 /// (RFC 9002, 6.3 and 6.4). This does not indicate congestion. Resets the count of probe timeouts. The reply is
-/// `ANSWER_LOSSES`; read the packets by `recovery_ffi_told_numbers`. If `is_cut` in `recovery_ffi_last_outcome`,
-/// allocation failed for some packets, which are still tracked: the same call continues with them. Errors, which change
-/// nothing: `REFUSAL_SPACE_DISCARDED`, `REFUSAL_NO_MEMORY`.
+/// `ANSWER_LOSSES`; read the packets by `recovery_ffi_told_numbers`. If `is_cut` in
+/// `recovery_ffi_last_outcome`, allocation failed for some packets, which are still tracked: the same call continues
+/// with them. Errors, which change nothing: `REFUSAL_SPACE_DISCARDED`, `REFUSAL_NO_MEMORY`.
 #[unsafe(no_mangle)]
 pub extern "C" fn recovery_ffi_sender_retransmit_all(
     alloc: Global,
@@ -235,8 +236,8 @@ pub extern "C" fn recovery_ffi_sender_handshake_keys(
     handle.call_sender(alloc, Call::HandshakeKeys)
 }
 
-/// Records that the handshake is confirmed (RFC 9001, 4.1.2): `ANSWER_DONE`. From then on 1-RTT packets are probed for,
-/// and a client knows its address validated (RFC 9002, 6.2.1 and 6.2.2.1).
+/// Records that the handshake is confirmed (RFC 9001, 4.1.2): `ANSWER_DONE`. From then on 1-RTT packets are
+/// probed for, and a client knows its address validated (RFC 9002, 6.2.1 and 6.2.2.1).
 #[unsafe(no_mangle)]
 pub extern "C" fn recovery_ffi_sender_handshake_confirmed(
     alloc: Global,
@@ -247,7 +248,8 @@ pub extern "C" fn recovery_ffi_sender_handshake_confirmed(
     handle.call_sender(alloc, Call::HandshakeConfirmed)
 }
 
-/// Sets the peer's max_ack_delay, for 1-RTT packets (RFC 9000, 18.2): `ANSWER_DONE`. Nanoseconds are below 10^9.
+/// Sets the peer's max_ack_delay, for 1-RTT packets (RFC 9000, 18.2): `ANSWER_DONE`. Nanoseconds are below
+/// 10^9.
 #[unsafe(no_mangle)]
 pub extern "C" fn recovery_ffi_sender_peer_delay(
     alloc: Global,
@@ -265,7 +267,8 @@ pub extern "C" fn recovery_ffi_sender_peer_delay(
 }
 
 /// Sets the RTT that timers use before the first RTT sample of the path in use, instead of the one in the settings (RFC
-/// 9002, 6.2.2): `ANSWER_DONE`. If the RTT of the path is reset, the settings apply again. Nanoseconds are below 10^9.
+/// 9002, 6.2.2): `ANSWER_DONE`. If the RTT of the path is reset, the settings apply again. Nanoseconds are
+/// below 10^9.
 #[unsafe(no_mangle)]
 pub extern "C" fn recovery_ffi_sender_initial_rtt(
     alloc: Global,
@@ -293,8 +296,8 @@ pub extern "C" fn recovery_ffi_sender_view(alloc: Global, handle: &mut Handle) -
 }
 
 /// Stores whether a PATH_CHALLENGE frame with this data is outstanding on the path in use (`is_open`), and whether one
-/// is to be sent (`pending`) (RFC 9000, 8.2.1): `ANSWER_DONE`. While one is outstanding, the window does not grow: an
-/// acknowledged packet may have been sent on the path before it (RFC 9000, 9.4).
+/// is to be sent (`pending`) (RFC 9000, 8.2.1): `ANSWER_DONE`. While one is outstanding, the window does not
+/// grow: an acknowledged packet may have been sent on the path before it (RFC 9000, 9.4).
 #[unsafe(no_mangle)]
 pub extern "C" fn recovery_ffi_sender_challenge(
     alloc: Global,

@@ -51,11 +51,11 @@ abbrev pub ack_delay_in : Variables → SpaceId → ℕ
 ack_delay_in variables Data = variables.max_ack_delay
 ack_delay_in variables space = 0
 
--- how many times a probe timeout is doubled at most
+-- how many times a probe timeout doubles at most
 abbrev pub most_doublings : ℕ
 most_doublings = 16
 
--- the probe timeout, doubled for each consecutive timeout, 16 times at most (RFC 9002, 6.2.1)
+-- the probe timeout, twice as long for each consecutive timeout, 16 times at most (RFC 9002, 6.2.1)
 abbrev pub pto_by : ℕ → Variables → SpaceId → ℕ
 pto_by base variables space =
     probe_timeout_of base (ack_delay_in variables space) (min variables.pto_count most_doublings)

@@ -10,7 +10,7 @@ use recovery_base::time::{Duration, Instant};
 /// The peer's max_ack_delay until it is reported, in milliseconds (RFC 9000, 18.2).
 const DEFAULT_MAX_ACK_DELAY: u64 = 25;
 
-/// The maximum number of times that a probe timeout is doubled.
+/// The maximum number of times that a probe timeout doubles.
 const MOST_DOUBLINGS: u32 = 16;
 
 /// The role of the local endpoint.
@@ -135,8 +135,8 @@ impl Variables {
         if longest < delay { longest } else { delay }
     }
 
-    /// Returns the probe timeout of a space, doubled for each consecutive timeout, 16 times at most (RFC 9002, 6.2.1).
-    /// `base` is the smoothed RTT plus four times its variation: `rtt.pto_base()`.
+    /// Returns the probe timeout of a space, twice as long for each consecutive timeout, 16 times at most (RFC 9002,
+    /// 6.2.1). `base` is the smoothed RTT plus four times its variation: `rtt.pto_base()`.
     pub fn pto(&self, base: Duration, space: SpaceId) -> Duration
         ensures { result ≡ pto_by base self.now space }
     {

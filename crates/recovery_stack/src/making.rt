@@ -15,7 +15,8 @@ use recovery_engine::kept::Form;
 use recovery_engine::numbers::{NEW_CID_TOO_LONG, NEW_HELD, NEW_MADE, NEW_NO_MEMORY};
 use std::alloc::Global;
 
-/// Makes a recovery of this form in a handle that holds none. Returns `NEW_MADE`, or the number of what is wrong.
+/// Makes a recovery of this form in a handle that holds none. Returns `NEW_MADE`, or the number of what is
+/// wrong.
 pub fn begin(
     alloc: Global,
     handle: &mut Handle,

@@ -67,7 +67,8 @@ pub struct Settings {
     pub mtu_minimum_change: u16,
     /// The length of local connection IDs.
     pub cid_len: u8,
-    /// Which congestion controller paths have: `CONTROLLER_NEW_RENO`, `CONTROLLER_FIXED` or `CONTROLLER_CUBIC`.
+    /// Which congestion controller paths have: `CONTROLLER_NEW_RENO`, `CONTROLLER_FIXED` or
+    /// `CONTROLLER_CUBIC`.
     pub controller: u8,
     /// How numbers are skipped: `SKIPS_DISABLED`, `SKIPS_DRAWN` or `SKIPS_STARTING`.
     pub skips: u8,
@@ -77,7 +78,7 @@ pub struct Settings {
     pub validated: bool,
     /// Whether MTU discovery is allowed.
     pub allow_mtud: bool,
-    /// Whether MTU discovery is configured; if not, there is none.
+    /// Whether an MTU search is configured; if not, there is none.
     pub searches: bool,
 }
 

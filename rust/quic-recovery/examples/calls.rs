@@ -1,8 +1,8 @@
-//! So many events of one kind, for counting their instructions:
+//! Makes COUNT events of one kind, to count their instructions:
 //!
 //!     valgrind --tool=callgrind target/release/examples/calls KIND COUNT
 //!
-//! What twice as many take more than once as many, divided by the count, is the cost of one.
+//! The cost of one event is the difference between runs of 2 × COUNT and COUNT events, divided by COUNT.
 use quic_recovery::*;
 use std::process::exit;
 use std::time::Duration;
@@ -20,7 +20,7 @@ fn packet(nanos: u64) -> Event<'static> {
     }
 }
 
-/// The event of a kind, the so-manieth; those that end a packet's life come behind its sending.
+/// Returns event `at` of a kind. Events that end the tracking of a packet follow its transmission.
 fn event(kind: &str, at: u64) -> Option<Event<'static>> {
     let now = Instant::from_nanos(at);
     let path = PathName::Current;

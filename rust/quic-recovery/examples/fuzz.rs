@@ -1,4 +1,4 @@
-//! Random events for so many seconds, each answer compared with that of the proved program on the same lines.
+//! Makes random events for SECONDS, and compares each answer with that of the proved program on the same lines.
 //!
 //!     cargo run --release --example fuzz -- SECONDS [SEED]
 #[path = "../tests/common/mod.rs"]

@@ -1,4 +1,4 @@
-//! Sends until memory is refused: the refusal is an answer, and the recovery goes on. Run it with little memory, as by
+//! Sends until allocation fails: the error is an answer, and the recovery continues. Run it with little memory, as by
 //! `ulimit -v 65536`.
 use quic_recovery::*;
 

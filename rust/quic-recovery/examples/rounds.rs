@@ -1,9 +1,9 @@
-//! Rounds of packets with one ACK for all of a round, while so many are in flight, for counting their instructions:
+//! Makes rounds of packets with one ACK per round and FLIGHT packets in flight, to count their instructions:
 //!
 //!     valgrind --tool=callgrind target/release/examples/rounds sender|events FLIGHT ROUNDS PACKETS
 //!
-//! By a [`Sender`], or by a [`Recovery`] that is handed the same events. What twice as many rounds take more than once
-//! as many, divided by their packets, is the cost of a packet that is sent and acknowledged.
+//! It uses a [`Sender`], or a [`Recovery`] with the same events. The cost of a packet that is sent and acknowledged is
+//! the difference between runs of 2 × ROUNDS and ROUNDS, divided by the packets of ROUNDS.
 use quic_recovery::*;
 use std::process::exit;
 use std::time::Duration;
@@ -11,7 +11,7 @@ use std::time::Duration;
 const SPACE: SpaceId = SpaceId::Data;
 const SIZE: u16 = 1200;
 
-/// What sends packets and takes ACKs.
+/// An endpoint that sends packets and processes ACKs.
 trait Sends {
     fn send(&mut self, now: Instant);
     fn ack(&mut self, now: Instant, first: u64, last: u64);

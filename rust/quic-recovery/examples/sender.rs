@@ -1,8 +1,8 @@
-//! A tiny stack over UDP on the loopback interface: numbered items go out in packets, the other end acknowledges what comes,
-//! and the sender says how fast to send, what is lost and to be sent again, and when to probe.
+//! A tiny stack over UDP on the loopback interface. Numbered items are sent in packets, and the receiver acknowledges
+//! them. The sender decides how fast to send, what is lost and retransmitted, and when to probe.
 //!
-//!     sender              the other end throws every ninth datagram away
-//!     sender PERCENT      so many of a hundred datagrams are thrown away, both ways: 0 to 30
+//!     sender              the receiver drops every ninth datagram
+//!     sender PERCENT      this percentage of datagrams is dropped, both ways: 0 to 30
 use quic_recovery::*;
 use std::collections::{BTreeSet, VecDeque};
 use std::error::Error;
@@ -41,11 +41,11 @@ fn bytes(words: impl IntoIterator<Item = u64>) -> Vec<u8> {
     words.into_iter().flat_map(u64::to_le_bytes).collect()
 }
 
-/// Which datagrams the path throws away.
+/// Which datagrams the path drops.
 enum Thrown {
-    /// Each ninth one towards the receiver: how many went there.
+    /// Each ninth one towards the receiver: how many were sent there.
     EveryNinth(u64),
-    /// So many of a hundred, both ways, as they are drawn (xorshift).
+    /// This percentage, both ways, drawn at random (xorshift).
     Percent(u64, u64),
 }
 
@@ -75,7 +75,7 @@ impl Thrown {
     }
 }
 
-/// The end that receives: it acknowledges at once, until a datagram of no bytes comes. An ACK has the first and last number
+/// The receiver: acknowledges at once, until it receives a datagram of no bytes. An ACK has the first and last number
 /// of each range, the highest first.
 fn receive(
     socket: &UdpSocket,
@@ -115,7 +115,7 @@ fn receive(
     }
 }
 
-/// The end that sends. It finds no loss itself, and keeps no list of its packets.
+/// The sending endpoint. It detects no losses itself, and has no list of its packets.
 struct Stack {
     sender: Sender,
     socket: UdpSocket,
@@ -144,13 +144,13 @@ impl Stack {
         })
     }
 
-    /// Up to four items that wait.
+    /// Returns up to four items to be sent.
     fn next_items(&mut self) -> Vec<u64> {
         let count = self.waiting.len().min(4);
         self.waiting.drain(..count).collect()
     }
 
-    /// One packet with these items; without one it is a PING.
+    /// Sends a packet with these items, or a PING without one.
     fn send(&mut self, items: &[u64]) -> Outcome<()> {
         let sent = self
             .sender
@@ -163,7 +163,7 @@ impl Stack {
         Ok(())
     }
 
-    /// Sends what limit, window and pacer let; the moment at which the pacer is to be asked again, if it is.
+    /// Sends what limit, window and pacer permit. Returns when to ask the pacer again, if it delays a datagram.
     fn send_all(&mut self) -> Outcome<Option<Instant>> {
         while !self.waiting.is_empty() {
             match self.sender.transmit(now(self.began), SIZE, SPACE, true)? {
@@ -178,7 +178,7 @@ impl Stack {
         Ok(None)
     }
 
-    /// What is to be sent again waits for its turn.
+    /// Queues retransmissions.
     fn take_pending(&mut self) -> Outcome<()> {
         if let Answer::Queue(items) = self.sender.on_event(Event::TakePending { space: SPACE })? {
             self.waiting.extend(items);
@@ -186,13 +186,13 @@ impl Stack {
         Ok(())
     }
 
-    /// So many packets are lost: their items wait to be sent again.
+    /// Records that packets were lost, and queues their items.
     fn lose(&mut self, count: usize) -> Outcome<()> {
         self.lost += count as u64;
         self.take_pending()
     }
 
-    /// An ACK came in.
+    /// Processes a received ACK.
     fn hear(&mut self, ranges: &[(u64, u64)]) -> Outcome<()> {
         let (now, ack) = (now(self.began), Ack::default());
         let mut told = std::mem::take(&mut self.told);
@@ -206,7 +206,8 @@ impl Stack {
         Ok(())
     }
 
-    /// The timer may be due: something may be lost, or probes go out, whatever the window says (RFC 9002, 6.2.4).
+    /// Handles the timer, which may be due: packets may be lost, or probes are sent, whatever the window is (RFC 9002,
+    /// 6.2.4).
     fn time_out(&mut self) -> Outcome<()> {
         match self.sender.on_timeout(now(self.began))? {
             Timeout::Nothing => Ok(()),
@@ -215,8 +216,8 @@ impl Stack {
         }
     }
 
-    /// A probe goes out: with what waits to be sent again, or with the items of a packet in flight, or else with new ones. Of
-    /// more than four the others wait for their turn.
+    /// Sends a probe: with retransmissions, or with the items of a packet in flight, or else with new ones. Of more
+    /// than four, the others are queued.
     fn probe(&mut self, space: SpaceId) -> Outcome<()> {
         let sent = self.sender.transmit(now(self.began), SIZE, space, true)?;
         if sent != Transmission::Transmitted {
@@ -256,7 +257,7 @@ impl Stack {
     }
 }
 
-/// What the argument says, if there is one.
+/// Parses the argument, if there is one.
 fn thrown() -> Outcome<Thrown> {
     let Some(word) = std::env::args().nth(1) else {
         return Ok(Thrown::EveryNinth(0));

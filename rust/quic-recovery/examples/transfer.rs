@@ -1,10 +1,10 @@
-//! Two endpoints over UDP on the loopback interface: bytes go from one to the other, and of a thousand datagrams so many are
-//! thrown away, both ways.
+//! Two endpoints over UDP on the loopback interface: one sends BYTES bytes to the other, and DROPPED of a thousand
+//! datagrams are dropped, both ways.
 //!
-//!     cargo run --release --example transfer -- BYTES THROWN
+//!     cargo run --release --example transfer -- BYTES DROPPED
 //!
-//! The recoveries say how fast to send, what to acknowledge and when, and what goes out again; which packets are lost is found
-//! here (RFC 9002, 6.1), since a recovery decides no loss.
+//! The recoveries decide how fast to send, what to acknowledge and when, and what to retransmit. The example itself
+//! detects losses (RFC 9002, 6.1), which a recovery leaves to its caller.
 use quic_recovery::*;
 use std::collections::BTreeMap;
 use std::error::Error;
@@ -20,7 +20,7 @@ const ACK_DELAY: Duration = Duration::from_millis(5);
 
 type Outcome<T> = Result<T, Box<dyn Error + Send + Sync>>;
 
-/// The byte at a place of what is sent.
+/// Returns the byte at an offset of the stream.
 fn byte_at(place: usize) -> u8 {
     (place % 251) as u8
 }
@@ -30,7 +30,7 @@ fn word(datagram: &[u8], at: usize) -> Outcome<u64> {
     Ok(u64::from_le_bytes(bytes.try_into()?))
 }
 
-/// One end: its recovery, its socket, and what throws its datagrams away.
+/// One endpoint: its recovery, its socket, and the random generator for drops.
 struct End {
     recovery: Recovery,
     socket: UdpSocket,
@@ -63,7 +63,7 @@ impl End {
         Instant::from_nanos(0) + self.began.elapsed()
     }
 
-    /// A datagram goes out, or is thrown away.
+    /// Sends a datagram, or drops it.
     fn put(&mut self, datagram: &[u8]) -> Outcome<()> {
         self.dice = self.dice.wrapping_mul(6364136223846793005).wrapping_add(1);
         if (self.dice >> 33) % 1000 >= self.thrown {
@@ -75,7 +75,7 @@ impl End {
         Ok(())
     }
 
-    /// The next datagram, if one comes until then.
+    /// Returns the size of the next datagram, if one is received in time.
     fn next(&self, until: Option<Instant>, buffer: &mut [u8]) -> Outcome<Option<usize>> {
         let wait = until.map_or(ACK_DELAY, |it| it - self.now());
         self.socket
@@ -100,7 +100,7 @@ impl End {
             .is_some_and(|it| it <= self.now())
     }
 
-    /// A packet is tracked: its number.
+    /// Records a sent packet. Returns its number.
     fn send(&mut self, size: u16, largest: Option<u64>, queue: &[u64]) -> Outcome<u64> {
         let event = Event::Send {
             space: SPACE,
@@ -117,7 +117,7 @@ impl End {
     }
 }
 
-/// A packet comes in: whether it is new. The timer for a late ACK starts where that is answered.
+/// Records a received packet. Returns whether it is new. Starts the ACK delay timer if the answer requires it.
 fn hear(end: &mut End, number: u64, bytes: u64) -> Outcome<bool> {
     let path = PathName::Current;
     end.recovery.apply(Event::DatagramIn { path, bytes })?;
@@ -138,7 +138,7 @@ fn hear(end: &mut End, number: u64, bytes: u64) -> Outcome<bool> {
     Ok(answer != Answer::Duplicate)
 }
 
-/// An ACK goes out: the delay of the largest number, and the ranges, the highest first.
+/// Sends an ACK: the delay of the largest number, and the ranges, the highest first.
 fn acknowledge(end: &mut End) -> Outcome<()> {
     let mut ranges: Vec<_> = end.recovery.ranges(SPACE).collect();
     ranges.reverse();
@@ -157,7 +157,7 @@ fn acknowledge(end: &mut End) -> Outcome<()> {
     end.put(&datagram)
 }
 
-/// The end that receives so many bytes, until a datagram of one byte comes: what it received.
+/// The receiver: returns the bytes that it received before a datagram of one byte.
 fn receive(mut end: End, bytes: usize) -> Outcome<Vec<u8>> {
     let (mut received, mut buffer) = (vec![0; bytes], vec![0; 65536]);
     loop {
@@ -191,7 +191,7 @@ struct Packet {
     size: u16,
 }
 
-/// The end that sends.
+/// The sender.
 struct Sender {
     end: End,
     bytes: usize,
@@ -199,9 +199,9 @@ struct Sender {
     again: Vec<u64>,
     packets: BTreeMap<u64, Packet>,
     largest_acked: Option<u64>,
-    /// When a packet is lost, if no ACK comes for it (RFC 9002, 6.1.2).
+    /// When a packet is lost, if it is not acknowledged (RFC 9002, 6.1.2).
     loss_time: Option<Instant>,
-    /// How many probe timeouts came in a row (RFC 9002, 6.2.1).
+    /// How many consecutive probe timeouts there were (RFC 9002, 6.2.1).
     timeouts: u32,
     first_sample: Option<Instant>,
     sent: u64,
@@ -243,7 +243,7 @@ impl Sender {
         self.next >= self.pieces() && self.again.is_empty() && self.packets.is_empty()
     }
 
-    /// A packet with a piece goes out; one past the last has no bytes.
+    /// Sends a packet with a piece; one after the last has no bytes.
     fn send_piece(&mut self, piece: u64) -> Outcome<()> {
         let size = (HEAD + PIECE) as u16;
         let now = self.end.now();
@@ -260,7 +260,7 @@ impl Sender {
         self.set_timer()
     }
 
-    /// A probe of the MTU goes out where one is due (RFC 9000, 14.3): a piece past the last.
+    /// Sends an MTU probe if one is due (RFC 9000, 14.3): a piece after the last.
     fn probe_mtu(&mut self) -> Outcome<()> {
         let now = self.end.now();
         if let Answer::Probe { number, size } = self.end.recovery.apply(Event::PollMtu { now })? {
@@ -276,7 +276,7 @@ impl Sender {
         Ok(())
     }
 
-    /// The timer for losses and probes (RFC 9002, A.8).
+    /// Sets the loss detection timer (RFC 9002, A.8).
     fn set_timer(&mut self) -> Outcome<()> {
         let timer = Timer::LossDetection;
         let wait = self.path()?.rtt.pto_base + self.end.recovery.ids().peer_max_ack_delay;
@@ -300,7 +300,7 @@ impl Sender {
         })
     }
 
-    /// Sends what window and pacer let: when the pacer is to be asked again, if it is.
+    /// Sends what window and pacer permit. Returns when to ask the pacer again, if it delays a datagram.
     fn send_all(&mut self) -> Outcome<Option<Instant>> {
         let bytes = (HEAD + PIECE) as u16;
         while self.next < self.pieces() || !self.again.is_empty() {
@@ -326,7 +326,7 @@ impl Sender {
         Ok(None)
     }
 
-    /// What is to be sent again waits for its turn; a probe of the MTU holds nothing.
+    /// Queues retransmissions; an MTU probe has none.
     fn take_pending(&mut self) -> Outcome<()> {
         if let Answer::Queue(items) = self
             .end
@@ -338,7 +338,7 @@ impl Sender {
         Ok(())
     }
 
-    /// The packets that an ACK newly acknowledges: the largest of them, and when it was sent.
+    /// Returns the packets that an ACK newly acknowledges: the largest of them, and when it was sent.
     fn acked(
         &mut self,
         ranges: &[(u64, u64)],
@@ -367,7 +367,7 @@ impl Sender {
         Ok(largest)
     }
 
-    /// An ACK comes in.
+    /// Processes a received ACK.
     fn hear_ack(&mut self, datagram: &[u8]) -> Outcome<()> {
         let delay = Duration::from_nanos(word(datagram, 9)?);
         let ranges: Vec<(u64, u64)> = datagram[HEAD..]
@@ -397,7 +397,7 @@ impl Sender {
         self.set_timer()
     }
 
-    /// The packets that are lost by now (RFC 9002, 6.1), and when the next one is.
+    /// Returns the packets that are lost by now (RFC 9002, 6.1), and stores when the next one is lost.
     fn lost_by_now(&mut self) -> Outcome<Vec<(u64, Packet)>> {
         let (rtt, now) = (self.path()?.rtt, self.end.now());
         let wait = (rtt.conservative * 9 / 8).max(Duration::from_millis(1));
@@ -442,8 +442,8 @@ impl Sender {
         self.take_pending()
     }
 
-    /// A probe goes out, whatever window and pacer say, with what waits to be sent again, or with the piece of a packet in
-    /// flight (RFC 9002, 6.2.4): its contents are taken only for a datagram that goes out.
+    /// Sends a probe, whatever window and pacer say, with retransmissions or with the piece of a packet in flight (RFC
+    /// 9002, 6.2.4). Takes its contents only if the datagram is sent.
     fn probe(&mut self) -> Outcome<()> {
         let goes = self.end.recovery.apply(Event::Transmit {
             now: self.end.now(),
@@ -462,7 +462,7 @@ impl Sender {
         self.send_piece(piece)
     }
 
-    /// The timer expired: packets are lost, or two probes go out.
+    /// Handles the timer: packets are lost, or two probes are sent.
     fn timed_out(&mut self) -> Outcome<()> {
         if self.loss_time.is_some() {
             self.find_lost()?;

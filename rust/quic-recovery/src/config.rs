@@ -1,4 +1,4 @@
-//! What a recovery starts with.
+//! The configuration of a recovery.
 use crate::ffi;
 use crate::types::ConnectionId;
 use std::error::Error;
@@ -6,21 +6,21 @@ use std::fmt;
 use std::net::{IpAddr, Ipv4Addr, SocketAddr};
 use std::time::Duration;
 
-/// How the MTU of paths is searched for (RFC 8899, 5.1; RFC 9000, 14.3).
+/// The configuration of MTU discovery (RFC 8899, 5.1; RFC 9000, 14.3).
 #[derive(Clone, Copy, Debug, PartialEq, Eq)]
 pub struct MtuDiscoveryConfig {
-    /// How long it takes from the end of a search to the next one.
+    /// The time from the end of a search to the next one.
     pub interval: Duration,
-    /// The largest size that is probed, in bytes; 65,527 stands for a greater one.
+    /// The largest size that is probed, in bytes; a larger value counts as 65,527.
     pub upper_bound: u16,
-    /// How long it takes from the report of a black hole to the next search.
+    /// The time from the report of a black hole to the next search.
     pub black_hole_cooldown: Duration,
-    /// The least step from one size to the next that is worth a probe, in bytes; 1 stands for 0.
+    /// The smallest difference of sizes that is worth a probe, in bytes; 0 counts as 1.
     pub minimum_change: u16,
 }
 
 impl Default for MtuDiscoveryConfig {
-    /// Ten minutes, 1452 bytes, one minute, 20 bytes.
+    /// Returns ten minutes, 1452 bytes, one minute, 20 bytes.
     fn default() -> Self {
         MtuDiscoveryConfig {
             interval: Duration::from_secs(600),
@@ -31,17 +31,17 @@ impl Default for MtuDiscoveryConfig {
     }
 }
 
-/// How NewReno begins, and how a loss reduces its window (RFC 9002, 7).
+/// The configuration of NewReno (RFC 9002, 7).
 #[derive(Clone, Copy, Debug, PartialEq, Eq)]
 pub struct NewRenoConfig {
-    /// The window at first, in bytes, above zero (RFC 9002, 7.2).
+    /// The initial window, in bytes, above zero (RFC 9002, 7.2).
     pub initial_window: u64,
-    /// What the window is multiplied by at a loss: numerator and denominator, which is above zero (RFC 9002, 7.3.2).
+    /// The factor by which a loss reduces the window: numerator and denominator, which is above zero (RFC 9002, 7.3.2).
     pub loss_reduction_factor: (u64, u64),
 }
 
 impl Default for NewRenoConfig {
-    /// 12,000 bytes, and a half.
+    /// Returns 12,000 bytes, and a half.
     fn default() -> Self {
         NewRenoConfig {
             initial_window: 12_000,
@@ -50,15 +50,15 @@ impl Default for NewRenoConfig {
     }
 }
 
-/// How CUBIC begins (RFC 9438).
+/// The configuration of CUBIC (RFC 9438).
 #[derive(Clone, Copy, Debug, PartialEq, Eq)]
 pub struct CubicConfig {
-    /// The window at first, in bytes, above zero (RFC 9002, 7.2).
+    /// The initial window, in bytes, above zero (RFC 9002, 7.2).
     pub initial_window: u64,
 }
 
 impl Default for CubicConfig {
-    /// 12,000 bytes.
+    /// Returns 12,000 bytes.
     fn default() -> Self {
         CubicConfig {
             initial_window: 12_000,
@@ -71,46 +71,47 @@ impl Default for CubicConfig {
 pub enum Congestion {
     /// NewReno (RFC 9002, 7).
     NewReno(NewRenoConfig),
-    /// A window of so many bytes, above zero, that nothing changes.
+    /// A fixed window of this many bytes, above zero.
     Fixed(u64),
     /// CUBIC (RFC 9438).
     Cubic(CubicConfig),
 }
 
 impl Default for Congestion {
-    /// NewReno with its defaults.
+    /// Returns NewReno with its defaults.
     fn default() -> Self {
         Congestion::NewReno(NewRenoConfig::default())
     }
 }
 
-/// The settings of paths.
+/// The configuration of paths.
 #[derive(Clone, Copy, Debug, PartialEq, Eq)]
 pub struct TransportConfig {
-    /// The round-trip time that a path counts with before its first sample (RFC 9002, 6.2.2).
+    /// The RTT that a path uses before its first sample (RFC 9002, 6.2.2).
     pub initial_rtt: Duration,
-    /// The size of datagrams before the MTU is searched for, in bytes, above zero (RFC 9000, 14).
+    /// The datagram size before the MTU search, in bytes, above zero (RFC 9000, 14).
     pub initial_mtu: u16,
-    /// The size of datagrams that the path is known to carry, in bytes, above zero (RFC 9000, 14).
+    /// The datagram size that the path is known to carry, in bytes, above zero (RFC 9000, 14).
     pub min_mtu: u16,
-    /// How the MTU is searched for; none turns the search off.
+    /// The configuration of MTU discovery; `None` disables it.
     pub mtu_discovery_config: Option<MtuDiscoveryConfig>,
     /// The congestion controller of each path.
     pub congestion: Congestion,
-    /// How many packets later than a lost one an acknowledged one was sent, at least: of a [`Sender`](crate::Sender). RFC
-    /// 9002, 6.1.1 recommends at least 3; 1 stands for 0.
+    /// The packet threshold of a [`Sender`](crate::Sender): a packet is lost if one with a number at least this much
+    /// larger is acknowledged. RFC 9002, 6.1.1 recommends at least 3; 0 counts as 1.
     pub packet_threshold: u32,
-    /// After which fraction of an RTT a packet is lost that was sent before an acknowledged one: numerator and denominator,
-    /// which is above zero, of a [`Sender`](crate::Sender) (RFC 9002, 6.1.2). 1 stands for a smaller fraction.
+    /// The time threshold of a [`Sender`](crate::Sender), in RTTs: numerator and denominator, which is above zero. A
+    /// packet is lost this long after it was sent, if a later one is acknowledged (RFC 9002, 6.1.2). A smaller fraction
+    /// than 1 counts as 1.
     pub time_threshold: (u64, u64),
-    /// How many probe timeouts the losses span that are persistent congestion: of a [`Sender`](crate::Sender) (RFC 9002,
-    /// 7.6.1). 1 stands for 0.
+    /// How many probe timeouts persistent congestion lasts, for a [`Sender`](crate::Sender) (RFC 9002, 7.6.1); 0 counts
+    /// as 1.
     pub persistent_congestion_threshold: u32,
 }
 
 impl Default for TransportConfig {
-    /// 333 ms, 1200 bytes, 1200 bytes, the defaults of the search and of NewReno, 3 packets, 9/8 of an RTT, and 3 probe
-    /// timeouts.
+    /// Returns 333 ms, 1200 bytes, 1200 bytes, the defaults of MTU discovery and of NewReno, 3 packets, 9/8 of an RTT,
+    /// and 3 probe timeouts.
     fn default() -> Self {
         TransportConfig {
             initial_rtt: Duration::from_millis(333),
@@ -125,45 +126,45 @@ impl Default for TransportConfig {
     }
 }
 
-/// How numbers of 1-RTT packets are skipped (RFC 9000, 21.4).
+/// How 1-RTT packet numbers are skipped (RFC 9000, 21.4).
 #[derive(Clone, Copy, Debug, PartialEq, Eq)]
 pub enum Skips {
     /// No number is skipped.
     Disabled,
-    /// As PCG32 draws them with this seed. A stack takes a seed that its peers cannot guess.
+    /// PCG32 draws the skips with this seed. Use a seed that peers cannot guess.
     Drawn(u64),
-    /// The first skip is the first number, below 64; those behind it are drawn with the second as the seed.
+    /// The first skip is the first number, below 64; the following ones are drawn with the second number as the seed.
     Starting(u64, u64),
 }
 
-/// What a recovery starts with.
+/// The configuration of a recovery.
 #[derive(Clone, Copy, Debug, PartialEq, Eq)]
 pub struct RecoveryConfig {
-    /// The settings of paths.
+    /// The configuration of paths.
     pub transport: TransportConfig,
     /// The peer's address on the first path.
     pub remote: SocketAddr,
-    /// Whether the peer was already seen to receive there (RFC 9000, 8.1).
+    /// Whether the peer's address is validated at the start (RFC 9000, 8.1).
     pub validated: bool,
-    /// Whether the MTU of paths is searched for, where the settings of paths say how.
+    /// Whether MTU discovery is allowed, if the configuration of paths enables it.
     pub allow_mtud: bool,
-    /// The longest delay of this end's ACKs, until the peer asks for another (RFC 9000, 18.2: max_ack_delay).
+    /// The local max_ack_delay, until the peer requests another (RFC 9000, 18.2).
     pub max_ack_delay: Duration,
-    /// The id of the peer that is used first (RFC 9000, 5.1.1).
+    /// The connection ID of the peer that is used first (RFC 9000, 5.1.1).
     pub initial_cid: ConnectionId,
-    /// The bytes of this end's ids; 0 where it uses none.
+    /// The length of local connection IDs; 0 if there are none.
     pub cid_len: u8,
-    /// How long this end's ids last before the peer is to retire them; none lasts for ever.
+    /// The lifetime of local connection IDs before the peer is to retire them; `None` if they do not expire.
     pub cid_lifetime: Option<Duration>,
-    /// How many ids this end has issued at the start, at most 2^62. Memory grows with it, by 16 bytes an id: at 2^40
-    /// [`Recovery::new`](crate::Recovery::new) answers `NoMemory` on most machines.
+    /// How many connection IDs the local endpoint has issued at the start, at most 2^62. Memory grows with it, by 16
+    /// bytes per ID: at 2^40, [`Recovery::new`](crate::Recovery::new) fails with `NoMemory` on most machines.
     pub issued: u64,
-    /// How numbers are skipped.
+    /// How packet numbers are skipped.
     pub skips: Skips,
 }
 
 impl RecoveryConfig {
-    /// The default settings for a peer at this address, which uses this id.
+    /// Returns the default configuration for a peer at this address, with this connection ID.
     pub fn new(remote: SocketAddr, initial_cid: ConnectionId) -> Self {
         RecoveryConfig {
             remote,
@@ -174,8 +175,9 @@ impl RecoveryConfig {
 }
 
 impl Default for RecoveryConfig {
-    /// The settings of the program `recovery-replay`: an address that is not validated (192.0.2.1, port 4433), ACKs 25 ms
-    /// late at most, ids of 8 bytes that last 10 s, one of them issued, and no skips.
+    /// Returns the configuration of the program `recovery-replay`. The peer's address is 192.0.2.1, port 4433, and is
+    /// not validated. The max_ack_delay is 25 ms. One connection ID of 8 bytes is issued, with a lifetime of 10 s. No
+    /// packet numbers are skipped.
     fn default() -> Self {
         RecoveryConfig {
             transport: TransportConfig::default(),
@@ -196,9 +198,9 @@ impl Default for RecoveryConfig {
 #[derive(Clone, Copy, Debug, PartialEq, Eq)]
 #[non_exhaustive]
 pub enum ConfigError {
-    /// There was no memory.
+    /// Allocation failed.
     NoMemory,
-    /// More than 2^62 ids were issued at the start.
+    /// More than 2^62 connection IDs were issued at the start.
     TooManyIssued,
     /// The first skip is 64 or more.
     SkipTooLarge,
@@ -227,12 +229,12 @@ impl fmt::Display for ConfigError {
 
 impl Error for ConfigError {}
 
-/// In nanoseconds, which stop at `u64::MAX`.
+/// Returns a duration in nanoseconds, at most `u64::MAX`.
 pub(crate) fn nanos(span: Duration) -> u64 {
     u64::try_from(span.as_nanos()).unwrap_or(u64::MAX)
 }
 
-/// As the library takes an address.
+/// Returns an address in the library's form.
 pub(crate) fn address(given: SocketAddr) -> ffi::Address {
     let mut octets = [0; 16];
     let (flowinfo, scope_id, v6) = match given {
@@ -255,7 +257,7 @@ pub(crate) fn address(given: SocketAddr) -> ffi::Address {
 }
 
 impl ConfigError {
-    /// By the number that the library gives it; `None` where a recovery was made.
+    /// Returns the error with this number of the library; `None` if a recovery was made.
     pub(crate) fn from_number(number: u8) -> Option<Self> {
         match number {
             ffi::NEW_MADE => None,
@@ -265,18 +267,18 @@ impl ConfigError {
             ffi::NEW_ZERO_WINDOW => Some(ConfigError::ZeroWindow),
             ffi::NEW_ZERO_DENOMINATOR => Some(ConfigError::ZeroDenominator),
             ffi::NEW_NO_MEMORY => Some(ConfigError::NoMemory),
-            // the others no settings of this crate come to
+            // this crate's configuration cannot cause the others
             number => unreachable!("the library makes no recovery, by {number}"),
         }
     }
 }
 
 impl RecoveryConfig {
-    /// As the library takes settings.
+    /// Returns the settings in the library's form.
     pub(crate) fn settings(&self) -> ffi::Settings {
         let transport = &self.transport;
         let search = transport.mtu_discovery_config.unwrap_or_default();
-        // what another controller than NewReno has of it is the window at first
+        // other controllers than NewReno have only an initial window
         let with_window = |initial_window| NewRenoConfig {
             initial_window,
             ..NewRenoConfig::default()
@@ -326,15 +328,15 @@ impl RecoveryConfig {
 mod tests {
     use super::*;
 
-    /// C's default settings are Rust's.
+    /// The default settings of C and Rust are the same.
     #[test]
     fn defaults_are_the_library_s() {
-        // SAFETY: it requires nothing.
+        // SAFETY: it has no precondition.
         let library = unsafe { ffi::recovery_ffi_default_settings() };
         assert_eq!(RecoveryConfig::default().settings(), library);
     }
 
-    /// Each number that settings of this crate come to has its error.
+    /// Each number that this crate's configuration can cause has its error.
     #[test]
     fn errors_have_numbers() {
         assert_eq!(ConfigError::from_number(ffi::NEW_MADE), None);

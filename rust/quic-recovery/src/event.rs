@@ -1,5 +1,5 @@
-//! Events, answers and errors: written by `tests/rust.py --write` from the sources of the library, and compared with them by
-//! its tests.
+//! Events, answers and errors. `tests/rust.py --write` writes them from the sources of the library, and its tests
+//! compare them.
 use crate::ffi;
 use crate::timer::Timer;
 use crate::types::{
@@ -378,9 +378,9 @@ pub enum EcnFault {
     Ect1Falls,
     /// The count of ECN-CE decreased.
     CeFalls,
-    /// The counts do not include newly acknowledged packets.
+    /// The three counts increased by less than the newly acknowledged packets.
     Bleached,
-    /// The counts include packets that were not sent with this marking.
+    /// ECT(0) and ECN-CE increased by less than the newly acknowledged packets, or ECT(1) increased.
     Corrupted,
 }
 

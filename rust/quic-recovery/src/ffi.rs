@@ -1,5 +1,5 @@
-//! The declarations of the proved library and its exports: written by `tests/rust.py --write` from the sources of the
-//! library, and compared with them by its tests.
+//! The declarations of the proved library. `tests/rust.py --write` writes them from its sources, and its tests
+//! compare them.
 
 /// The packet is new.
 pub const ANSWER_NEW: u8 = 0;
@@ -39,14 +39,14 @@ pub const ANSWER_SENDABLE: u8 = 16;
 pub const ANSWER_QUEUE: u8 = 17;
 /// The event has no other answer.
 pub const ANSWER_DONE: u8 = 18;
-/// The window has no room for a sender's datagram. The answers of senders alone are above those of events, so that new
-/// answers of events do not move them.
+/// The window has no room for a sender's datagram. The answers of senders alone are above those of events, so that
+/// new answers of events do not move them.
 pub const ANSWER_FULL: u8 = 128;
 /// A sender processed an ACK frame.
 pub const ANSWER_ACKNOWLEDGED: u8 = 129;
 /// No timer of the sender is due.
 pub const ANSWER_NOTHING: u8 = 130;
-/// A loss detection pass was made; for a timeout, `first` is its space.
+/// Packets were declared lost, if any. For a timeout, `first` is their space.
 pub const ANSWER_LOSSES: u8 = 131;
 /// Probes are due.
 pub const ANSWER_PROBES: u8 = 132;
@@ -96,8 +96,8 @@ pub const REFUSAL_NOT_INITIAL_ID: u8 = 18;
 pub const REFUSAL_BAD_RANGE: u8 = 19;
 /// The peer's ID number is held with another ID, or with another token (RFC 9000, 19.15).
 pub const REFUSAL_CONFLICT: u8 = 20;
-/// A number was acknowledged that was never sent (RFC 9000, 13.1): of a sender alone. The errors of senders are above
-/// those of events, so that new errors of events do not meet them.
+/// A number was acknowledged that was never sent (RFC 9000, 13.1): of a sender alone. The errors of senders are
+/// above those of events, so that new errors of events do not meet them.
 pub const REFUSAL_UNSENT: u8 = 128;
 /// Only the sender itself makes this event; a caller cannot.
 pub const REFUSAL_DECIDED: u8 = 252;
@@ -105,8 +105,8 @@ pub const REFUSAL_DECIDED: u8 = 252;
 pub const REFUSAL_NO_SENDER: u8 = 253;
 /// The handle holds no recovery.
 pub const REFUSAL_NO_RECOVERY: u8 = 254;
-/// An argument is out of range: a space or timer that does not exist, a connection ID of more than 20 bytes, a frame's
-/// number of 2^62 or more, or nanoseconds of 10^9 or more.
+/// An argument is out of range. A space or timer does not exist, a connection ID has more than 20 bytes, a number of
+/// a frame is 2^62 or more, or nanoseconds are 10^9 or more.
 pub const REFUSAL_BAD_ARGUMENT: u8 = 255;
 
 /// The count of ECT(0) decreased.
@@ -115,12 +115,13 @@ pub const FAULT_ECT0_FALLS: u64 = 0;
 pub const FAULT_ECT1_FALLS: u64 = 1;
 /// The count of ECN-CE decreased.
 pub const FAULT_CE_FALLS: u64 = 2;
-/// The counts do not include newly acknowledged packets.
+/// The three counts increased by less than the newly acknowledged packets.
 pub const FAULT_BLEACHED: u64 = 3;
-/// The counts include packets that were not sent with this marking.
+/// ECT(0) and ECN-CE increased by less than the newly acknowledged packets, or ECT(1) increased.
 pub const FAULT_CORRUPTED: u64 = 4;
 
-/// No congestion. If the frame has no ECN counts, packets are no longer marked on the path.
+/// No congestion. If the frame newly acknowledges packets and has no ECN counts, packets are no longer marked on the
+/// path.
 pub const ECN_QUIET: u8 = 0;
 /// More packets were marked with CE: congestion (RFC 9002, 7.1).
 pub const ECN_MARKED: u8 = 1;
@@ -456,7 +457,8 @@ pub struct Settings {
     pub mtu_minimum_change: u16,
     /// The length of local connection IDs.
     pub cid_len: u8,
-    /// Which congestion controller paths have: `CONTROLLER_NEW_RENO`, `CONTROLLER_FIXED` or `CONTROLLER_CUBIC`.
+    /// Which congestion controller paths have: `CONTROLLER_NEW_RENO`, `CONTROLLER_FIXED` or
+    /// `CONTROLLER_CUBIC`.
     pub controller: u8,
     /// How numbers are skipped: `SKIPS_DISABLED`, `SKIPS_DRAWN` or `SKIPS_STARTING`.
     pub skips: u8,
@@ -466,7 +468,7 @@ pub struct Settings {
     pub validated: bool,
     /// Whether MTU discovery is allowed.
     pub allow_mtud: bool,
-    /// Whether MTU discovery is configured; if not, there is none.
+    /// Whether an MTU search is configured; if not, there is none.
     pub searches: bool,
 }
 
@@ -614,12 +616,12 @@ pub struct IdsView {
 }
 
 unsafe extern "C" {
-    /// Does nothing; a library of another layout does not have it.
+    /// Does nothing. A library of another layout does not have it.
     #[link_name = "recovery_ffi_layout_75e3d1fc"]
     pub fn recovery_ffi_layout();
 
-    /// Makes a recovery, whose peer is at this address and has this connection ID of at most 20 bytes. Returns `NEW_MADE`,
-    /// or the number of what is wrong, which leaves the handle unchanged.
+    /// Makes a recovery, whose peer is at this address and has this connection ID of at most 20 bytes. Returns
+    /// `NEW_MADE`, or the number of what is wrong, which leaves the handle unchanged.
     pub fn recovery_ffi_new(
         handle: *mut Handle,
         settings: *const Settings,
@@ -647,7 +649,7 @@ unsafe extern "C" {
     /// Handles the ACK delay timer: the event `AckDelayTimeout`.
     pub fn recovery_ffi_ack_delay_timeout(handle: *mut Handle, space: u8) -> EncodedReply;
 
-    /// Sends an MTU probe if one is due (RFC 9000, 14.3): the event `PollMtu`.
+    /// Returns an MTU probe to send, if one is due (RFC 9000, 14.3), and tracks it: the event `PollMtu`.
     pub fn recovery_ffi_poll_mtu(handle: *mut Handle, now: u64) -> EncodedReply;
 
     /// Sets the largest datagram that the peer accepts (RFC 9000, 18.2): the event `PeerLimit`.
@@ -728,8 +730,8 @@ unsafe extern "C" {
         -> bool;
 
     /// Makes an MTU discovery from `initial_mtu`, `min_mtu`, `allow_mtud` and the settings of the search, as a path has it.
-    /// The peer accepts datagrams of at most `limit` bytes, or 0 if it stated no limit. Returns `NEW_MADE`, or the number
-    /// of what is wrong, which leaves the handle unchanged.
+    /// The peer accepts datagrams of at most `limit` bytes, or 0 if it stated no limit. Returns `NEW_MADE`, or the
+    /// number of what is wrong, which leaves the handle unchanged.
     pub fn recovery_ffi_mtu_new(mtu: *mut MtuHandle, settings: *const Settings, limit: u16) -> u8;
 
     /// Frees a discovery. The handle then holds none. A handle that holds none is unchanged.
@@ -738,16 +740,16 @@ unsafe extern "C" {
     /// Returns the state of the discovery.
     pub fn recovery_ffi_mtu(mtu: *mut MtuHandle) -> MtuView;
 
-    /// Checks whether a probe is due. The reply is `ANSWER_PROBE` with its size, or `ANSWER_NO_PROBE`. The caller sends the
-    /// probe as the packet of this number.
+    /// Checks whether a probe is due. The reply is `ANSWER_PROBE` with its size, or `ANSWER_NO_PROBE`. The
+    /// caller sends the probe as the packet of this number.
     pub fn recovery_ffi_mtu_poll(mtu: *mut MtuHandle, now: u64, number: u64) -> EncodedReply;
 
     /// Sets the largest datagram that the peer accepts, in bytes. An error if it is 0, or while a search is running: set
     /// the limit before the first poll.
     pub fn recovery_ffi_mtu_limit(mtu: *mut MtuHandle, size: u16) -> EncodedReply;
 
-    /// Records that a packet of this many bytes was acknowledged (`ANSWER_ACKED`). The flag is true if it was the probe in
-    /// flight, whose size is then the MTU.
+    /// Records that a packet of this many bytes was acknowledged (`ANSWER_ACKED`). The flag is true if it was the
+    /// probe in flight, whose size is then the MTU.
     pub fn recovery_ffi_mtu_acked(mtu: *mut MtuHandle, number: u64, bytes: u16) -> EncodedReply;
 
     /// Records that the probe in flight was lost. Changes nothing if there is none.
@@ -771,9 +773,9 @@ unsafe extern "C" {
     /// Takes the tokens of a sent packet (`ANSWER_TRANSMITTED`), at most all. An error if there is no bucket.
     pub fn recovery_ffi_pacer_transmit(bucket: *mut Bucket, bytes: u16) -> EncodedReply;
 
-    /// Checks whether this many bytes may be sent at time `now` (`ANSWER_READY`), or when to ask again (`ANSWER_DELAYED`).
-    /// The RTT (nanoseconds), the MTU and the congestion window (bytes) are those of that time. An error if the window or
-    /// the MTU is 0, or if there is no bucket.
+    /// Checks whether this many bytes may be sent at time `now` (`ANSWER_READY`), or when to ask again
+    /// (`ANSWER_DELAYED`). The RTT (nanoseconds), the MTU and the congestion window (bytes) are those of that time.
+    /// An error if the window or the MTU is 0, or if there is no bucket.
     pub fn recovery_ffi_pacer_delay(
         bucket: *mut Bucket,
         rtt: u64,
@@ -970,11 +972,12 @@ unsafe extern "C" {
         now: u64,
     ) -> u8;
 
-    /// Checks whether a datagram with packets of a space may be sent now. The reply is `ANSWER_TRANSMITTED`, and the
-    /// datagram is counted; `ANSWER_BLOCKED` by the amplification limit (RFC 9000, 8.1); `ANSWER_FULL` if the window has no
-    /// room (RFC 9002, 7); or `ANSWER_DELAYED` by the pacer, until `first` (RFC 9002, 7.7). If nothing in it counts in
-    /// flight, or a probe is due in the space, only the amplification limit is checked. Report its packets by
-    /// `recovery_ffi_send` before the next datagram. Errors: `REFUSAL_SPACE_DISCARDED`, then `REFUSAL_OVERFLOW`.
+    /// Checks whether a datagram with packets of a space may be sent now. The reply is `ANSWER_TRANSMITTED`, and
+    /// the datagram is counted; `ANSWER_BLOCKED` by the amplification limit (RFC 9000, 8.1); `ANSWER_FULL`
+    /// if the window has no room (RFC 9002, 7); or `ANSWER_DELAYED` by the pacer, until `first` (RFC 9002, 7.7). If
+    /// nothing in it counts in flight, or a probe is due in the space, only the amplification limit is checked. Report its
+    /// packets by `recovery_ffi_send` before the next datagram. Errors: `REFUSAL_SPACE_DISCARDED`, then
+    /// `REFUSAL_OVERFLOW`.
     pub fn recovery_ffi_sender_transmit(
         handle: *mut Handle,
         now: u64,
@@ -984,14 +987,14 @@ unsafe extern "C" {
     ) -> EncodedReply;
 
     /// Processes a received ACK frame (RFC 9002, A.7), with its ranges, the highest first, as on the wire. The reply
-    /// `ANSWER_ACKNOWLEDGED` has in `first` how many packets are newly acknowledged, in `second` how many are declared
-    /// lost, and in `flag` whether `recovery_ffi_last_outcome` has more than that. Read the packets by
+    /// `ANSWER_ACKNOWLEDGED` has in `first` how many packets are newly acknowledged, in `second` how many are
+    /// declared lost, and in `flag` whether `recovery_ffi_last_outcome` has more than that. Read the packets by
     /// `recovery_ffi_told_numbers` and `recovery_ffi_told_packets`. Errors, which change nothing:
-    /// `REFUSAL_SPACE_DISCARDED`; `REFUSAL_BAD_RANGE` if there is no range, one ends before it begins, or two have no
-    /// number between them (RFC 9000, 19.3.1); `REFUSAL_UNSENT`; `REFUSAL_SKIPPED_ACKED` (RFC 9000, 21.4);
-    /// `REFUSAL_NO_MEMORY`. If the caller limits its room (`is_limited`) and has too little, the reply is
-    /// `ANSWER_NEEDS_ROOM`, and nothing changes. `first` is then how many words of packets, and `second` how many lost
-    /// numbers, it needs room for.
+    /// `REFUSAL_SPACE_DISCARDED`; `REFUSAL_BAD_RANGE` if there is no range, one ends before it begins, or
+    /// two have no number between them (RFC 9000, 19.3.1); `REFUSAL_UNSENT`; `REFUSAL_SKIPPED_ACKED` (RFC
+    /// 9000, 21.4); `REFUSAL_NO_MEMORY`. If the caller limits its room (`is_limited`) and has too little, the reply
+    /// is `ANSWER_NEEDS_ROOM`, and nothing changes. `first` is then how many words of packets, and `second` how
+    /// many lost numbers, it needs room for.
     pub fn recovery_ffi_sender_ack(
         handle: *mut Handle,
         space: u8,
@@ -1001,19 +1004,19 @@ unsafe extern "C" {
         ranges_len: usize,
     ) -> EncodedReply;
 
-    /// Handles the loss detection timer, which may be due (RFC 9002, A.9). The reply is `ANSWER_NOTHING` if it is not. It
-    /// is `ANSWER_LOSSES` after a loss detection pass over the space in `first`: read the losses by
-    /// `recovery_ffi_last_outcome` and `recovery_ffi_told_numbers`. It is `ANSWER_PROBES` if probes are due in the space in
-    /// `first`; `second` is how many, 1 or 2. For each, call `recovery_ffi_sender_transmit`, take its contents by
-    /// `recovery_ffi_sender_probe`, and send it by `recovery_ffi_send`. The error is `REFUSAL_NO_MEMORY` if there is no
-    /// room for the numbers of the packets that may be lost; then nothing has changed. A timeout that asks for probes
+    /// Handles the loss detection timer, which may be due (RFC 9002, A.9). The reply is `ANSWER_NOTHING` if it is
+    /// not. It is `ANSWER_LOSSES` after a loss detection pass over the space in `first`: read the losses by
+    /// `recovery_ffi_last_outcome` and `recovery_ffi_told_numbers`. It is `ANSWER_PROBES` if probes are due in the
+    /// space in `first`; `second` is how many, 1 or 2. For each, call `recovery_ffi_sender_transmit`, take its contents by
+    /// `recovery_ffi_sender_probe`, and send it by `recovery_ffi_send`. The error is `REFUSAL_NO_MEMORY` if there
+    /// is no room for the numbers of the packets that may be lost; then nothing has changed. A timeout that asks for probes
     /// allocates nothing.
     pub fn recovery_ffi_sender_on_timeout(handle: *mut Handle, now: u64) -> EncodedReply;
 
-    /// Takes the contents of a probe in a space (RFC 9002, 6.2.4), to be read by `recovery_ffi_last_items`: `ANSWER_QUEUE`.
-    /// They are what is queued for retransmission, or else the contents of the first packet in flight that has any. If
-    /// there are no items, send a PING frame. `immediate_ack` asks for an IMMEDIATE_ACK frame in it. Errors, which change
-    /// nothing: `REFUSAL_SPACE_DISCARDED`, then `REFUSAL_NO_MEMORY`.
+    /// Takes the contents of a probe in a space (RFC 9002, 6.2.4), to be read by `recovery_ffi_last_items`:
+    /// `ANSWER_QUEUE`. They are what is queued for retransmission, or else the contents of the first packet in
+    /// flight that has any. If there are no items, send a PING frame. `immediate_ack` asks for an IMMEDIATE_ACK frame in
+    /// it. Errors, which change nothing: `REFUSAL_SPACE_DISCARDED`, then `REFUSAL_NO_MEMORY`.
     pub fn recovery_ffi_sender_probe(
         handle: *mut Handle,
         space: u8,
@@ -1026,9 +1029,9 @@ unsafe extern "C" {
 
     /// Declares all packets of a space lost, because they will not be acknowledged: after a Retry, or if 0-RTT is rejected
     /// (RFC 9002, 6.3 and 6.4). This does not indicate congestion. Resets the count of probe timeouts. The reply is
-    /// `ANSWER_LOSSES`; read the packets by `recovery_ffi_told_numbers`. If `is_cut` in `recovery_ffi_last_outcome`,
-    /// allocation failed for some packets, which are still tracked: the same call continues with them. Errors, which change
-    /// nothing: `REFUSAL_SPACE_DISCARDED`, `REFUSAL_NO_MEMORY`.
+    /// `ANSWER_LOSSES`; read the packets by `recovery_ffi_told_numbers`. If `is_cut` in
+    /// `recovery_ffi_last_outcome`, allocation failed for some packets, which are still tracked: the same call continues
+    /// with them. Errors, which change nothing: `REFUSAL_SPACE_DISCARDED`, `REFUSAL_NO_MEMORY`.
     pub fn recovery_ffi_sender_retransmit_all(
         handle: *mut Handle,
         space: u8,
@@ -1038,11 +1041,12 @@ unsafe extern "C" {
     /// Records that Handshake keys are available (RFC 9002, A.8): `ANSWER_DONE`.
     pub fn recovery_ffi_sender_handshake_keys(handle: *mut Handle) -> EncodedReply;
 
-    /// Records that the handshake is confirmed (RFC 9001, 4.1.2): `ANSWER_DONE`. From then on 1-RTT packets are probed for,
-    /// and a client knows its address validated (RFC 9002, 6.2.1 and 6.2.2.1).
+    /// Records that the handshake is confirmed (RFC 9001, 4.1.2): `ANSWER_DONE`. From then on 1-RTT packets are
+    /// probed for, and a client knows its address validated (RFC 9002, 6.2.1 and 6.2.2.1).
     pub fn recovery_ffi_sender_handshake_confirmed(handle: *mut Handle) -> EncodedReply;
 
-    /// Sets the peer's max_ack_delay, for 1-RTT packets (RFC 9000, 18.2): `ANSWER_DONE`. Nanoseconds are below 10^9.
+    /// Sets the peer's max_ack_delay, for 1-RTT packets (RFC 9000, 18.2): `ANSWER_DONE`. Nanoseconds are below
+    /// 10^9.
     pub fn recovery_ffi_sender_peer_delay(
         handle: *mut Handle,
         secs: u64,
@@ -1050,7 +1054,8 @@ unsafe extern "C" {
     ) -> EncodedReply;
 
     /// Sets the RTT that timers use before the first RTT sample of the path in use, instead of the one in the settings (RFC
-    /// 9002, 6.2.2): `ANSWER_DONE`. If the RTT of the path is reset, the settings apply again. Nanoseconds are below 10^9.
+    /// 9002, 6.2.2): `ANSWER_DONE`. If the RTT of the path is reset, the settings apply again. Nanoseconds are
+    /// below 10^9.
     pub fn recovery_ffi_sender_initial_rtt(
         handle: *mut Handle,
         secs: u64,
@@ -1062,8 +1067,8 @@ unsafe extern "C" {
     pub fn recovery_ffi_sender_view(handle: *mut Handle) -> SenderView;
 
     /// Stores whether a PATH_CHALLENGE frame with this data is outstanding on the path in use (`is_open`), and whether one
-    /// is to be sent (`pending`) (RFC 9000, 8.2.1): `ANSWER_DONE`. While one is outstanding, the window does not grow: an
-    /// acknowledged packet may have been sent on the path before it (RFC 9000, 9.4).
+    /// is to be sent (`pending`) (RFC 9000, 8.2.1): `ANSWER_DONE`. While one is outstanding, the window does not
+    /// grow: an acknowledged packet may have been sent on the path before it (RFC 9000, 9.4).
     pub fn recovery_ffi_sender_challenge(
         handle: *mut Handle,
         content: u64,

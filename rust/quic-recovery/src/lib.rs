@@ -1,13 +1,13 @@
-//! The state of a QUIC connection's recovery layer, proved: what it knows of its packets in three packet number spaces, of
-//! round-trip times, congestion control, pacing, amplification limit and MTU of its paths, of the connection ids of both ends,
-//! of ACKs and timers (RFC 9000 and RFC 9002). A [`Recovery`] decides no loss: which packets are lost a layer above it says.
-//! That layer is here too: a [`Sender`] finds losses, sets the timer and says whether a datagram may go out.
+//! A proved recovery layer for QUIC (RFC 9000 and RFC 9002). A [`Recovery`] tracks one connection's packets, ACKs,
+//! timers, connection IDs and paths, with RTT, congestion control, pacing, amplification limit and MTU. Its caller
+//! reports lost packets. A [`Sender`] detects them, sets the timer and decides whether a datagram may be sent.
 //!
-//! This is a safe interface to a static library that is written in Rattle, Rust with contracts, and built only where every
-//! function of it is proved. For each event the library proves that its answer is what the events before it say; which
-//! promises that makes for a connection the repository's `docs/PROMISES.md` says, and what is trusted here `docs/RUST.md`.
+//! This is a safe interface to a static library written in Rattle, Rust with contracts, which is built only if every
+//! function is proved. For each event the library proves that its answer follows from the events before it. The
+//! repository's `docs/PROMISES.md` states the promises for a connection, and `docs/RUST.md` what is trusted here.
 //!
-//! Nothing here reads a clock, sends or panics. A [`Sender`] takes a call for each ACK frame and one for its timer:
+//! The crate does no I/O, reads no clock and does not panic. A [`Sender`] takes a call for each ACK frame and one for
+//! its timer:
 //!
 //! ```
 //! use quic_recovery::{Ack, Instant, RecoveryConfig, Sender, Side, SpaceId, Transmission};
@@ -21,13 +21,13 @@
 //! }
 //! let acked = sender.on_ack(space, at(100), &Ack::default(), &[(2, 3)])?;
 //! assert_eq!(acked.numbers, [2, 3]);
-//! // 1 is lost where nothing is heard of it for nine eighths of the round-trip time (RFC 9002, 6.1.2)
+//! // 1 is lost if it is not acknowledged within 9/8 of the RTT (RFC 9002, 6.1.2)
 //! assert_eq!(acked.losses.numbers, [0]);
 //! assert_eq!(sender.timer(), Some(Instant::from_nanos(112_500_000)));
 //! # Ok::<(), Box<dyn std::error::Error>>(())
 //! ```
 //!
-//! A [`Recovery`] takes [`Event`]s and gives [`Answer`]s or [`Refusal`]s:
+//! A [`Recovery`] takes [`Event`]s and returns [`Answer`]s or [`Refusal`]s:
 //!
 //! ```
 //! use quic_recovery::{Answer, Event, Instant, Recovery, RecoveryConfig, SpaceId};
@@ -51,7 +51,7 @@
 
 mod config;
 mod event;
-// some numbers and calls only programs in C need
+// only programs in C need some of these numbers and calls
 #[allow(dead_code, missing_docs)]
 mod ffi;
 mod mtud;
@@ -79,7 +79,7 @@ pub use types::{
     PathMarks, PathName, ResetToken, SendableFrames, SpaceId, VarInt,
 };
 
-/// This crate's version, and the logic that the library behind it says it was proved with.
+/// This crate's version, and the version of the logic with which the library was proved.
 pub const VERSION: &str = concat!(
     "quic-recovery ",
     env!("CARGO_PKG_VERSION"),

@@ -1,4 +1,4 @@
-//! The search for the MTU of one path, alone.
+//! MTU discovery of one path, without a recovery.
 use crate::config::{ConfigError, RecoveryConfig, TransportConfig};
 use crate::ffi;
 use crate::types::Instant;
@@ -7,7 +7,7 @@ use std::error::Error;
 use std::fmt;
 use std::ptr::null_mut;
 
-/// A call that is not taken: an argument lies out of its range, or it comes at the wrong time. Nothing changed.
+/// An argument is out of range, or the call is not allowed at this time. Nothing changed.
 #[derive(Clone, Copy, Debug, PartialEq, Eq, Hash)]
 pub struct InvalidArgument;
 
@@ -19,11 +19,12 @@ impl fmt::Display for InvalidArgument {
 
 impl Error for InvalidArgument {}
 
-/// The search for the MTU of one path and the detection of black holes (RFC 8899), without a recovery: for a tunnel, or another
-/// datagram protocol. The packets are numbered by the caller, upward, probes among them; sizes are in bytes.
+/// MTU discovery of one path with black hole detection (RFC 8899), without a recovery: for a tunnel, or another
+/// datagram protocol. The caller numbers all packets in increasing order, probes included. Sizes are in bytes.
 ///
-/// Whatever it is told: a search probes at most 16 sizes by at most 48 probes, and over a link that carries exactly the packets up to
-/// some size it ends less than twice `minimum_change` below the best one (the laws of the crate `recovery_mtud`).
+/// For every input, a search probes at most 16 sizes by at most 48 probes. If the link carries exactly the packets up
+/// to some size, the search ends less than twice `minimum_change` below the best one (the laws of the crate
+/// `recovery_mtud`).
 ///
 /// ```
 /// use quic_recovery::{Instant, MtuDiscovery, TransportConfig};
@@ -68,9 +69,9 @@ impl fmt::Debug for MtuDiscovery {
 }
 
 impl MtuDiscovery {
-    /// A discovery that begins to search at the first poll, by the `initial_mtu`, `min_mtu` and `mtu_discovery_config` of these
-    /// settings (without the last it never probes, and still detects black holes). The peer's `max_udp_payload_size`, where it is
-    /// known (RFC 9000, 18.2), is never passed by a probe; 0 stands for one that is not known.
+    /// Returns a discovery that begins to search at the first poll, with `initial_mtu`, `min_mtu` and
+    /// `mtu_discovery_config` of these settings. Without the last it never probes, and still detects black holes. No
+    /// probe exceeds the peer's `max_udp_payload_size`, if it is known (RFC 9000, 18.2); 0 counts as unknown.
     pub fn new(
         config: &TransportConfig,
         peer_max_udp_payload_size: Option<u16>,
@@ -84,7 +85,7 @@ impl MtuDiscovery {
             ptr: null_mut(),
             holds: false,
         };
-        // SAFETY: the handle is as it begins. The first call does nothing; a library of another layout does not have it.
+        // SAFETY: the handle is all zeros. The first call does nothing; a library of another layout does not have it.
         let code = unsafe {
             ffi::recovery_ffi_layout();
             let limit = peer_max_udp_payload_size.unwrap_or(0);
@@ -103,24 +104,24 @@ impl MtuDiscovery {
         unsafe { ffi::recovery_ffi_mtu(self.handle.get()) }
     }
 
-    /// The MTU in use.
+    /// Returns the MTU in use.
     pub fn current_mtu(&self) -> u16 {
         self.view().mtu
     }
 
-    /// The number of the probe in flight.
+    /// Returns the number of the probe in flight, if any.
     pub fn in_flight_mtu_probe(&self) -> Option<u64> {
         let view = self.view();
         view.probes.then_some(view.probe)
     }
 
-    /// Whether a search has begun and not ended.
+    /// Returns whether a search is running.
     pub fn is_searching(&self) -> bool {
         self.view().searches
     }
 
-    /// The size of the probe to send now as the packet of this number, if one is due. None while a probe is in flight, and before
-    /// the next search.
+    /// Returns the size of the probe to send now as the packet of this number, if one is due: never while a probe is in
+    /// flight, or before the next search.
     pub fn poll_transmit(&mut self, now: Instant, next_packet_number: u64) -> Option<u16> {
         let handle = self.handle.get_mut();
         // SAFETY: the handle holds a discovery.
@@ -133,8 +134,8 @@ impl MtuDiscovery {
         }
     }
 
-    /// The peer takes no packets larger than this. Not taken where it is 0, and while a search runs: the limit is told before the
-    /// first poll.
+    /// Sets the largest packet that the peer accepts. Fails if it is 0, or while a search is running: set the limit
+    /// before the first poll.
     pub fn on_peer_max_udp_payload_size_received(
         &mut self,
         size: u16,
@@ -143,36 +144,37 @@ impl MtuDiscovery {
         taken(unsafe { ffi::recovery_ffi_mtu_limit(self.handle.get_mut(), size) })
     }
 
-    /// A packet of so many bytes was acknowledged: whether it was the probe in flight, whose size is then the MTU.
+    /// Records that a packet of this many bytes was acknowledged. Returns whether it was the probe in flight, whose
+    /// size is then the MTU.
     pub fn on_acked(&mut self, packet_number: u64, packet_bytes: u16) -> bool {
         let handle = self.handle.get_mut();
         // SAFETY: the handle holds a discovery.
         unsafe { ffi::recovery_ffi_mtu_acked(handle, packet_number, packet_bytes) }.flag
     }
 
-    /// The probe in flight was lost. Where none is, nothing changes.
+    /// Records that the probe in flight was lost. Changes nothing if there is none.
     pub fn on_probe_lost(&mut self) {
         // SAFETY: the handle holds a discovery.
         let _done = unsafe { ffi::recovery_ffi_mtu_probe_lost(self.handle.get_mut()) };
     }
 
-    /// A packet of so many bytes was lost that is no probe in flight. Those of one moment are told by rising numbers, and then
-    /// `black_hole_detected` is called.
+    /// Records that a packet other than the probe in flight was lost. Report packets that are lost together in
+    /// increasing order, then call `black_hole_detected`.
     pub fn on_non_probe_lost(&mut self, packet_number: u64, packet_bytes: u16) {
         let handle = self.handle.get_mut();
         // SAFETY: the handle holds a discovery.
         let _done = unsafe { ffi::recovery_ffi_mtu_lost(handle, packet_number, packet_bytes) };
     }
 
-    /// All losses of a moment were told: whether they are a black hole, which leaves the least MTU, and no search before the
-    /// cooldown is over (RFC 8899, 4.3).
+    /// Ends the losses of packets that were lost together. Returns whether they are a black hole, which resets the MTU
+    /// to the minimum and delays the next search by the cooldown (RFC 8899, 4.3).
     pub fn black_hole_detected(&mut self, now: Instant) -> bool {
         let handle = self.handle.get_mut();
         // SAFETY: the handle holds a discovery.
         unsafe { ffi::recovery_ffi_mtu_losses_done(handle, now.as_nanos()) }.flag
     }
 
-    /// All begins anew, with these sizes; not taken where one is 0. The peer's limit stays.
+    /// Resets the discovery with these sizes; fails if one is 0. The peer's limit is unchanged.
     pub fn reset(&mut self, current_mtu: u16, min_mtu: u16) -> Result<(), InvalidArgument> {
         let handle = self.handle.get_mut();
         // SAFETY: the handle holds a discovery.
@@ -180,7 +182,7 @@ impl MtuDiscovery {
     }
 }
 
-/// Whether a call was taken.
+/// Returns an error unless the library accepted the call.
 pub(crate) fn taken(reply: ffi::EncodedReply) -> Result<(), InvalidArgument> {
     if reply.kind == ffi::ANSWER_REFUSED {
         Err(InvalidArgument)

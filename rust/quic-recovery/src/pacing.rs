@@ -1,14 +1,14 @@
-//! The pacer of one path, alone.
+//! The pacer of one path, without a recovery.
 use crate::config::nanos;
 use crate::ffi;
 use crate::mtud::{taken, InvalidArgument};
 use crate::types::Instant;
 use std::time::Duration;
 
-/// A bucket of tokens, one a byte: sending takes tokens, and time brings them at 5/4 of a window in each RTT (RFC 9002, 7.7). It
-/// stands without a recovery, for a tunnel or another datagram protocol, and takes no memory.
+/// A bucket of tokens, one per byte. Sending takes tokens, and time adds them at 5/4 of a window in each RTT (RFC 9002,
+/// 7.7). It needs no recovery, and so serves a tunnel or another datagram protocol. It allocates nothing.
 ///
-/// The RTT counts in nanoseconds, up to `u64::MAX`; window, MTU and packets in bytes.
+/// The RTT is in nanoseconds, at most `u64::MAX`; window, MTU and packets are in bytes.
 ///
 /// ```
 /// use quic_recovery::{Instant, Pacer};
@@ -31,14 +31,14 @@ pub struct Pacer {
 }
 
 impl Pacer {
-    /// A full bucket at the moment `now`. Not taken where the window or the MTU is 0.
+    /// Returns a full bucket at time `now`. Fails if the window or the MTU is 0.
     pub fn new(
         rtt: Duration,
         window: u64,
         mtu: u16,
         now: Instant,
     ) -> Result<Self, InvalidArgument> {
-        // SAFETY: it requires nothing.
+        // SAFETY: it has no precondition.
         let bucket = unsafe { ffi::recovery_ffi_pacer(nanos(rtt), window, mtu, now.as_nanos()) };
         if bucket.mtu == 0 {
             return Err(InvalidArgument);
@@ -46,25 +46,25 @@ impl Pacer {
         Ok(Pacer { bucket })
     }
 
-    /// The most bytes that may go out at once, as the last call of `delay` had it: 10 to 256 times its MTU.
+    /// Returns the most bytes that may be sent at once, as of the last call of `delay`: 10 to 256 times its MTU.
     pub fn capacity(&self) -> u64 {
         self.bucket.capacity
     }
 
-    /// The bytes in the bucket, as the last call left them.
+    /// Returns the bytes in the bucket after the last call.
     pub fn tokens(&self) -> u64 {
         self.bucket.tokens
     }
 
-    /// A packet of so many bytes was sent. Where fewer tokens are left, none are.
+    /// Takes the tokens of a sent packet, at most all.
     pub fn on_transmit(&mut self, packet_length: u16) {
-        // SAFETY: it requires nothing.
+        // SAFETY: it has no precondition.
         let _done = unsafe { ffi::recovery_ffi_pacer_transmit(&mut self.bucket, packet_length) };
     }
 
-    /// When to ask again whether so many bytes may be sent, or `None` where they may be sent now: by the RTT, the MTU and the
-    /// congestion window of the moment `now`. Not taken where the window or the MTU is 0. Nothing is delayed at an RTT of 0 or a
-    /// window above `u32::MAX`.
+    /// Returns when to ask again whether this many bytes may be sent, or `None` if they may be sent now. The RTT, the
+    /// MTU and the congestion window are those at time `now`. Fails if the window or the MTU is 0. Nothing is delayed
+    /// at an RTT of 0 or a window above `u32::MAX`.
     pub fn delay(
         &mut self,
         rtt: Duration,
@@ -74,7 +74,7 @@ impl Pacer {
         now: Instant,
     ) -> Result<Option<Instant>, InvalidArgument> {
         let bucket = &mut self.bucket;
-        // SAFETY: it requires nothing.
+        // SAFETY: it has no precondition.
         let reply = unsafe {
             ffi::recovery_ffi_pacer_delay(bucket, nanos(rtt), bytes, mtu, window, now.as_nanos())
         };

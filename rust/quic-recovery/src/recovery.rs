@@ -1,4 +1,4 @@
-//! The recovery of one connection, behind its safe interface.
+//! The safe interface to the recovery of one connection.
 use crate::config::{address, ConfigError, RecoveryConfig};
 use crate::event::{Answer, Event, Refusal};
 use crate::ffi;
@@ -11,21 +11,22 @@ use std::ops::Range;
 use std::ptr::null_mut;
 use std::time::Duration;
 
-/// What is kept for a path. Spans stop at `u64::MAX` nanoseconds.
+/// The state of a path. Durations are capped at `u64::MAX` nanoseconds.
 #[derive(Clone, Copy, Debug, PartialEq, Eq)]
 #[non_exhaustive]
 pub struct PathStats {
     /// How many bytes may be in flight (RFC 9002, 7).
     pub window: u64,
-    /// The slow start threshold, in bytes: `u64::MAX` before the first loss (RFC 9002, 7.3.1), and none of a window that stays.
+    /// The slow start threshold, in bytes: `u64::MAX` before the first loss (RFC 9002, 7.3.1), and `None` for a fixed
+    /// window.
     pub ssthresh: Option<u64>,
     /// The bytes in flight (RFC 9002, B.2).
     pub in_flight: u64,
-    /// How many packets in flight elicit an ACK.
+    /// How many packets in flight are ack-eliciting.
     pub ack_eliciting: u64,
     /// The bytes of the datagrams transmitted.
     pub total_sent: u64,
-    /// The bytes of the datagrams that came in.
+    /// The bytes of the datagrams received.
     pub total_recvd: u64,
     /// The round-trip time.
     pub rtt: RttEstimate,
@@ -33,33 +34,33 @@ pub struct PathStats {
     pub pacer: PacerStats,
     /// The MTU in use, in bytes (RFC 9000, 14.3).
     pub current_mtu: u16,
-    /// Whether the peer was seen to receive there (RFC 9000, 8).
+    /// Whether the peer's address is validated (RFC 9000, 8).
     pub validated: bool,
 }
 
 /// The estimate of a round-trip time (RFC 9002, 5).
 #[derive(Clone, Copy, Debug, PartialEq, Eq)]
 pub struct RttEstimate {
-    /// The best estimate: the smoothed one, or the initial one before the first sample (RFC 9002, 5.3).
+    /// The RTT estimate: the smoothed one, or the initial one before the first sample (RFC 9002, 5.3).
     pub get: Duration,
-    /// The greater of that and the last sample, by which losses are judged (RFC 9002, 6.1.2).
+    /// The larger of that estimate and the last sample, for loss detection (RFC 9002, 6.1.2).
     pub conservative: Duration,
-    /// The least sample (RFC 9002, 5.2).
+    /// The smallest sample (RFC 9002, 5.2).
     pub min: Duration,
     /// The last sample, or the initial RTT before the first one (RFC 9002, 5.1).
     pub latest: Duration,
     /// The mean deviation of the samples, or half of the initial RTT before the first one (RFC 9002, 5.3: `rttvar`).
     pub variance: Duration,
-    /// The probe timeout without the peer's delay of ACKs (RFC 9002, 6.2.1).
+    /// The probe timeout without the peer's max_ack_delay (RFC 9002, 6.2.1).
     pub pto_base: Duration,
 }
 
-/// The bucket of a pacer: one token a byte (RFC 9002, 7.7).
+/// The bucket of a pacer: one token per byte (RFC 9002, 7.7).
 #[derive(Clone, Copy, Debug, PartialEq, Eq)]
 pub struct PacerStats {
-    /// The most bytes that may go out at once.
+    /// The most bytes that may be sent at once.
     pub capacity: u64,
-    /// The bytes that it holds, as the last `Transmit` or `PacerCheck` left it: what time has brought since is not among them.
+    /// The bytes that it holds after the last `Transmit` or `PacerCheck`, without those of the time since.
     pub tokens: u64,
 }
 
@@ -69,7 +70,7 @@ pub struct PacerStats {
 pub struct SpaceStats {
     /// The largest packet number received; 0 before the first.
     pub largest_received: u64,
-    /// How many ranges of numbers are to be acknowledged.
+    /// How many ranges of packet numbers are to be acknowledged.
     pub ranges: usize,
     /// The number of the next packet, unless it is skipped.
     pub next_packet_number: u64,
@@ -77,34 +78,34 @@ pub struct SpaceStats {
     pub can_send: SendableFrames,
 }
 
-/// The ids of both ends, and how late ACKs may be.
+/// The connection IDs of both endpoints, and their max_ack_delay.
 #[derive(Clone, Copy, Debug, PartialEq, Eq)]
 #[non_exhaustive]
 pub struct IdStats {
-    /// The number of the peer's id in use.
+    /// The sequence number of the peer's connection ID in use.
     pub active: u64,
-    /// How many ids this end has issued.
+    /// How many connection IDs the local endpoint has issued.
     pub issued: u64,
-    /// The peer is asked to retire this end's ids below this number.
+    /// The peer is asked to retire the local connection IDs below this sequence number.
     pub retire_prior_to: u64,
-    /// How late this end's ACKs may be.
+    /// The local max_ack_delay.
     pub max_ack_delay: Duration,
-    /// How late the peer's ACKs may be, as far as this end knows.
+    /// The peer's max_ack_delay, as far as it is known.
     pub peer_max_ack_delay: Duration,
 }
 
-/// The recovery layer's state of one connection. It reads no clock and sends nothing: events with their moments go in, and answers
-/// come out. What each call answers is proved: whatever events came before, the answer is what they say.
+/// The loss recovery of one connection. You pass in events with their times; it returns answers and errors. It does no
+/// I/O and reads no clock. Each answer is proved to follow from the events before it.
 ///
-/// It may move to another thread, and be used by one at a time.
+/// It may move to another thread, and be used by one thread at a time.
 pub struct Recovery {
-    /// It holds a recovery from `new` to `drop`. The library moves its bytes while it reads them, so also to read it a
-    /// pointer is needed through which is written; no call is made within another.
+    /// It holds a recovery from `new` to `drop`. The library moves its bytes while it reads them, so reading too needs
+    /// a mutable pointer. No call is made within another.
     handle: UnsafeCell<ffi::Handle>,
 }
 
-// SAFETY: the handle owns one block of memory and all that it leads to. The library has no thread locals and no statics that
-// change, and takes and frees memory by `malloc` and `free`, which any thread may call.
+// SAFETY: the handle owns one block of memory and all that it leads to. The library has no thread locals and no mutable
+// statics, and allocates and frees memory by `malloc` and `free`, which any thread may call.
 unsafe impl Send for Recovery {}
 
 impl fmt::Debug for Recovery {
@@ -122,14 +123,14 @@ impl Drop for Recovery {
     }
 }
 
-/// What a recovery begins as.
+/// The initial form of a recovery.
 #[derive(Clone, Copy)]
 pub(crate) enum Form {
-    /// A recovery alone.
+    /// A bare recovery.
     Bare,
-    /// One of a sender of this side, from the start of the handshake.
+    /// A sender of this side, from the start of the handshake.
     Handshaking(Side),
-    /// One of a sender of this side, once the handshake is confirmed.
+    /// A sender of this side, once the handshake is confirmed.
     Established(Side),
 }
 
@@ -137,7 +138,7 @@ fn is_previous(path: PathName) -> bool {
     path == PathName::Previous
 }
 
-/// An event that is handed to the library.
+/// Passes an event to the library.
 ///
 /// # Safety
 ///
@@ -145,8 +146,8 @@ fn is_previous(path: PathName) -> bool {
 #[inline(always)]
 unsafe fn hand_in(handle: *mut ffi::Handle, event: Event<'_>) -> ffi::EncodedReply {
     use ffi::*;
-    // SAFETY: as this function's; slices are passed by their own pointers and lengths. That ids have at most 20 bytes, numbers
-    // of frames lie below 2^62 and nanoseconds are fewer than a second's, their types keep, so that no call is refused for it.
+    // SAFETY: as this function's; slices are passed by their own pointers and lengths. The types ensure that IDs have
+    // at most 20 bytes, numbers of frames are below 2^62 and nanoseconds are below 10^9, so that no call fails for it.
     unsafe {
         match event {
             Event::Received {
@@ -285,13 +286,13 @@ unsafe fn hand_in(handle: *mut ffi::Handle, event: Event<'_>) -> ffi::EncodedRep
 }
 
 impl Recovery {
-    /// A recovery to which nothing has happened yet, made at the moment `now`. Settings that the library does not take are
-    /// refused.
+    /// Returns a recovery without any event, made at time `now`. Fails if the configuration is invalid, or allocation
+    /// fails.
     pub fn new(config: &RecoveryConfig, now: Instant) -> Result<Self, ConfigError> {
         Recovery::of(Form::Bare, config, now)
     }
 
-    /// The same, in this form.
+    /// Returns a recovery of this form.
     pub(crate) fn of(
         form: Form,
         config: &RecoveryConfig,
@@ -307,7 +308,7 @@ impl Recovery {
         };
         // SAFETY: it does nothing; a library of another layout does not have it.
         unsafe { ffi::recovery_ffi_layout() };
-        // SAFETY: the handle is as it begins, and the id is a slice.
+        // SAFETY: the handle is all zeros, and the ID is a slice.
         let code = unsafe {
             match form {
                 Form::Bare => {
@@ -341,27 +342,27 @@ impl Recovery {
         }
     }
 
-    /// One event, whole or not done: after a refusal the state is as it was before, but for the number of an ACK_FREQUENCY frame
-    /// that is refused by `DelayTooSmall`, which is kept.
+    /// Applies one event, as a whole or not at all. After an error the state is unchanged, except for the sequence
+    /// number of an ACK_FREQUENCY frame that fails with `DelayTooSmall`, which is stored.
     #[inline]
     pub fn apply(&mut self, event: Event<'_>) -> Result<Answer, Refusal> {
         let reply = self.reply_to(event);
         self.read(reply)
     }
 
-    /// One event, with its reply in numbers.
+    /// Applies one event. Returns its reply in numbers.
     #[inline]
     pub(crate) fn reply_to(&mut self, event: Event<'_>) -> ffi::EncodedReply {
         // SAFETY: the handle holds a recovery, and `self` is borrowed alone.
         unsafe { hand_in(self.handle.get_mut(), event) }
     }
 
-    /// What holds the recovery.
+    /// Returns the library's handle.
     pub(crate) fn handle(&self) -> *mut ffi::Handle {
         self.handle.get()
     }
 
-    /// What a reply in numbers says.
+    /// Returns the reply of these numbers.
     #[inline]
     pub(crate) fn read(&self, reply: ffi::EncodedReply) -> Result<Answer, Refusal> {
         let ffi::EncodedReply {
@@ -407,10 +408,10 @@ impl Recovery {
         })
     }
 
-    /// The items that were taken last. Refused by `NoMemory` alone.
+    /// Returns the items that were taken last. Fails with `NoMemory` alone.
     pub fn last_items(&self) -> Result<Vec<u64>, Refusal> {
         let mut items: Vec<u64> = Vec::new();
-        // SAFETY: the handle holds a recovery, and a slice of no items is written to nowhere.
+        // SAFETY: the handle holds a recovery, and nothing is written to an empty slice.
         let count =
             unsafe { ffi::recovery_ffi_last_items(self.handle.get(), items.as_mut_ptr(), 0) };
         if count > 0 {
@@ -418,13 +419,14 @@ impl Recovery {
                 .try_reserve_exact(count)
                 .map_err(|_| Refusal::NoMemory)?;
             items.resize(count, 0);
-            // SAFETY: the same, and so many items are there.
+            // SAFETY: the handle holds a recovery, no other call runs, and there is room for `count` items.
             unsafe { ffi::recovery_ffi_last_items(self.handle.get(), items.as_mut_ptr(), count) };
         }
         Ok(items)
     }
 
-    /// The token that came with the last `Answer::Retire` of an id (RFC 9000, 10.3.1), all zeros before there was one.
+    /// Returns the token of the last `Answer::Retire` of a connection ID (RFC 9000, 10.3.1), all zeros before the
+    /// first.
     pub fn reset_token(&self) -> ResetToken {
         let mut bytes = [0; 16];
         // SAFETY: the handle holds a recovery, no other call runs, and sixteen bytes are written.
@@ -432,14 +434,14 @@ impl Recovery {
         ResetToken::from(bytes)
     }
 
-    /// Whether these are the bytes of the token that came with the last `Answer::Retire` of an id: by them, at the end of a
-    /// datagram, the peer says that it has lost the connection (RFC 9000, 10.3.1). All zeros before there was one.
+    /// Returns whether these are the bytes of the token of the last `Answer::Retire` of a connection ID, all zeros
+    /// before the first. At the end of a datagram they are a stateless reset by the peer (RFC 9000, 10.3.1).
     pub fn is_reset_token(&self, token: &[u8; 16]) -> bool {
         // SAFETY: the handle holds a recovery, and no other call runs.
         unsafe { ffi::recovery_ffi_is_token(self.handle.get(), token) }
     }
 
-    /// What is kept for a path; `None` where there is no such path.
+    /// Returns the state of a path, or `None` if there is no such path.
     pub fn path(&self, path: PathName) -> Option<PathStats> {
         // SAFETY: the handle holds a recovery, and no other call runs.
         let view = unsafe { ffi::recovery_ffi_path(self.handle.get(), is_previous(path)) };
@@ -467,8 +469,8 @@ impl Recovery {
         })
     }
 
-    /// How many bytes may be in flight on the path in use (RFC 9002, 7), and how many are. This and the four readings below
-    /// take a few instructions, where [`Recovery::path`] and [`Recovery::ids`] read all.
+    /// Returns how many bytes may be in flight on the path in use (RFC 9002, 7), and how many are. This and the four
+    /// readings below cost a few instructions; [`Recovery::path`] and [`Recovery::ids`] read all.
     #[inline]
     pub fn window_and_flight(&self) -> (u64, u64) {
         // SAFETY: the handle holds a recovery, and no other call runs.
@@ -476,36 +478,36 @@ impl Recovery {
         (view.window, view.in_flight)
     }
 
-    /// The best estimate of the round-trip time of the path in use: the smoothed one, or the initial one before the first
-    /// sample (RFC 9002, 5.3).
+    /// Returns the RTT estimate of the path in use: the smoothed one, or the initial one before the first sample (RFC
+    /// 9002, 5.3).
     #[inline]
     pub fn rtt(&self) -> Duration {
         // SAFETY: the handle holds a recovery, and no other call runs.
         Duration::from_nanos(unsafe { ffi::recovery_ffi_rtt(self.handle.get()) }.rtt)
     }
 
-    /// The probe timeout of the path in use without the peer's delay of ACKs (RFC 9002, 6.2.1).
+    /// Returns the probe timeout of the path in use without the peer's max_ack_delay (RFC 9002, 6.2.1).
     #[inline]
     pub fn pto_base(&self) -> Duration {
         // SAFETY: the handle holds a recovery, and no other call runs.
         Duration::from_nanos(unsafe { ffi::recovery_ffi_rtt(self.handle.get()) }.pto_base)
     }
 
-    /// The number of the peer's id in use (RFC 9000, 5.1.1).
+    /// Returns the sequence number of the peer's connection ID in use (RFC 9000, 5.1.1).
     #[inline]
     pub fn active_id(&self) -> u64 {
         // SAFETY: the handle holds a recovery, and no other call runs.
         unsafe { ffi::recovery_ffi_active_id(self.handle.get()) }
     }
 
-    /// Whether a packet that counts in flight is tracked in a space (RFC 9002, 2), by whichever path it went.
+    /// Returns whether a space tracks a packet that counts in flight (RFC 9002, 2), on either path.
     #[inline]
     pub fn has_in_flight(&self, space: SpaceId) -> bool {
         // SAFETY: the handle holds a recovery, and no other call runs.
         unsafe { ffi::recovery_ffi_has_in_flight(self.handle.get(), space as u8) }
     }
 
-    /// What a space has to send; `None` once it is discarded.
+    /// Returns what a space has to send, or `None` once it is discarded.
     pub fn space(&self, space: SpaceId) -> Option<SpaceStats> {
         // SAFETY: the handle holds a recovery, and no other call runs.
         let view = unsafe { ffi::recovery_ffi_space(self.handle.get(), space as u8) };
@@ -520,13 +522,13 @@ impl Recovery {
         })
     }
 
-    /// The number of the next packet of a space, unless it is skipped; `None` once the space is discarded.
+    /// Returns the number of the next packet of a space, unless it is skipped; `None` once the space is discarded.
     pub fn next_packet_number(&self, space: SpaceId) -> Option<u64> {
         self.space(space).map(|it| it.next_packet_number)
     }
 
-    /// How long ago the largest packet of a space came, which an ACK frame tells (RFC 9000, 13.2.5 and 19.3): zero before the
-    /// first, and `None` once the space is discarded.
+    /// Returns how long ago the largest packet of a space was received, for the ACK Delay of an ACK frame (RFC 9000,
+    /// 13.2.5 and 19.3): zero before the first, and `None` once the space is discarded.
     pub fn ack_delay(&self, space: SpaceId, now: Instant) -> Option<Duration> {
         // SAFETY: the handle holds a recovery, and no other call runs.
         let view =
@@ -534,7 +536,7 @@ impl Recovery {
         view.some.then_some(Duration::from_nanos(view.nanos))
     }
 
-    /// The ranges of numbers that are to be acknowledged in a space, in ascending order.
+    /// Returns the ranges of packet numbers to be acknowledged in a space, in ascending order.
     pub fn ranges(&self, space: SpaceId) -> impl Iterator<Item = Range<u64>> + '_ {
         (0..).map_while(move |index| {
             // SAFETY: the handle holds a recovery, and no other call runs.
@@ -543,21 +545,22 @@ impl Recovery {
         })
     }
 
-    /// When a timer expires, if it is set.
+    /// Returns when a timer expires, if it is running.
     pub fn timer(&self, timer: Timer) -> Option<Instant> {
         // SAFETY: the handle holds a recovery, and no other call runs.
         let view = unsafe { ffi::recovery_ffi_timer(self.handle.get(), timer as u8) };
         view.some.then_some(Instant::from_nanos(view.nanos))
     }
 
-    /// When the oldest of this end's ids is to be retired, where they end (RFC 9000, 5.1.2): what `Timer::PushNewCid` is set to.
+    /// Returns when the oldest of the local connection IDs is to be retired (RFC 9000, 5.1.2), if they expire. Set
+    /// `Timer::PushNewCid` to it.
     pub fn next_id_timeout(&self) -> Option<Instant> {
         // SAFETY: the handle holds a recovery, and no other call runs.
         let view = unsafe { ffi::recovery_ffi_next_id_timeout(self.handle.get()) };
         view.some.then_some(Instant::from_nanos(view.nanos))
     }
 
-    /// What the layer above keeps with a path; `None` where there is no such path.
+    /// Returns the caller's marks of a path, or `None` if there is no such path.
     pub fn marks(&self, path: PathName) -> Option<PathMarks> {
         // SAFETY: the handle holds a recovery, and no other call runs.
         let view = unsafe { ffi::recovery_ffi_marks(self.handle.get(), is_previous(path)) };
@@ -572,8 +575,8 @@ impl Recovery {
         })
     }
 
-    /// The layer above keeps this with a path from now on; no event is told of it. False, and nothing changes, where there is no
-    /// such path.
+    /// Stores the caller's marks of a path, without an event. Returns false and changes nothing if there is no such
+    /// path.
     pub fn set_marks(&mut self, path: PathName, marks: &PathMarks) -> bool {
         let first = marks.first_packet_after_rtt_sample;
         let given = ffi::Marks {
@@ -590,7 +593,7 @@ impl Recovery {
         unsafe { ffi::recovery_ffi_set_marks(self.handle.get_mut(), is_previous(path), &given) }
     }
 
-    /// The ids of both ends, and how late ACKs may be.
+    /// Returns the connection IDs of both endpoints, and their max_ack_delay.
     pub fn ids(&self) -> IdStats {
         // SAFETY: the handle holds a recovery, and no other call runs.
         let view = unsafe { ffi::recovery_ffi_ids(self.handle.get()) };

@@ -1,4 +1,4 @@
-//! The sending half of a connection, behind its safe interface.
+//! The safe interface to the sender of one endpoint.
 use crate::config::{ConfigError, RecoveryConfig};
 use crate::event::{Answer, Event, Refusal};
 use crate::ffi;
@@ -9,24 +9,24 @@ use std::error::Error;
 use std::fmt;
 use std::time::Duration;
 
-/// Which end of a connection this is.
+/// The role of the local endpoint.
 #[derive(Clone, Copy, Debug, PartialEq, Eq, Hash)]
 pub enum Side {
-    /// The end that began the connection.
+    /// The endpoint that opened the connection.
     Client,
-    /// The other end.
+    /// The other endpoint.
     Server,
 }
 
-/// Why a call of a sender fails. [`Sender`] says what such a call leaves.
+/// Why a call of a sender fails. The documentation of [`Sender`] states what such a call changes.
 #[derive(Clone, Copy, Debug, PartialEq, Eq, Hash)]
 #[non_exhaustive]
 pub enum SenderError {
-    /// As an event of a recovery is.
+    /// The error of a recovery's event.
     Event(Refusal),
     /// A number was acknowledged that was never sent (RFC 9000, 13.1).
     Unsent,
-    /// The sender decides the event itself: it is not handed in around it.
+    /// Only the sender itself makes this event; a caller cannot.
     Decided,
 }
 
@@ -48,29 +48,29 @@ impl fmt::Display for SenderError {
 
 impl Error for SenderError {}
 
-/// Whether a datagram goes out.
+/// Whether a datagram may be sent.
 #[derive(Clone, Copy, Debug, PartialEq, Eq)]
 pub enum Transmission {
-    /// It does, and is counted.
+    /// It may, and is counted.
     Transmitted,
-    /// The limit against amplification forbids it (RFC 9000, 8.1).
+    /// The amplification limit forbids it (RFC 9000, 8.1).
     Blocked,
     /// The window has no room for it (RFC 9002, 7).
     Full,
-    /// The pacer wants it later: it is to be asked for again at this moment (RFC 9002, 7.7).
+    /// The pacer delays it: ask again at this time (RFC 9002, 7.7).
     Delayed(Instant),
 }
 
-/// A packet that goes out.
+/// A sent packet.
 #[derive(Clone, Copy, Debug, PartialEq, Eq)]
 pub struct Sent {
     /// Its number.
     pub number: u64,
-    /// The number of a packet that was tracked no longer for it: one that elicits no ACK, of too many of them.
+    /// The number of a non-ack-eliciting packet that is no longer tracked, because there were too many.
     pub forgotten: Option<u64>,
 }
 
-/// A probe of the path's MTU that goes out (RFC 8899).
+/// An MTU probe of the path to be sent (RFC 8899).
 #[derive(Clone, Copy, Debug, PartialEq, Eq)]
 pub struct MtuProbe {
     /// The packet's number.
@@ -79,49 +79,50 @@ pub struct MtuProbe {
     pub size: u16,
 }
 
-/// What an ACK frame says beside its ranges, and what the stack knows at its arrival.
+/// The fields of an ACK frame besides its ranges, and what the caller knows at its arrival.
 #[derive(Clone, Copy, Debug, Default, PartialEq, Eq)]
 pub struct Ack {
-    /// How long the peer says that it delayed the ACK.
+    /// The ACK delay that the peer reports.
     pub delay: Duration,
-    /// The counts of ECN, where the frame has them (RFC 9000, 19.3.2).
+    /// The ECN counts, if the frame has them (RFC 9000, 19.3.2).
     pub ecn: Option<EcnCounts>,
     /// Whether the sender had too little to send to fill its window (RFC 9002, 7.8).
     pub app_limited: bool,
 }
 
-/// What the counts of ECN of a frame come to (RFC 9000, 13.4.2.1).
+/// The outcome of a frame's ECN counts (RFC 9000, 13.4.2.1).
 #[derive(Clone, Copy, Debug, Default, PartialEq, Eq)]
 pub enum EcnOutcome {
-    /// Nothing.
+    /// No congestion. If the frame newly acknowledges packets and has no ECN counts, packets are no longer marked on
+    /// the path.
     #[default]
     Quiet,
-    /// More packets were marked: there is congestion (RFC 9002, 7.1).
+    /// More packets were marked with CE: congestion (RFC 9002, 7.1).
     Marked,
-    /// The check failed: packets are marked no more on the path.
+    /// Validation failed: packets are no longer marked on the path.
     Failed,
 }
 
-/// What a look for losses found.
+/// The result of a loss detection pass.
 #[derive(Clone, Debug, Default, PartialEq, Eq)]
 pub struct Losses {
-    /// The numbers that are lost, rising; without that of the MTU's probe.
+    /// The numbers of the lost packets, increasing; without that of the MTU probe.
     pub numbers: Vec<u64>,
-    /// The number of the MTU's probe, where that is lost: no sign of congestion (RFC 9000, 14.4).
+    /// The number of the MTU probe, if it is lost: this does not indicate congestion (RFC 9000, 14.4).
     pub probe: Option<u64>,
-    /// The bytes lost on the path in use, where there is congestion (RFC 9002, 7.3.2).
+    /// The bytes lost on the path in use, if there is congestion (RFC 9002, 7.3.2).
     pub congestion: Option<u64>,
     /// Whether congestion is persistent (RFC 9002, 7.6).
     pub is_persistent: bool,
     /// Whether a black hole was reported (RFC 8899, 4.3).
     pub is_black_hole: bool,
-    /// Whether allocation failed for a packet that is lost: its items could not join those that wait to be sent again. It
-    /// is still tracked, and the timer is due at once, so that the next [`Sender::on_timeout`] declares it lost.
+    /// Whether allocation failed for a lost packet: its items could not join the retransmission queue. It is still
+    /// tracked, and the timer is due at once, so that the next [`Sender::on_timeout`] declares it lost.
     pub is_cut: bool,
 }
 
 impl Losses {
-    /// Nothing is lost; the vector keeps its memory.
+    /// Resets to no losses; the vector keeps its memory.
     fn be_none(&mut self) {
         self.numbers.clear();
         self.probe = None;
@@ -132,36 +133,36 @@ impl Losses {
     }
 }
 
-/// What was declared lost in a space, all of which was sent in vain.
+/// The packets of a space that were declared lost together.
 #[derive(Clone, Debug, Default, PartialEq, Eq)]
 pub struct Retransmitted {
     /// The numbers of the packets that are lost, increasing.
     pub numbers: Vec<u64>,
-    /// Whether allocation failed for a packet, which is still tracked then: the same call goes on with the rest.
+    /// Whether allocation failed for a packet, which is then still tracked: the same call continues with the rest.
     pub is_cut: bool,
 }
 
-/// What an ACK frame comes to.
+/// The result of an ACK frame.
 #[derive(Clone, Debug, Default, PartialEq, Eq)]
 pub struct Acknowledged {
-    /// The numbers that it newly acknowledges, rising.
+    /// The newly acknowledged numbers, increasing.
     pub numbers: Vec<u64>,
-    /// What was found lost.
+    /// The packets that were found lost.
     pub losses: Losses,
-    /// What its counts of ECN come to.
+    /// The outcome of its ECN counts.
     pub ecn: EcnOutcome,
-    /// Of each of these packets its number, how many items it carried, and these.
+    /// For each of these packets: its number, its item count, and its items.
     words: Vec<u64>,
 }
 
 impl Acknowledged {
-    /// The packets that it newly acknowledges, by rising numbers, each with the items that it carried still: what was sent
-    /// with it, but for what a probe moved into another one (RFC 9000, 13.3).
+    /// Returns the newly acknowledged packets in increasing order, each with its items. These are the items with which
+    /// it was sent, except those that a probe moved into another packet (RFC 9000, 13.3).
     pub fn packets(&self) -> Packets<'_> {
         Packets { words: &self.words }
     }
 
-    /// The numbers of these packets.
+    /// Fills the numbers of these packets.
     fn number(&mut self) -> Result<(), Refusal> {
         let mut numbers = std::mem::take(&mut self.numbers);
         numbers.clear();
@@ -173,12 +174,13 @@ impl Acknowledged {
         room.map_err(|_| Refusal::NoMemory)
     }
 
-    /// For how many words of packets there is room: a packet has two and its items, and its number.
+    /// Returns for how many words of packets there is room: a packet has its number, its item count and its items, and
+    /// one more number in `numbers`.
     fn packets_room(&self) -> usize {
         self.words.capacity().min(2 * self.numbers.capacity())
     }
 
-    /// Makes room for so many words of packets, with the numbers of the packets, and for so many lost numbers.
+    /// Makes room for `packets` words of packets, for the numbers of the packets, and for `lost` lost numbers.
     fn make_room(&mut self, packets: u64, lost: u64) -> Result<(), Refusal> {
         let count = |it| usize::try_from(it).map_err(|_| Refusal::NoMemory);
         let (packets, lost) = (count(packets)?, count(lost)?);
@@ -188,13 +190,13 @@ impl Acknowledged {
     }
 }
 
-/// Makes room for so many numbers in place of those that a vector holds.
+/// Clears a vector and makes room for `count` numbers.
 fn make_room(numbers: &mut Vec<u64>, count: usize) -> Result<(), Refusal> {
     numbers.clear();
     numbers.try_reserve(count).map_err(|_| Refusal::NoMemory)
 }
 
-/// Packets that an ACK frame newly acknowledges, each with its items.
+/// The packets that an ACK frame newly acknowledges, each with its items.
 #[derive(Clone, Debug)]
 pub struct Packets<'a> {
     words: &'a [u64],
@@ -211,19 +213,19 @@ impl<'a> Iterator for Packets<'a> {
     }
 }
 
-/// What a timeout comes to.
+/// The result of a timeout.
 #[derive(Clone, Debug, PartialEq, Eq)]
 pub enum Timeout {
     /// The timer is not due.
     Nothing,
-    /// A space was searched for losses.
+    /// A loss detection pass was made over a space.
     Lost {
         /// The space.
         space: SpaceId,
-        /// What was found lost.
+        /// The packets that were found lost.
         losses: Losses,
     },
-    /// Probes are due in a space (RFC 9002, 6.2.4): [`Sender::on_timeout`] says what the caller does for each.
+    /// Probes are due in a space (RFC 9002, 6.2.4): see [`Sender::on_timeout`] for what the caller does for each.
     Probe {
         /// The space.
         space: SpaceId,
@@ -265,23 +267,23 @@ pub enum TimerState {
     Idle,
 }
 
-/// The sending half of a connection (RFC 9002, Appendices A and B): which packets are lost, when to probe, and whether a
-/// datagram may go out. It holds one [`Recovery`], of which all can be read, and decides what that leaves to the layer
-/// above. One call takes an ACK frame, one the timer.
+/// The sender of one endpoint (RFC 9002, Appendices A and B): which packets are lost, when to probe, and whether a
+/// datagram may be sent. It has one [`Recovery`], which can be read, and makes the decisions that a recovery leaves to
+/// its caller. One call takes an ACK frame, one the timer.
 ///
-/// What a call answers and does is proved, and all that is promised of a recovery holds too. A call that fails changes
-/// nothing, except where its documentation says so; memory for an answer is taken first. After each call
-/// [`Sender::timer`] is when [`Sender::on_timeout`] is to be called. Sums of moments and spans stop at their greatest
+/// The reply and effect of each call are proved, and the promises of a recovery hold too. A call that fails changes
+/// nothing, unless its documentation says otherwise; memory for an answer is allocated first. After each call,
+/// [`Sender::timer`] is when to call [`Sender::on_timeout`]. Sums of times and durations are capped at their largest
 /// values.
 #[derive(Debug)]
 pub struct Sender {
     /// Its handle holds the recovery of a sender.
     recovery: Recovery,
-    /// The ranges of the last ACK frame, as the library takes them: kept for their memory.
+    /// The ranges of the last ACK frame in the library's form, kept for their memory.
     ranges: Vec<ffi::AckRange>,
 }
 
-/// The space of this number.
+/// Returns the space with this number.
 fn space_of(number: u64) -> SpaceId {
     match SpaceId::VALUES.into_iter().find(|it| *it as u64 == number) {
         Some(space) => space,
@@ -289,7 +291,7 @@ fn space_of(number: u64) -> SpaceId {
     }
 }
 
-/// A reply, or why it is a refusal.
+/// Returns a reply, or its error.
 fn taken(reply: ffi::EncodedReply) -> Result<ffi::EncodedReply, SenderError> {
     match (reply.kind, reply.refusal) {
         (ffi::ANSWER_REFUSED, ffi::REFUSAL_UNSENT) => Err(SenderError::Unsent),
@@ -302,7 +304,7 @@ fn taken(reply: ffi::EncodedReply) -> Result<ffi::EncodedReply, SenderError> {
     }
 }
 
-/// A reply of this kind, or why it is a refusal.
+/// Returns a reply of this kind, or its error.
 fn of_kind(kind: u8, reply: ffi::EncodedReply) -> Result<ffi::EncodedReply, SenderError> {
     match taken(reply)? {
         reply if reply.kind == kind => Ok(reply),
@@ -314,8 +316,8 @@ fn of_kind(kind: u8, reply: ffi::EncodedReply) -> Result<ffi::EncodedReply, Send
 }
 
 impl Sender {
-    /// A sender to which nothing has happened yet, made at the moment `now`. The first path of a client is validated,
-    /// whatever the settings say (RFC 9000, 8.1). Settings that the library does not take are refused.
+    /// Returns a sender without any event, made at time `now`. The first path of a client is validated, whatever the
+    /// settings say (RFC 9000, 8.1). Fails if the configuration is invalid, or allocation fails.
     pub fn new(side: Side, config: &RecoveryConfig, now: Instant) -> Result<Self, ConfigError> {
         Ok(Sender {
             recovery: Recovery::of(Form::Handshaking(side), config, now)?,
@@ -323,9 +325,10 @@ impl Sender {
         })
     }
 
-    /// The sender of a connection that is established, made at the time `now`: [`Sender::new`],
-    /// [`Sender::on_address_validated`], [`Sender::on_handshake_confirmed`], and the Initial and Handshake spaces discarded
-    /// (RFC 9001, 4.1.2 and 4.9). It sends and probes for 1-RTT packets alone. The errors are those of [`Sender::new`].
+    /// Returns the sender of an established connection, made at time `now`. It makes [`Sender::new`],
+    /// [`Sender::on_address_validated`], [`Sender::on_handshake_confirmed`], and discards the Initial and Handshake
+    /// spaces (RFC 9001, 4.1.2 and 4.9). It sends and probes for 1-RTT packets only. The errors are those of
+    /// [`Sender::new`].
     pub fn established(
         side: Side,
         config: &RecoveryConfig,
@@ -337,12 +340,13 @@ impl Sender {
         })
     }
 
-    /// The recovery, to look at: paths, spaces, ranges to be acknowledged, ids, timers, items that were taken.
+    /// Returns the recovery, for reading: paths, spaces, ranges to be acknowledged, connection IDs, timers, taken
+    /// items.
     pub fn recovery(&self) -> &Recovery {
         &self.recovery
     }
 
-    /// When the timer for losses is due, as the last call left it (RFC 9002, A.8).
+    /// Returns when the loss detection timer is due, as the last call set it (RFC 9002, A.8).
     pub fn timer(&self) -> Option<Instant> {
         self.recovery.timer(Timer::LossDetection)
     }
@@ -401,17 +405,20 @@ impl Sender {
         unsafe { ffi::recovery_ffi_sender_view(self.recovery.handle()) }
     }
 
-    /// How many probe timeouts expired in a row, by which the next one is doubled (RFC 9002, 6.2.1).
+    /// Returns the number of consecutive probe timeouts, each of which doubles the next (RFC 9002, 6.2.1).
     pub fn pto_count(&self) -> u32 {
         // SAFETY: the handle holds a recovery, and no other call runs.
         unsafe { ffi::recovery_ffi_pto_count(self.recovery.handle()) }
     }
 
-    /// Whether a datagram of so many bytes goes out now, with packets of a space. What goes is counted; the packets in it
-    /// are told by [`Sender::send`] before the next datagram is asked for. Where nothing in it counts in flight
-    /// (`in_flight` is false: it holds ACKs or a close alone, or the MTU's probe), or a probe is due in the space, the
-    /// limit against amplification alone is asked (RFC 9002, 7, 7.5 and 7.7). Refused by `SpaceDiscarded`, then by
-    /// `Overflow` where the bytes transmitted on the path would pass `u64::MAX`.
+    /// Returns whether a datagram with packets of a space may be sent now, and counts it if so. Report its packets by
+    /// [`Sender::send`] before the next datagram. Only the amplification limit is checked if a probe is due in the
+    /// space, or if nothing in the datagram counts in flight (RFC 9002, 7, 7.5 and 7.7). Then `in_flight` is false: the
+    /// datagram holds only ACKs, a close, or the MTU probe.
+    ///
+    /// # Errors
+    /// `SpaceDiscarded`, then `Overflow` if the bytes transmitted on the path would exceed `u64::MAX`. Then nothing has
+    /// changed.
     pub fn transmit(
         &mut self,
         now: Instant,
@@ -434,8 +441,8 @@ impl Sender {
         })
     }
 
-    /// A packet goes out with these items, as [`Event::Send`] has it, and is refused. What has no size counts for no
-    /// probe timeout (RFC 9002, A.5).
+    /// Records a sent packet with these items, as [`Event::Send`] and with its errors. A packet without a size does not
+    /// start the probe timeout (RFC 9002, A.5).
     pub fn send(
         &mut self,
         space: SpaceId,
@@ -460,8 +467,8 @@ impl Sender {
         })
     }
 
-    /// A probe of the MTU goes out, where one is due, as [`Event::PollMtu`] has it, and is refused. The window is not
-    /// asked: a probe of the MTU is let pass it (RFC 9000, 14.4).
+    /// Returns an MTU probe to send, if one is due, and tracks it, as [`Event::PollMtu`] and with its errors. The
+    /// window is not checked: an MTU probe may exceed it (RFC 9000, 14.4).
     pub fn poll_mtu(&mut self, now: Instant) -> Result<Option<MtuProbe>, SenderError> {
         let reply = taken(self.recovery.reply_to(Event::PollMtu { now }))?;
         match reply.kind {
@@ -474,16 +481,16 @@ impl Sender {
         }
     }
 
-    /// An ACK frame came in (RFC 9002, A.7), with the first and last number of each of its ranges, the highest range
-    /// first, as on the wire. The sender acknowledges the packets, samples the round-trip time, and declares packets lost.
-    /// It costs its ranges, what it newly acknowledges and what is lost or lies below the largest acknowledged, each with
-    /// a logarithm.
+    /// Processes a received ACK frame (RFC 9002, A.7). `ranges` has the first and last number of each range, the
+    /// highest range first, as on the wire. The sender acknowledges the packets, takes an RTT sample, and declares
+    /// packets lost. Cost: logarithmic for each range, each newly acknowledged packet, and each packet tracked below
+    /// the largest acknowledged.
     ///
     /// # Errors
-    /// `SpaceDiscarded`; `BadRange` if there is no range, one ends before it begins, or two have no number between them
-    /// (RFC 9000, 19.3.1); [`SenderError::Unsent`] if a number was never sent (RFC 9000, 13.1); `SkippedAcked` if the frame
-    /// holds the number that was skipped last (RFC 9000, 21.4); `NoMemory` if there is no room for the answer. Then nothing
-    /// has changed.
+    /// `SpaceDiscarded`. `BadRange` if there is no range, one ends before it begins, or two have no number between them
+    /// (RFC 9000, 19.3.1). [`SenderError::Unsent`] if a number was never sent (RFC 9000, 13.1). `SkippedAcked` if a
+    /// range holds the number that was skipped last (RFC 9000, 21.4). `NoMemory` if there is no room for the answer.
+    /// Then nothing has changed.
     pub fn on_ack(
         &mut self,
         space: SpaceId,
@@ -497,7 +504,7 @@ impl Sender {
         Ok(told)
     }
 
-    /// As [`Sender::on_ack`], into vectors that the caller keeps: they are filled anew, and take memory only if they grow.
+    /// Does the same as [`Sender::on_ack`], but fills vectors of the caller again. They allocate only if they grow.
     ///
     /// # Errors
     /// Those of [`Sender::on_ack`]. Then nothing has changed, except that the vectors may be empty.
@@ -533,7 +540,7 @@ impl Sender {
         Ok(())
     }
 
-    /// A frame with the ranges that are kept. It is taken if the answer fits.
+    /// Passes a frame with the stored ranges. It is processed if the answer fits.
     fn frame(
         &mut self,
         space: SpaceId,
@@ -567,28 +574,28 @@ impl Sender {
         }
     }
 
-    /// What a space tracks.
+    /// Returns how many packets a space tracks, and when the next is lost.
     fn tracked(&self, space: SpaceId) -> ffi::TrackedView {
         // SAFETY: the handle holds a recovery, and no other call runs.
         unsafe { ffi::recovery_ffi_tracked(self.recovery.handle(), space as u8) }
     }
 
-    /// The most numbers that a timeout declares lost: those of one space, if its packets may be lost by now.
+    /// Returns how many packets a timeout may declare lost: those of one space, if they may be lost by now.
     fn may_lose(&self, now: Instant) -> u64 {
         let spaces = SpaceId::VALUES.into_iter().map(|it| self.tracked(it));
         let due = spaces.filter(|it| it.has_loss_time && it.loss_time <= now.as_nanos());
         due.map(|it| it.packets).max().unwrap_or(0)
     }
 
-    /// The timer for losses may be due (RFC 9002, A.9). Before its time nothing happens. If a space may have lost packets,
-    /// they are declared lost. Otherwise probes are due in the space whose timer expired, in place of those that were due
-    /// before. For each of them the caller asks [`Sender::transmit`], takes its contents by [`Sender::probe`] and sends it
-    /// by [`Sender::send`], in this order. It costs what is lost and what is tracked below the largest acknowledged, each
-    /// with a logarithm.
+    /// Handles the loss detection timer, which may be due (RFC 9002, A.9). Before its time nothing happens. If a space
+    /// may have lost packets, they are declared lost. Otherwise probes are due in the space whose timer expired, and
+    /// replace those that were due before. For each the caller asks [`Sender::transmit`], takes its contents by
+    /// [`Sender::probe`] and sends it by [`Sender::send`], in this order. Cost: logarithmic for each packet tracked
+    /// below the largest acknowledged.
     ///
     /// # Errors
-    /// `NoMemory` if there is no room for the numbers of the packets that may be lost. Then nothing has changed. A timeout
-    /// that asks for probes takes no memory.
+    /// `NoMemory` if there is no room for the numbers of the packets that may be lost. Then nothing has changed. A
+    /// timeout that asks for probes allocates nothing.
     pub fn on_timeout(&mut self, now: Instant) -> Result<Timeout, SenderError> {
         let mut told = Acknowledged::default();
         told.make_room(0, self.may_lose(now))?;
@@ -615,13 +622,14 @@ impl Sender {
         })
     }
 
-    /// Hands out what a probe of a space carries (RFC 9002, 6.2.4): what waits there to be sent again, or else the contents
-    /// of the first packet in flight that has any. If both probes of a timeout ask so, each carries the contents of another
-    /// packet. No items ask for a PING frame. `immediate_ack` asks for an IMMEDIATE_ACK frame in the probe.
+    /// Returns the contents of a probe in a space (RFC 9002, 6.2.4): what is queued for retransmission, or else the
+    /// contents of the first packet in flight that has any. If called for both probes of a timeout, each carries the
+    /// contents of another packet. If there are no items, send a PING frame. `immediate_ack` asks for an IMMEDIATE_ACK
+    /// frame in the probe.
     ///
     /// # Errors
-    /// `SpaceDiscarded`, or `NoMemory` if the queues cannot be joined: then nothing has changed. `NoMemory` too, if the
-    /// answer's vector finds no memory: the items can then still be read by [`Recovery::last_items`].
+    /// `SpaceDiscarded`, or `NoMemory` if the queues cannot be joined: then nothing has changed. `NoMemory` also if the
+    /// answer cannot be allocated: the items can then still be read by [`Recovery::last_items`].
     pub fn probe(&mut self, space: SpaceId, immediate_ack: bool) -> Result<Vec<u64>, SenderError> {
         let handle = self.recovery.handle();
         // SAFETY: the handle holds a recovery, and `self` is borrowed alone.
@@ -630,8 +638,9 @@ impl Sender {
         Ok(self.recovery.last_items()?)
     }
 
-    /// A datagram of so many bytes came in on the path in use: what may be sent grows where its address is not validated,
-    /// so that the timer may be due at once (RFC 9000, 8.1; RFC 9002, A.6). Refused by `Overflow`.
+    /// Records a received datagram of this many bytes on the path in use. If its address is not validated, more may be
+    /// sent, so that the timer may be due at once (RFC 9000, 8.1; RFC 9002, A.6). Fails with `Overflow`, without a
+    /// change, if the bytes received on the path would exceed `u64::MAX`.
     pub fn on_datagram(&mut self, bytes: u64) -> Result<(), SenderError> {
         let path = PathName::Current;
         let reply = self.recovery.reply_to(Event::DatagramIn { path, bytes });
@@ -639,26 +648,26 @@ impl Sender {
         Ok(())
     }
 
-    /// There are keys of Handshake packets (RFC 9002, A.8).
+    /// Records that Handshake keys are available (RFC 9002, A.8).
     pub fn on_handshake_keys(&mut self) {
         // SAFETY: the handle holds a recovery, and `self` is borrowed alone.
         unsafe { ffi::recovery_ffi_sender_handshake_keys(self.recovery.handle()) };
     }
 
-    /// The handshake is confirmed (RFC 9001, 4.1.2): packets of 1-RTT keys are probed for from now on, and a client knows
-    /// its address validated (RFC 9002, 6.2.1 and 6.2.2.1).
+    /// Records that the handshake is confirmed (RFC 9001, 4.1.2). From then on 1-RTT packets are probed for, and a
+    /// client knows its address validated (RFC 9002, 6.2.1 and 6.2.2.1).
     pub fn on_handshake_confirmed(&mut self) {
         // SAFETY: the handle holds a recovery, and `self` is borrowed alone.
         unsafe { ffi::recovery_ffi_sender_handshake_confirmed(self.recovery.handle()) };
     }
 
-    /// The peer was seen to receive at the address of the path in use (RFC 9000, 8.1 and 8.2).
+    /// Validates the peer's address on the path in use (RFC 9000, 8.1 and 8.2).
     pub fn on_address_validated(&mut self) {
         let path = PathName::Current;
         self.recovery.reply_to(Event::Validated { path });
     }
 
-    /// The peer delays its ACKs of 1-RTT packets at most so long (RFC 9000, 18.2: max_ack_delay); 25 ms until it is told.
+    /// Sets the peer's max_ack_delay, for 1-RTT packets (RFC 9000, 18.2); 25 ms before.
     pub fn set_peer_max_ack_delay(&mut self, span: Duration) {
         let (secs, nanos) = (span.as_secs(), span.subsec_nanos());
         // SAFETY: the handle holds a recovery, and `self` is borrowed alone.
@@ -675,9 +684,9 @@ impl Sender {
         unsafe { ffi::recovery_ffi_sender_initial_rtt(self.recovery.handle(), secs, nanos) };
     }
 
-    /// A PATH_CHALLENGE frame with this data is open on the path in use, or none is, and whether one is to be sent (RFC 9000,
-    /// 8.2.1). While one is open the window does not grow: what is acknowledged may have gone by the path before it (RFC
-    /// 9000, 9.4).
+    /// Stores the data of the outstanding PATH_CHALLENGE frame on the path in use, if any, and whether a PATH_CHALLENGE
+    /// is to be sent (RFC 9000, 8.2.1). While one is outstanding, the window does not grow: an acknowledged packet may
+    /// have been sent on the path before it (RFC 9000, 9.4).
     pub fn set_challenge(&mut self, challenge: Option<u64>, pending: bool) {
         let (data, is_open) = (challenge.unwrap_or(0), challenge.is_some());
         let handle = self.recovery.handle();
@@ -685,8 +694,8 @@ impl Sender {
         unsafe { ffi::recovery_ffi_sender_challenge(handle, data, is_open, pending) };
     }
 
-    /// The keys of a space are dropped, and with them all that it tracks; probe timeouts are counted anew (RFC 9002,
-    /// 6.2.2, 6.4 and A.11). Refused by `SpaceDiscarded`.
+    /// Discards a space with its keys and its tracked packets, and resets the count of probe timeouts (RFC 9002, 6.2.2,
+    /// 6.4 and A.11). Fails with `SpaceDiscarded`, without a change.
     pub fn discard(&mut self, space: SpaceId, now: Instant) -> Result<(), SenderError> {
         let (handle, now) = (self.recovery.handle(), now.as_nanos());
         // SAFETY: the handle holds a recovery, and `self` is borrowed alone.
@@ -695,15 +704,17 @@ impl Sender {
         Ok(())
     }
 
-    /// What a space tracks was sent in vain, before a Retry or if 0-RTT is rejected (RFC 9002, 6.3 and 6.4): each packet is
-    /// declared lost, which is no congestion, its items wait to be sent again, and probe timeouts are counted from zero. If
-    /// allocation fails for a packet, it is still tracked, the others are lost all the same, and `is_cut` says so: the same
-    /// call goes on with the rest. It costs what is tracked, each packet with a logarithm.
+    /// Declares all packets of a space lost, because they will not be acknowledged: after a Retry, or if 0-RTT is
+    /// rejected (RFC 9002, 6.3 and 6.4). Their items are queued for retransmission. This does not indicate congestion.
+    /// Resets the count of probe timeouts.
+    ///
+    /// If allocation fails for a packet, it is still tracked, the others are lost, and `is_cut` is true: the same call
+    /// continues with the rest. Cost: logarithmic for each tracked packet.
     ///
     /// ```no_run
     /// # use quic_recovery::*;
     /// # fn on_retry(sender: &mut Sender, now: Instant) -> Result<(), SenderError> {
-    /// // A Retry packet came in: the first Initial packets were sent in vain.
+    /// // A Retry packet was received: the first Initial packets will not be acknowledged.
     /// let lost = sender.retransmit_all(SpaceId::Initial, now)?;
     /// println!("{} packets are lost", lost.numbers.len());
     /// if lost.is_cut {
@@ -733,18 +744,16 @@ impl Sender {
         })
     }
 
-    /// An event, as [`Recovery::apply`] does it, and it is refused as there. The sender decides itself what is acknowledged
-    /// and lost and what follows of it, what is probed for, what is transmitted, which spaces end, and when the timer for
-    /// losses is due: such an event is refused by [`SenderError::Decided`]. These are `Acked`, `Lost`, `LossesDone`, `Sample`,
-    /// `EndAcks`, `Congestion`, `Ecn`, `QueueProbe`, `Transmit`, `DiscardSpace`, and `SetTimer` and `StopTimer` of
-    /// [`Timer::LossDetection`].
+    /// Applies an event, as [`Recovery::apply`] does and with the same errors. Fails with [`SenderError::Decided`] for
+    /// events that only the sender itself makes: `Acked`, `Lost`, `LossesDone`, `Sample`, `EndAcks`, `Congestion`,
+    /// `Ecn`, `QueueProbe`, `Transmit`, `DiscardSpace`, and `SetTimer` and `StopTimer` of [`Timer::LossDetection`].
     pub fn on_event(&mut self, event: Event<'_>) -> Result<Answer, SenderError> {
         let reply = taken(self.recovery.reply_to(event))?;
         Ok(self.recovery.read(reply)?)
     }
 
-    /// Reads the last outcome: of an ACK frame that was taken, of a timeout that searched for losses, or of a space whose
-    /// packets were all declared lost. It is empty before the first.
+    /// Reads the last outcome: of an ACK frame that was processed, of a timeout that made a loss detection pass, or of
+    /// a space whose packets were all declared lost. It is empty before the first.
     ///
     /// # Errors
     /// `NoMemory` if the vectors cannot grow.
@@ -767,7 +776,7 @@ impl Sender {
         Ok(())
     }
 
-    /// So many packets that were acknowledged, in place of what was told before.
+    /// Reads `count` acknowledged packets into the answer.
     fn packets(&self, count: u64, into: &mut Acknowledged) -> Result<(), Refusal> {
         let least = usize::try_from(count).map_err(|_| Refusal::NoMemory)? * 2;
         let mut wanted = least.max(into.words.len());
@@ -778,7 +787,7 @@ impl Sender {
                 .map_err(|_| Refusal::NoMemory)?;
             into.words.resize(wanted, 0);
             let (handle, out) = (self.recovery.handle(), into.words.as_mut_ptr());
-            // SAFETY: the handle holds a recovery, no other call runs, and so many words are there.
+            // SAFETY: the handle holds a recovery, no other call runs, and there is room for `wanted` words.
             let there = unsafe { ffi::recovery_ffi_told_packets(handle, out, wanted) };
             if there <= wanted {
                 into.words.truncate(there);
@@ -788,7 +797,7 @@ impl Sender {
         }
     }
 
-    /// The numbers that were lost, in place of what a vector held.
+    /// Reads the lost numbers into a vector.
     fn lost(&self, count: u64, into: &mut Vec<u64>) -> Result<(), Refusal> {
         let count = usize::try_from(count).map_err(|_| Refusal::NoMemory)?;
         into.clear();
@@ -796,7 +805,7 @@ impl Sender {
         into.resize(count, 0);
         if count > 0 {
             let (handle, out) = (self.recovery.handle(), into.as_mut_ptr());
-            // SAFETY: the handle holds a recovery, no other call runs, and so many numbers are there.
+            // SAFETY: the handle holds a recovery, no other call runs, and there is room for `count` numbers.
             unsafe { ffi::recovery_ffi_told_numbers(handle, true, out, count) };
         }
         Ok(())

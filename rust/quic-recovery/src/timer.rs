@@ -1,5 +1,5 @@
-//! Timers, and their names: written by `tests/rust.py --write` from the sources of the library, and compared with
-//! them by its tests.
+//! Timers, and their names. `tests/rust.py --write` writes them from the sources of the library, and its tests
+//! compare them.
 use crate::ffi;
 
 /// The timers of a connection.

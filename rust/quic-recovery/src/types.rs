@@ -9,11 +9,11 @@ use std::time::Duration;
 #[derive(Clone, Copy, Debug, PartialEq, Eq, PartialOrd, Ord, Hash)]
 #[repr(u8)]
 pub enum SpaceId {
-    /// Of Initial packets.
+    /// The space of Initial packets.
     Initial = ffi::SPACE_INITIAL,
-    /// Of Handshake packets.
+    /// The space of Handshake packets.
     Handshake = ffi::SPACE_HANDSHAKE,
-    /// Of 0-RTT and 1-RTT packets.
+    /// The space of 0-RTT and 1-RTT packets.
     Data = ffi::SPACE_DATA,
 }
 
@@ -32,7 +32,7 @@ impl fmt::Display for SpaceId {
     }
 }
 
-/// A path that lives, by its name (RFC 9000, 9).
+/// A path of a connection, by its name (RFC 9000, 9).
 #[derive(Clone, Copy, Debug, PartialEq, Eq, PartialOrd, Ord, Hash)]
 pub enum PathName {
     /// The path in use.
@@ -41,34 +41,34 @@ pub enum PathName {
     Previous,
 }
 
-/// A moment: nanoseconds since a start that the caller chooses.
+/// A time: nanoseconds since a start that the caller chooses.
 #[derive(Clone, Copy, Debug, PartialEq, Eq, PartialOrd, Ord, Hash)]
 pub struct Instant(u64);
 
 impl Instant {
-    /// So many nanoseconds after the start.
+    /// Returns the time this many nanoseconds after the start.
     pub const fn from_nanos(nanos: u64) -> Self {
         Instant(nanos)
     }
 
-    /// The nanoseconds since the start.
+    /// Returns the nanoseconds since the start.
     pub const fn as_nanos(self) -> u64 {
         self.0
     }
 
-    /// The moment a span later; the last one where that lies behind it.
+    /// Returns a later time, at most the last one of the clock.
     pub fn saturating_add(self, span: Duration) -> Self {
         let nanos = u64::try_from(span.as_nanos()).unwrap_or(u64::MAX);
         Instant(self.0.saturating_add(nanos))
     }
 
-    /// The span since an earlier moment, or zero where that is a later one.
+    /// Returns the duration since an earlier time, or zero if that is later.
     pub fn saturating_duration_since(self, earlier: Instant) -> Duration {
         Duration::from_nanos(self.0.saturating_sub(earlier.0))
     }
 }
 
-/// As [`Instant::saturating_add`]: no sum ends a program.
+/// As [`Instant::saturating_add`]: a sum never panics.
 impl Add<Duration> for Instant {
     type Output = Instant;
 
@@ -98,7 +98,7 @@ impl Sub for Instant {
 pub struct VarInt(u64);
 
 impl VarInt {
-    /// `None` where the number is 2^62 or more.
+    /// Returns the number, or `None` if it is 2^62 or more.
     pub const fn from_u64(number: u64) -> Option<Self> {
         if number < 1 << 62 {
             Some(VarInt(number))
@@ -107,7 +107,7 @@ impl VarInt {
         }
     }
 
-    /// The number.
+    /// Returns the number.
     pub const fn into_inner(self) -> u64 {
         self.0
     }
@@ -119,7 +119,7 @@ impl From<u32> for VarInt {
     }
 }
 
-/// A connection id of 0 to 20 bytes (RFC 9000, 5.1).
+/// A connection ID of 0 to 20 bytes (RFC 9000, 5.1).
 #[derive(Clone, Copy, Debug, PartialEq, Eq, Hash)]
 pub struct ConnectionId {
     len: u8,
@@ -127,7 +127,7 @@ pub struct ConnectionId {
 }
 
 impl ConnectionId {
-    /// `None` where there are more than 20 bytes.
+    /// Returns the ID, or `None` if there are more than 20 bytes.
     pub fn new(bytes: &[u8]) -> Option<Self> {
         let mut padded = [0; 20];
         padded.get_mut(..bytes.len())?.copy_from_slice(bytes);
@@ -138,7 +138,7 @@ impl ConnectionId {
     }
 }
 
-/// A connection id has at most 20 bytes (RFC 9000, 17.2).
+/// A connection ID has at most 20 bytes (RFC 9000, 17.2).
 #[derive(Clone, Copy, Debug, PartialEq, Eq)]
 pub struct CidTooLong;
 
@@ -158,7 +158,7 @@ impl TryFrom<&[u8]> for ConnectionId {
     }
 }
 
-/// In hexadecimal digits, two a byte.
+/// Writes hexadecimal digits, two per byte.
 impl fmt::Display for ConnectionId {
     fn fmt(&self, f: &mut fmt::Formatter<'_>) -> fmt::Result {
         self.iter().try_for_each(|byte| write!(f, "{byte:02x}"))
@@ -186,7 +186,7 @@ impl Deref for ConnectionId {
 pub struct ResetToken([u8; 16]);
 
 impl ResetToken {
-    /// Its bytes.
+    /// Returns its bytes.
     pub fn bytes(&self) -> &[u8; 16] {
         &self.0
     }
@@ -201,47 +201,48 @@ impl From<[u8; 16]> for ResetToken {
 /// An ACK_FREQUENCY frame (draft-ietf-quic-ack-frequency-04, section 4).
 #[derive(Clone, Copy, Debug, PartialEq, Eq)]
 pub struct AckFrequency {
-    /// Its number.
+    /// Its sequence number.
     pub sequence: VarInt,
-    /// How many packets that elicit an ACK may come without one.
+    /// How many ack-eliciting packets may be received without an ACK.
     pub ack_eliciting_threshold: VarInt,
-    /// How late an ACK may be, in microseconds.
+    /// The max_ack_delay that it requests, in microseconds.
     pub request_max_ack_delay: VarInt,
-    /// How far packets may come out of order without an ACK at once.
+    /// The reordering threshold for an immediate ACK.
     pub reordering_threshold: VarInt,
 }
 
-/// Counts of ECN, of an ACK frame (RFC 9000, 19.3.2).
+/// The ECN counts of an ACK frame (RFC 9000, 19.3.2).
 #[derive(Clone, Copy, Debug, Default, PartialEq, Eq)]
 pub struct EcnCounts {
-    /// Packets that came with ECT(0).
+    /// Packets received with ECT(0).
     pub ect0: u64,
-    /// Packets that came with ECT(1).
+    /// Packets received with ECT(1).
     pub ect1: u64,
-    /// Packets that came with ECN-CE.
+    /// Packets received with ECN-CE.
     pub ce: u64,
 }
 
 /// A NEW_CONNECTION_ID frame of the peer (RFC 9000, 19.15).
 #[derive(Clone, Copy, Debug, PartialEq, Eq)]
 pub struct NewConnectionId {
-    /// The number of the id.
+    /// The sequence number of the connection ID.
     pub sequence: u64,
-    /// The ids with numbers below this one are to be retired.
+    /// Connection IDs with smaller sequence numbers are to be retired.
     pub retire_prior_to: u64,
-    /// The id.
+    /// The connection ID.
     pub id: ConnectionId,
-    /// The token with which the peer resets a connection that uses the id.
+    /// The token with which the peer resets a connection that uses the ID.
     pub reset_token: ResetToken,
 }
 
-/// An id that this end issues (RFC 9000, 19.15).
+/// A connection ID that the local endpoint issues (RFC 9000, 19.15).
 #[derive(Clone, Copy, Debug, PartialEq, Eq)]
 #[repr(transparent)]
 pub struct IssuedCid(pub(crate) ffi::Id);
 
 impl IssuedCid {
-    /// The id with this number, and the token with which this end resets a connection that uses it.
+    /// Returns the ID with this sequence number, and the token with which the local endpoint resets a connection that
+    /// uses it.
     pub fn new(sequence: u64, id: ConnectionId, reset_token: ResetToken) -> Self {
         IssuedCid(ffi::Id {
             sequence,
@@ -251,7 +252,7 @@ impl IssuedCid {
         })
     }
 
-    /// Its number.
+    /// Returns its sequence number.
     pub fn sequence(&self) -> u64 {
         self.0.sequence
     }
@@ -260,27 +261,27 @@ impl IssuedCid {
 /// What can be sent.
 #[derive(Clone, Copy, Debug, PartialEq, Eq)]
 pub struct SendableFrames {
-    /// An ACK is required, and some number is to be acknowledged (RFC 9000, 13.2).
+    /// Whether an ACK is required, and some packet number is to be acknowledged (RFC 9000, 13.2).
     pub acks: bool,
-    /// There is something else: items to be sent again, a PING, or a demand for an ACK at once.
+    /// Whether there is something else: a retransmission, a PING, or a request for an immediate ACK.
     pub other: bool,
 }
 
-/// What the layer above keeps with a path: no event changes it.
+/// The caller's marks of a path. No event changes them.
 #[derive(Clone, Copy, Debug, PartialEq, Eq)]
 pub struct PathMarks {
     /// Whether packets are marked on the path (RFC 9000, 13.4).
     pub sending_ecn: bool,
-    /// What its PATH_CHALLENGE frame says, where one was sent (RFC 9000, 8.2.1).
+    /// The data of its PATH_CHALLENGE frame, if one was sent (RFC 9000, 8.2.1).
     pub challenge: Option<u64>,
     /// Whether a PATH_CHALLENGE frame is to be sent.
     pub challenge_pending: bool,
-    /// Space and number of the first packet that was sent after a sample of the round-trip time (RFC 9002, 7.6.2).
+    /// The space and number of the first packet that was sent after an RTT sample (RFC 9002, 7.6.2).
     pub first_packet_after_rtt_sample: Option<(SpaceId, u64)>,
 }
 
 impl Default for PathMarks {
-    /// Those of a path that is made: nothing was challenged, and packets are marked.
+    /// Returns the marks of a new path: no challenge, and packets are marked.
     fn default() -> Self {
         PathMarks {
             sending_ecn: true,

@@ -1,4 +1,4 @@
-//! What the library requires of a caller: the safe types refuse what breaks it.
+//! The preconditions of the library: the safe types reject values that violate them.
 use quic_recovery::*;
 use std::time::Duration;
 
@@ -90,7 +90,7 @@ fn moments() {
     assert_eq!(moment + Duration::MAX, Instant::from_nanos(u64::MAX));
 }
 
-/// A refused request of ACKs keeps its number: a frame that is no newer is passed over then.
+/// A request of ACKs that fails stores its sequence number: a frame that is no newer is then ignored.
 #[test]
 fn what_a_refusal_keeps() {
     let mut recovery = Recovery::new(&RecoveryConfig::default(), Instant::from_nanos(0)).unwrap();
@@ -108,7 +108,7 @@ fn what_a_refusal_keeps() {
     assert_eq!(recovery.ids().max_ack_delay, Duration::from_millis(5));
 }
 
-/// Events are equal where all that they hold is.
+/// Events are equal if all their fields are.
 #[test]
 fn equal_events() {
     let ids = |byte| {

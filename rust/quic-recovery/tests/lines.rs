@@ -1,21 +1,21 @@
-//! Lines through the crate, beside what the program writes.
+//! Lines through the crate, compared with the output of the program.
 mod common;
 
 use common::{answers, answers_of, fresh, program, root, Events};
 use std::collections::BTreeSet;
 use std::fs;
 
-/// How many random events, unless `QUIC_RECOVERY_EVENTS` says.
+/// The number of random events, unless `QUIC_RECOVERY_EVENTS` sets it.
 const EVENTS: usize = 1_000_000;
 
-/// How many events one recovery sees.
+/// How many events one recovery takes.
 const EACH: usize = 5_000;
 
 fn lines_of(text: &str) -> Vec<String> {
     text.lines().map(str::to_owned).collect()
 }
 
-/// The examples of the repository, each with what the program writes for it.
+/// The examples of the repository, each with the output of the program.
 #[test]
 fn examples() {
     let mut seen = 0;
@@ -32,7 +32,7 @@ fn examples() {
     assert!(seen > 5);
 }
 
-/// Random events; with no proved program there is nothing to compare with, and the test fails.
+/// Random events. Without the proved program there is nothing to compare with, and the test fails.
 #[test]
 fn random_events() {
     let program = program().expect("there is no proved program: ./prove builds it");
@@ -51,12 +51,12 @@ fn random_events() {
     }
 }
 
-/// What events come to: each answer, and each refusal but want of memory, that no number is left, and that no ids are in use.
+/// Kinds of replies: each answer, and each error but `NoMemory`, exhausted packet numbers and disabled connection IDs.
 const KINDS: &str = "new duplicate sent acked lost retire yes no timeout in-flight transmitted blocked delayed ready probe \
     black-hole sendable queue done NumberTooLarge NotTracked SpaceDiscarded NoSuchPath Searching ZeroMtu Overflow Retired \
     ExceedsLimit BadRetirePriorTo UnissuedCid DelayTooSmall SkippedAcked Ecn NotInitialId BadRange Conflict";
 
-/// The events that are compared are not all of a few kinds.
+/// The compared events are of all kinds.
 #[test]
 fn random_events_come_to_all() {
     let mut seen = BTreeSet::new();

@@ -1,4 +1,4 @@
-//! A call that finds no memory for its answer changes nothing: the same call succeeds once there is memory.
+//! A call that cannot allocate its answer changes nothing: the same call succeeds once there is memory.
 use quic_recovery::*;
 use std::alloc::{GlobalAlloc, Layout, System};
 use std::cell::Cell;
@@ -8,7 +8,7 @@ thread_local! {
     static IS_SCARCE: Cell<bool> = const { Cell::new(false) };
 }
 
-/// The system's allocator, except that it fails if the thread says so. The library has its own.
+/// The system's allocator, except that it fails if the thread requests so. The library has its own.
 struct Scarce;
 
 // SAFETY: all is passed on to the system's allocator, or fails as an allocator may.
@@ -34,7 +34,7 @@ fn at(millis: u64) -> Instant {
     Instant::from_nanos(millis * 1_000_000)
 }
 
-/// An established sender with so many packets in flight, sent a millisecond after another, each with an item.
+/// Returns an established sender with `count` packets in flight, sent a millisecond apart, each with an item.
 fn with_packets(count: u64) -> Sender {
     let mut sender = Sender::established(Side::Client, &RecoveryConfig::default(), at(0)).unwrap();
     for number in 0..count {
@@ -44,14 +44,14 @@ fn with_packets(count: u64) -> Sender {
     sender
 }
 
-/// What can be read of a sender, as it is shown.
+/// Returns all readings of a sender as text.
 fn seen(sender: &Sender) -> String {
     let (recovery, path) = (sender.recovery(), PathName::Current);
     let space = recovery.space(SpaceId::Data);
     format!("{:?} {space:?} {:?}", recovery.path(path), sender.timer())
 }
 
-/// A call without memory fails by `NoMemory` and changes nothing; with memory it succeeds.
+/// A call without memory fails with `NoMemory` and changes nothing; with memory it succeeds.
 fn retried<T>(sender: &mut Sender, call: impl Fn(&mut Sender) -> Result<T, SenderError>) -> T {
     let before = seen(sender);
     IS_SCARCE.set(true);
@@ -104,7 +104,7 @@ fn a_timeout_with_losses() {
     assert_eq!((losses.numbers, losses.is_cut), (vec![0], false));
 }
 
-/// It takes no memory.
+/// A timeout that asks for probes allocates nothing.
 #[test]
 fn a_timeout_with_probes() {
     let mut sender = with_packets(1);

@@ -1,4 +1,4 @@
-//! What of a recovery can be read.
+//! Readings of a recovery.
 use quic_recovery::*;
 use std::net::SocketAddr;
 use std::time::Duration;
@@ -67,7 +67,7 @@ fn paths() {
     assert_eq!(recovery.path(PathName::Previous), Some(path));
 }
 
-/// What takes a few instructions says what the whole does.
+/// The cheap readings equal the full ones.
 #[test]
 fn cheap_ones() {
     let mut recovery = fresh();
@@ -179,7 +179,7 @@ fn ids() {
     );
 }
 
-/// Each fault of the counts of ECN (RFC 9000, 13.4.2.1), by counts that have it behind counts (3, 0, 2).
+/// Each fault of the ECN counts (RFC 9000, 13.4.2.1), by counts that have it after the counts (3, 0, 2).
 #[test]
 fn faults_of_ecn() {
     let rows = [
@@ -223,7 +223,7 @@ fn packet(now: Instant) -> Event<'static> {
     }
 }
 
-/// A loss halves the window, which is the threshold of slow start from then on (RFC 9002, 7.3.2).
+/// A loss halves the window, which is then the slow start threshold (RFC 9002, 7.3.2).
 #[test]
 fn thresholds() {
     let mut recovery = fresh();
@@ -295,7 +295,7 @@ fn packet_numbers() {
     assert_eq!(recovery.next_packet_number(space), None);
 }
 
-/// How long the largest packet waits for its ACK (RFC 9000, 13.2.5), and how late ACKs may be.
+/// How long the largest packet waits for its ACK (RFC 9000, 13.2.5), and the max_ack_delay.
 #[test]
 fn delays() {
     let mut recovery = fresh();
@@ -315,7 +315,7 @@ fn delays() {
     assert_eq!(recovery.ack_delay(space, start + wait), None);
 }
 
-/// An id that is issued at the start lasts for ten seconds, unless ids do not end.
+/// A connection ID that is issued at the start has a lifetime of ten seconds, unless IDs do not expire.
 #[test]
 fn id_timeouts() {
     let lifetime = RecoveryConfig::default().cid_lifetime.unwrap();

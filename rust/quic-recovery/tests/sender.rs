@@ -1,4 +1,4 @@
-//! A sender through the crate: the rows and recordings of calls that the repository has, and what the lines do not show.
+//! A sender through the crate: the worked rows and recordings of the repository, and what the lines do not show.
 mod common;
 
 use common::{config, root, written, Line};
@@ -14,7 +14,7 @@ fn numbers(list: &[u64]) -> String {
     list.iter().map(|it| format!(" {it}")).collect()
 }
 
-/// What was lost, as it is written behind other words.
+/// Writes losses after other words.
 fn lost(losses: &Losses) -> String {
     let mut text = format!("lost{}", numbers(&losses.numbers));
     text += &losses.probe.map_or(String::new(), |it| format!(" {it}"));
@@ -35,7 +35,7 @@ fn lost(losses: &Losses) -> String {
     text + if losses.is_cut { " cut" } else { "" }
 }
 
-/// What was lost with its space.
+/// Writes the packets of a space that were declared lost.
 fn retransmitted(all: Retransmitted) -> String {
     lost(&Losses {
         numbers: all.numbers,
@@ -59,7 +59,7 @@ fn acked(found: &Acknowledged) -> String {
     }
 }
 
-/// An ACK frame of a line: its ranges, and what it says beside.
+/// Returns the ACK frame of a line: its ranges, and its other fields.
 fn frame(line: &Line) -> (Vec<(u64, u64)>, Ack) {
     let end = line.words.iter().position(|it| it == "ecn");
     let last = end.unwrap_or(line.words.len());
@@ -102,7 +102,7 @@ fn sent(packet: Sent) -> String {
     format!("sent {}{}", packet.number, forgot.unwrap_or_default())
 }
 
-/// What a line says of the connection, if it does: that is never refused.
+/// Makes a line's call that cannot fail, if it is one.
 fn said(sender: &mut Sender, line: &Line) -> bool {
     match (line.words[0].as_str(), line.words.len()) {
         ("keys", _) => sender.on_handshake_keys(),
@@ -114,7 +114,7 @@ fn said(sender: &mut Sender, line: &Line) -> bool {
     true
 }
 
-/// What a call of a line comes to.
+/// Makes a line's call. Returns its reply.
 fn called(sender: &mut Sender, line: &Line) -> Result<String, SenderError> {
     let done = |()| String::from("done");
     if said(sender, line) {
@@ -157,7 +157,7 @@ fn called(sender: &mut Sender, line: &Line) -> Result<String, SenderError> {
     }
 }
 
-/// A line of the program `recovery-sender`, with the timer behind what is no refusal.
+/// Returns a line of the program `recovery-sender`, with the timer after a reply that is no error.
 fn answer(sender: &mut Sender, line: &str) -> String {
     let reply = called(sender, &Line::new(line));
     let timer = sender.timer().map(|it| it.as_nanos().to_string());
@@ -170,7 +170,7 @@ fn answer(sender: &mut Sender, line: &str) -> String {
     }
 }
 
-/// A sender with the arguments of the program.
+/// Returns a sender with the arguments of the program.
 fn sender_of(words: &[&str]) -> Sender {
     let number = |at: usize| words.get(at).and_then(|it| it.parse().ok());
     let mut config = config(number(1), number(2));
@@ -191,7 +191,7 @@ fn sender_of(words: &[&str]) -> Sender {
     made.unwrap()
 }
 
-/// The rows of the repository, whose answers come of an independent model: each line with its answer.
+/// The worked rows of the repository, whose answers come from an independent model: each line with its answer.
 #[test]
 fn rows() {
     let text = fs::read_to_string(root().join("tests/sender/rows.txt")).unwrap();
@@ -221,7 +221,7 @@ fn recordings() {
     }
 }
 
-/// A server whose handshake is confirmed, with the first packets sent a millisecond after another.
+/// Returns a server whose handshake is confirmed, with `count` packets sent a millisecond apart.
 fn with_packets(count: u64) -> Sender {
     let mut sender = sender_of(&["server"]);
     sender.on_address_validated();
@@ -243,7 +243,7 @@ fn ack(sender: &mut Sender, millis: u64, ranges: &[(u64, u64)], into: &mut Ackno
     assert_eq!(done, Ok(()));
 }
 
-/// The vectors of an answer are filled anew, and take no other memory where they need not grow.
+/// The vectors of an answer are filled again, and allocate nothing if they need not grow.
 #[test]
 fn vectors_that_are_kept() {
     let mut sender = with_packets(8);
@@ -266,7 +266,7 @@ fn vectors_that_are_kept() {
     assert_eq!(held(&told), before);
 }
 
-/// Packets that are acknowledged come with the items that they carried; what was lost waits, and comes with none.
+/// Acknowledged packets come with the items that they carried; lost items are queued, and come with none.
 #[test]
 fn packets_come_with_their_items() {
     let (mut sender, space) = (with_packets(2), SpaceId::Data);
@@ -283,7 +283,7 @@ fn packets_come_with_their_items() {
     assert_eq!((told.packets().count(), told.numbers.len()), (0, 0));
 }
 
-/// While a challenge of the path in use is open, what is acknowledged lets the window not grow (RFC 9000, 9.4).
+/// While a challenge of the path in use is outstanding, an ACK does not increase the window (RFC 9000, 9.4).
 #[test]
 fn a_challenge_keeps_the_window() {
     let mut sender = with_packets(3);
@@ -299,7 +299,7 @@ fn a_challenge_keeps_the_window() {
     assert_eq!(window(&sender), before + 1000);
 }
 
-/// Probe timeouts are counted until the peer is heard (RFC 9002, 6.2.1).
+/// Probe timeouts are counted until the peer acknowledges something (RFC 9002, 6.2.1).
 #[test]
 fn probe_timeouts() {
     let mut sender = with_packets(1);
@@ -313,8 +313,7 @@ fn probe_timeouts() {
     assert_eq!(sender.pto_count(), 0);
 }
 
-/// Each probe of a timeout carries the contents of another packet; where none has any, it asks for a PING (RFC 9002,
-/// 6.2.4).
+/// Each probe of a timeout carries the contents of another packet; if none has any, it is a PING (RFC 9002, 6.2.4).
 #[test]
 fn probes_carry_contents() {
     let (mut sender, space) = (with_packets(2), SpaceId::Data);
@@ -349,7 +348,7 @@ fn losses_by_time() {
     assert_eq!((space, losses.numbers), (SpaceId::Data, vec![0]));
 }
 
-/// All that a space tracks is lost, and is to be sent again; a space that is discarded has nothing.
+/// All packets of a space are lost, and queued for retransmission; a discarded space has none.
 #[test]
 fn all_packets_of_a_space() {
     let (mut sender, space) = (with_packets(3), SpaceId::Data);
@@ -368,7 +367,7 @@ fn all_packets_of_a_space() {
     assert_eq!(sender.retransmit_all(SpaceId::Initial, at(8)), Err(gone));
 }
 
-/// A sender that is made established sends and probes for 1-RTT packets alone.
+/// An established sender sends and probes for 1-RTT packets alone.
 #[test]
 fn an_established_connection() {
     let config = RecoveryConfig::default();
@@ -386,7 +385,7 @@ fn an_established_connection() {
     assert_eq!(sender.on_timeout(now), Ok(Timeout::Probe { space, count }));
 }
 
-/// All that can be read of a recovery can be read of a sender's; contents that were lost wait there.
+/// A sender's recovery has all readings of a recovery; lost contents are queued there.
 #[test]
 fn the_recovery_can_be_read() {
     let mut sender = with_packets(4);
@@ -403,11 +402,11 @@ fn the_recovery_can_be_read() {
     let loss = sender.recovery().timer(Timer::LossDetection);
     assert!(loss.is_some() && loss == sender.timer());
     let marks = sender.recovery().marks(PathName::Current).unwrap();
-    // the number behind those that were sent as the sample came (RFC 9002, 7.6.2)
+    // the packet number after those that were sent before the sample (RFC 9002, 7.6.2)
     assert_eq!(marks.first_packet_after_rtt_sample, Some((space, 4)));
 }
 
-/// The events that a sender decides itself.
+/// Events that only the sender itself makes.
 fn decided() -> Vec<Event<'static>> {
     let (space, now, number) = (SpaceId::Data, at(200), 1);
     let (delay, timer) = (Duration::ZERO, Timer::LossDetection);
@@ -453,7 +452,7 @@ fn decided() -> Vec<Event<'static>> {
     ]
 }
 
-/// What can be read of a sender, as it is shown.
+/// Returns all readings of a sender as text.
 fn seen(sender: &Sender) -> String {
     let (recovery, path) = (sender.recovery(), PathName::Current);
     let space = recovery.space(SpaceId::Data);
@@ -461,7 +460,7 @@ fn seen(sender: &Sender) -> String {
     format!("{kept:?} {:?}", sender.timer())
 }
 
-/// What is refused, by its name, changes nothing.
+/// A call that fails changes nothing.
 #[test]
 fn refusals() {
     let mut sender = with_packets(4);
@@ -498,7 +497,7 @@ fn refusals() {
     assert_eq!(sender.on_datagram(1), Err(Refusal::Overflow.into()));
 }
 
-/// Settings that no recovery is made of make no sender.
+/// Invalid settings make no sender.
 #[test]
 fn settings() {
     let mut config = RecoveryConfig::default();
@@ -511,7 +510,7 @@ fn settings() {
     assert_eq!(made.err(), Some(ConfigError::ZeroDenominator));
 }
 
-/// The packet threshold acts (RFC 9002, 6.1.1).
+/// The packet threshold applies (RFC 9002, 6.1.1).
 #[test]
 fn a_packet_threshold() {
     for (packet_threshold, lost) in [(3, vec![0]), (1, vec![0, 1, 2]), (9, vec![])] {

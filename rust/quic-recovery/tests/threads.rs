@@ -29,7 +29,7 @@ fn send(recovery: &mut Recovery, number: u64) {
 
 fn is_send<T: Send>() {}
 
-/// Each recovery goes round all threads, sends on each, and is dropped on another one than it was made on.
+/// Each recovery visits all threads, sends on each, and is dropped on another one than it was made on.
 #[test]
 fn recoveries_move() {
     is_send::<Recovery>();

@@ -1,10 +1,10 @@
-//! MTU discovery and the pacer alone, as a datagram protocol that is not QUIC uses them.
+//! MTU discovery and the pacer without a recovery, as a datagram protocol other than QUIC uses them.
 use quic_recovery::*;
 use std::time::Duration;
 
 const START: Instant = Instant::from_nanos(0);
 
-/// Probes over a link that carries so many bytes; the sizes that went out.
+/// Probes over a link that carries `link` bytes. Returns the sizes that were sent.
 fn search(mtu: &mut MtuDiscovery, link: u16, now: Instant, number: &mut u64) -> Vec<u16> {
     let mut sizes = Vec::new();
     while let Some(size) = mtu.poll_transmit(now, *number) {

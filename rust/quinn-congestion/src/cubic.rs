@@ -6,17 +6,17 @@ use quinn_proto::RttEstimator;
 use std::any::Any;
 use std::time::Instant;
 
-/// What a CUBIC is made by, for each path anew.
+/// The configuration of CUBIC, for each new path.
 #[derive(Clone, Copy, Debug, PartialEq, Eq)]
 pub struct CubicConfig {
-    /// The window at the start, in bytes, above zero (RFC 9002, 7.2).
+    /// The initial window, in bytes, above zero (RFC 9002, 7.2).
     pub initial_window: u64,
-    /// The size of a datagram, in bytes, above zero: the window never falls below two of them.
+    /// The datagram size, in bytes, above zero: the window never falls below two datagrams.
     pub max_datagram_size: u16,
 }
 
 impl Default for CubicConfig {
-    /// Ten datagrams of 1200 bytes, the least that QUIC wants of a path (RFC 9000, 14).
+    /// Returns ten datagrams of 1200 bytes, the minimum that QUIC requires of a path (RFC 9000, 14).
     fn default() -> Self {
         CubicConfig {
             initial_window: 12_000,
@@ -30,7 +30,7 @@ impl Default for CubicConfig {
 pub struct Cubic {
     alone: Alone,
     config: CubicConfig,
-    /// The moment that the library knows as its nanosecond 0.
+    /// The time that is the library's nanosecond 0.
     epoch: Instant,
     /// Whether the window fell, so that slow start is over.
     has_fallen: bool,
@@ -52,7 +52,7 @@ impl Cubic {
         self.has_fallen = true;
     }
 
-    /// A controller of the same window: in slow start, where it never fell; else as one that has just fallen to it.
+    /// Returns a controller with the same window: in slow start if it never fell, else as after a reduction to it.
     fn copy(&self) -> Self {
         let window = self.window();
         if !self.has_fallen {
@@ -130,8 +130,8 @@ mod tests {
         Moment::from_nanos(millis * 1_000_000)
     }
 
-    /// The window after a reduction at 1 s and 40 packets, one in flight at a time, 100 ms each, of which 20 are sent after
-    /// a pause. In the pause the endpoint sends ACKs alone.
+    /// Returns the window after a reduction at 1 s and 40 packets, one in flight at a time, 100 ms each, of which 20
+    /// are sent after a pause. In the pause the endpoint sends ACKs alone.
     fn window_after(pause: u64) -> u64 {
         let epoch = Instant::now();
         let mut cubic = Cubic::new(CubicConfig::default(), epoch, 24_000);

@@ -1,5 +1,5 @@
-//! The proved NewReno (RFC 9002, 7) and CUBIC (RFC 9438) behind quinn's public trait of controllers: quinn itself stays
-//! as it is.
+//! The proved NewReno (RFC 9002, 7) and CUBIC (RFC 9438) for quinn's public trait of controllers. quinn itself is
+//! unchanged.
 //!
 //! ```
 //! let mut config = quinn_proto::TransportConfig::default();
@@ -19,18 +19,18 @@ use quinn_proto::RttEstimator;
 use std::any::Any;
 use std::time::Instant;
 
-/// What a NewReno is made by, for each path anew.
+/// The configuration of NewReno, for each new path.
 #[derive(Clone, Copy, Debug, PartialEq, Eq)]
 pub struct NewRenoConfig {
-    /// The window at the start, in bytes, above zero (RFC 9002, 7.2).
+    /// The initial window, in bytes, above zero (RFC 9002, 7.2).
     pub initial_window: u64,
-    /// The size of a datagram, in bytes, above zero: the window never falls below two of them, and grows by one in a
-    /// round trip once slow start is over (RFC 9002, 7.2 and 7.3.3).
+    /// The datagram size, in bytes, above zero: the window never falls below two datagrams, and grows by one in a round
+    /// trip after slow start (RFC 9002, 7.2 and 7.3.3).
     pub max_datagram_size: u16,
 }
 
 impl Default for NewRenoConfig {
-    /// Ten datagrams of 1200 bytes, the least that QUIC wants of a path (RFC 9000, 14).
+    /// Returns ten datagrams of 1200 bytes, the minimum that QUIC requires of a path (RFC 9000, 14).
     fn default() -> Self {
         NewRenoConfig {
             initial_window: 12_000,
@@ -44,17 +44,17 @@ impl Default for NewRenoConfig {
 pub struct NewReno {
     alone: Alone,
     config: NewRenoConfig,
-    /// The moment that the library knows as its nanosecond 0.
+    /// The time that is the library's nanosecond 0.
     epoch: Instant,
-    /// The window and the slow start threshold, as they were read last.
+    /// The window and the slow start threshold, as last read.
     window: u64,
     ssthresh: u64,
-    /// When it fell last, and the bytes that were counted since it grew last: for a copy alone.
+    /// When the window last fell, and the bytes counted since it last grew: for copies only.
     since: Moment,
     counted: u64,
 }
 
-/// A recovery for its controller alone, in datagrams of this size.
+/// Returns a recovery for its controller alone, with datagrams of this size.
 fn recovery_for(congestion: Congestion, max_datagram_size: u16) -> Recovery {
     let settings = RecoveryConfig {
         transport: TransportConfig {
@@ -69,24 +69,24 @@ fn recovery_for(congestion: Congestion, max_datagram_size: u16) -> Recovery {
     Recovery::new(&settings, Moment::from_nanos(0)).expect("sizes above zero, and memory")
 }
 
-/// A moment as the library has it, whose nanosecond 0 is the epoch.
+/// Returns a time in the library's form, whose nanosecond 0 is the epoch.
 fn since(epoch: Instant, moment: Instant) -> Moment {
     let nanos = moment.saturating_duration_since(epoch).as_nanos();
     Moment::from_nanos(u64::try_from(nanos).unwrap_or(u64::MAX))
 }
 
-/// A recovery of which the controller alone is used. quinn tells it no packet numbers, so each packet is passed in when
-/// it is acknowledged: as sent at its time, and as acknowledged now.
+/// A recovery whose controller alone is used. quinn reports no packet numbers, so each packet is passed in when it is
+/// acknowledged: as sent at its time, and as acknowledged now.
 ///
-/// A packet that was sent ends idle time, which CUBIC leaves out (RFC 9438, 5.8). quinn calls `on_sent` also for
-/// datagrams that hold ACKs alone, and these do not end it. So the time of a datagram is passed on only once something
-/// is known to be in flight.
+/// A sent packet ends idle time, which CUBIC leaves out (RFC 9438, 5.8). quinn calls `on_sent` also for datagrams that
+/// hold ACKs alone, and these do not end it. So the time of a datagram is passed on only once something is known to be
+/// in flight.
 #[derive(Debug)]
 struct Alone {
     recovery: Recovery,
     /// When the last datagram was sent.
     sent: Moment,
-    /// The number of a packet that is in flight here as long as anything is in quinn.
+    /// The number of a packet that is in flight here while anything is in flight in quinn.
     in_flight: Option<u64>,
 }
 
@@ -188,7 +188,7 @@ impl NewReno {
         }
     }
 
-    /// So many bytes are acknowledged, in as many packets as they take.
+    /// Acknowledges this many bytes, in as many packets as they take.
     fn acked_all(&mut self, at: Moment, mut bytes: u64) {
         while bytes > 0 {
             let some = bytes.min(u16::MAX.into());
@@ -212,8 +212,8 @@ impl NewReno {
         }
     }
 
-    /// A controller in the same state, brought there by what it is told: losses, between them what was counted, and what
-    /// was acknowledged since.
+    /// Returns a controller in the same state, reached by events: losses, the bytes counted between them, and what was
+    /// acknowledged since.
     fn copy(&self) -> Self {
         if self.ssthresh == u64::MAX {
             return NewReno::new(self.config, self.epoch, self.window);

@@ -33,7 +33,8 @@ use recovery_spaces::spaces::SentPacket;
 /// The outcome of a frame's ECN counts (RFC 9000, 13.4.2.1).
 #[derive(Clone, Copy)]
 pub enum EcnOutcome {
-    /// No congestion. If the frame has no counts, packets are no longer marked on the path.
+    /// No congestion. If the frame newly acknowledges packets and has no counts, packets are no longer marked on the
+    /// path.
     Quiet,
     /// More packets were marked with CE: congestion (RFC 9002, 7.1).
     Marked,

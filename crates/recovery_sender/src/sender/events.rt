@@ -308,8 +308,8 @@ where
         };
     }
 
-    /// Sends an MTU probe if one is due, as [`Event::PollMtu`] and with its errors. The window is not checked: an MTU
-    /// probe may exceed it (RFC 9000, 14.4).
+    /// Returns an MTU probe to send, if one is due, and tracks it, as [`Event::PollMtu`] and with its errors. The
+    /// window is not checked: an MTU probe may exceed it (RFC 9000, 14.4).
     pub fn poll_mtu(&mut self, now: Instant) -> Result<Answer<Q>, SenderError>
         ensures { EventResult (Event.PollMtu now) self.old self.new result }
     {

@@ -1,4 +1,4 @@
-//! The lines of the program `recovery-replay`: events read from them, answers written as it writes them, and random ones.
+//! The lines of the program `recovery-replay`: parsed events, answers as it writes them, and random events.
 #![allow(dead_code)]
 use quic_recovery::*;
 use std::fmt::Write;
@@ -7,7 +7,7 @@ use std::path::{Path, PathBuf};
 use std::process::{Command, Stdio};
 use std::time::Duration;
 
-/// An event that owns what it holds.
+/// An event that owns its fields.
 pub struct Line {
     pub words: Vec<String>,
     pub items: Vec<u64>,
@@ -98,7 +98,7 @@ impl Line {
         ResetToken::from([self.number(at) as u8; 16])
     }
 
-    /// What the line says.
+    /// Returns the event of the line.
     pub fn event(&self) -> Event<'_> {
         match self.words[0].as_str() {
             "received" => Event::Received {
@@ -296,7 +296,7 @@ fn answer(answer: &Answer) -> String {
     }
 }
 
-/// As the program writes what an event came to.
+/// Returns the reply to an event as the program writes it.
 pub fn written(reply: &Result<Answer, Refusal>) -> String {
     match reply {
         Ok(given) => answer(given),
@@ -305,7 +305,7 @@ pub fn written(reply: &Result<Answer, Refusal>) -> String {
     }
 }
 
-/// The settings of the programs with this seed and this window.
+/// Returns the settings of the programs with this seed and this window.
 pub fn config(seed: Option<u64>, window: Option<u64>) -> RecoveryConfig {
     let mut config = RecoveryConfig {
         skips: seed.map_or(Skips::Disabled, Skips::Drawn),
@@ -317,30 +317,30 @@ pub fn config(seed: Option<u64>, window: Option<u64>) -> RecoveryConfig {
     config
 }
 
-/// A recovery as the program makes it with this seed and this window.
+/// Returns a recovery as the program makes it with this seed and this window.
 pub fn fresh(seed: Option<u64>, window: Option<u64>) -> Recovery {
     Recovery::new(&config(seed, window), Instant::from_nanos(0)).unwrap()
 }
 
-/// What a recovery answers to lines.
+/// Returns the answers of a recovery to lines.
 pub fn answers(recovery: &mut Recovery, lines: &[String]) -> Vec<String> {
     let reply = |line: &String| written(&recovery.apply(Line::new(line).event()));
     lines.iter().map(reply).collect()
 }
 
-/// The top of the repository.
+/// Returns the top of the repository.
 pub fn root() -> PathBuf {
     Path::new(env!("CARGO_MANIFEST_DIR")).join("../..")
 }
 
-/// The proved program: the one that `./prove` built, else the prebuilt one.
+/// Returns the proved program: the one that `./prove` built, else the prebuilt one.
 pub fn program() -> Option<PathBuf> {
     let built = root().join("crates/recovery_program/out/recovery_program");
     let prebuilt = root().join("prebuilt/x86_64-unknown-linux-gnu/bin/recovery-replay");
     [built, prebuilt].into_iter().find(|it| it.is_file())
 }
 
-/// What the program answers to lines, with this seed and this window.
+/// Returns the answers of the program to lines, with this seed and this window.
 pub fn answers_of(
     program: &Path,
     seed: Option<u64>,
@@ -363,7 +363,7 @@ pub fn answers_of(
     text.lines().map(str::to_owned).collect()
 }
 
-/// Random events that mostly fit what came before.
+/// Random events that mostly fit those before.
 pub struct Events {
     state: u64,
     now: u64,
@@ -385,7 +385,7 @@ impl Events {
         }
     }
 
-    /// A number below a bound (xorshift).
+    /// Returns a number below a bound (xorshift).
     fn below(&mut self, bound: u64) -> u64 {
         self.state ^= self.state << 13;
         self.state ^= self.state >> 7;
@@ -393,7 +393,7 @@ impl Events {
         (self.state >> 11) % bound
     }
 
-    /// A number near another one, and now and then any number.
+    /// Returns a number near another one, and sometimes any number.
     fn near(&mut self, number: u64, width: u64) -> u64 {
         match self.below(200) {
             0 => u64::MAX,
@@ -550,7 +550,7 @@ impl Events {
         }
     }
 
-    /// The line of the next event.
+    /// Returns the line of the next event.
     pub fn line(&mut self) -> String {
         self.now += self.below(3_000_000);
         let which = self.below(100);
