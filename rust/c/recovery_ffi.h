@@ -650,7 +650,7 @@ struct recovery_rtt_view recovery_ffi_rtt(struct recovery_handle *handle);
 // Returns the sequence number of the peer's connection ID in use (RFC 9000, 5.1.1); 0 if there is no recovery.
 uint64_t recovery_ffi_active_id(struct recovery_handle *handle);
 
-// Returns whether a space tracks a packet that counts in flight (RFC 9002, 2), on either path.
+// Returns whether a space tracks a packet that counts in flight (RFC 9002, 2), on any path.
 bool recovery_ffi_has_in_flight(struct recovery_handle *handle, uint8_t space);
 
 // Returns the smallest packet number that a space tracks: all smaller ones are acknowledged, lost, forgotten or

@@ -667,7 +667,7 @@ unsafe extern "C" {
     /// Returns the sequence number of the peer's connection ID in use (RFC 9000, 5.1.1); 0 if there is no recovery.
     pub fn recovery_ffi_active_id(handle: *mut Handle) -> u64;
 
-    /// Returns whether a space tracks a packet that counts in flight (RFC 9002, 2), on either path.
+    /// Returns whether a space tracks a packet that counts in flight (RFC 9002, 2), on any path.
     pub fn recovery_ffi_has_in_flight(handle: *mut Handle, space: u8) -> bool;
 
     /// Returns the smallest packet number that a space tracks: all smaller ones are acknowledged, lost, forgotten or
