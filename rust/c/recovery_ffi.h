@@ -650,7 +650,7 @@ struct recovery_rtt_view recovery_ffi_rtt(struct recovery_handle *handle);
 // Returns the sequence number of the peer's connection ID in use (RFC 9000, 5.1.1); 0 if there is no recovery.
 uint64_t recovery_ffi_active_id(struct recovery_handle *handle);
 
-// Returns whether a space tracks a packet that counts in flight (RFC 9002, 2), on either path.
+// Returns whether a space tracks a packet that counts in flight (RFC 9002, 2), on any path.
 bool recovery_ffi_has_in_flight(struct recovery_handle *handle, uint8_t space);
 
 // Returns the smallest packet number that a space tracks: all smaller ones are acknowledged, lost, forgotten or
@@ -687,13 +687,13 @@ bool recovery_ffi_is_token(struct recovery_handle *handle, const uint8_t *token)
 // Returns the caller's marks of a path.
 struct recovery_marks recovery_ffi_marks(struct recovery_handle *handle, bool previous);
 
-// Stores the caller's marks of a path. Returns false and changes nothing if there is no such path or no such space, or
-// if a sender is held: a sender sets its marks itself.
+// Stores the caller's marks of a path. Returns false and changes nothing if there is no such path or no such
+// space, or if a sender is held: a sender sets its marks itself.
 bool recovery_ffi_set_marks(struct recovery_handle *handle, bool previous, const struct recovery_marks *marks);
 
-// Makes an MTU discovery from `initial_mtu`, `min_mtu`, `allow_mtud` and the settings of the search, as a path has it.
-// The peer accepts datagrams of at most `limit` bytes, or 0 if it stated no limit. Returns `RECOVERY_NEW_MADE`, or the
-// number of what is wrong, which leaves the handle unchanged.
+// Makes an MTU discovery from `initial_mtu`, `min_mtu`, `allow_mtud` and the settings of the search, as a path has
+// it. The peer accepts datagrams of at most `limit` bytes, or 0 if it stated no limit. Returns `RECOVERY_NEW_MADE`, or
+// the number of what is wrong, which leaves the handle unchanged.
 uint8_t recovery_ffi_mtu_new(struct recovery_mtu_handle *mtu, const struct recovery_settings *settings, uint16_t limit);
 
 // Frees a discovery. The handle then holds none. A handle that holds none is unchanged.
@@ -706,8 +706,8 @@ struct recovery_mtu_view recovery_ffi_mtu(struct recovery_mtu_handle *mtu);
 // caller sends the probe as the packet of this number.
 struct recovery_encoded_reply recovery_ffi_mtu_poll(struct recovery_mtu_handle *mtu, uint64_t now, uint64_t number);
 
-// Sets the largest datagram that the peer accepts, in bytes. An error if it is 0, or while a search is running: set
-// the limit before the first poll.
+// Sets the largest datagram that the peer accepts, in bytes. An error if it is 0, or while a search is running:
+// set the limit before the first poll.
 struct recovery_encoded_reply recovery_ffi_mtu_limit(struct recovery_mtu_handle *mtu, uint16_t size);
 
 // Records that a packet of this many bytes was acknowledged (`RECOVERY_ANSWER_ACKED`). The flag is true if it was the
@@ -717,19 +717,19 @@ struct recovery_encoded_reply recovery_ffi_mtu_acked(struct recovery_mtu_handle 
 // Records that the probe in flight was lost. Changes nothing if there is none.
 struct recovery_encoded_reply recovery_ffi_mtu_probe_lost(struct recovery_mtu_handle *mtu);
 
-// Records that a packet other than the probe in flight was lost. Report packets that are lost together in increasing
-// order, then call `recovery_ffi_mtu_losses_done`.
+// Records that a packet other than the probe in flight was lost. Report packets that are lost together in
+// increasing order, then call `recovery_ffi_mtu_losses_done`.
 struct recovery_encoded_reply recovery_ffi_mtu_lost(struct recovery_mtu_handle *mtu, uint64_t number, uint16_t bytes);
 
-// Ends the losses of packets that were lost together. The flag is true if they are a black hole, which resets the MTU
-// to the minimum.
+// Ends the losses of packets that were lost together. The flag is true if they are a black hole, which resets the
+// MTU to the minimum.
 struct recovery_encoded_reply recovery_ffi_mtu_losses_done(struct recovery_mtu_handle *mtu, uint64_t now);
 
 // Resets the discovery with these sizes; an error if one is zero. The peer's limit is unchanged.
 struct recovery_encoded_reply recovery_ffi_mtu_reset(struct recovery_mtu_handle *mtu, uint16_t size, uint16_t least);
 
-// Returns a full bucket at time `now`, from the RTT (nanoseconds), the congestion window and the MTU (bytes). If the
-// window or the MTU is 0, it is all zeros, which is no bucket.
+// Returns a full bucket at time `now`, from the RTT (nanoseconds), the congestion window and the MTU (bytes). If
+// the window or the MTU is 0, it is all zeros, which is no bucket.
 struct recovery_bucket recovery_ffi_pacer(uint64_t rtt, uint64_t window, uint16_t mtu, uint64_t now);
 
 // Takes the tokens of a sent packet (`RECOVERY_ANSWER_TRANSMITTED`), at most all. An error if there is no bucket.
@@ -755,8 +755,8 @@ struct recovery_encoded_reply recovery_ffi_lost(struct recovery_handle *handle, 
 // Discards a space with its keys (RFC 9002, 6.4): the event `DiscardSpace`.
 struct recovery_encoded_reply recovery_ffi_discard(struct recovery_handle *handle, uint8_t space);
 
-// Returns the item count of the queue that was taken last, and writes the items if there is room for all. None before
-// the first.
+// Returns the item count of the queue that was taken last, and writes the items if there is room for all. None
+// before the first.
 size_t recovery_ffi_last_items(struct recovery_handle *handle, uint64_t *out, size_t out_len);
 
 // Returns what is in flight on a path: the event `InFlight`.
@@ -830,22 +830,22 @@ struct recovery_ids_view recovery_ffi_ids(struct recovery_handle *handle);
 // `RECOVERY_TIMER_PUSH_NEW_CID` to it.
 struct recovery_time_view recovery_ffi_next_id_timeout(struct recovery_handle *handle);
 
-// Makes a recovery of a sender, of a client if `client`, else of a server. Its peer is at this address and has this
-// connection ID of at most 20 bytes. A client's first path is validated, whatever the settings say (RFC 9000, 8.1).
-// Returns `RECOVERY_NEW_MADE`, or the number of what is wrong, which leaves the handle unchanged.
+// Makes a recovery of a sender, of a client if `client`, else of a server. Its peer is at this address and has
+// this connection ID of at most 20 bytes. A client's first path is validated, whatever the settings say (RFC 9000,
+// 8.1). Returns `RECOVERY_NEW_MADE`, or the number of what is wrong, which leaves the handle unchanged.
 uint8_t recovery_ffi_sender_new(struct recovery_handle *handle, bool client, const struct recovery_settings *settings, const struct recovery_address *remote, const uint8_t *initial_cid, size_t initial_cid_len, uint64_t now);
 
 // Makes a recovery of a sender whose handshake is confirmed (RFC 9001, 4.1.2 and 4.9). It calls
 // `recovery_ffi_sender_new`, `recovery_ffi_validated`, `recovery_ffi_sender_handshake_confirmed`, and
-// `recovery_ffi_sender_discard` for the Initial and the Handshake space. Only 1-RTT packets are then sent and probed
-// for. The results are those of `recovery_ffi_sender_new`.
+// `recovery_ffi_sender_discard` for the Initial and the Handshake space. Only 1-RTT packets are then sent and
+// probed for. The results are those of `recovery_ffi_sender_new`.
 uint8_t recovery_ffi_sender_established(struct recovery_handle *handle, bool client, const struct recovery_settings *settings, const struct recovery_address *remote, const uint8_t *initial_cid, size_t initial_cid_len, uint64_t now);
 
 // Checks whether a datagram with packets of a space may be sent now. The reply is `RECOVERY_ANSWER_TRANSMITTED`, and
 // the datagram is counted; `RECOVERY_ANSWER_BLOCKED` by the amplification limit (RFC 9000, 8.1); `RECOVERY_ANSWER_FULL`
 // if the window has no room (RFC 9002, 7); or `RECOVERY_ANSWER_DELAYED` by the pacer, until `first` (RFC 9002, 7.7). If
-// nothing in it counts in flight, or a probe is due in the space, only the amplification limit is checked. Report its
-// packets by `recovery_ffi_send` before the next datagram. Errors: `RECOVERY_REFUSAL_SPACE_DISCARDED`, then
+// nothing in it counts in flight, or a probe is due in the space, only the amplification limit is checked. Report
+// its packets by `recovery_ffi_send` before the next datagram. Errors: `RECOVERY_REFUSAL_SPACE_DISCARDED`, then
 // `RECOVERY_REFUSAL_OVERFLOW`.
 struct recovery_encoded_reply recovery_ffi_sender_transmit(struct recovery_handle *handle, uint64_t now, uint16_t bytes, uint8_t space, bool in_flight);
 
@@ -863,27 +863,27 @@ struct recovery_encoded_reply recovery_ffi_sender_ack(struct recovery_handle *ha
 // Handles the loss detection timer, which may be due (RFC 9002, A.9). The reply is `RECOVERY_ANSWER_NOTHING` if it is
 // not. It is `RECOVERY_ANSWER_LOSSES` after a loss detection pass over the space in `first`: read the losses by
 // `recovery_ffi_last_outcome` and `recovery_ffi_told_numbers`. It is `RECOVERY_ANSWER_PROBES` if probes are due in the
-// space in `first`; `second` is how many, 1 or 2. For each, call `recovery_ffi_sender_transmit`, take its contents by
-// `recovery_ffi_sender_probe`, and send it by `recovery_ffi_send`. The error is `RECOVERY_REFUSAL_NO_MEMORY` if there
-// is no room for the numbers of the packets that may be lost; then nothing has changed. A timeout that asks for probes
-// allocates nothing.
+// space in `first`; `second` is how many, 1 or 2. For each, call `recovery_ffi_sender_transmit`, take its contents
+// by `recovery_ffi_sender_probe`, and send it by `recovery_ffi_send`. The error is `RECOVERY_REFUSAL_NO_MEMORY` if
+// there is no room for the numbers of the packets that may be lost; then nothing has changed. A timeout that asks
+// for probes allocates nothing.
 struct recovery_encoded_reply recovery_ffi_sender_on_timeout(struct recovery_handle *handle, uint64_t now);
 
 // Takes the contents of a probe in a space (RFC 9002, 6.2.4), to be read by `recovery_ffi_last_items`:
 // `RECOVERY_ANSWER_QUEUE`. They are what is queued for retransmission, or else the contents of the first packet in
-// flight that has any. If there are no items, send a PING frame. `immediate_ack` asks for an IMMEDIATE_ACK frame in
-// it. Errors, which change nothing: `RECOVERY_REFUSAL_SPACE_DISCARDED`, then `RECOVERY_REFUSAL_NO_MEMORY`.
+// flight that has any. If there are no items, send a PING frame. `immediate_ack` asks for an IMMEDIATE_ACK frame
+// in it. Errors, which change nothing: `RECOVERY_REFUSAL_SPACE_DISCARDED`, then `RECOVERY_REFUSAL_NO_MEMORY`.
 struct recovery_encoded_reply recovery_ffi_sender_probe(struct recovery_handle *handle, uint8_t space, bool immediate_ack);
 
-// Discards a space with its keys and its tracked packets, and resets the count of probe timeouts (RFC 9002, 6.2.2, 6.4
-// and A.11): `RECOVERY_ANSWER_DONE`. Error: `RECOVERY_REFUSAL_SPACE_DISCARDED`.
+// Discards a space with its keys and its tracked packets, and resets the count of probe timeouts (RFC 9002, 6.2.2,
+// 6.4 and A.11): `RECOVERY_ANSWER_DONE`. Error: `RECOVERY_REFUSAL_SPACE_DISCARDED`.
 struct recovery_encoded_reply recovery_ffi_sender_discard(struct recovery_handle *handle, uint8_t space, uint64_t now);
 
-// Declares all packets of a space lost, because they will not be acknowledged: after a Retry, or if 0-RTT is rejected
-// (RFC 9002, 6.3 and 6.4). This does not indicate congestion. Resets the count of probe timeouts. The reply is
-// `RECOVERY_ANSWER_LOSSES`; read the packets by `recovery_ffi_told_numbers`. If `is_cut` in
-// `recovery_ffi_last_outcome`, allocation failed for some packets, which are still tracked: the same call continues
-// with them. Errors, which change nothing: `RECOVERY_REFUSAL_SPACE_DISCARDED`, `RECOVERY_REFUSAL_NO_MEMORY`.
+// Declares all packets of a space lost, because they will not be acknowledged: after a Retry, or if 0-RTT is
+// rejected (RFC 9002, 6.3 and 6.4). This does not indicate congestion. Resets the count of probe timeouts. The
+// reply is `RECOVERY_ANSWER_LOSSES`; read the packets by `recovery_ffi_told_numbers`. If `is_cut` in
+// `recovery_ffi_last_outcome`, allocation failed for some packets, which are still tracked: the same call
+// continues with them. Errors, which change nothing: `RECOVERY_REFUSAL_SPACE_DISCARDED`, `RECOVERY_REFUSAL_NO_MEMORY`.
 struct recovery_encoded_reply recovery_ffi_sender_retransmit_all(struct recovery_handle *handle, uint8_t space, uint64_t now);
 
 // Records that Handshake keys are available (RFC 9002, A.8): `RECOVERY_ANSWER_DONE`.
@@ -897,40 +897,40 @@ struct recovery_encoded_reply recovery_ffi_sender_handshake_confirmed(struct rec
 // 10^9.
 struct recovery_encoded_reply recovery_ffi_sender_peer_delay(struct recovery_handle *handle, uint64_t secs, uint32_t nanos);
 
-// Sets the RTT that timers use before the first RTT sample of the path in use, instead of the one in the settings (RFC
-// 9002, 6.2.2): `RECOVERY_ANSWER_DONE`. If the RTT of the path is reset, the settings apply again. Nanoseconds are
+// Sets the RTT that timers use before the first RTT sample of the path in use, instead of the one in the settings
+// (RFC 9002, 6.2.2): `RECOVERY_ANSWER_DONE`. If the RTT of the path is reset, the settings apply again. Nanoseconds are
 // below 10^9.
 struct recovery_encoded_reply recovery_ffi_sender_initial_rtt(struct recovery_handle *handle, uint64_t secs, uint32_t nanos);
 
-// Returns the purpose of the loss detection timer, or why it is not set, and how many more bytes the window and the
-// amplification limit permit on the path in use. All is 0 if there is no sender.
+// Returns the purpose of the loss detection timer, or why it is not set, and how many more bytes the window and
+// the amplification limit permit on the path in use. All is 0 if there is no sender.
 struct recovery_sender_view recovery_ffi_sender_view(struct recovery_handle *handle);
 
-// Stores whether a PATH_CHALLENGE frame with this data is outstanding on the path in use (`is_open`), and whether one
-// is to be sent (`pending`) (RFC 9000, 8.2.1): `RECOVERY_ANSWER_DONE`. While one is outstanding, the window does not
-// grow: an acknowledged packet may have been sent on the path before it (RFC 9000, 9.4).
+// Stores whether a PATH_CHALLENGE frame with this data is outstanding on the path in use (`is_open`), and whether
+// one is to be sent (`pending`) (RFC 9000, 8.2.1): `RECOVERY_ANSWER_DONE`. While one is outstanding, the window does
+// not grow: an acknowledged packet may have been sent on the path before it (RFC 9000, 9.4).
 struct recovery_encoded_reply recovery_ffi_sender_challenge(struct recovery_handle *handle, uint64_t content, bool is_open, bool pending);
 
-// Returns the number of consecutive probe timeouts, each of which doubles the next (RFC 9002, 6.2.1); 0 if there is no
-// sender.
+// Returns the number of consecutive probe timeouts, each of which doubles the next (RFC 9002, 6.2.1); 0 if there
+// is no sender.
 uint32_t recovery_ffi_pto_count(struct recovery_handle *handle);
 
-// Returns the last outcome: of an ACK frame, of a timeout that made a loss detection pass, or of a space whose packets
-// were all declared lost. It is empty before the first, and if there is no sender.
+// Returns the last outcome: of an ACK frame, of a timeout that made a loss detection pass, or of a space whose
+// packets were all declared lost. It is empty before the first, and if there is no sender.
 struct recovery_outcome_view recovery_ffi_last_outcome(struct recovery_handle *handle);
 
-// Returns how many packets the last outcome newly acknowledged or, with `lost`, declared lost, without the MTU probe.
-// Writes their numbers in increasing order, if there is room for all.
+// Returns how many packets the last outcome newly acknowledged or, with `lost`, declared lost, without the MTU
+// probe. Writes their numbers in increasing order, if there is room for all.
 size_t recovery_ffi_told_numbers(struct recovery_handle *handle, bool lost, uint64_t *out, size_t out_len);
 
-// Returns how many words the packets take that the last outcome newly acknowledged, and writes these if there is room
-// for all. For each packet, in increasing order: its number, its item count, and its items.
+// Returns how many words the packets take that the last outcome newly acknowledged, and writes these if there is
+// room for all. For each packet, in increasing order: its number, its item count, and its items.
 size_t recovery_ffi_told_packets(struct recovery_handle *handle, uint64_t *out, size_t out_len);
 
-// Returns the default settings: an address that is not validated, a max_ack_delay of 25 ms, and one issued connection
-// ID of 8 bytes with a lifetime of 10 s. No skips, an RTT of 333 ms, MTUs from 1200 to 1452 bytes, and NewReno with a
-// window of 12,000 bytes and a factor of a half. For senders, thresholds of 3 packets, 9/8 of an RTT and 3 probe
-// timeouts.
+// Returns the default settings: an address that is not validated, a max_ack_delay of 25 ms, and one issued
+// connection ID of 8 bytes with a lifetime of 10 s. No skips, an RTT of 333 ms, MTUs from 1200 to 1452 bytes, and
+// NewReno with a window of 12,000 bytes and a factor of a half. For senders, thresholds of 3 packets, 9/8 of an
+// RTT and 3 probe timeouts.
 struct recovery_settings recovery_ffi_default_settings(void);
 
 // Sets a timer to a time in nanoseconds: the event `SetTimer`.

@@ -38,7 +38,7 @@ pub extern "C" fn recovery_ffi_active_id(alloc: Global, handle: &mut Handle) -> 
     handle.active_id(alloc)
 }
 
-/// Returns whether a space tracks a packet that counts in flight (RFC 9002, 2), on either path.
+/// Returns whether a space tracks a packet that counts in flight (RFC 9002, 2), on any path.
 #[unsafe(no_mangle)]
 pub extern "C" fn recovery_ffi_has_in_flight(alloc: Global, handle: &mut Handle, space: u8) -> bool
     ensures { ReadsHandle handle.old.slot.held handle.new.slot.held (λ stack.

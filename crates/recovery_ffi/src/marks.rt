@@ -21,8 +21,8 @@ pub extern "C" fn recovery_ffi_marks(alloc: Global, handle: &mut Handle, previou
     handle.marks(alloc, previous)
 }
 
-/// Stores the caller's marks of a path. Returns false and changes nothing if there is no such path or no such space, or
-/// if a sender is held: a sender sets its marks itself.
+/// Stores the caller's marks of a path. Returns false and changes nothing if there is no such path or no such
+/// space, or if a sender is held: a sender sets its marks itself.
 #[unsafe(no_mangle)]
 pub extern "C" fn recovery_ffi_set_marks(
     alloc: Global,

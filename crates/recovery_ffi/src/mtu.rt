@@ -12,9 +12,9 @@ use recovery_stack::mtu_handle::{Call, MtuHandle};
 use recovery_stack::settings::Settings;
 use std::alloc::Global;
 
-/// Makes an MTU discovery from `initial_mtu`, `min_mtu`, `allow_mtud` and the settings of the search, as a path has it.
-/// The peer accepts datagrams of at most `limit` bytes, or 0 if it stated no limit. Returns `NEW_MADE`, or the
-/// number of what is wrong, which leaves the handle unchanged.
+/// Makes an MTU discovery from `initial_mtu`, `min_mtu`, `allow_mtud` and the settings of the search, as a path has
+/// it. The peer accepts datagrams of at most `limit` bytes, or 0 if it stated no limit. Returns `NEW_MADE`, or
+/// the number of what is wrong, which leaves the handle unchanged.
 #[unsafe(no_mangle)]
 pub extern "C" fn recovery_ffi_mtu_new(
     alloc: Global,
@@ -64,8 +64,8 @@ pub extern "C" fn recovery_ffi_mtu_poll(
     )
 }
 
-/// Sets the largest datagram that the peer accepts, in bytes. An error if it is 0, or while a search is running: set
-/// the limit before the first poll.
+/// Sets the largest datagram that the peer accepts, in bytes. An error if it is 0, or while a search is running:
+/// set the limit before the first poll.
 #[unsafe(no_mangle)]
 pub extern "C" fn recovery_ffi_mtu_limit(
     alloc: Global,
@@ -99,8 +99,8 @@ pub extern "C" fn recovery_ffi_mtu_probe_lost(alloc: Global, mtu: &mut MtuHandle
     mtu.call(alloc, Call::ProbeLost)
 }
 
-/// Records that a packet other than the probe in flight was lost. Report packets that are lost together in increasing
-/// order, then call `recovery_ffi_mtu_losses_done`.
+/// Records that a packet other than the probe in flight was lost. Report packets that are lost together in
+/// increasing order, then call `recovery_ffi_mtu_losses_done`.
 #[unsafe(no_mangle)]
 pub extern "C" fn recovery_ffi_mtu_lost(
     alloc: Global,
@@ -113,8 +113,8 @@ pub extern "C" fn recovery_ffi_mtu_lost(
     mtu.call(alloc, Call::Lost { number, bytes })
 }
 
-/// Ends the losses of packets that were lost together. The flag is true if they are a black hole, which resets the MTU
-/// to the minimum.
+/// Ends the losses of packets that were lost together. The flag is true if they are a black hole, which resets the
+/// MTU to the minimum.
 #[unsafe(no_mangle)]
 pub extern "C" fn recovery_ffi_mtu_losses_done(
     alloc: Global,

@@ -6,8 +6,8 @@ ghost use Rattle.recovery_stack.specs.Buckets.{Delays, PacerTransmits, bucket_fi
 use recovery_engine::spelling::EncodedReply;
 use recovery_stack::pacer::Bucket;
 
-/// Returns a full bucket at time `now`, from the RTT (nanoseconds), the congestion window and the MTU (bytes). If the
-/// window or the MTU is 0, it is all zeros, which is no bucket.
+/// Returns a full bucket at time `now`, from the RTT (nanoseconds), the congestion window and the MTU (bytes). If
+/// the window or the MTU is 0, it is all zeros, which is no bucket.
 #[unsafe(no_mangle)]
 pub extern "C" fn recovery_ffi_pacer(rtt: u64, window: u64, mtu: u16, now: u64) -> Bucket
     ensures { result ≡ bucket_first rtt window mtu now }

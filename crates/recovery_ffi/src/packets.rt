@@ -140,8 +140,8 @@ pub extern "C" fn recovery_ffi_discard(
     handle.apply(alloc, Event::DiscardSpace { space })
 }
 
-/// Returns the item count of the queue that was taken last, and writes the items if there is room for all. None before
-/// the first.
+/// Returns the item count of the queue that was taken last, and writes the items if there is room for all. None
+/// before the first.
 #[unsafe(no_mangle)]
 pub extern "C" fn recovery_ffi_last_items(
     alloc: Global,

@@ -25,9 +25,9 @@ use recovery_stack::sender::{AckFrame, side_of};
 use recovery_stack::settings::Settings;
 use std::alloc::Global;
 
-/// Makes a recovery of a sender, of a client if `client`, else of a server. Its peer is at this address and has this
-/// connection ID of at most 20 bytes. A client's first path is validated, whatever the settings say (RFC 9000, 8.1).
-/// Returns `NEW_MADE`, or the number of what is wrong, which leaves the handle unchanged.
+/// Makes a recovery of a sender, of a client if `client`, else of a server. Its peer is at this address and has
+/// this connection ID of at most 20 bytes. A client's first path is validated, whatever the settings say (RFC 9000,
+/// 8.1). Returns `NEW_MADE`, or the number of what is wrong, which leaves the handle unchanged.
 #[unsafe(no_mangle)]
 pub extern "C" fn recovery_ffi_sender_new(
     alloc: Global,
@@ -54,8 +54,8 @@ pub extern "C" fn recovery_ffi_sender_new(
 
 /// Makes a recovery of a sender whose handshake is confirmed (RFC 9001, 4.1.2 and 4.9). It calls
 /// `recovery_ffi_sender_new`, `recovery_ffi_validated`, `recovery_ffi_sender_handshake_confirmed`, and
-/// `recovery_ffi_sender_discard` for the Initial and the Handshake space. Only 1-RTT packets are then sent and probed
-/// for. The results are those of `recovery_ffi_sender_new`.
+/// `recovery_ffi_sender_discard` for the Initial and the Handshake space. Only 1-RTT packets are then sent and
+/// probed for. The results are those of `recovery_ffi_sender_new`.
 #[unsafe(no_mangle)]
 pub extern "C" fn recovery_ffi_sender_established(
     alloc: Global,
@@ -83,8 +83,8 @@ pub extern "C" fn recovery_ffi_sender_established(
 /// Checks whether a datagram with packets of a space may be sent now. The reply is `ANSWER_TRANSMITTED`, and
 /// the datagram is counted; `ANSWER_BLOCKED` by the amplification limit (RFC 9000, 8.1); `ANSWER_FULL`
 /// if the window has no room (RFC 9002, 7); or `ANSWER_DELAYED` by the pacer, until `first` (RFC 9002, 7.7). If
-/// nothing in it counts in flight, or a probe is due in the space, only the amplification limit is checked. Report its
-/// packets by `recovery_ffi_send` before the next datagram. Errors: `REFUSAL_SPACE_DISCARDED`, then
+/// nothing in it counts in flight, or a probe is due in the space, only the amplification limit is checked. Report
+/// its packets by `recovery_ffi_send` before the next datagram. Errors: `REFUSAL_SPACE_DISCARDED`, then
 /// `REFUSAL_OVERFLOW`.
 #[unsafe(no_mangle)]
 pub extern "C" fn recovery_ffi_sender_transmit(
@@ -139,10 +139,10 @@ pub extern "C" fn recovery_ffi_sender_ack(
 /// Handles the loss detection timer, which may be due (RFC 9002, A.9). The reply is `ANSWER_NOTHING` if it is
 /// not. It is `ANSWER_LOSSES` after a loss detection pass over the space in `first`: read the losses by
 /// `recovery_ffi_last_outcome` and `recovery_ffi_told_numbers`. It is `ANSWER_PROBES` if probes are due in the
-/// space in `first`; `second` is how many, 1 or 2. For each, call `recovery_ffi_sender_transmit`, take its contents by
-/// `recovery_ffi_sender_probe`, and send it by `recovery_ffi_send`. The error is `REFUSAL_NO_MEMORY` if there
-/// is no room for the numbers of the packets that may be lost; then nothing has changed. A timeout that asks for probes
-/// allocates nothing.
+/// space in `first`; `second` is how many, 1 or 2. For each, call `recovery_ffi_sender_transmit`, take its contents
+/// by `recovery_ffi_sender_probe`, and send it by `recovery_ffi_send`. The error is `REFUSAL_NO_MEMORY` if
+/// there is no room for the numbers of the packets that may be lost; then nothing has changed. A timeout that asks
+/// for probes allocates nothing.
 #[unsafe(no_mangle)]
 pub extern "C" fn recovery_ffi_sender_on_timeout(
     alloc: Global,
@@ -156,8 +156,8 @@ pub extern "C" fn recovery_ffi_sender_on_timeout(
 
 /// Takes the contents of a probe in a space (RFC 9002, 6.2.4), to be read by `recovery_ffi_last_items`:
 /// `ANSWER_QUEUE`. They are what is queued for retransmission, or else the contents of the first packet in
-/// flight that has any. If there are no items, send a PING frame. `immediate_ack` asks for an IMMEDIATE_ACK frame in
-/// it. Errors, which change nothing: `REFUSAL_SPACE_DISCARDED`, then `REFUSAL_NO_MEMORY`.
+/// flight that has any. If there are no items, send a PING frame. `immediate_ack` asks for an IMMEDIATE_ACK frame
+/// in it. Errors, which change nothing: `REFUSAL_SPACE_DISCARDED`, then `REFUSAL_NO_MEMORY`.
 #[unsafe(no_mangle)]
 pub extern "C" fn recovery_ffi_sender_probe(
     alloc: Global,
@@ -174,8 +174,8 @@ pub extern "C" fn recovery_ffi_sender_probe(
     }
 }
 
-/// Discards a space with its keys and its tracked packets, and resets the count of probe timeouts (RFC 9002, 6.2.2, 6.4
-/// and A.11): `ANSWER_DONE`. Error: `REFUSAL_SPACE_DISCARDED`.
+/// Discards a space with its keys and its tracked packets, and resets the count of probe timeouts (RFC 9002, 6.2.2,
+/// 6.4 and A.11): `ANSWER_DONE`. Error: `REFUSAL_SPACE_DISCARDED`.
 #[unsafe(no_mangle)]
 pub extern "C" fn recovery_ffi_sender_discard(
     alloc: Global,
@@ -198,11 +198,11 @@ pub extern "C" fn recovery_ffi_sender_discard(
     )
 }
 
-/// Declares all packets of a space lost, because they will not be acknowledged: after a Retry, or if 0-RTT is rejected
-/// (RFC 9002, 6.3 and 6.4). This does not indicate congestion. Resets the count of probe timeouts. The reply is
-/// `ANSWER_LOSSES`; read the packets by `recovery_ffi_told_numbers`. If `is_cut` in
-/// `recovery_ffi_last_outcome`, allocation failed for some packets, which are still tracked: the same call continues
-/// with them. Errors, which change nothing: `REFUSAL_SPACE_DISCARDED`, `REFUSAL_NO_MEMORY`.
+/// Declares all packets of a space lost, because they will not be acknowledged: after a Retry, or if 0-RTT is
+/// rejected (RFC 9002, 6.3 and 6.4). This does not indicate congestion. Resets the count of probe timeouts. The
+/// reply is `ANSWER_LOSSES`; read the packets by `recovery_ffi_told_numbers`. If `is_cut` in
+/// `recovery_ffi_last_outcome`, allocation failed for some packets, which are still tracked: the same call
+/// continues with them. Errors, which change nothing: `REFUSAL_SPACE_DISCARDED`, `REFUSAL_NO_MEMORY`.
 #[unsafe(no_mangle)]
 pub extern "C" fn recovery_ffi_sender_retransmit_all(
     alloc: Global,
@@ -266,8 +266,8 @@ pub extern "C" fn recovery_ffi_sender_peer_delay(
     }
 }
 
-/// Sets the RTT that timers use before the first RTT sample of the path in use, instead of the one in the settings (RFC
-/// 9002, 6.2.2): `ANSWER_DONE`. If the RTT of the path is reset, the settings apply again. Nanoseconds are
+/// Sets the RTT that timers use before the first RTT sample of the path in use, instead of the one in the settings
+/// (RFC 9002, 6.2.2): `ANSWER_DONE`. If the RTT of the path is reset, the settings apply again. Nanoseconds are
 /// below 10^9.
 #[unsafe(no_mangle)]
 pub extern "C" fn recovery_ffi_sender_initial_rtt(
@@ -285,8 +285,8 @@ pub extern "C" fn recovery_ffi_sender_initial_rtt(
     }
 }
 
-/// Returns the purpose of the loss detection timer, or why it is not set, and how many more bytes the window and the
-/// amplification limit permit on the path in use. All is 0 if there is no sender.
+/// Returns the purpose of the loss detection timer, or why it is not set, and how many more bytes the window and
+/// the amplification limit permit on the path in use. All is 0 if there is no sender.
 #[unsafe(no_mangle)]
 pub extern "C" fn recovery_ffi_sender_view(alloc: Global, handle: &mut Handle) -> SenderView
     ensures { ReadsHandle handle.old.slot.held handle.new.slot.held (λ stack.
@@ -295,9 +295,9 @@ pub extern "C" fn recovery_ffi_sender_view(alloc: Global, handle: &mut Handle) -
     handle.sender_view(alloc)
 }
 
-/// Stores whether a PATH_CHALLENGE frame with this data is outstanding on the path in use (`is_open`), and whether one
-/// is to be sent (`pending`) (RFC 9000, 8.2.1): `ANSWER_DONE`. While one is outstanding, the window does not
-/// grow: an acknowledged packet may have been sent on the path before it (RFC 9000, 9.4).
+/// Stores whether a PATH_CHALLENGE frame with this data is outstanding on the path in use (`is_open`), and whether
+/// one is to be sent (`pending`) (RFC 9000, 8.2.1): `ANSWER_DONE`. While one is outstanding, the window does
+/// not grow: an acknowledged packet may have been sent on the path before it (RFC 9000, 9.4).
 #[unsafe(no_mangle)]
 pub extern "C" fn recovery_ffi_sender_challenge(
     alloc: Global,
@@ -313,8 +313,8 @@ pub extern "C" fn recovery_ffi_sender_challenge(
     handle.call_sender(alloc, Call::Challenge { challenge, pending })
 }
 
-/// Returns the number of consecutive probe timeouts, each of which doubles the next (RFC 9002, 6.2.1); 0 if there is no
-/// sender.
+/// Returns the number of consecutive probe timeouts, each of which doubles the next (RFC 9002, 6.2.1); 0 if there
+/// is no sender.
 #[unsafe(no_mangle)]
 pub extern "C" fn recovery_ffi_pto_count(alloc: Global, handle: &mut Handle) -> u32
     ensures { ReadsHandle handle.old.slot.held handle.new.slot.held (λ stack.
@@ -323,8 +323,8 @@ pub extern "C" fn recovery_ffi_pto_count(alloc: Global, handle: &mut Handle) -> 
     handle.pto_count(alloc)
 }
 
-/// Returns the last outcome: of an ACK frame, of a timeout that made a loss detection pass, or of a space whose packets
-/// were all declared lost. It is empty before the first, and if there is no sender.
+/// Returns the last outcome: of an ACK frame, of a timeout that made a loss detection pass, or of a space whose
+/// packets were all declared lost. It is empty before the first, and if there is no sender.
 #[unsafe(no_mangle)]
 pub extern "C" fn recovery_ffi_last_outcome(alloc: Global, handle: &mut Handle) -> OutcomeView
     ensures { ReadsHandle handle.old.slot.held handle.new.slot.held (λ stack.
@@ -333,8 +333,8 @@ pub extern "C" fn recovery_ffi_last_outcome(alloc: Global, handle: &mut Handle) 
     handle.last_outcome(alloc)
 }
 
-/// Returns how many packets the last outcome newly acknowledged or, with `lost`, declared lost, without the MTU probe.
-/// Writes their numbers in increasing order, if there is room for all.
+/// Returns how many packets the last outcome newly acknowledged or, with `lost`, declared lost, without the MTU
+/// probe. Writes their numbers in increasing order, if there is room for all.
 #[unsafe(no_mangle)]
 pub extern "C" fn recovery_ffi_told_numbers(
     alloc: Global,
@@ -349,8 +349,8 @@ pub extern "C" fn recovery_ffi_told_numbers(
     handle.told_numbers(alloc, lost, out)
 }
 
-/// Returns how many words the packets take that the last outcome newly acknowledged, and writes these if there is room
-/// for all. For each packet, in increasing order: its number, its item count, and its items.
+/// Returns how many words the packets take that the last outcome newly acknowledged, and writes these if there is
+/// room for all. For each packet, in increasing order: its number, its item count, and its items.
 #[unsafe(no_mangle)]
 pub extern "C" fn recovery_ffi_told_packets(
     alloc: Global,

@@ -79,7 +79,7 @@ pub enum Call<Q: RetransmitQueue> {
     InitialRtt(Duration),
     /// Stores the data of the outstanding PATH_CHALLENGE frame, if any, and whether a PATH_CHALLENGE is to be sent.
     Challenge(Option<u64>, bool),
-    /// Returns what an ACK frame would newly acknowledge, as `Ack` does first.
+    /// Returns what an ACK frame would newly acknowledge; `Ack` begins with this.
     NewlyAcked(Asked),
     /// Discards a space with its keys.
     Discard(SpaceId, Instant),

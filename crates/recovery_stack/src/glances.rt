@@ -197,7 +197,7 @@ impl Handle {
         active
     }
 
-    /// Returns whether a space tracks a packet that counts in flight (RFC 9002, 2), on either path.
+    /// Returns whether a space tracks a packet that counts in flight (RFC 9002, 2), on any path.
     pub fn has_in_flight(&mut self, alloc: Global, space: u8) -> bool
         ensures { ReadsHandle self.old.slot.held self.new.slot.held (λ stack.
             Decides result (HasInFlight (space_named space (parts_kept stack.kept))))

@@ -667,7 +667,7 @@ unsafe extern "C" {
     /// Returns the sequence number of the peer's connection ID in use (RFC 9000, 5.1.1); 0 if there is no recovery.
     pub fn recovery_ffi_active_id(handle: *mut Handle) -> u64;
 
-    /// Returns whether a space tracks a packet that counts in flight (RFC 9002, 2), on either path.
+    /// Returns whether a space tracks a packet that counts in flight (RFC 9002, 2), on any path.
     pub fn recovery_ffi_has_in_flight(handle: *mut Handle, space: u8) -> bool;
 
     /// Returns the smallest packet number that a space tracks: all smaller ones are acknowledged, lost, forgotten or
@@ -724,14 +724,14 @@ unsafe extern "C" {
     /// Returns the caller's marks of a path.
     pub fn recovery_ffi_marks(handle: *mut Handle, previous: bool) -> Marks;
 
-    /// Stores the caller's marks of a path. Returns false and changes nothing if there is no such path or no such space, or
-    /// if a sender is held: a sender sets its marks itself.
+    /// Stores the caller's marks of a path. Returns false and changes nothing if there is no such path or no such
+    /// space, or if a sender is held: a sender sets its marks itself.
     pub fn recovery_ffi_set_marks(handle: *mut Handle, previous: bool, marks: *const Marks)
         -> bool;
 
-    /// Makes an MTU discovery from `initial_mtu`, `min_mtu`, `allow_mtud` and the settings of the search, as a path has it.
-    /// The peer accepts datagrams of at most `limit` bytes, or 0 if it stated no limit. Returns `NEW_MADE`, or the
-    /// number of what is wrong, which leaves the handle unchanged.
+    /// Makes an MTU discovery from `initial_mtu`, `min_mtu`, `allow_mtud` and the settings of the search, as a path has
+    /// it. The peer accepts datagrams of at most `limit` bytes, or 0 if it stated no limit. Returns `NEW_MADE`, or
+    /// the number of what is wrong, which leaves the handle unchanged.
     pub fn recovery_ffi_mtu_new(mtu: *mut MtuHandle, settings: *const Settings, limit: u16) -> u8;
 
     /// Frees a discovery. The handle then holds none. A handle that holds none is unchanged.
@@ -744,8 +744,8 @@ unsafe extern "C" {
     /// caller sends the probe as the packet of this number.
     pub fn recovery_ffi_mtu_poll(mtu: *mut MtuHandle, now: u64, number: u64) -> EncodedReply;
 
-    /// Sets the largest datagram that the peer accepts, in bytes. An error if it is 0, or while a search is running: set
-    /// the limit before the first poll.
+    /// Sets the largest datagram that the peer accepts, in bytes. An error if it is 0, or while a search is running:
+    /// set the limit before the first poll.
     pub fn recovery_ffi_mtu_limit(mtu: *mut MtuHandle, size: u16) -> EncodedReply;
 
     /// Records that a packet of this many bytes was acknowledged (`ANSWER_ACKED`). The flag is true if it was the
@@ -755,19 +755,19 @@ unsafe extern "C" {
     /// Records that the probe in flight was lost. Changes nothing if there is none.
     pub fn recovery_ffi_mtu_probe_lost(mtu: *mut MtuHandle) -> EncodedReply;
 
-    /// Records that a packet other than the probe in flight was lost. Report packets that are lost together in increasing
-    /// order, then call `recovery_ffi_mtu_losses_done`.
+    /// Records that a packet other than the probe in flight was lost. Report packets that are lost together in
+    /// increasing order, then call `recovery_ffi_mtu_losses_done`.
     pub fn recovery_ffi_mtu_lost(mtu: *mut MtuHandle, number: u64, bytes: u16) -> EncodedReply;
 
-    /// Ends the losses of packets that were lost together. The flag is true if they are a black hole, which resets the MTU
-    /// to the minimum.
+    /// Ends the losses of packets that were lost together. The flag is true if they are a black hole, which resets the
+    /// MTU to the minimum.
     pub fn recovery_ffi_mtu_losses_done(mtu: *mut MtuHandle, now: u64) -> EncodedReply;
 
     /// Resets the discovery with these sizes; an error if one is zero. The peer's limit is unchanged.
     pub fn recovery_ffi_mtu_reset(mtu: *mut MtuHandle, size: u16, least: u16) -> EncodedReply;
 
-    /// Returns a full bucket at time `now`, from the RTT (nanoseconds), the congestion window and the MTU (bytes). If the
-    /// window or the MTU is 0, it is all zeros, which is no bucket.
+    /// Returns a full bucket at time `now`, from the RTT (nanoseconds), the congestion window and the MTU (bytes). If
+    /// the window or the MTU is 0, it is all zeros, which is no bucket.
     pub fn recovery_ffi_pacer(rtt: u64, window: u64, mtu: u16, now: u64) -> Bucket;
 
     /// Takes the tokens of a sent packet (`ANSWER_TRANSMITTED`), at most all. An error if there is no bucket.
@@ -822,8 +822,8 @@ unsafe extern "C" {
     /// Discards a space with its keys (RFC 9002, 6.4): the event `DiscardSpace`.
     pub fn recovery_ffi_discard(handle: *mut Handle, space: u8) -> EncodedReply;
 
-    /// Returns the item count of the queue that was taken last, and writes the items if there is room for all. None before
-    /// the first.
+    /// Returns the item count of the queue that was taken last, and writes the items if there is room for all. None
+    /// before the first.
     pub fn recovery_ffi_last_items(handle: *mut Handle, out: *mut u64, out_len: usize) -> usize;
 
     /// Returns what is in flight on a path: the event `InFlight`.
@@ -945,9 +945,9 @@ unsafe extern "C" {
     /// `TIMER_PUSH_NEW_CID` to it.
     pub fn recovery_ffi_next_id_timeout(handle: *mut Handle) -> TimeView;
 
-    /// Makes a recovery of a sender, of a client if `client`, else of a server. Its peer is at this address and has this
-    /// connection ID of at most 20 bytes. A client's first path is validated, whatever the settings say (RFC 9000, 8.1).
-    /// Returns `NEW_MADE`, or the number of what is wrong, which leaves the handle unchanged.
+    /// Makes a recovery of a sender, of a client if `client`, else of a server. Its peer is at this address and has
+    /// this connection ID of at most 20 bytes. A client's first path is validated, whatever the settings say (RFC 9000,
+    /// 8.1). Returns `NEW_MADE`, or the number of what is wrong, which leaves the handle unchanged.
     pub fn recovery_ffi_sender_new(
         handle: *mut Handle,
         client: bool,
@@ -960,8 +960,8 @@ unsafe extern "C" {
 
     /// Makes a recovery of a sender whose handshake is confirmed (RFC 9001, 4.1.2 and 4.9). It calls
     /// `recovery_ffi_sender_new`, `recovery_ffi_validated`, `recovery_ffi_sender_handshake_confirmed`, and
-    /// `recovery_ffi_sender_discard` for the Initial and the Handshake space. Only 1-RTT packets are then sent and probed
-    /// for. The results are those of `recovery_ffi_sender_new`.
+    /// `recovery_ffi_sender_discard` for the Initial and the Handshake space. Only 1-RTT packets are then sent and
+    /// probed for. The results are those of `recovery_ffi_sender_new`.
     pub fn recovery_ffi_sender_established(
         handle: *mut Handle,
         client: bool,
@@ -975,8 +975,8 @@ unsafe extern "C" {
     /// Checks whether a datagram with packets of a space may be sent now. The reply is `ANSWER_TRANSMITTED`, and
     /// the datagram is counted; `ANSWER_BLOCKED` by the amplification limit (RFC 9000, 8.1); `ANSWER_FULL`
     /// if the window has no room (RFC 9002, 7); or `ANSWER_DELAYED` by the pacer, until `first` (RFC 9002, 7.7). If
-    /// nothing in it counts in flight, or a probe is due in the space, only the amplification limit is checked. Report its
-    /// packets by `recovery_ffi_send` before the next datagram. Errors: `REFUSAL_SPACE_DISCARDED`, then
+    /// nothing in it counts in flight, or a probe is due in the space, only the amplification limit is checked. Report
+    /// its packets by `recovery_ffi_send` before the next datagram. Errors: `REFUSAL_SPACE_DISCARDED`, then
     /// `REFUSAL_OVERFLOW`.
     pub fn recovery_ffi_sender_transmit(
         handle: *mut Handle,
@@ -1007,31 +1007,31 @@ unsafe extern "C" {
     /// Handles the loss detection timer, which may be due (RFC 9002, A.9). The reply is `ANSWER_NOTHING` if it is
     /// not. It is `ANSWER_LOSSES` after a loss detection pass over the space in `first`: read the losses by
     /// `recovery_ffi_last_outcome` and `recovery_ffi_told_numbers`. It is `ANSWER_PROBES` if probes are due in the
-    /// space in `first`; `second` is how many, 1 or 2. For each, call `recovery_ffi_sender_transmit`, take its contents by
-    /// `recovery_ffi_sender_probe`, and send it by `recovery_ffi_send`. The error is `REFUSAL_NO_MEMORY` if there
-    /// is no room for the numbers of the packets that may be lost; then nothing has changed. A timeout that asks for probes
-    /// allocates nothing.
+    /// space in `first`; `second` is how many, 1 or 2. For each, call `recovery_ffi_sender_transmit`, take its contents
+    /// by `recovery_ffi_sender_probe`, and send it by `recovery_ffi_send`. The error is `REFUSAL_NO_MEMORY` if
+    /// there is no room for the numbers of the packets that may be lost; then nothing has changed. A timeout that asks
+    /// for probes allocates nothing.
     pub fn recovery_ffi_sender_on_timeout(handle: *mut Handle, now: u64) -> EncodedReply;
 
     /// Takes the contents of a probe in a space (RFC 9002, 6.2.4), to be read by `recovery_ffi_last_items`:
     /// `ANSWER_QUEUE`. They are what is queued for retransmission, or else the contents of the first packet in
-    /// flight that has any. If there are no items, send a PING frame. `immediate_ack` asks for an IMMEDIATE_ACK frame in
-    /// it. Errors, which change nothing: `REFUSAL_SPACE_DISCARDED`, then `REFUSAL_NO_MEMORY`.
+    /// flight that has any. If there are no items, send a PING frame. `immediate_ack` asks for an IMMEDIATE_ACK frame
+    /// in it. Errors, which change nothing: `REFUSAL_SPACE_DISCARDED`, then `REFUSAL_NO_MEMORY`.
     pub fn recovery_ffi_sender_probe(
         handle: *mut Handle,
         space: u8,
         immediate_ack: bool,
     ) -> EncodedReply;
 
-    /// Discards a space with its keys and its tracked packets, and resets the count of probe timeouts (RFC 9002, 6.2.2, 6.4
-    /// and A.11): `ANSWER_DONE`. Error: `REFUSAL_SPACE_DISCARDED`.
+    /// Discards a space with its keys and its tracked packets, and resets the count of probe timeouts (RFC 9002, 6.2.2,
+    /// 6.4 and A.11): `ANSWER_DONE`. Error: `REFUSAL_SPACE_DISCARDED`.
     pub fn recovery_ffi_sender_discard(handle: *mut Handle, space: u8, now: u64) -> EncodedReply;
 
-    /// Declares all packets of a space lost, because they will not be acknowledged: after a Retry, or if 0-RTT is rejected
-    /// (RFC 9002, 6.3 and 6.4). This does not indicate congestion. Resets the count of probe timeouts. The reply is
-    /// `ANSWER_LOSSES`; read the packets by `recovery_ffi_told_numbers`. If `is_cut` in
-    /// `recovery_ffi_last_outcome`, allocation failed for some packets, which are still tracked: the same call continues
-    /// with them. Errors, which change nothing: `REFUSAL_SPACE_DISCARDED`, `REFUSAL_NO_MEMORY`.
+    /// Declares all packets of a space lost, because they will not be acknowledged: after a Retry, or if 0-RTT is
+    /// rejected (RFC 9002, 6.3 and 6.4). This does not indicate congestion. Resets the count of probe timeouts. The
+    /// reply is `ANSWER_LOSSES`; read the packets by `recovery_ffi_told_numbers`. If `is_cut` in
+    /// `recovery_ffi_last_outcome`, allocation failed for some packets, which are still tracked: the same call
+    /// continues with them. Errors, which change nothing: `REFUSAL_SPACE_DISCARDED`, `REFUSAL_NO_MEMORY`.
     pub fn recovery_ffi_sender_retransmit_all(
         handle: *mut Handle,
         space: u8,
@@ -1053,8 +1053,8 @@ unsafe extern "C" {
         nanos: u32,
     ) -> EncodedReply;
 
-    /// Sets the RTT that timers use before the first RTT sample of the path in use, instead of the one in the settings (RFC
-    /// 9002, 6.2.2): `ANSWER_DONE`. If the RTT of the path is reset, the settings apply again. Nanoseconds are
+    /// Sets the RTT that timers use before the first RTT sample of the path in use, instead of the one in the settings
+    /// (RFC 9002, 6.2.2): `ANSWER_DONE`. If the RTT of the path is reset, the settings apply again. Nanoseconds are
     /// below 10^9.
     pub fn recovery_ffi_sender_initial_rtt(
         handle: *mut Handle,
@@ -1062,13 +1062,13 @@ unsafe extern "C" {
         nanos: u32,
     ) -> EncodedReply;
 
-    /// Returns the purpose of the loss detection timer, or why it is not set, and how many more bytes the window and the
-    /// amplification limit permit on the path in use. All is 0 if there is no sender.
+    /// Returns the purpose of the loss detection timer, or why it is not set, and how many more bytes the window and
+    /// the amplification limit permit on the path in use. All is 0 if there is no sender.
     pub fn recovery_ffi_sender_view(handle: *mut Handle) -> SenderView;
 
-    /// Stores whether a PATH_CHALLENGE frame with this data is outstanding on the path in use (`is_open`), and whether one
-    /// is to be sent (`pending`) (RFC 9000, 8.2.1): `ANSWER_DONE`. While one is outstanding, the window does not
-    /// grow: an acknowledged packet may have been sent on the path before it (RFC 9000, 9.4).
+    /// Stores whether a PATH_CHALLENGE frame with this data is outstanding on the path in use (`is_open`), and whether
+    /// one is to be sent (`pending`) (RFC 9000, 8.2.1): `ANSWER_DONE`. While one is outstanding, the window does
+    /// not grow: an acknowledged packet may have been sent on the path before it (RFC 9000, 9.4).
     pub fn recovery_ffi_sender_challenge(
         handle: *mut Handle,
         content: u64,
@@ -1076,16 +1076,16 @@ unsafe extern "C" {
         pending: bool,
     ) -> EncodedReply;
 
-    /// Returns the number of consecutive probe timeouts, each of which doubles the next (RFC 9002, 6.2.1); 0 if there is no
-    /// sender.
+    /// Returns the number of consecutive probe timeouts, each of which doubles the next (RFC 9002, 6.2.1); 0 if there
+    /// is no sender.
     pub fn recovery_ffi_pto_count(handle: *mut Handle) -> u32;
 
-    /// Returns the last outcome: of an ACK frame, of a timeout that made a loss detection pass, or of a space whose packets
-    /// were all declared lost. It is empty before the first, and if there is no sender.
+    /// Returns the last outcome: of an ACK frame, of a timeout that made a loss detection pass, or of a space whose
+    /// packets were all declared lost. It is empty before the first, and if there is no sender.
     pub fn recovery_ffi_last_outcome(handle: *mut Handle) -> OutcomeView;
 
-    /// Returns how many packets the last outcome newly acknowledged or, with `lost`, declared lost, without the MTU probe.
-    /// Writes their numbers in increasing order, if there is room for all.
+    /// Returns how many packets the last outcome newly acknowledged or, with `lost`, declared lost, without the MTU
+    /// probe. Writes their numbers in increasing order, if there is room for all.
     pub fn recovery_ffi_told_numbers(
         handle: *mut Handle,
         lost: bool,
@@ -1093,14 +1093,14 @@ unsafe extern "C" {
         out_len: usize,
     ) -> usize;
 
-    /// Returns how many words the packets take that the last outcome newly acknowledged, and writes these if there is room
-    /// for all. For each packet, in increasing order: its number, its item count, and its items.
+    /// Returns how many words the packets take that the last outcome newly acknowledged, and writes these if there is
+    /// room for all. For each packet, in increasing order: its number, its item count, and its items.
     pub fn recovery_ffi_told_packets(handle: *mut Handle, out: *mut u64, out_len: usize) -> usize;
 
-    /// Returns the default settings: an address that is not validated, a max_ack_delay of 25 ms, and one issued connection
-    /// ID of 8 bytes with a lifetime of 10 s. No skips, an RTT of 333 ms, MTUs from 1200 to 1452 bytes, and NewReno with a
-    /// window of 12,000 bytes and a factor of a half. For senders, thresholds of 3 packets, 9/8 of an RTT and 3 probe
-    /// timeouts.
+    /// Returns the default settings: an address that is not validated, a max_ack_delay of 25 ms, and one issued
+    /// connection ID of 8 bytes with a lifetime of 10 s. No skips, an RTT of 333 ms, MTUs from 1200 to 1452 bytes, and
+    /// NewReno with a window of 12,000 bytes and a factor of a half. For senders, thresholds of 3 packets, 9/8 of an
+    /// RTT and 3 probe timeouts.
     pub fn recovery_ffi_default_settings() -> Settings;
 
     /// Sets a timer to a time in nanoseconds: the event `SetTimer`.

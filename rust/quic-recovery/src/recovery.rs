@@ -500,7 +500,7 @@ impl Recovery {
         unsafe { ffi::recovery_ffi_active_id(self.handle.get()) }
     }
 
-    /// Returns whether a space tracks a packet that counts in flight (RFC 9002, 2), on either path.
+    /// Returns whether a space tracks a packet that counts in flight (RFC 9002, 2), on any path.
     #[inline]
     pub fn has_in_flight(&self, space: SpaceId) -> bool {
         // SAFETY: the handle holds a recovery, and no other call runs.
