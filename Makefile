@@ -53,4 +53,5 @@ uninstall:
 package: verify
 	mkdir -p $(CRATE)/native/$(TARGET)
 	cp $(FROM)/libquic_recovery.a $(FROM)/PROVED $(CRATE)/native/$(TARGET)/
+	cp LICENSE-APACHE LICENSE-MIT NOTICE $(CRATE)/
 	cd $(CRATE) && $(CARGO) package $(CARGOFLAGS)
