@@ -36,12 +36,14 @@ def lacks(crate, page, texts):
     wanted = collections.Counter((kind, name) for _, kind, name in declared)
     shown = collections.Counter((kind, anchor.rpartition(".")[2]) for kind, anchor in SECTION.findall(page))
     here, there = sum(map(clauses_in, texts)), sum(len(CLAUSE.findall(it)) for it in FUNCTION.findall(page))
+    defines = any(f"Rattle.{crate}.specs." in it for it in texts) and here
     read = words(html.unescape(re.sub(r"<[^>]*>", "", page)))
     first_lines = ((name, above.partition("\n")[0].strip()[3:]) for above, _, name in declared)
     return [
         [f"{crate}: {kind} {name} is declared {wanted[kind, name]} times, and shown {shown[kind, name]} times"
          for kind, name in sorted({*(wanted - shown), *(shown - wanted)})],
-        [f"{crate}: public functions have {here} clauses, and {there} are shown"] if here != there else [],
+        [f"{crate}: public functions have {here} clauses, and {there} are shown"] if here != there else
+        [f"{crate}: no definition of its clauses is a link"] if defines and "/specs/" not in page else [],
         [f"{crate}: what {name} does is not shown" for name, line in first_lines if words(line) not in read],
     ]
 
@@ -61,9 +63,10 @@ def checks():
     with tempfile.TemporaryDirectory() as folder:
         out = pathlib.Path(folder).resolve()
         run = subprocess.run([sys.executable, ROOT / "tools" / "reference", "--out", out], stdout=subprocess.PIPE, stderr=subprocess.STDOUT, text=True)
+        if run.returncode:
+            return [[f"tools/reference: {run.stdout.strip()}"]]
         pages = {it.stem: it.read_text() for it in out.glob("*.html")}
         links = list(dead_links(out, pages))
     crates = sorted(it.parent.name for it in (ROOT / "crates").glob("*/src"))
     found = [lacks(it, pages.get(it, ""), [file.read_text() for file in (ROOT / "crates" / it / "src").rglob("*.rt")]) for it in crates]
-    faults = [[run.stdout.strip()] if run.returncode else [], *(sum(it, []) for it in zip(*found)), links]
-    return [[f"tools/reference: {fault}" for fault in check] for check in faults]
+    return [[f"tools/reference: {fault}" for fault in check] for check in (*(sum(it, []) for it in zip(*found)), links)]
