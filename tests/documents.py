@@ -2,7 +2,8 @@
 """Reads the README and the documents as one who looks things up: each link leads to a file, and to the heading that it names; each name in
 backquotes stands in a source of what is described, and `A::b` where A is declared; each clause of run is named in the README and in
 docs/PROMISES.md, and a definition stands in the file that is named beside it; examples stand beside what they print, as in examples/; lines
-are no longer than others here, and all documents together are short; code in fences stands in an example, and pages read well (tests/prose.py). Names
+are no longer than others here, and all documents together are short; code in fences stands in an example, and pages read well (tests/prose.py). The
+pages of tools/reference have every public item of the crates (tests/reference.py). Names
 of others (the crate that this follows, the toolchain's own, patterns) are listed here, as long as a document has them."""
 import os
 import pathlib
@@ -12,6 +13,7 @@ import textwrap
 from itertools import zip_longest
 
 import prose
+import reference
 
 ROOT = pathlib.Path(__file__).resolve().parent.parent
 NAME = re.compile(r"[A-Za-z_][A-Za-z0-9_-]*")
@@ -33,7 +35,7 @@ OTHERS = {
     "DIFFERENCES.md": "first_packet crypto_stream tinyvec Trait f32 Retransmits ArrayRangeSet::default",
     "EMBEDDING.md": "rand_chacha Retransmits max_data handshake_done reset_stream max_stream_data Meta::default",
     "PROGRAMS.md": "rttvar",
-    "PROVING.md": "same-self- plant reference",
+    "PROVING.md": "same-self- plant",
 }
 TYPES = {"Box", "Pcg32"}  # declared elsewhere, and named with what they have
 
@@ -199,7 +201,7 @@ def main():
     files = files_here()
     sources = Sources(files)
     documents = {it: (ROOT / it).read_text() for it in files if is_document(it)}
-    clauses, checks = clauses_of_run(), [list(misplaced()), list(too_long(documents.values()))]
+    clauses, checks = clauses_of_run(), [list(misplaced()), list(too_long(documents.values())), *reference.checks()]
     for file, text in documents.items():
         found = [*faults_in(file, text, sources), *code_in(file, text), *tables_in(file, text)]
         if str(file) in ("README.md", "docs/PROMISES.md"):
