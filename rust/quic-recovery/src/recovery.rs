@@ -300,8 +300,8 @@ unsafe fn hand_in(handle: *mut ffi::Handle, event: Event<'_>) -> ffi::EncodedRep
 }
 
 impl Recovery {
-    /// Returns a recovery without any event, made at time `now`. Fails if the configuration is invalid, or allocation
-    /// fails.
+    /// Returns a recovery without any event, made at time `now`. A packet that is sent at `now` itself does not change
+    /// the window (RFC 9002, B.5). Fails if the configuration is invalid, or allocation fails.
     ///
     /// ```
     /// # use quic_recovery::*;
@@ -549,6 +549,18 @@ impl Recovery {
 
     /// Returns how many bytes may be in flight on the path in use (RFC 9002, 7), and how many are. This and the four
     /// readings below cost a few instructions; [`Recovery::path`] and [`Recovery::ids`] read all.
+    ///
+    /// ```
+    /// # use quic_recovery::*;
+    /// # let at = |millis: u64| Instant::from_nanos(millis * 1_000_000);
+    /// # let space = SpaceId::Data;
+    /// # let mut recovery = Recovery::new(&RecoveryConfig::default(), at(0))?;
+    /// let (size, ack_eliciting, largest_acked, queue) = (1000, true, None, &[7]);
+    /// recovery.apply(Event::Send { space, now: at(0), size, ack_eliciting, largest_acked, queue })?;
+    /// // ten datagrams of 1200 bytes (RFC 9002, 7.2), and the size of the packet (B.2)
+    /// assert_eq!(recovery.window_and_flight(), (12_000, 1000));
+    /// # Ok::<(), Box<dyn std::error::Error>>(())
+    /// ```
     #[inline]
     pub fn window_and_flight(&self) -> (u64, u64) {
         // SAFETY: the handle holds a recovery, and no other call runs.
@@ -607,6 +619,20 @@ impl Recovery {
     }
 
     /// Returns whether a space tracks a packet that counts in flight (RFC 9002, 2), on either path.
+    ///
+    /// ```
+    /// # use quic_recovery::*;
+    /// # let at = |millis: u64| Instant::from_nanos(millis * 1_000_000);
+    /// # let space = SpaceId::Data;
+    /// # let mut recovery = Recovery::new(&RecoveryConfig::default(), at(0))?;
+    /// let (now, largest_acked, queue) = (at(0), None, &[]);
+    /// // a packet with only an ACK frame is not in flight (RFC 9002, 2)
+    /// recovery.apply(Event::Send { space, now, size: 0, ack_eliciting: false, largest_acked, queue })?;
+    /// assert!(!recovery.has_in_flight(space));
+    /// recovery.apply(Event::Send { space, now, size: 1200, ack_eliciting: true, largest_acked, queue })?;
+    /// assert!(recovery.has_in_flight(space));
+    /// # Ok::<(), Box<dyn std::error::Error>>(())
+    /// ```
     #[inline]
     pub fn has_in_flight(&self, space: SpaceId) -> bool {
         // SAFETY: the handle holds a recovery, and no other call runs.
@@ -645,6 +671,19 @@ impl Recovery {
     }
 
     /// Returns the number of the next packet of a space, unless it is skipped; `None` once the space is discarded.
+    ///
+    /// ```
+    /// # use quic_recovery::*;
+    /// # let at = |millis: u64| Instant::from_nanos(millis * 1_000_000);
+    /// # let space = SpaceId::Data;
+    /// # let mut recovery = Recovery::new(&RecoveryConfig::default(), at(0))?;
+    /// // each space begins with 0 (RFC 9000, 12.3)
+    /// assert_eq!(recovery.next_packet_number(space), Some(0));
+    /// let (size, ack_eliciting, largest_acked, queue) = (1200, true, None, &[7]);
+    /// recovery.apply(Event::Send { space, now: at(0), size, ack_eliciting, largest_acked, queue })?;
+    /// assert_eq!(recovery.next_packet_number(space), Some(1));
+    /// # Ok::<(), Box<dyn std::error::Error>>(())
+    /// ```
     pub fn next_packet_number(&self, space: SpaceId) -> Option<u64> {
         self.space(space).map(|it| it.next_packet_number)
     }
@@ -699,9 +738,12 @@ impl Recovery {
     /// # let at = |millis: u64| Instant::from_nanos(millis * 1_000_000);
     /// # let space = SpaceId::Data;
     /// # let mut recovery = Recovery::new(&RecoveryConfig::default(), at(0))?;
+    /// // the idle timeout restarts if a packet is received (RFC 9000, 10.1)
     /// let timer = Timer::Idle;
-    /// recovery.apply(Event::SetTimer { timer, time: at(30_000) })?;
-    /// assert_eq!(recovery.timer(timer), Some(at(30_000)));
+    /// for time in [at(30_000), at(30_005)] {
+    ///     recovery.apply(Event::SetTimer { timer, time })?;
+    /// }
+    /// assert_eq!(recovery.timer(timer), Some(at(30_005)));
     /// recovery.apply(Event::StopTimer { timer })?;
     /// assert_eq!(recovery.timer(timer), None);
     /// # Ok::<(), Box<dyn std::error::Error>>(())
@@ -722,8 +764,9 @@ impl Recovery {
     /// # let config = RecoveryConfig::default();
     /// let lifetime = Duration::from_secs(10);
     /// let config = RecoveryConfig { cid_lifetime: Some(lifetime), issued: 1, ..config };
-    /// let recovery = Recovery::new(&config, at(0))?;
-    /// assert_eq!(recovery.next_id_timeout(), Some(at(0) + lifetime));
+    /// let recovery = Recovery::new(&config, at(5))?;
+    /// // the ID of the handshake is issued at the start (RFC 9000, 5.1.1)
+    /// assert_eq!(recovery.next_id_timeout(), Some(at(5) + lifetime));
     /// # Ok::<(), Box<dyn std::error::Error>>(())
     /// ```
     pub fn next_id_timeout(&self) -> Option<Instant> {

@@ -332,7 +332,8 @@ fn of_kind(kind: u8, reply: ffi::EncodedReply) -> Result<ffi::EncodedReply, Send
 
 impl Sender {
     /// Returns a sender without any event, made at time `now`. The first path of a client is validated, whatever the
-    /// settings say (RFC 9000, 8.1). Fails if the configuration is invalid, or allocation fails.
+    /// settings say (RFC 9000, 8.1). If `now` is 0, a packet that is sent at 0 does not change the window (RFC 9002, B.3
+    /// and B.5): let the clock start earlier. Fails if the configuration is invalid, or allocation fails.
     ///
     /// ```
     /// # use quic_recovery::*;
@@ -504,6 +505,7 @@ impl Sender {
     ///     sender.send(space, at(0), 1200, true, None, &[item])?;
     /// }
     /// sender.on_ack(space, at(50), &Ack::default(), &[(0, 1)])?;
+    /// // acknowledged packets are no longer tracked (RFC 9002, A.7)
     /// assert_eq!(sender.smallest_tracked(space), Some(2));
     /// # Ok::<(), Box<dyn std::error::Error>>(())
     /// ```
@@ -710,8 +712,9 @@ impl Sender {
     /// let mut acked = Acknowledged::default();
     /// for number in 0..3 {
     ///     let (sent, received) = (at(100 * number), at(100 * number + 50));
-    ///     sender.send(space, sent, 1200, true, None, &[number])?;
-    ///     sender.on_ack_into(space, received, &Ack::default(), &[(number, number)], &mut acked)?;
+    ///     sender.send(space, sent, 1200, true, None, &[])?;
+    ///     sender.on_ack_into(space, received, &Ack::default(), &[(0, number)], &mut acked)?;
+    ///     // what was acknowledged before is not newly acknowledged (RFC 9002, A.7)
     ///     assert_eq!(acked.numbers, [number]);
     /// }
     /// # Ok::<(), Box<dyn std::error::Error>>(())
@@ -914,6 +917,21 @@ impl Sender {
     }
 
     /// Records that Handshake keys are available (RFC 9002, A.8).
+    ///
+    /// ```
+    /// # use quic_recovery::*;
+    /// # let at = |millis: u64| Instant::from_nanos(millis * 1_000_000);
+    /// # let config = RecoveryConfig::default();
+    /// let (mut client, space) = (Sender::new(Side::Client, &config, at(0))?, SpaceId::Initial);
+    /// client.send(space, at(0), 1200, true, None, &[7])?;
+    /// client.on_ack(space, at(50), &Ack::default(), &[(0, 0)])?;
+    /// // the server may not send before a datagram from the client: in Initial (RFC 9002, 6.2.2.1)
+    /// assert!(matches!(client.timer_state(), TimerState::DeadlockProbe { space: SpaceId::Initial, .. }));
+    /// client.on_handshake_keys();
+    /// // in Handshake, as soon as there are keys
+    /// assert!(matches!(client.timer_state(), TimerState::DeadlockProbe { space: SpaceId::Handshake, .. }));
+    /// # Ok::<(), Box<dyn std::error::Error>>(())
+    /// ```
     pub fn on_handshake_keys(&mut self) {
         // SAFETY: the handle holds a recovery, and `self` is borrowed alone.
         unsafe { ffi::recovery_ffi_sender_handshake_keys(self.recovery.handle()) };
@@ -944,6 +962,18 @@ impl Sender {
     }
 
     /// Validates the peer's address on the path in use (RFC 9000, 8.1 and 8.2).
+    ///
+    /// ```
+    /// # use quic_recovery::*;
+    /// # let at = |millis: u64| Instant::from_nanos(millis * 1_000_000);
+    /// # let config = RecoveryConfig::default();
+    /// let mut server = Sender::new(Side::Server, &config, at(0))?;
+    /// assert_eq!(server.transmit(at(0), 1200, SpaceId::Initial, true)?, Transmission::Blocked);
+    /// server.on_address_validated();
+    /// // the limit binds no longer (RFC 9000, 8.1)
+    /// assert_eq!(server.transmit(at(0), 1200, SpaceId::Initial, true)?, Transmission::Transmitted);
+    /// # Ok::<(), Box<dyn std::error::Error>>(())
+    /// ```
     pub fn on_address_validated(&mut self) {
         let path = PathName::Current;
         self.recovery.reply_to(Event::Validated { path });
@@ -995,6 +1025,21 @@ impl Sender {
     /// Stores the data of the outstanding PATH_CHALLENGE frame on the path in use, if any, and whether a PATH_CHALLENGE
     /// is to be sent (RFC 9000, 8.2.1). While one is outstanding, the window does not grow: an acknowledged packet may
     /// have been sent on the path before it (RFC 9000, 9.4).
+    ///
+    /// ```
+    /// # use quic_recovery::*;
+    /// # let at = |millis: u64| Instant::from_nanos(millis * 1_000_000);
+    /// # let space = SpaceId::Data;
+    /// # let mut sender = Sender::established(Side::Client, &RecoveryConfig::default(), at(0))?;
+    /// for (challenge, window) in [(Some(7), 12_000), (None, 13_200)] {
+    ///     sender.set_challenge(challenge, false);
+    ///     let sent = sender.send(space, at(1), 1200, true, None, &[])?.number;
+    ///     sender.on_ack(space, at(51), &Ack::default(), &[(sent, sent)])?;
+    ///     // in slow start an ACK adds the bytes that it acknowledges (RFC 9002, 7.3.1), unless a challenge is open
+    ///     assert_eq!(sender.recovery().window_and_flight(), (window, 0));
+    /// }
+    /// # Ok::<(), Box<dyn std::error::Error>>(())
+    /// ```
     pub fn set_challenge(&mut self, challenge: Option<u64>, pending: bool) {
         let (data, is_open) = (challenge.unwrap_or(0), challenge.is_some());
         let handle = self.recovery.handle();
