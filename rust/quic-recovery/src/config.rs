@@ -7,6 +7,22 @@ use std::net::{IpAddr, Ipv4Addr, SocketAddr};
 use std::time::Duration;
 
 /// The configuration of MTU discovery (RFC 8899, 5.1; RFC 9000, 14.3).
+///
+/// ```
+/// # use quic_recovery::*;
+/// # let at = |secs: u64| Instant::from_nanos(secs * 1_000_000_000);
+/// let mut mtu = MtuDiscovery::new(&TransportConfig::default(), None)?;
+/// let mut number = 0;
+/// while mtu.poll_transmit(at(0), number).is_some() {
+///     mtu.on_probe_lost();
+///     number += 1;
+/// }
+/// // no probe arrived; the next search begins after ten minutes (RFC 8899, 5.1.1)
+/// assert_eq!(mtu.current_mtu(), 1200);
+/// assert_eq!(mtu.poll_transmit(at(599), number), None);
+/// assert!(mtu.poll_transmit(at(600), number).is_some());
+/// # Ok::<(), Box<dyn std::error::Error>>(())
+/// ```
 #[derive(Clone, Copy, Debug, PartialEq, Eq)]
 pub struct MtuDiscoveryConfig {
     /// The time from the end of a search to the next one.

@@ -49,6 +49,22 @@ impl fmt::Display for SenderError {
 impl Error for SenderError {}
 
 /// Whether a datagram may be sent.
+///
+/// ```
+/// # use quic_recovery::*;
+/// # let at = |millis: u64| Instant::from_nanos(millis * 1_000_000);
+/// # let (mut config, space) = (RecoveryConfig::default(), SpaceId::Data);
+/// config.transport.congestion = Congestion::Fixed(120_000);
+/// let mut sender = Sender::established(Side::Client, &config, at(0))?;
+/// for _ in 0..10 {
+///     assert_eq!(sender.transmit(at(0), 1200, space, true)?, Transmission::Transmitted);
+/// }
+/// // the 12,000 bytes take this long at 5/4 of the window in each RTT of 333 ms (RFC 9002, 7.7)
+/// let until = Instant::from_nanos(26_640_000);
+/// assert_eq!(sender.transmit(at(0), 1200, space, true)?, Transmission::Delayed(until));
+/// assert_eq!(sender.transmit(until, 1200, space, true)?, Transmission::Transmitted);
+/// # Ok::<(), Box<dyn std::error::Error>>(())
+/// ```
 #[derive(Clone, Copy, Debug, PartialEq, Eq)]
 pub enum Transmission {
     /// It may, and is counted.
@@ -80,6 +96,23 @@ pub struct MtuProbe {
 }
 
 /// The fields of an ACK frame besides its ranges, and what the caller knows at its arrival.
+///
+/// ```
+/// # use std::time::Duration;
+/// # use quic_recovery::*;
+/// # let at = |millis: u64| Instant::from_nanos(millis * 1_000_000);
+/// # let space = SpaceId::Data;
+/// # let mut sender = Sender::established(Side::Client, &RecoveryConfig::default(), at(0))?;
+/// sender.send(space, at(1), 1200, true, None, &[])?;
+/// let counts = EcnCounts { ect0: 0, ect1: 0, ce: 1 };
+/// let ack = Ack { delay: Duration::from_millis(10), ecn: Some(counts), app_limited: false };
+/// let acked = sender.on_ack(space, at(101), &ack, &[(0, 0)])?;
+/// // the packet was marked on the way (RFC 9002, 7.1)
+/// assert_eq!(acked.ecn, EcnOutcome::Marked);
+/// // the first sample ignores the delay (RFC 9002, 5.3)
+/// assert_eq!(sender.recovery().rtt(), Duration::from_millis(100));
+/// # Ok::<(), Box<dyn std::error::Error>>(())
+/// ```
 #[derive(Clone, Copy, Debug, Default, PartialEq, Eq)]
 pub struct Ack {
     /// The ACK delay that the peer reports.
@@ -104,6 +137,25 @@ pub enum EcnOutcome {
 }
 
 /// The result of a loss detection pass.
+///
+/// ```
+/// # use quic_recovery::*;
+/// # let at = |millis: u64| Instant::from_nanos(millis * 1_000_000);
+/// # let space = SpaceId::Data;
+/// # let mut sender = Sender::established(Side::Client, &RecoveryConfig::default(), at(0))?;
+/// sender.send(space, at(1), 1200, true, None, &[])?;
+/// sender.on_ack(space, at(101), &Ack::default(), &[(0, 0)])?;
+/// for sent in [200, 1200, 1200, 1200, 1200] {
+///     sender.send(space, at(sent), 1200, true, None, &[])?;
+/// }
+/// let acked = sender.on_ack(space, at(1300), &Ack::default(), &[(5, 5)])?;
+/// assert_eq!(acked.losses.numbers, [1, 2]);
+/// // these were sent more than 3 * (100 + 4 * 37.5 + 25) ms apart (RFC 9002, 7.6.1)
+/// assert!(acked.losses.is_persistent);
+/// // the minimum window is two datagrams (RFC 9002, 7.2 and 7.6.2)
+/// assert_eq!(sender.recovery().window_and_flight().0, 2400);
+/// # Ok::<(), Box<dyn std::error::Error>>(())
+/// ```
 #[derive(Clone, Debug, Default, PartialEq, Eq)]
 pub struct Losses {
     /// The numbers of the lost packets, increasing; without that of the MTU probe.
