@@ -49,8 +49,8 @@ IN_RUST = {
 # what Rust says of an enum in place of the library, and of a variant beside it
 BESIDE = {
     "Event": [
-        "An event. A packet carries the numbers of items that are retransmitted if it is lost. The caller defines what the items",
-        "are.",
+        "An event. A packet carries the numbers of items that are retransmitted if it is lost. The caller defines what the",
+        "items are.",
     ],
     "Event::TakePending": [
         "",
@@ -60,9 +60,9 @@ BESIDE = {
     "Answer::Retire": ["", "Read the token by [`Recovery::reset_token`](crate::Recovery::reset_token)."],
     "Answer::Flag": [
         "",
-        "`true` means, for `IdTimeout`: ask the peer, by a NEW_CONNECTION_ID frame, to retire a connection ID that it did not",
-        "retire yet. For `PeerRetired`: the peer can hold one more connection ID. For `AckFrequencyIn`: the frame is newer than",
-        "the last one, and applies. For `Ecn`: more packets were marked with CE.",
+        "`true` means, for `IdTimeout`: ask the peer, by a NEW_CONNECTION_ID frame, to retire a connection ID that it did",
+        "not retire yet. For `PeerRetired`: the peer can hold one more connection ID. For `AckFrequencyIn`: the frame is",
+        "newer than the last one, and applies. For `Ecn`: more packets were marked with CE.",
     ],
 }
 # the example at an enum, which the tests of the crate run

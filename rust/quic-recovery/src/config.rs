@@ -158,7 +158,7 @@ pub struct TransportConfig {
     /// for item in 0..5 {
     ///     sender.send(space, at(0), 1200, true, None, &[item])?;
     /// }
-    /// // lost is what is at least four below the largest acknowledged (RFC 9002, 6.1.1)
+    /// // a packet is lost if one at least four above it is acknowledged (RFC 9002, 6.1.1)
     /// let acked = sender.on_ack(space, at(50), &Ack::default(), &[(4, 4)])?;
     /// assert_eq!(acked.losses.numbers, [0]);
     /// # Ok::<(), Box<dyn std::error::Error>>(())
@@ -215,7 +215,7 @@ impl Default for TransportConfig {
 /// let mut sender = Sender::established(Side::Client, &config, at(0))?;
 /// assert_eq!(sender.send(space, at(0), 1200, true, None, &[])?.number, 0);
 /// assert_eq!(sender.send(space, at(0), 1200, true, None, &[])?.number, 2);
-/// // the peer acknowledges what it cannot have received (RFC 9000, 21.4)
+/// // number 1 was skipped, so that the peer cannot have received it (RFC 9000, 21.4)
 /// let guessed = sender.on_ack(space, at(50), &Ack::default(), &[(0, 2)]);
 /// assert_eq!(guessed, Err(Refusal::SkippedAcked.into()));
 /// # Ok::<(), Box<dyn std::error::Error>>(())
@@ -238,12 +238,14 @@ pub enum Skips {
 /// # use std::time::Duration;
 /// let config = RecoveryConfig {
 ///     max_ack_delay: Duration::from_millis(10),
-///     skips: Skips::Drawn(0x9e37_79b9_7f4a_7c15),
+///     cid_lifetime: None,
 ///     ..RecoveryConfig::new("192.0.2.1:4433".parse()?, ConnectionId::from([7; 8]))
 /// };
 /// let sender = Sender::new(Side::Server, &config, at(0))?;
 /// // the local endpoint announces this delay (RFC 9000, 18.2)
 /// assert_eq!(sender.recovery().ids().max_ack_delay, Duration::from_millis(10));
+/// // no ID is to be retired at some time (RFC 9000, 5.1.2)
+/// assert_eq!(sender.recovery().next_id_timeout(), None);
 /// # Ok::<(), Box<dyn std::error::Error>>(())
 /// ```
 #[derive(Clone, Copy, Debug, PartialEq, Eq)]

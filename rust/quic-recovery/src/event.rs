@@ -12,8 +12,8 @@ use std::net::SocketAddr;
 use std::ops::Range;
 use std::time::Duration;
 
-/// An event. A packet carries the numbers of items that are retransmitted if it is lost. The caller defines what the items
-/// are.
+/// An event. A packet carries the numbers of items that are retransmitted if it is lost. The caller defines what the
+/// items are.
 ///
 /// ```
 /// # use quic_recovery::*;
@@ -354,9 +354,9 @@ pub enum Answer {
     Retire(Option<Range<u64>>),
     /// Yes or no, as the event defines.
     ///
-    /// `true` means, for `IdTimeout`: ask the peer, by a NEW_CONNECTION_ID frame, to retire a connection ID that it did not
-    /// retire yet. For `PeerRetired`: the peer can hold one more connection ID. For `AckFrequencyIn`: the frame is newer than
-    /// the last one, and applies. For `Ecn`: more packets were marked with CE.
+    /// `true` means, for `IdTimeout`: ask the peer, by a NEW_CONNECTION_ID frame, to retire a connection ID that it did
+    /// not retire yet. For `PeerRetired`: the peer can hold one more connection ID. For `AckFrequencyIn`: the frame is
+    /// newer than the last one, and applies. For `Ecn`: more packets were marked with CE.
     Flag(bool),
     /// The earliest running timer, if any.
     Timeout(Option<Instant>),

@@ -31,14 +31,14 @@ impl Error for InvalidArgument {}
 /// let mut mtu = MtuDiscovery::new(&TransportConfig::default(), None)?;
 /// let (now, mut number) = (Instant::from_nanos(0), 0);
 /// while let Some(size) = mtu.poll_transmit(now, number) {
-///     if size <= 1400 { // what the link carries
+///     if size <= 1400 {
 ///         assert!(mtu.on_acked(number, size));
 ///     } else {
 ///         mtu.on_probe_lost();
 ///     }
 ///     number += 1;
 /// }
-/// // less than twice `minimum_change` of 20 bytes below 1400
+/// // the link carries 1400 bytes; the search ends less than twice `minimum_change` of 20 bytes below
 /// assert!((1361..=1400).contains(&mtu.current_mtu()));
 /// # Ok::<(), Box<dyn std::error::Error>>(())
 /// ```

@@ -107,7 +107,7 @@ pub struct IdStats {
 /// let mut recovery = Recovery::new(&RecoveryConfig::default(), at(0))?;
 /// let packet = Event::Received { space, now: at(3), number: 0, ack_eliciting: true };
 /// assert!(matches!(recovery.apply(packet)?, Answer::New { .. }));
-/// // an ack-eliciting packet is acknowledged (RFC 9000, 13.2.1)
+/// // an ack-eliciting packet is to be acknowledged (RFC 9000, 13.2.1)
 /// assert_eq!(recovery.ranges(space).collect::<Vec<_>>(), [0..1]);
 /// assert_eq!(recovery.apply(Event::AcksSent { space })?, Answer::Done);
 /// # Ok::<(), Box<dyn std::error::Error>>(())
@@ -382,7 +382,7 @@ impl Recovery {
     /// recovery.apply(Event::Send { space, now: at(0), size, ack_eliciting, largest_acked, queue })?;
     /// let acked = Event::Acked { space, now: at(50), number: 0, app_limited: false };
     /// assert_eq!(recovery.apply(acked)?, Answer::Acked { probe: false });
-    /// // an acknowledged packet is not in flight (RFC 9002, A.7), and is not acknowledged again
+    /// // the packet is no longer in flight (RFC 9002, A.7); an event that fails changes nothing
     /// let before = recovery.window_and_flight();
     /// assert_eq!(before.1, 0);
     /// assert_eq!(recovery.apply(acked), Err(Refusal::NotTracked));
@@ -834,7 +834,7 @@ impl Recovery {
     /// recovery.apply(Event::IssueIds { now: at(0), ids: &[id] })?;
     /// // the numbers of IDs begin with that of the handshake, 0 (RFC 9000, 5.1.1)
     /// assert_eq!((recovery.ids().issued, recovery.ids().active), (2, 0));
-    /// // unless the peer states another one (RFC 9000, 18.2)
+    /// // the delay of a peer that states none (RFC 9000, 18.2)
     /// assert_eq!(recovery.ids().peer_max_ack_delay, Duration::from_millis(25));
     /// # Ok::<(), Box<dyn std::error::Error>>(())
     /// ```

@@ -59,7 +59,7 @@ impl Error for SenderError {}
 /// for _ in 0..10 {
 ///     assert_eq!(sender.transmit(at(0), 1200, space, true)?, Transmission::Transmitted);
 /// }
-/// // the 12,000 bytes take this long at 5/4 of the window in each RTT of 333 ms (RFC 9002, 7.7)
+/// // ten datagrams take this long at 5/4 of the window in each RTT of 333 ms (RFC 9002, 7.7)
 /// let until = Instant::from_nanos(26_640_000);
 /// assert_eq!(sender.transmit(at(0), 1200, space, true)?, Transmission::Delayed(until));
 /// assert_eq!(sender.transmit(until, 1200, space, true)?, Transmission::Transmitted);
@@ -337,7 +337,7 @@ pub enum TimerState {
 /// // an ack-eliciting packet is outstanding: the probe timeout runs (RFC 9002, A.8)
 /// sender.send(space, at(0), 1200, true, None, &[7])?;
 /// assert!(sender.timer().is_some());
-/// // it is acknowledged: nothing is left to probe for
+/// // it is acknowledged: nothing is left to probe for (RFC 9002, A.8)
 /// sender.on_ack(space, at(50), &Ack::default(), &[(0, 0)])?;
 /// assert_eq!(sender.timer(), None);
 /// # Ok::<(), Box<dyn std::error::Error>>(())
@@ -384,8 +384,8 @@ fn of_kind(kind: u8, reply: ffi::EncodedReply) -> Result<ffi::EncodedReply, Send
 
 impl Sender {
     /// Returns a sender without any event, made at time `now`. The first path of a client is validated, whatever the
-    /// settings say (RFC 9000, 8.1). If `now` is 0, a packet that is sent at 0 does not change the window (RFC 9002, B.3
-    /// and B.5): let the clock start earlier. Fails if the configuration is invalid, or allocation fails.
+    /// settings say (RFC 9000, 8.1). If `now` is 0, a packet that is sent at 0 does not change the window (RFC 9002,
+    /// B.3 and B.5): let the clock start earlier. Fails if the configuration is invalid, or allocation fails.
     ///
     /// ```
     /// # use quic_recovery::*;
@@ -729,7 +729,7 @@ impl Sender {
     /// let acked = sender.on_ack(space, at(100), &Ack::default(), &[(3, 3), (1, 1)])?;
     /// let packets: Vec<_> = acked.packets().collect();
     /// assert_eq!(packets, [(1, &[71][..]), (3, &[73][..])]);
-    /// // three below the largest acknowledged is lost (RFC 9002, 6.1.1)
+    /// // packet 0 is lost: it is three below the largest acknowledged (RFC 9002, 6.1.1)
     /// assert_eq!(acked.losses.numbers, [0]);
     /// let unsent = sender.on_ack(space, at(101), &Ack::default(), &[(9, 9)]);
     /// assert_eq!(unsent, Err(SenderError::Unsent));
@@ -868,7 +868,7 @@ impl Sender {
     ///     sender.send(space, at(0), 1200, true, None, &[item])?;
     /// }
     /// sender.on_ack(space, at(80), &Ack::default(), &[(1, 1)])?;
-    /// // a packet before it is lost once it is 9/8 of the RTT of 80 ms old (RFC 9002, 6.1.2)
+    /// // packet 0 is lost 9/8 of the RTT of 80 ms after it was sent (RFC 9002, 6.1.2)
     /// assert_eq!(sender.timer(), Some(at(90)));
     /// assert_eq!(sender.on_timeout(at(89))?, Timeout::Nothing);
     /// match sender.on_timeout(at(90))? {
@@ -921,7 +921,7 @@ impl Sender {
     ///     sender.send(space, at(0), 1200, true, None, &[item])?;
     /// }
     /// let now = at(333 + 666 + 25);
-    /// // two packets may be sent, also if the window is full (RFC 9002, 6.2.4 and 7.5)
+    /// // two packets may be sent, even if the window is full (RFC 9002, 6.2.4 and 7.5)
     /// assert_eq!(sender.on_timeout(now)?, Timeout::Probe { space, count: 2 });
     /// for item in [7, 8] {
     ///     assert_eq!(sender.transmit(now, 1200, space, true)?, Transmission::Transmitted);
@@ -977,10 +977,10 @@ impl Sender {
     /// let (mut client, space) = (Sender::new(Side::Client, &config, at(0))?, SpaceId::Initial);
     /// client.send(space, at(0), 1200, true, None, &[7])?;
     /// client.on_ack(space, at(50), &Ack::default(), &[(0, 0)])?;
-    /// // the server may not send before a datagram from the client: in Initial (RFC 9002, 6.2.2.1)
+    /// // the server may be blocked: an Initial packet is to be sent, so that it may send again (RFC 9002, 6.2.2.1)
     /// assert!(matches!(client.timer_state(), TimerState::DeadlockProbe { space: SpaceId::Initial, .. }));
     /// client.on_handshake_keys();
-    /// // in Handshake, as soon as there are keys
+    /// // with Handshake keys it is a Handshake packet
     /// assert!(matches!(client.timer_state(), TimerState::DeadlockProbe { space: SpaceId::Handshake, .. }));
     /// # Ok::<(), Box<dyn std::error::Error>>(())
     /// ```
@@ -1022,7 +1022,7 @@ impl Sender {
     /// let mut server = Sender::new(Side::Server, &config, at(0))?;
     /// assert_eq!(server.transmit(at(0), 1200, SpaceId::Initial, true)?, Transmission::Blocked);
     /// server.on_address_validated();
-    /// // the limit binds no longer (RFC 9000, 8.1)
+    /// // the limit no longer applies (RFC 9000, 8.1)
     /// assert_eq!(server.transmit(at(0), 1200, SpaceId::Initial, true)?, Transmission::Transmitted);
     /// # Ok::<(), Box<dyn std::error::Error>>(())
     /// ```
@@ -1051,10 +1051,10 @@ impl Sender {
         unsafe { ffi::recovery_ffi_sender_peer_delay(self.recovery.handle(), secs, nanos) };
     }
 
-    /// Sets the RTT that timers use before the first RTT sample of the path in use, in place of that of the settings (RFC
-    /// 9002, 6.2.2): for example that of an earlier connection to the same peer, or the time that a Retry took. Probe
-    /// timeout and loss delay follow at once; the pacer uses the settings until the first sample. A new path whose RTT
-    /// begins anew goes by the settings again.
+    /// Sets the RTT that timers use before the first RTT sample of the path in use, in place of that of the settings
+    /// (RFC 9002, 6.2.2): for example that of an earlier connection to the same peer, or the time that a Retry took.
+    /// Probe timeout and loss delay follow at once; the pacer uses the settings until the first sample. A new path whose
+    /// RTT starts from its initial value uses the settings again.
     ///
     /// ```
     /// # use std::time::Duration;
@@ -1111,7 +1111,7 @@ impl Sender {
     /// client.discard(space, at(50))?;
     /// // what was sent in the space is no longer in flight (RFC 9002, 6.4)
     /// assert!(!client.recovery().has_in_flight(space));
-    /// // a late ACK: drop it
+    /// // an ACK that comes too late: drop it
     /// let late = client.on_ack(space, at(60), &Ack::default(), &[(0, 0)]);
     /// assert_eq!(late, Err(Refusal::SpaceDiscarded.into()));
     /// # Ok::<(), Box<dyn std::error::Error>>(())
