@@ -1052,9 +1052,9 @@ impl Sender {
     }
 
     /// Sets the RTT that timers use before the first RTT sample of the path in use, in place of that of the settings
-    /// (RFC 9002, 6.2.2): for example that of an earlier connection to the same peer, or the time that a Retry took.
-    /// Probe timeout and loss delay follow at once; the pacer uses the settings until the first sample. A new path whose
-    /// RTT starts from its initial value uses the settings again.
+    /// (RFC 9002, 6.2.2). It may be that of an earlier connection to the same peer, or the time that a Retry took.
+    /// Probe timeout and loss delay follow at once; the pacer uses the settings until the first sample. A new path with
+    /// an initial RTT uses the settings again.
     ///
     /// ```
     /// # use std::time::Duration;
