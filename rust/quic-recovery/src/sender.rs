@@ -303,7 +303,8 @@ pub enum TimerState {
         /// When the timer expires.
         at: Instant,
     },
-    /// The probe timeout that ends a deadlock of the handshake (RFC 9002, 6.2.2.1).
+    /// The probe timeout that ends a deadlock of the handshake (RFC 9002, 6.2.2.1). It also runs while 1-RTT packets
+    /// are in flight and the handshake is not confirmed: they may fill the window that the handshake needs.
     DeadlockProbe {
         /// The space of the probe.
         space: SpaceId,
@@ -313,7 +314,8 @@ pub enum TimerState {
     /// The next datagram from the peer: the amplification limit lets no byte out (RFC 9000, 8.1).
     Blocked,
     /// The confirmation of the handshake: only 1-RTT packets are in flight, which are not probed for before (RFC 9002,
-    /// 6.2.1). If the handshake is confirmed, [`Sender::on_handshake_confirmed`] was not called.
+    /// 6.2.1), and the space of a deadlock probe is discarded. If the handshake is confirmed,
+    /// [`Sender::on_handshake_confirmed`] was not called.
     Unconfirmed,
     /// Nothing: no ack-eliciting packet is in flight that is probed for.
     Idle,
