@@ -49,8 +49,8 @@ IN_RUST = {
 # what Rust says of an enum in place of the library, and of a variant beside it
 BESIDE = {
     "Event": [
-        "An event. A packet carries the numbers of items that are retransmitted if it is lost. The caller defines what the items",
-        "are.",
+        "An event. A packet carries the numbers of items that are retransmitted if it is lost. The caller defines what the",
+        "items are.",
     ],
     "Event::TakePending": [
         "",
@@ -60,9 +60,62 @@ BESIDE = {
     "Answer::Retire": ["", "Read the token by [`Recovery::reset_token`](crate::Recovery::reset_token)."],
     "Answer::Flag": [
         "",
-        "`true` means, for `IdTimeout`: ask the peer, by a NEW_CONNECTION_ID frame, to retire a connection ID that it did not",
-        "retire yet. For `PeerRetired`: the peer can hold one more connection ID. For `AckFrequencyIn`: the frame is newer than",
-        "the last one, and applies. For `Ecn`: more packets were marked with CE.",
+        "`true` means, for `IdTimeout`: ask the peer, by a NEW_CONNECTION_ID frame, to retire a connection ID that it did",
+        "not retire yet. For `PeerRetired`: the peer can hold one more connection ID. For `AckFrequencyIn`: the frame is",
+        "newer than the last one, and applies. For `Ecn`: more packets were marked with CE.",
+    ],
+}
+# the example at an enum, which the tests of the crate run
+EXAMPLES = {
+    "Event": [
+        "",
+        "```",
+        "# use quic_recovery::*;",
+        "# let (space, now) = (SpaceId::Data, Instant::from_nanos(0));",
+        "# let mut recovery = Recovery::new(&RecoveryConfig::default(), now)?;",
+        "let packet = Event::Received { space, now, number: 0, ack_eliciting: true };",
+        "assert!(matches!(recovery.apply(packet)?, Answer::New { .. }));",
+        "// a number is new once (RFC 9000, 12.3)",
+        "assert_eq!(recovery.apply(packet)?, Answer::Duplicate);",
+        "# Ok::<(), Box<dyn std::error::Error>>(())",
+        "```",
+    ],
+    "Answer": [
+        "",
+        "```",
+        "# use quic_recovery::*;",
+        "# let (space, now) = (SpaceId::Data, Instant::from_nanos(0));",
+        "# let mut recovery = Recovery::new(&RecoveryConfig::default(), now)?;",
+        "let (size, ack_eliciting, largest_acked, queue) = (1200, true, None, &[7]);",
+        "let sent = Event::Send { space, now, size, ack_eliciting, largest_acked, queue };",
+        "if let Answer::Sent { number, .. } = recovery.apply(sent)? {",
+        '    println!("write the number {number} into the header");',
+        "}",
+        "// in flight are the packets that elicit an ACK, or have padding (RFC 9002, 2)",
+        "let path = PathName::Current;",
+        "let flight = recovery.apply(Event::InFlight { path })?;",
+        "assert_eq!(flight, Answer::InFlight { bytes: 1200, ack_eliciting: 1 });",
+        "# Ok::<(), Box<dyn std::error::Error>>(())",
+        "```",
+    ],
+    "Refusal": [
+        "",
+        "```",
+        "# use quic_recovery::*;",
+        "# let now = Instant::from_nanos(0);",
+        "# let mut recovery = Recovery::new(&RecoveryConfig::default(), now)?;",
+        "let space = SpaceId::Initial;",
+        "let acked = Event::Acked { space, now, number: 9, app_limited: false };",
+        "// no packet of this number was sent (RFC 9002, A.7)",
+        "assert_eq!(recovery.apply(acked), Err(Refusal::NotTracked));",
+        "recovery.apply(Event::DiscardSpace { space })?;",
+        "match recovery.apply(acked) {",
+        "    // the keys are dropped, and the packets with them (RFC 9002, 6.4): drop the frame",
+        "    Err(Refusal::SpaceDiscarded) => {}",
+        '    other => panic!("{other:?}"),',
+        "}",
+        "# Ok::<(), Box<dyn std::error::Error>>(())",
+        "```",
     ],
 }
 LOGIC = ROOT / "LOGIC"
@@ -378,7 +431,7 @@ def fields(body):
 def enum_in_rust(name, derived, parameters=""):
     """An enum as the library has it, with Rust's own types, and with what is said of it in Rust beside."""
     docs, body = re.search(rf"((?:^///[^\n]*\n)+)^#[^\n]*\n^pub enum {name}(?:<.*?>)? \{{\n(.*?)^\}}", EVENT.read_text(), re.M | re.S).groups()
-    yield from (f"/// {it}" for it in BESIDE.get(name, documented(docs)))
+    yield from (f"/// {it}".rstrip() for it in BESIDE.get(name, documented(docs)) + EXAMPLES.get(name, []))
     yield f"#[derive({derived})]"
     yield "#[non_exhaustive]"
     yield f"pub enum {name}{parameters} {{"

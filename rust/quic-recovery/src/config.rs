@@ -7,6 +7,22 @@ use std::net::{IpAddr, Ipv4Addr, SocketAddr};
 use std::time::Duration;
 
 /// The configuration of MTU discovery (RFC 8899, 5.1; RFC 9000, 14.3).
+///
+/// ```
+/// # use quic_recovery::*;
+/// # let at = |secs: u64| Instant::from_nanos(secs * 1_000_000_000);
+/// let mut mtu = MtuDiscovery::new(&TransportConfig::default(), None)?;
+/// let mut number = 0;
+/// while mtu.poll_transmit(at(0), number).is_some() {
+///     mtu.on_probe_lost();
+///     number += 1;
+/// }
+/// // no probe arrived; the next search begins after ten minutes (RFC 8899, 5.1.1)
+/// assert_eq!(mtu.current_mtu(), 1200);
+/// assert_eq!(mtu.poll_transmit(at(599), number), None);
+/// assert!(mtu.poll_transmit(at(600), number).is_some());
+/// # Ok::<(), Box<dyn std::error::Error>>(())
+/// ```
 #[derive(Clone, Copy, Debug, PartialEq, Eq)]
 pub struct MtuDiscoveryConfig {
     /// The time from the end of a search to the next one.
@@ -67,6 +83,22 @@ impl Default for CubicConfig {
 }
 
 /// Which congestion controller paths have.
+///
+/// ```
+/// # use quic_recovery::*;
+/// # let at = |millis: u64| Instant::from_nanos(millis * 1_000_000);
+/// # let (mut config, space) = (RecoveryConfig::default(), SpaceId::Data);
+/// config.transport.congestion = Congestion::NewReno(NewRenoConfig::default());
+/// let mut sender = Sender::established(Side::Client, &config, at(0))?;
+/// for item in 0..4 {
+///     sender.send(space, at(1), 1200, true, None, &[item])?;
+/// }
+/// // the ACK adds the 1200 bytes that it acknowledges (RFC 9002, 7.3.1); the loss then halves the window (7.3.2)
+/// let acked = sender.on_ack(space, at(51), &Ack::default(), &[(3, 3)])?;
+/// assert_eq!(acked.losses.congestion, Some(1200));
+/// assert_eq!(sender.recovery().window_and_flight().0, (12_000 + 1200) / 2);
+/// # Ok::<(), Box<dyn std::error::Error>>(())
+/// ```
 #[derive(Clone, Copy, Debug, PartialEq, Eq)]
 pub enum Congestion {
     /// NewReno (RFC 9002, 7).
@@ -85,6 +117,23 @@ impl Default for Congestion {
 }
 
 /// The configuration of paths.
+///
+/// ```
+/// # use quic_recovery::*;
+/// # let at = |millis: u64| Instant::from_nanos(millis * 1_000_000);
+/// # use std::time::Duration;
+/// let mut config = RecoveryConfig::default();
+/// config.transport.initial_rtt = Duration::from_millis(50);
+/// config.transport.congestion = Congestion::Cubic(CubicConfig { initial_window: 14_720 });
+/// config.transport.mtu_discovery_config = None;
+/// let mut sender = Sender::established(Side::Client, &config, at(0))?;
+/// // ten datagrams of 1472 bytes (RFC 9002, 7.2)
+/// assert_eq!(sender.recovery().window_and_flight(), (14_720, 0));
+/// // the RTT before the first sample, and four times half of it (RFC 9002, 5.3 and 6.2)
+/// assert_eq!(sender.recovery().pto_base(), Duration::from_millis(150));
+/// assert_eq!(sender.poll_mtu(at(0))?, None);
+/// # Ok::<(), Box<dyn std::error::Error>>(())
+/// ```
 #[derive(Clone, Copy, Debug, PartialEq, Eq)]
 pub struct TransportConfig {
     /// The RTT that a path uses before its first sample (RFC 9002, 6.2.2).
@@ -99,10 +148,40 @@ pub struct TransportConfig {
     pub congestion: Congestion,
     /// The packet threshold of a [`Sender`](crate::Sender): a packet is lost if one with a number at least this much
     /// larger is acknowledged. RFC 9002, 6.1.1 recommends at least 3; 0 counts as 1.
+    ///
+    /// ```
+    /// # use quic_recovery::*;
+    /// # let at = |millis: u64| Instant::from_nanos(millis * 1_000_000);
+    /// # let (mut config, space) = (RecoveryConfig::default(), SpaceId::Data);
+    /// config.transport.packet_threshold = 4;
+    /// let mut sender = Sender::established(Side::Client, &config, at(0))?;
+    /// for item in 0..5 {
+    ///     sender.send(space, at(0), 1200, true, None, &[item])?;
+    /// }
+    /// // a packet is lost if one at least four above it is acknowledged (RFC 9002, 6.1.1)
+    /// let acked = sender.on_ack(space, at(50), &Ack::default(), &[(4, 4)])?;
+    /// assert_eq!(acked.losses.numbers, [0]);
+    /// # Ok::<(), Box<dyn std::error::Error>>(())
+    /// ```
     pub packet_threshold: u32,
     /// The time threshold of a [`Sender`](crate::Sender), in RTTs: numerator and denominator, which is above zero. A
     /// packet is lost this long after it was sent, if a later one is acknowledged (RFC 9002, 6.1.2). A smaller fraction
     /// than 1 counts as 1.
+    ///
+    /// ```
+    /// # use quic_recovery::*;
+    /// # let at = |millis: u64| Instant::from_nanos(millis * 1_000_000);
+    /// # let (mut config, space) = (RecoveryConfig::default(), SpaceId::Data);
+    /// config.transport.time_threshold = (5, 4);
+    /// let mut sender = Sender::established(Side::Client, &config, at(0))?;
+    /// for item in 0..2 {
+    ///     sender.send(space, at(0), 1200, true, None, &[item])?;
+    /// }
+    /// sender.on_ack(space, at(100), &Ack::default(), &[(1, 1)])?;
+    /// // packet 0 is lost after 5/4 of the RTT of 100 ms (RFC 9002, 6.1.2)
+    /// assert_eq!(sender.timer(), Some(at(125)));
+    /// # Ok::<(), Box<dyn std::error::Error>>(())
+    /// ```
     pub time_threshold: (u64, u64),
     /// How many probe timeouts persistent congestion lasts, for a [`Sender`](crate::Sender) (RFC 9002, 7.6.1); 0 counts
     /// as 1.
@@ -127,6 +206,20 @@ impl Default for TransportConfig {
 }
 
 /// How 1-RTT packet numbers are skipped (RFC 9000, 21.4).
+///
+/// ```
+/// # use quic_recovery::*;
+/// # let at = |millis: u64| Instant::from_nanos(millis * 1_000_000);
+/// # let (mut config, space) = (RecoveryConfig::default(), SpaceId::Data);
+/// config.skips = Skips::Starting(1, 7);
+/// let mut sender = Sender::established(Side::Client, &config, at(0))?;
+/// assert_eq!(sender.send(space, at(0), 1200, true, None, &[])?.number, 0);
+/// assert_eq!(sender.send(space, at(0), 1200, true, None, &[])?.number, 2);
+/// // number 1 was skipped, so that the peer cannot have received it (RFC 9000, 21.4)
+/// let guessed = sender.on_ack(space, at(50), &Ack::default(), &[(0, 2)]);
+/// assert_eq!(guessed, Err(Refusal::SkippedAcked.into()));
+/// # Ok::<(), Box<dyn std::error::Error>>(())
+/// ```
 #[derive(Clone, Copy, Debug, PartialEq, Eq)]
 pub enum Skips {
     /// No number is skipped.
@@ -138,6 +231,23 @@ pub enum Skips {
 }
 
 /// The configuration of a recovery.
+///
+/// ```
+/// # use quic_recovery::*;
+/// # let at = |millis: u64| Instant::from_nanos(millis * 1_000_000);
+/// # use std::time::Duration;
+/// let config = RecoveryConfig {
+///     max_ack_delay: Duration::from_millis(10),
+///     cid_lifetime: None,
+///     ..RecoveryConfig::new("192.0.2.1:4433".parse()?, ConnectionId::from([7; 8]))
+/// };
+/// let sender = Sender::new(Side::Server, &config, at(0))?;
+/// // the local endpoint announces this delay (RFC 9000, 18.2)
+/// assert_eq!(sender.recovery().ids().max_ack_delay, Duration::from_millis(10));
+/// // no ID is to be retired at some time (RFC 9000, 5.1.2)
+/// assert_eq!(sender.recovery().next_id_timeout(), None);
+/// # Ok::<(), Box<dyn std::error::Error>>(())
+/// ```
 #[derive(Clone, Copy, Debug, PartialEq, Eq)]
 pub struct RecoveryConfig {
     /// The configuration of paths.

@@ -12,8 +12,19 @@ use std::net::SocketAddr;
 use std::ops::Range;
 use std::time::Duration;
 
-/// An event. A packet carries the numbers of items that are retransmitted if it is lost. The caller defines what the items
-/// are.
+/// An event. A packet carries the numbers of items that are retransmitted if it is lost. The caller defines what the
+/// items are.
+///
+/// ```
+/// # use quic_recovery::*;
+/// # let (space, now) = (SpaceId::Data, Instant::from_nanos(0));
+/// # let mut recovery = Recovery::new(&RecoveryConfig::default(), now)?;
+/// let packet = Event::Received { space, now, number: 0, ack_eliciting: true };
+/// assert!(matches!(recovery.apply(packet)?, Answer::New { .. }));
+/// // a number is new once (RFC 9000, 12.3)
+/// assert_eq!(recovery.apply(packet)?, Answer::Duplicate);
+/// # Ok::<(), Box<dyn std::error::Error>>(())
+/// ```
 #[derive(Clone, Copy, Debug, PartialEq, Eq)]
 #[non_exhaustive]
 pub enum Event<'a> {
@@ -293,6 +304,22 @@ pub enum Event<'a> {
 }
 
 /// The answer to an event that is not rejected.
+///
+/// ```
+/// # use quic_recovery::*;
+/// # let (space, now) = (SpaceId::Data, Instant::from_nanos(0));
+/// # let mut recovery = Recovery::new(&RecoveryConfig::default(), now)?;
+/// let (size, ack_eliciting, largest_acked, queue) = (1200, true, None, &[7]);
+/// let sent = Event::Send { space, now, size, ack_eliciting, largest_acked, queue };
+/// if let Answer::Sent { number, .. } = recovery.apply(sent)? {
+///     println!("write the number {number} into the header");
+/// }
+/// // in flight are the packets that elicit an ACK, or have padding (RFC 9002, 2)
+/// let path = PathName::Current;
+/// let flight = recovery.apply(Event::InFlight { path })?;
+/// assert_eq!(flight, Answer::InFlight { bytes: 1200, ack_eliciting: 1 });
+/// # Ok::<(), Box<dyn std::error::Error>>(())
+/// ```
 #[derive(Clone, Debug, PartialEq, Eq)]
 #[non_exhaustive]
 pub enum Answer {
@@ -327,9 +354,9 @@ pub enum Answer {
     Retire(Option<Range<u64>>),
     /// Yes or no, as the event defines.
     ///
-    /// `true` means, for `IdTimeout`: ask the peer, by a NEW_CONNECTION_ID frame, to retire a connection ID that it did not
-    /// retire yet. For `PeerRetired`: the peer can hold one more connection ID. For `AckFrequencyIn`: the frame is newer than
-    /// the last one, and applies. For `Ecn`: more packets were marked with CE.
+    /// `true` means, for `IdTimeout`: ask the peer, by a NEW_CONNECTION_ID frame, to retire a connection ID that it did
+    /// not retire yet. For `PeerRetired`: the peer can hold one more connection ID. For `AckFrequencyIn`: the frame is
+    /// newer than the last one, and applies. For `Ecn`: more packets were marked with CE.
     Flag(bool),
     /// The earliest running timer, if any.
     Timeout(Option<Instant>),
@@ -410,6 +437,23 @@ impl fmt::Display for EcnFault {
 }
 
 /// Why an event is rejected. The state is unchanged, except for the frame's number that `DelayTooSmall` stores.
+///
+/// ```
+/// # use quic_recovery::*;
+/// # let now = Instant::from_nanos(0);
+/// # let mut recovery = Recovery::new(&RecoveryConfig::default(), now)?;
+/// let space = SpaceId::Initial;
+/// let acked = Event::Acked { space, now, number: 9, app_limited: false };
+/// // no packet of this number was sent (RFC 9002, A.7)
+/// assert_eq!(recovery.apply(acked), Err(Refusal::NotTracked));
+/// recovery.apply(Event::DiscardSpace { space })?;
+/// match recovery.apply(acked) {
+///     // the keys are dropped, and the packets with them (RFC 9002, 6.4): drop the frame
+///     Err(Refusal::SpaceDiscarded) => {}
+///     other => panic!("{other:?}"),
+/// }
+/// # Ok::<(), Box<dyn std::error::Error>>(())
+/// ```
 #[derive(Clone, Copy, Debug, PartialEq, Eq, Hash)]
 #[non_exhaustive]
 pub enum Refusal {

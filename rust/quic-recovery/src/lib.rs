@@ -13,17 +13,15 @@
 //! use quic_recovery::{Ack, Instant, RecoveryConfig, Sender, Side, SpaceId, Transmission};
 //!
 //! let at = |millis: u64| Instant::from_nanos(millis * 1_000_000);
-//! let mut sender = Sender::established(Side::Client, &RecoveryConfig::default(), at(0))?;
 //! let space = SpaceId::Data;
+//! let mut sender = Sender::established(Side::Client, &RecoveryConfig::default(), at(0))?;
 //! for item in 0..4 {
-//!     assert_eq!(sender.transmit(at(0), 1200, space, true)?, Transmission::Transmitted);
-//!     sender.send(space, at(0), 1200, true, None, &[item])?;
+//!     assert_eq!(sender.transmit(at(1), 1200, space, true)?, Transmission::Transmitted);
+//!     sender.send(space, at(1), 1200, true, None, &[item])?;
 //! }
-//! let acked = sender.on_ack(space, at(100), &Ack::default(), &[(2, 3)])?;
-//! assert_eq!(acked.numbers, [2, 3]);
-//! // 1 is lost if it is not acknowledged within 9/8 of the RTT (RFC 9002, 6.1.2)
-//! assert_eq!(acked.losses.numbers, [0]);
-//! assert_eq!(sender.timer(), Some(Instant::from_nanos(112_500_000)));
+//! let acked = sender.on_ack(space, at(101), &Ack::default(), &[(3, 3)])?;
+//! // packet 0 is lost: it is three below the largest acknowledged (RFC 9002, 6.1.1)
+//! assert_eq!((acked.numbers, acked.losses.numbers), (vec![3], vec![0]));
 //! # Ok::<(), Box<dyn std::error::Error>>(())
 //! ```
 //!
@@ -32,20 +30,14 @@
 //! ```
 //! use quic_recovery::{Answer, Event, Instant, Recovery, RecoveryConfig, SpaceId};
 //!
-//! let mut recovery = Recovery::new(&RecoveryConfig::default(), Instant::from_nanos(0))?;
-//! let sent = recovery.apply(Event::Send {
-//!     space: SpaceId::Data,
-//!     now: Instant::from_nanos(0),
-//!     size: 1200,
-//!     ack_eliciting: true,
-//!     largest_acked: None,
-//!     queue: &[7, 8],
-//! })?;
+//! let (space, now) = (SpaceId::Data, Instant::from_nanos(0));
+//! let mut recovery = Recovery::new(&RecoveryConfig::default(), now)?;
+//! let (size, ack_eliciting, largest_acked, queue) = (1200, true, None, &[7, 8]);
+//! let sent = recovery.apply(Event::Send { space, now, size, ack_eliciting, largest_acked, queue })?;
 //! assert_eq!(sent, Answer::Sent { number: 0, forgotten: None });
-//! let lost = recovery.apply(Event::Lost { space: SpaceId::Data, number: 0 })?;
-//! assert_eq!(lost, Answer::Lost { probe: false });
-//! let again = recovery.apply(Event::TakePending { space: SpaceId::Data })?;
-//! assert_eq!(again, Answer::Queue(vec![7, 8]));
+//! recovery.apply(Event::Lost { space, number: 0 })?;
+//! // what a lost packet carried is to be sent again (RFC 9000, 13.3)
+//! assert_eq!(recovery.apply(Event::TakePending { space })?, Answer::Queue(vec![7, 8]));
 //! # Ok::<(), Box<dyn std::error::Error>>(())
 //! ```
 

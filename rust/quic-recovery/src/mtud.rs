@@ -27,22 +27,20 @@ impl Error for InvalidArgument {}
 /// `recovery_mtud`).
 ///
 /// ```
-/// use quic_recovery::{Instant, MtuDiscovery, TransportConfig};
-///
+/// # use quic_recovery::*;
 /// let mut mtu = MtuDiscovery::new(&TransportConfig::default(), None)?;
-/// let now = Instant::from_nanos(0);
-/// let mut number = 0;
+/// let (now, mut number) = (Instant::from_nanos(0), 0);
 /// while let Some(size) = mtu.poll_transmit(now, number) {
-///     // a link that carries 1500 bytes
-///     if size <= 1500 {
+///     if size <= 1400 {
 ///         assert!(mtu.on_acked(number, size));
 ///     } else {
 ///         mtu.on_probe_lost();
 ///     }
 ///     number += 1;
 /// }
-/// assert_eq!(mtu.current_mtu(), 1452);
-/// # Ok::<(), quic_recovery::ConfigError>(())
+/// // the link carries 1400 bytes; the search ends less than twice `minimum_change` of 20 bytes below
+/// assert!((1361..=1400).contains(&mtu.current_mtu()));
+/// # Ok::<(), Box<dyn std::error::Error>>(())
 /// ```
 pub struct MtuDiscovery {
     /// It holds a discovery from `new` to `drop`, and its bytes are moved while it is read.
@@ -136,6 +134,18 @@ impl MtuDiscovery {
 
     /// Sets the largest packet that the peer accepts. Fails if it is 0, or while a search is running: set the limit
     /// before the first poll.
+    ///
+    /// ```
+    /// # use quic_recovery::*;
+    /// # let mut mtu = MtuDiscovery::new(&TransportConfig::default(), None)?;
+    /// # let now = Instant::from_nanos(0);
+    /// mtu.on_peer_max_udp_payload_size_received(1300)?;
+    /// // the peer does not process larger datagrams (RFC 9000, 18.2)
+    /// let size = mtu.poll_transmit(now, 0).expect("a search begins at the first poll");
+    /// assert!(1200 < size && size <= 1300);
+    /// assert_eq!(mtu.on_peer_max_udp_payload_size_received(1400), Err(InvalidArgument));
+    /// # Ok::<(), Box<dyn std::error::Error>>(())
+    /// ```
     pub fn on_peer_max_udp_payload_size_received(
         &mut self,
         size: u16,
@@ -168,6 +178,23 @@ impl MtuDiscovery {
 
     /// Ends the losses of packets that were lost together. Returns whether they are a black hole, which resets the MTU
     /// to the minimum and delays the next search by the cooldown (RFC 8899, 4.3).
+    ///
+    /// ```
+    /// # use quic_recovery::*;
+    /// # let mut mtu = MtuDiscovery::new(&TransportConfig::default(), None)?;
+    /// # let now = Instant::from_nanos(0);
+    /// // a probe is acknowledged, and then the path no longer carries packets of its size
+    /// let size = mtu.poll_transmit(now, 0).expect("a search begins at the first poll");
+    /// mtu.on_acked(0, size);
+    /// let found = (0..4).any(|burst| {
+    ///     mtu.on_non_probe_lost(10 * (burst + 1), size);
+    ///     mtu.black_hole_detected(now)
+    /// });
+    /// assert!(found);
+    /// // the smallest size that QUIC requires of a path (RFC 8899, 4.3; RFC 9000, 14)
+    /// assert_eq!(mtu.current_mtu(), 1200);
+    /// # Ok::<(), Box<dyn std::error::Error>>(())
+    /// ```
     pub fn black_hole_detected(&mut self, now: Instant) -> bool {
         let handle = self.handle.get_mut();
         // SAFETY: the handle holds a discovery.

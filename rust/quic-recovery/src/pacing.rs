@@ -11,19 +11,19 @@ use std::time::Duration;
 /// The RTT is in nanoseconds, at most `u64::MAX`; window, MTU and packets are in bytes.
 ///
 /// ```
-/// use quic_recovery::{Instant, Pacer};
-/// use std::time::Duration;
-///
-/// let rtt = Duration::from_millis(333);
-/// let start = Instant::from_nanos(0);
+/// # use quic_recovery::*;
+/// # use std::time::Duration;
+/// let (rtt, start) = (Duration::from_millis(333), Instant::from_nanos(0));
 /// let mut pacer = Pacer::new(rtt, 12_000, 1200, start)?;
 /// for _ in 0..10 {
 ///     assert_eq!(pacer.delay(rtt, 1200, 1200, 12_000, start)?, None);
 ///     pacer.on_transmit(1200);
 /// }
-/// let until = pacer.delay(rtt, 1200, 1200, 12_000, start)?;
-/// assert_eq!(until, Some(Instant::from_nanos(266_400_000)));
-/// # Ok::<(), quic_recovery::InvalidArgument>(())
+/// // 5/4 of the window in each RTT (RFC 9002, 7.7): the bucket of 12,000 bytes is full again after 4/5 of 333 ms
+/// let full = start + Duration::from_micros(266_400);
+/// assert_eq!(pacer.delay(rtt, 1200, 1200, 12_000, start)?, Some(full));
+/// assert_eq!(pacer.delay(rtt, 1200, 1200, 12_000, full)?, None);
+/// # Ok::<(), Box<dyn std::error::Error>>(())
 /// ```
 #[derive(Clone, Copy, Debug, PartialEq, Eq)]
 pub struct Pacer {

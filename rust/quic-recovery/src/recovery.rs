@@ -98,6 +98,20 @@ pub struct IdStats {
 /// I/O and reads no clock. Each answer is proved to follow from the events before it.
 ///
 /// It may move to another thread, and be used by one thread at a time.
+///
+/// ```
+/// use quic_recovery::*;
+///
+/// let at = |millis: u64| Instant::from_nanos(millis * 1_000_000);
+/// let space = SpaceId::Data;
+/// let mut recovery = Recovery::new(&RecoveryConfig::default(), at(0))?;
+/// let packet = Event::Received { space, now: at(3), number: 0, ack_eliciting: true };
+/// assert!(matches!(recovery.apply(packet)?, Answer::New { .. }));
+/// // an ack-eliciting packet is to be acknowledged (RFC 9000, 13.2.1)
+/// assert_eq!(recovery.ranges(space).collect::<Vec<_>>(), [0..1]);
+/// assert_eq!(recovery.apply(Event::AcksSent { space })?, Answer::Done);
+/// # Ok::<(), Box<dyn std::error::Error>>(())
+/// ```
 pub struct Recovery {
     /// It holds a recovery from `new` to `drop`. The library moves its bytes while it reads them, so reading too needs
     /// a mutable pointer. No call is made within another.
@@ -286,8 +300,22 @@ unsafe fn hand_in(handle: *mut ffi::Handle, event: Event<'_>) -> ffi::EncodedRep
 }
 
 impl Recovery {
-    /// Returns a recovery without any event, made at time `now`. Fails if the configuration is invalid, or allocation
-    /// fails.
+    /// Returns a recovery without any event, made at time `now`. A packet that is sent at `now` itself does not change
+    /// the window (RFC 9002, B.5). Fails if the configuration is invalid, or allocation fails.
+    ///
+    /// ```
+    /// # use quic_recovery::*;
+    /// # let at = |millis: u64| Instant::from_nanos(millis * 1_000_000);
+    /// # let config = RecoveryConfig::default();
+    /// let recovery = Recovery::new(&config, at(0))?;
+    /// // the initial window, with nothing in flight (RFC 9002, 7.2)
+    /// assert_eq!(recovery.window_and_flight(), (12_000, 0));
+    /// // no packet fits into a datagram of 0 bytes
+    /// let mut wrong = config;
+    /// wrong.transport.initial_mtu = 0;
+    /// assert_eq!(Recovery::new(&wrong, at(0)).err(), Some(ConfigError::ZeroMtu));
+    /// # Ok::<(), Box<dyn std::error::Error>>(())
+    /// ```
     pub fn new(config: &RecoveryConfig, now: Instant) -> Result<Self, ConfigError> {
         Recovery::of(Form::Bare, config, now)
     }
@@ -344,6 +372,23 @@ impl Recovery {
 
     /// Applies one event, as a whole or not at all. After an error the state is unchanged, except for the sequence
     /// number of an ACK_FREQUENCY frame that fails with `DelayTooSmall`, which is stored.
+    ///
+    /// ```
+    /// # use quic_recovery::*;
+    /// # let at = |millis: u64| Instant::from_nanos(millis * 1_000_000);
+    /// # let space = SpaceId::Data;
+    /// # let mut recovery = Recovery::new(&RecoveryConfig::default(), at(0))?;
+    /// let (size, ack_eliciting, largest_acked, queue) = (1200, true, None, &[7]);
+    /// recovery.apply(Event::Send { space, now: at(0), size, ack_eliciting, largest_acked, queue })?;
+    /// let acked = Event::Acked { space, now: at(50), number: 0, app_limited: false };
+    /// assert_eq!(recovery.apply(acked)?, Answer::Acked { probe: false });
+    /// // the packet is no longer in flight (RFC 9002, A.7); an event that fails changes nothing
+    /// let before = recovery.window_and_flight();
+    /// assert_eq!(before.1, 0);
+    /// assert_eq!(recovery.apply(acked), Err(Refusal::NotTracked));
+    /// assert_eq!(recovery.window_and_flight(), before);
+    /// # Ok::<(), Box<dyn std::error::Error>>(())
+    /// ```
     #[inline]
     pub fn apply(&mut self, event: Event<'_>) -> Result<Answer, Refusal> {
         let reply = self.reply_to(event);
@@ -427,6 +472,22 @@ impl Recovery {
 
     /// Returns the token of the last `Answer::Retire` of a connection ID (RFC 9000, 10.3.1), all zeros before the
     /// first.
+    ///
+    /// ```
+    /// # use quic_recovery::*;
+    /// # let at = |millis: u64| Instant::from_nanos(millis * 1_000_000);
+    /// # let space = SpaceId::Data;
+    /// # let mut recovery = Recovery::new(&RecoveryConfig::default(), at(0))?;
+    /// let (id, reset_token) = (ConnectionId::from([1; 8]), ResetToken::from([2; 16]));
+    /// recovery.apply(Event::NewId(NewConnectionId { sequence: 1, retire_prior_to: 0, id, reset_token }))?;
+    /// // the next ID is used from now on, and ID 0 is retired (RFC 9000, 5.1.2)
+    /// assert_eq!(recovery.apply(Event::NextId)?, Answer::Retire(Some(0..1)));
+    /// assert_eq!(recovery.active_id(), 1);
+    /// // a datagram that ends with the token of this ID is a stateless reset (RFC 9000, 10.3.1)
+    /// assert_eq!(recovery.reset_token(), reset_token);
+    /// assert!(recovery.is_reset_token(&[2; 16]));
+    /// # Ok::<(), Box<dyn std::error::Error>>(())
+    /// ```
     pub fn reset_token(&self) -> ResetToken {
         let mut bytes = [0; 16];
         // SAFETY: the handle holds a recovery, no other call runs, and sixteen bytes are written.
@@ -442,6 +503,23 @@ impl Recovery {
     }
 
     /// Returns the state of a path, or `None` if there is no such path.
+    ///
+    /// ```
+    /// # use quic_recovery::*;
+    /// # let at = |millis: u64| Instant::from_nanos(millis * 1_000_000);
+    /// # let space = SpaceId::Data;
+    /// # let mut recovery = Recovery::new(&RecoveryConfig::default(), at(0))?;
+    /// let (path, bytes) = (PathName::Current, 1200);
+    /// recovery.apply(Event::DatagramIn { path, bytes })?;
+    /// let stats = recovery.path(path).expect("there is always a current path");
+    /// assert_eq!((stats.total_recvd, stats.validated), (1200, false));
+    /// // before a sample the deviation is half of the RTT (RFC 9002, 5.3)
+    /// assert_eq!(stats.rtt.variance, stats.rtt.get / 2);
+    /// // before a loss there is no threshold (RFC 9002, 7.3.1)
+    /// assert_eq!(stats.ssthresh, Some(u64::MAX));
+    /// assert_eq!(recovery.path(PathName::Previous), None);
+    /// # Ok::<(), Box<dyn std::error::Error>>(())
+    /// ```
     pub fn path(&self, path: PathName) -> Option<PathStats> {
         // SAFETY: the handle holds a recovery, and no other call runs.
         let view = unsafe { ffi::recovery_ffi_path(self.handle.get(), is_previous(path)) };
@@ -471,6 +549,18 @@ impl Recovery {
 
     /// Returns how many bytes may be in flight on the path in use (RFC 9002, 7), and how many are. This and the four
     /// readings below cost a few instructions; [`Recovery::path`] and [`Recovery::ids`] read all.
+    ///
+    /// ```
+    /// # use quic_recovery::*;
+    /// # let at = |millis: u64| Instant::from_nanos(millis * 1_000_000);
+    /// # let space = SpaceId::Data;
+    /// # let mut recovery = Recovery::new(&RecoveryConfig::default(), at(0))?;
+    /// let (size, ack_eliciting, largest_acked, queue) = (1000, true, None, &[7]);
+    /// recovery.apply(Event::Send { space, now: at(0), size, ack_eliciting, largest_acked, queue })?;
+    /// // ten datagrams of 1200 bytes (RFC 9002, 7.2), and the size of the packet (B.2)
+    /// assert_eq!(recovery.window_and_flight(), (12_000, 1000));
+    /// # Ok::<(), Box<dyn std::error::Error>>(())
+    /// ```
     #[inline]
     pub fn window_and_flight(&self) -> (u64, u64) {
         // SAFETY: the handle holds a recovery, and no other call runs.
@@ -480,6 +570,21 @@ impl Recovery {
 
     /// Returns the RTT estimate of the path in use: the smoothed one, or the initial one before the first sample (RFC
     /// 9002, 5.3).
+    ///
+    /// ```
+    /// # use std::time::Duration;
+    /// # use quic_recovery::*;
+    /// # let at = |millis: u64| Instant::from_nanos(millis * 1_000_000);
+    /// # let space = SpaceId::Data;
+    /// # let mut recovery = Recovery::new(&RecoveryConfig::default(), at(0))?;
+    /// for millis in [100, 60] {
+    ///     let rtt = Duration::from_millis(millis);
+    ///     recovery.apply(Event::Sample { delay: Duration::ZERO, rtt })?;
+    /// }
+    /// // 7/8 of the estimate and 1/8 of the sample (RFC 9002, 5.3)
+    /// assert_eq!(recovery.rtt(), Duration::from_millis(95));
+    /// # Ok::<(), Box<dyn std::error::Error>>(())
+    /// ```
     #[inline]
     pub fn rtt(&self) -> Duration {
         // SAFETY: the handle holds a recovery, and no other call runs.
@@ -487,6 +592,19 @@ impl Recovery {
     }
 
     /// Returns the probe timeout of the path in use without the peer's max_ack_delay (RFC 9002, 6.2.1).
+    ///
+    /// ```
+    /// # use std::time::Duration;
+    /// # use quic_recovery::*;
+    /// # let at = |millis: u64| Instant::from_nanos(millis * 1_000_000);
+    /// # let space = SpaceId::Data;
+    /// # let mut recovery = Recovery::new(&RecoveryConfig::default(), at(0))?;
+    /// let rtt = Duration::from_millis(100);
+    /// recovery.apply(Event::Sample { delay: Duration::ZERO, rtt })?;
+    /// // the first sample, and four times half of it (RFC 9002, 5.3 and 6.2.1)
+    /// assert_eq!(recovery.pto_base(), Duration::from_millis(300));
+    /// # Ok::<(), Box<dyn std::error::Error>>(())
+    /// ```
     #[inline]
     pub fn pto_base(&self) -> Duration {
         // SAFETY: the handle holds a recovery, and no other call runs.
@@ -501,6 +619,20 @@ impl Recovery {
     }
 
     /// Returns whether a space tracks a packet that counts in flight (RFC 9002, 2), on any path.
+    ///
+    /// ```
+    /// # use quic_recovery::*;
+    /// # let at = |millis: u64| Instant::from_nanos(millis * 1_000_000);
+    /// # let space = SpaceId::Data;
+    /// # let mut recovery = Recovery::new(&RecoveryConfig::default(), at(0))?;
+    /// let (now, largest_acked, queue) = (at(0), None, &[]);
+    /// // a packet with only an ACK frame is not in flight (RFC 9002, 2)
+    /// recovery.apply(Event::Send { space, now, size: 0, ack_eliciting: false, largest_acked, queue })?;
+    /// assert!(!recovery.has_in_flight(space));
+    /// recovery.apply(Event::Send { space, now, size: 1200, ack_eliciting: true, largest_acked, queue })?;
+    /// assert!(recovery.has_in_flight(space));
+    /// # Ok::<(), Box<dyn std::error::Error>>(())
+    /// ```
     #[inline]
     pub fn has_in_flight(&self, space: SpaceId) -> bool {
         // SAFETY: the handle holds a recovery, and no other call runs.
@@ -508,6 +640,22 @@ impl Recovery {
     }
 
     /// Returns what a space has to send, or `None` once it is discarded.
+    ///
+    /// ```
+    /// # use quic_recovery::*;
+    /// # let at = |millis: u64| Instant::from_nanos(millis * 1_000_000);
+    /// # let space = SpaceId::Data;
+    /// # let mut recovery = Recovery::new(&RecoveryConfig::default(), at(0))?;
+    /// recovery.apply(Event::Received { space, now: at(0), number: 0, ack_eliciting: true })?;
+    /// recovery.apply(Event::AckDelayTimeout { space })?;
+    /// let stats = recovery.space(space).expect("its keys are not discarded");
+    /// // an ACK is required at the end of the delay (RFC 9000, 13.2.1)
+    /// assert!(stats.can_send.acks);
+    /// assert_eq!((stats.largest_received, stats.ranges), (0, 1));
+    /// recovery.apply(Event::DiscardSpace { space: SpaceId::Initial })?;
+    /// assert_eq!(recovery.space(SpaceId::Initial), None);
+    /// # Ok::<(), Box<dyn std::error::Error>>(())
+    /// ```
     pub fn space(&self, space: SpaceId) -> Option<SpaceStats> {
         // SAFETY: the handle holds a recovery, and no other call runs.
         let view = unsafe { ffi::recovery_ffi_space(self.handle.get(), space as u8) };
@@ -523,12 +671,37 @@ impl Recovery {
     }
 
     /// Returns the number of the next packet of a space, unless it is skipped; `None` once the space is discarded.
+    ///
+    /// ```
+    /// # use quic_recovery::*;
+    /// # let at = |millis: u64| Instant::from_nanos(millis * 1_000_000);
+    /// # let space = SpaceId::Data;
+    /// # let mut recovery = Recovery::new(&RecoveryConfig::default(), at(0))?;
+    /// // each space begins with 0 (RFC 9000, 12.3)
+    /// assert_eq!(recovery.next_packet_number(space), Some(0));
+    /// let (size, ack_eliciting, largest_acked, queue) = (1200, true, None, &[7]);
+    /// recovery.apply(Event::Send { space, now: at(0), size, ack_eliciting, largest_acked, queue })?;
+    /// assert_eq!(recovery.next_packet_number(space), Some(1));
+    /// # Ok::<(), Box<dyn std::error::Error>>(())
+    /// ```
     pub fn next_packet_number(&self, space: SpaceId) -> Option<u64> {
         self.space(space).map(|it| it.next_packet_number)
     }
 
     /// Returns how long ago the largest packet of a space was received, for the ACK Delay of an ACK frame (RFC 9000,
     /// 13.2.5 and 19.3): zero before the first, and `None` once the space is discarded.
+    ///
+    /// ```
+    /// # use std::time::Duration;
+    /// # use quic_recovery::*;
+    /// # let at = |millis: u64| Instant::from_nanos(millis * 1_000_000);
+    /// # let space = SpaceId::Data;
+    /// # let mut recovery = Recovery::new(&RecoveryConfig::default(), at(0))?;
+    /// recovery.apply(Event::Received { space, now: at(5), number: 0, ack_eliciting: true })?;
+    /// // from its arrival to the ACK (RFC 9000, 13.2.5)
+    /// assert_eq!(recovery.ack_delay(space, at(12)), Some(Duration::from_millis(7)));
+    /// # Ok::<(), Box<dyn std::error::Error>>(())
+    /// ```
     pub fn ack_delay(&self, space: SpaceId, now: Instant) -> Option<Duration> {
         // SAFETY: the handle holds a recovery, and no other call runs.
         let view =
@@ -537,6 +710,19 @@ impl Recovery {
     }
 
     /// Returns the ranges of packet numbers to be acknowledged in a space, in ascending order.
+    ///
+    /// ```
+    /// # use quic_recovery::*;
+    /// # let at = |millis: u64| Instant::from_nanos(millis * 1_000_000);
+    /// # let space = SpaceId::Data;
+    /// # let mut recovery = Recovery::new(&RecoveryConfig::default(), at(0))?;
+    /// for number in [0, 1, 5] {
+    ///     recovery.apply(Event::Received { space, now: at(number), number, ack_eliciting: true })?;
+    /// }
+    /// // an ACK frame names what was received (RFC 9000, 19.3)
+    /// assert_eq!(recovery.ranges(space).collect::<Vec<_>>(), [0..2, 5..6]);
+    /// # Ok::<(), Box<dyn std::error::Error>>(())
+    /// ```
     pub fn ranges(&self, space: SpaceId) -> impl Iterator<Item = Range<u64>> + '_ {
         (0..).map_while(move |index| {
             // SAFETY: the handle holds a recovery, and no other call runs.
@@ -546,6 +732,22 @@ impl Recovery {
     }
 
     /// Returns when a timer expires, if it is running.
+    ///
+    /// ```
+    /// # use quic_recovery::*;
+    /// # let at = |millis: u64| Instant::from_nanos(millis * 1_000_000);
+    /// # let space = SpaceId::Data;
+    /// # let mut recovery = Recovery::new(&RecoveryConfig::default(), at(0))?;
+    /// // the idle timeout restarts if a packet is received (RFC 9000, 10.1)
+    /// let timer = Timer::Idle;
+    /// for time in [at(30_000), at(30_005)] {
+    ///     recovery.apply(Event::SetTimer { timer, time })?;
+    /// }
+    /// assert_eq!(recovery.timer(timer), Some(at(30_005)));
+    /// recovery.apply(Event::StopTimer { timer })?;
+    /// assert_eq!(recovery.timer(timer), None);
+    /// # Ok::<(), Box<dyn std::error::Error>>(())
+    /// ```
     pub fn timer(&self, timer: Timer) -> Option<Instant> {
         // SAFETY: the handle holds a recovery, and no other call runs.
         let view = unsafe { ffi::recovery_ffi_timer(self.handle.get(), timer as u8) };
@@ -554,6 +756,19 @@ impl Recovery {
 
     /// Returns when the oldest of the local connection IDs is to be retired (RFC 9000, 5.1.2), if they expire. Set
     /// `Timer::PushNewCid` to it.
+    ///
+    /// ```
+    /// # use std::time::Duration;
+    /// # use quic_recovery::*;
+    /// # let at = |millis: u64| Instant::from_nanos(millis * 1_000_000);
+    /// # let config = RecoveryConfig::default();
+    /// let lifetime = Duration::from_secs(10);
+    /// let config = RecoveryConfig { cid_lifetime: Some(lifetime), issued: 1, ..config };
+    /// let recovery = Recovery::new(&config, at(5))?;
+    /// // the ID of the handshake is issued at the start (RFC 9000, 5.1.1)
+    /// assert_eq!(recovery.next_id_timeout(), Some(at(5) + lifetime));
+    /// # Ok::<(), Box<dyn std::error::Error>>(())
+    /// ```
     pub fn next_id_timeout(&self) -> Option<Instant> {
         // SAFETY: the handle holds a recovery, and no other call runs.
         let view = unsafe { ffi::recovery_ffi_next_id_timeout(self.handle.get()) };
@@ -577,6 +792,20 @@ impl Recovery {
 
     /// Stores the caller's marks of a path, without an event. Returns false and changes nothing if there is no such
     /// path.
+    ///
+    /// ```
+    /// # use quic_recovery::*;
+    /// # let at = |millis: u64| Instant::from_nanos(millis * 1_000_000);
+    /// # let space = SpaceId::Data;
+    /// # let mut recovery = Recovery::new(&RecoveryConfig::default(), at(0))?;
+    /// let path = PathName::Current;
+    /// let marks = PathMarks { challenge: Some(7), ..PathMarks::default() };
+    /// assert!(recovery.set_marks(path, &marks));
+    /// assert_eq!(recovery.marks(path), Some(marks));
+    /// // there is one path before a migration (RFC 9000, 9)
+    /// assert!(!recovery.set_marks(PathName::Previous, &marks));
+    /// # Ok::<(), Box<dyn std::error::Error>>(())
+    /// ```
     pub fn set_marks(&mut self, path: PathName, marks: &PathMarks) -> bool {
         let first = marks.first_packet_after_rtt_sample;
         let given = ffi::Marks {
@@ -594,6 +823,21 @@ impl Recovery {
     }
 
     /// Returns the connection IDs of both endpoints, and their max_ack_delay.
+    ///
+    /// ```
+    /// # use std::time::Duration;
+    /// # use quic_recovery::*;
+    /// # let at = |millis: u64| Instant::from_nanos(millis * 1_000_000);
+    /// # let space = SpaceId::Data;
+    /// # let mut recovery = Recovery::new(&RecoveryConfig::default(), at(0))?;
+    /// let id = IssuedCid::new(1, ConnectionId::from([9; 8]), ResetToken::from([3; 16]));
+    /// recovery.apply(Event::IssueIds { now: at(0), ids: &[id] })?;
+    /// // the numbers of IDs begin with that of the handshake, 0 (RFC 9000, 5.1.1)
+    /// assert_eq!((recovery.ids().issued, recovery.ids().active), (2, 0));
+    /// // the delay of a peer that states none (RFC 9000, 18.2)
+    /// assert_eq!(recovery.ids().peer_max_ack_delay, Duration::from_millis(25));
+    /// # Ok::<(), Box<dyn std::error::Error>>(())
+    /// ```
     pub fn ids(&self) -> IdStats {
         // SAFETY: the handle holds a recovery, and no other call runs.
         let view = unsafe { ffi::recovery_ffi_ids(self.handle.get()) };

@@ -49,6 +49,22 @@ impl fmt::Display for SenderError {
 impl Error for SenderError {}
 
 /// Whether a datagram may be sent.
+///
+/// ```
+/// # use quic_recovery::*;
+/// # let at = |millis: u64| Instant::from_nanos(millis * 1_000_000);
+/// # let (mut config, space) = (RecoveryConfig::default(), SpaceId::Data);
+/// config.transport.congestion = Congestion::Fixed(120_000);
+/// let mut sender = Sender::established(Side::Client, &config, at(0))?;
+/// for _ in 0..10 {
+///     assert_eq!(sender.transmit(at(0), 1200, space, true)?, Transmission::Transmitted);
+/// }
+/// // ten datagrams take this long at 5/4 of the window in each RTT of 333 ms (RFC 9002, 7.7)
+/// let until = Instant::from_nanos(26_640_000);
+/// assert_eq!(sender.transmit(at(0), 1200, space, true)?, Transmission::Delayed(until));
+/// assert_eq!(sender.transmit(until, 1200, space, true)?, Transmission::Transmitted);
+/// # Ok::<(), Box<dyn std::error::Error>>(())
+/// ```
 #[derive(Clone, Copy, Debug, PartialEq, Eq)]
 pub enum Transmission {
     /// It may, and is counted.
@@ -80,6 +96,23 @@ pub struct MtuProbe {
 }
 
 /// The fields of an ACK frame besides its ranges, and what the caller knows at its arrival.
+///
+/// ```
+/// # use std::time::Duration;
+/// # use quic_recovery::*;
+/// # let at = |millis: u64| Instant::from_nanos(millis * 1_000_000);
+/// # let space = SpaceId::Data;
+/// # let mut sender = Sender::established(Side::Client, &RecoveryConfig::default(), at(0))?;
+/// sender.send(space, at(1), 1200, true, None, &[])?;
+/// let counts = EcnCounts { ect0: 0, ect1: 0, ce: 1 };
+/// let ack = Ack { delay: Duration::from_millis(10), ecn: Some(counts), app_limited: false };
+/// let acked = sender.on_ack(space, at(101), &ack, &[(0, 0)])?;
+/// // the packet was marked on the way (RFC 9002, 7.1)
+/// assert_eq!(acked.ecn, EcnOutcome::Marked);
+/// // the first sample ignores the delay (RFC 9002, 5.3)
+/// assert_eq!(sender.recovery().rtt(), Duration::from_millis(100));
+/// # Ok::<(), Box<dyn std::error::Error>>(())
+/// ```
 #[derive(Clone, Copy, Debug, Default, PartialEq, Eq)]
 pub struct Ack {
     /// The ACK delay that the peer reports.
@@ -104,6 +137,25 @@ pub enum EcnOutcome {
 }
 
 /// The result of a loss detection pass.
+///
+/// ```
+/// # use quic_recovery::*;
+/// # let at = |millis: u64| Instant::from_nanos(millis * 1_000_000);
+/// # let space = SpaceId::Data;
+/// # let mut sender = Sender::established(Side::Client, &RecoveryConfig::default(), at(0))?;
+/// sender.send(space, at(1), 1200, true, None, &[])?;
+/// sender.on_ack(space, at(101), &Ack::default(), &[(0, 0)])?;
+/// for sent in [200, 1200, 1200, 1200, 1200] {
+///     sender.send(space, at(sent), 1200, true, None, &[])?;
+/// }
+/// let acked = sender.on_ack(space, at(1300), &Ack::default(), &[(5, 5)])?;
+/// assert_eq!(acked.losses.numbers, [1, 2]);
+/// // these were sent more than 3 * (100 + 4 * 37.5 + 25) ms apart (RFC 9002, 7.6.1)
+/// assert!(acked.losses.is_persistent);
+/// // the minimum window is two datagrams (RFC 9002, 7.2 and 7.6.2)
+/// assert_eq!(sender.recovery().window_and_flight().0, 2400);
+/// # Ok::<(), Box<dyn std::error::Error>>(())
+/// ```
 #[derive(Clone, Debug, Default, PartialEq, Eq)]
 pub struct Losses {
     /// The numbers of the lost packets, increasing; without that of the MTU probe.
@@ -251,7 +303,8 @@ pub enum TimerState {
         /// When the timer expires.
         at: Instant,
     },
-    /// The probe timeout that ends a deadlock of the handshake (RFC 9002, 6.2.2.1).
+    /// The probe timeout that ends a deadlock of the handshake (RFC 9002, 6.2.2.1). It also runs while 1-RTT packets
+    /// are in flight and the handshake is not confirmed: they may fill the window that the handshake needs.
     DeadlockProbe {
         /// The space of the probe.
         space: SpaceId,
@@ -261,7 +314,8 @@ pub enum TimerState {
     /// The next datagram from the peer: the amplification limit lets no byte out (RFC 9000, 8.1).
     Blocked,
     /// The confirmation of the handshake: only 1-RTT packets are in flight, which are not probed for before (RFC 9002,
-    /// 6.2.1). If the handshake is confirmed, [`Sender::on_handshake_confirmed`] was not called.
+    /// 6.2.1), and the space of a deadlock probe is discarded. If the handshake is confirmed,
+    /// [`Sender::on_handshake_confirmed`] was not called.
     Unconfirmed,
     /// Nothing: no ack-eliciting packet is in flight that is probed for.
     Idle,
@@ -274,7 +328,22 @@ pub enum TimerState {
 /// The reply and effect of each call are proved, and the promises of a recovery hold too. A call that fails changes
 /// nothing, unless its documentation says otherwise; memory for an answer is allocated first. After each call,
 /// [`Sender::timer`] is when to call [`Sender::on_timeout`]. Sums of times and durations are capped at their largest
-/// values.
+/// values. The examples of the calls begin as this one does:
+///
+/// ```
+/// use quic_recovery::*;
+///
+/// let at = |millis: u64| Instant::from_nanos(millis * 1_000_000);
+/// let space = SpaceId::Data;
+/// let mut sender = Sender::established(Side::Client, &RecoveryConfig::default(), at(0))?;
+/// // an ack-eliciting packet is outstanding: the probe timeout runs (RFC 9002, A.8)
+/// sender.send(space, at(0), 1200, true, None, &[7])?;
+/// assert!(sender.timer().is_some());
+/// // it is acknowledged: nothing is left to probe for (RFC 9002, A.8)
+/// sender.on_ack(space, at(50), &Ack::default(), &[(0, 0)])?;
+/// assert_eq!(sender.timer(), None);
+/// # Ok::<(), Box<dyn std::error::Error>>(())
+/// ```
 #[derive(Debug)]
 pub struct Sender {
     /// Its handle holds the recovery of a sender.
@@ -317,7 +386,23 @@ fn of_kind(kind: u8, reply: ffi::EncodedReply) -> Result<ffi::EncodedReply, Send
 
 impl Sender {
     /// Returns a sender without any event, made at time `now`. The first path of a client is validated, whatever the
-    /// settings say (RFC 9000, 8.1). Fails if the configuration is invalid, or allocation fails.
+    /// settings say (RFC 9000, 8.1). If `now` is 0, a packet that is sent at 0 does not change the window (RFC 9002,
+    /// B.3 and B.5): let the clock start earlier. Fails if the configuration is invalid, or allocation fails.
+    ///
+    /// ```
+    /// # use quic_recovery::*;
+    /// # let at = |millis: u64| Instant::from_nanos(millis * 1_000_000);
+    /// # let config = RecoveryConfig::default();
+    /// let mut server = Sender::new(Side::Server, &config, at(0))?;
+    /// // an unvalidated client gets at most three times the bytes received from it (RFC 9000, 8.1)
+    /// let datagram = server.transmit(at(0), 1200, SpaceId::Initial, true)?;
+    /// assert_eq!(datagram, Transmission::Blocked);
+    /// // a client has no such limit
+    /// let mut client = Sender::new(Side::Client, &config, at(0))?;
+    /// let datagram = client.transmit(at(0), 1200, SpaceId::Initial, true)?;
+    /// assert_eq!(datagram, Transmission::Transmitted);
+    /// # Ok::<(), Box<dyn std::error::Error>>(())
+    /// ```
     pub fn new(side: Side, config: &RecoveryConfig, now: Instant) -> Result<Self, ConfigError> {
         Ok(Sender {
             recovery: Recovery::of(Form::Handshaking(side), config, now)?,
@@ -329,6 +414,18 @@ impl Sender {
     /// [`Sender::on_address_validated`], [`Sender::on_handshake_confirmed`], and discards the Initial and Handshake
     /// spaces (RFC 9001, 4.1.2 and 4.9). It sends and probes for 1-RTT packets only. The errors are those of
     /// [`Sender::new`].
+    ///
+    /// ```
+    /// # use quic_recovery::*;
+    /// # let at = |millis: u64| Instant::from_nanos(millis * 1_000_000);
+    /// # let config = RecoveryConfig::default();
+    /// let mut server = Sender::established(Side::Server, &config, at(0))?;
+    /// assert_eq!(server.transmit(at(0), 1200, SpaceId::Data, true)?, Transmission::Transmitted);
+    /// // without keys no Initial packet can be sent (RFC 9001, 4.9.1)
+    /// let initial = server.send(SpaceId::Initial, at(0), 1200, true, None, &[]);
+    /// assert_eq!(initial, Err(Refusal::SpaceDiscarded.into()));
+    /// # Ok::<(), Box<dyn std::error::Error>>(())
+    /// ```
     pub fn established(
         side: Side,
         config: &RecoveryConfig,
@@ -342,26 +439,58 @@ impl Sender {
 
     /// Returns the recovery, for reading: paths, spaces, ranges to be acknowledged, connection IDs, timers, taken
     /// items.
+    ///
+    /// ```
+    /// # use std::time::Duration;
+    /// # use quic_recovery::*;
+    /// # let at = |millis: u64| Instant::from_nanos(millis * 1_000_000);
+    /// # let space = SpaceId::Data;
+    /// # let mut sender = Sender::established(Side::Client, &RecoveryConfig::default(), at(0))?;
+    /// sender.send(space, at(0), 1200, true, None, &[7])?;
+    /// assert!(sender.recovery().has_in_flight(space));
+    /// sender.on_ack(space, at(100), &Ack::default(), &[(0, 0)])?;
+    /// // the first sample is the RTT (RFC 9002, 5.3)
+    /// assert_eq!(sender.recovery().rtt(), Duration::from_millis(100));
+    /// # Ok::<(), Box<dyn std::error::Error>>(())
+    /// ```
     pub fn recovery(&self) -> &Recovery {
         &self.recovery
     }
 
     /// Returns when the loss detection timer is due, as the last call set it (RFC 9002, A.8).
+    ///
+    /// ```
+    /// # use quic_recovery::*;
+    /// # let at = |millis: u64| Instant::from_nanos(millis * 1_000_000);
+    /// # let space = SpaceId::Data;
+    /// # let mut sender = Sender::established(Side::Client, &RecoveryConfig::default(), at(0))?;
+    /// sender.send(space, at(5), 1200, true, None, &[7])?;
+    /// // 333 ms before a sample, four times half of that, and the peer's max_ack_delay (RFC 9002, 5.3 and 6.2)
+    /// assert_eq!(sender.timer(), Some(at(5 + 333 + 666 + 25)));
+    /// # Ok::<(), Box<dyn std::error::Error>>(())
+    /// ```
     pub fn timer(&self) -> Option<Instant> {
         self.recovery.timer(Timer::LossDetection)
     }
 
     /// Returns what the timer for losses waits for, or why it is not set: the first thing to read if a transfer waits.
     ///
-    /// ```no_run
+    /// ```
     /// # use quic_recovery::*;
-    /// # fn on_stall(sender: &Sender) {
-    /// match sender.timer_state() {
-    ///     TimerState::Unconfirmed => println!("call on_handshake_confirmed"),
-    ///     TimerState::Blocked => println!("the peer's address is not validated"),
-    ///     state => println!("{state:?}"),
+    /// # let at = |millis: u64| Instant::from_nanos(millis * 1_000_000);
+    /// # let config = RecoveryConfig::default();
+    /// let mut server = Sender::new(Side::Server, &config, at(0))?;
+    /// server.on_datagram(1200)?;
+    /// for item in 0..3 {
+    ///     server.transmit(at(0), 1200, SpaceId::Initial, true)?;
+    ///     server.send(SpaceId::Initial, at(0), 1200, true, None, &[item])?;
     /// }
-    /// # }
+    /// // three times 1200 bytes are sent (RFC 9000, 8.1): no timer runs (RFC 9002, 6.2.2.1)
+    /// assert_eq!(server.timer_state(), TimerState::Blocked);
+    /// server.on_address_validated();
+    /// // 333 + 4 * 166.5 ms: in this space no max_ack_delay is added (RFC 9002, 6.2.1)
+    /// assert_eq!(server.timer_state(), TimerState::Probes { space: SpaceId::Initial, at: at(999) });
+    /// # Ok::<(), Box<dyn std::error::Error>>(())
     /// ```
     pub fn timer_state(&self) -> TimerState {
         let view = self.view();
@@ -380,12 +509,39 @@ impl Sender {
 
     /// Returns how many bytes more fit into the congestion window of the path in use (RFC 9002, 7). A datagram that
     /// counts in flight and is larger is [`Transmission::Full`].
+    ///
+    /// ```
+    /// # use quic_recovery::*;
+    /// # let at = |millis: u64| Instant::from_nanos(millis * 1_000_000);
+    /// # let space = SpaceId::Data;
+    /// # let mut sender = Sender::established(Side::Client, &RecoveryConfig::default(), at(0))?;
+    /// // ten datagrams of 1200 bytes (RFC 9002, 7.2)
+    /// assert_eq!(sender.window_room(), 12_000);
+    /// sender.send(space, at(0), 1200, true, None, &[7])?;
+    /// assert_eq!(sender.window_room(), 10_800);
+    /// # Ok::<(), Box<dyn std::error::Error>>(())
+    /// ```
     pub fn window_room(&self) -> u64 {
         self.view().window_room
     }
 
     /// Returns how many bytes the amplification limit still lets out on the path in use (RFC 9000, 8.1); `None` if its
     /// address is validated, so that no limit binds it.
+    ///
+    /// ```
+    /// # use quic_recovery::*;
+    /// # let at = |millis: u64| Instant::from_nanos(millis * 1_000_000);
+    /// # let config = RecoveryConfig::default();
+    /// let mut server = Sender::new(Side::Server, &config, at(0))?;
+    /// server.on_datagram(1200)?;
+    /// // three times the bytes received (RFC 9000, 8.1)
+    /// assert_eq!(server.amplification_room(), Some(3600));
+    /// server.transmit(at(0), 1200, SpaceId::Initial, true)?;
+    /// assert_eq!(server.amplification_room(), Some(2400));
+    /// server.on_address_validated();
+    /// assert_eq!(server.amplification_room(), None);
+    /// # Ok::<(), Box<dyn std::error::Error>>(())
+    /// ```
     pub fn amplification_room(&self) -> Option<u64> {
         let view = self.view();
         view.is_limited.then_some(view.amplification_room)
@@ -393,6 +549,20 @@ impl Sender {
 
     /// Returns the smallest packet number that a space tracks, if any: all smaller ones are acknowledged, lost,
     /// forgotten or discarded. A stack chooses the length of packet numbers by it (RFC 9000, 17.1).
+    ///
+    /// ```
+    /// # use quic_recovery::*;
+    /// # let at = |millis: u64| Instant::from_nanos(millis * 1_000_000);
+    /// # let space = SpaceId::Data;
+    /// # let mut sender = Sender::established(Side::Client, &RecoveryConfig::default(), at(0))?;
+    /// for item in 0..3 {
+    ///     sender.send(space, at(0), 1200, true, None, &[item])?;
+    /// }
+    /// sender.on_ack(space, at(50), &Ack::default(), &[(0, 1)])?;
+    /// // acknowledged packets are no longer tracked (RFC 9002, A.7)
+    /// assert_eq!(sender.smallest_tracked(space), Some(2));
+    /// # Ok::<(), Box<dyn std::error::Error>>(())
+    /// ```
     pub fn smallest_tracked(&self, space: SpaceId) -> Option<u64> {
         // SAFETY: the handle holds a recovery, and no other call runs.
         let view =
@@ -406,6 +576,21 @@ impl Sender {
     }
 
     /// Returns the number of consecutive probe timeouts, each of which doubles the next (RFC 9002, 6.2.1).
+    ///
+    /// ```
+    /// # use quic_recovery::*;
+    /// # let at = |millis: u64| Instant::from_nanos(millis * 1_000_000);
+    /// # let space = SpaceId::Data;
+    /// # let mut sender = Sender::established(Side::Client, &RecoveryConfig::default(), at(0))?;
+    /// sender.send(space, at(0), 1200, true, None, &[7])?;
+    /// let timeout = 333 + 666 + 25;
+    /// sender.on_timeout(at(timeout))?;
+    /// assert_eq!(sender.pto_count(), 1);
+    /// // twice the timeout after the last probe (RFC 9002, 6.2.1)
+    /// sender.send(space, at(timeout), 1200, true, None, &[7])?;
+    /// assert_eq!(sender.timer(), Some(at(timeout + 2 * timeout)));
+    /// # Ok::<(), Box<dyn std::error::Error>>(())
+    /// ```
     pub fn pto_count(&self) -> u32 {
         // SAFETY: the handle holds a recovery, and no other call runs.
         unsafe { ffi::recovery_ffi_pto_count(self.recovery.handle()) }
@@ -415,6 +600,22 @@ impl Sender {
     /// [`Sender::send`] before the next datagram. Only the amplification limit is checked if a probe is due in the
     /// space, or if nothing in the datagram counts in flight (RFC 9002, 7, 7.5 and 7.7). Then `in_flight` is false: the
     /// datagram holds only ACKs, a close, or the MTU probe.
+    ///
+    /// ```
+    /// # use quic_recovery::*;
+    /// # let at = |millis: u64| Instant::from_nanos(millis * 1_000_000);
+    /// # let space = SpaceId::Data;
+    /// # let mut sender = Sender::established(Side::Client, &RecoveryConfig::default(), at(0))?;
+    /// for item in 0..10 {
+    ///     assert_eq!(sender.transmit(at(0), 1200, space, true)?, Transmission::Transmitted);
+    ///     sender.send(space, at(0), 1200, true, None, &[item])?;
+    /// }
+    /// // the initial window is ten datagrams (RFC 9002, 7.2)
+    /// assert_eq!(sender.transmit(at(0), 1200, space, true)?, Transmission::Full);
+    /// // a datagram with only ACKs does not count in flight (RFC 9002, 7)
+    /// assert_eq!(sender.transmit(at(0), 50, space, false)?, Transmission::Transmitted);
+    /// # Ok::<(), Box<dyn std::error::Error>>(())
+    /// ```
     ///
     /// # Errors
     /// `SpaceDiscarded`, then `Overflow` if the bytes transmitted on the path would exceed `u64::MAX`. Then nothing has
@@ -443,6 +644,22 @@ impl Sender {
 
     /// Records a sent packet with these items, as [`Event::Send`] and with its errors. A packet without a size does not
     /// start the probe timeout (RFC 9002, A.5).
+    ///
+    /// ```
+    /// # use quic_recovery::*;
+    /// # let at = |millis: u64| Instant::from_nanos(millis * 1_000_000);
+    /// # let space = SpaceId::Data;
+    /// # let mut sender = Sender::established(Side::Client, &RecoveryConfig::default(), at(0))?;
+    /// // items 7 and 8 stand for the frames of this packet
+    /// let data = sender.send(space, at(0), 1200, true, None, &[7, 8])?;
+    /// // a packet with only an ACK frame, of numbers up to 41: it does not count in flight (RFC 9002, 2)
+    /// let ack = sender.send(space, at(0), 0, false, Some(41), &[])?;
+    /// // numbers increase (RFC 9000, 12.3)
+    /// assert_eq!((data.number, ack.number), (0, 1));
+    /// let (_, in_flight) = sender.recovery().window_and_flight();
+    /// assert_eq!(in_flight, 1200);
+    /// # Ok::<(), Box<dyn std::error::Error>>(())
+    /// ```
     pub fn send(
         &mut self,
         space: SpaceId,
@@ -469,6 +686,22 @@ impl Sender {
 
     /// Returns an MTU probe to send, if one is due, and tracks it, as [`Event::PollMtu`] and with its errors. The
     /// window is not checked: an MTU probe may exceed it (RFC 9000, 14.4).
+    ///
+    /// ```
+    /// # use quic_recovery::*;
+    /// # let at = |millis: u64| Instant::from_nanos(millis * 1_000_000);
+    /// # let space = SpaceId::Data;
+    /// # let mut sender = Sender::established(Side::Client, &RecoveryConfig::default(), at(0))?;
+    /// let probe = sender.poll_mtu(at(0))?.expect("a search begins at the first poll");
+    /// // a probe is larger than the MTU in use, and no larger than `upper_bound` (RFC 8899, 5.1.2)
+    /// assert!(1200 < probe.size && probe.size <= 1452);
+    /// sender.transmit(at(0), probe.size, space, false)?;
+    /// // it is acknowledged: the path carries this size (RFC 8899, 5.2)
+    /// sender.on_ack(space, at(50), &Ack::default(), &[(probe.number, probe.number)])?;
+    /// let path = sender.recovery().path(PathName::Current);
+    /// assert_eq!(path.map(|it| it.current_mtu), Some(probe.size));
+    /// # Ok::<(), Box<dyn std::error::Error>>(())
+    /// ```
     pub fn poll_mtu(&mut self, now: Instant) -> Result<Option<MtuProbe>, SenderError> {
         let reply = taken(self.recovery.reply_to(Event::PollMtu { now }))?;
         match reply.kind {
@@ -485,6 +718,25 @@ impl Sender {
     /// highest range first, as on the wire. The sender acknowledges the packets, takes an RTT sample, and declares
     /// packets lost. Cost: logarithmic for each range, each newly acknowledged packet, and each packet tracked below
     /// the largest acknowledged.
+    ///
+    /// ```
+    /// # use quic_recovery::*;
+    /// # let at = |millis: u64| Instant::from_nanos(millis * 1_000_000);
+    /// # let space = SpaceId::Data;
+    /// # let mut sender = Sender::established(Side::Client, &RecoveryConfig::default(), at(0))?;
+    /// for item in [70, 71, 72, 73] {
+    ///     sender.send(space, at(0), 1200, true, None, &[item])?;
+    /// }
+    /// // the highest range first (RFC 9000, 19.3.1)
+    /// let acked = sender.on_ack(space, at(100), &Ack::default(), &[(3, 3), (1, 1)])?;
+    /// let packets: Vec<_> = acked.packets().collect();
+    /// assert_eq!(packets, [(1, &[71][..]), (3, &[73][..])]);
+    /// // packet 0 is lost: it is three below the largest acknowledged (RFC 9002, 6.1.1)
+    /// assert_eq!(acked.losses.numbers, [0]);
+    /// let unsent = sender.on_ack(space, at(101), &Ack::default(), &[(9, 9)]);
+    /// assert_eq!(unsent, Err(SenderError::Unsent));
+    /// # Ok::<(), Box<dyn std::error::Error>>(())
+    /// ```
     ///
     /// # Errors
     /// `SpaceDiscarded`. `BadRange` if there is no range, one ends before it begins, or two have no number between them
@@ -505,6 +757,22 @@ impl Sender {
     }
 
     /// Does the same as [`Sender::on_ack`], but fills vectors of the caller again. They allocate only if they grow.
+    ///
+    /// ```
+    /// # use quic_recovery::*;
+    /// # let at = |millis: u64| Instant::from_nanos(millis * 1_000_000);
+    /// # let space = SpaceId::Data;
+    /// # let mut sender = Sender::established(Side::Client, &RecoveryConfig::default(), at(0))?;
+    /// let mut acked = Acknowledged::default();
+    /// for number in 0..3 {
+    ///     let (sent, received) = (at(100 * number), at(100 * number + 50));
+    ///     sender.send(space, sent, 1200, true, None, &[])?;
+    ///     sender.on_ack_into(space, received, &Ack::default(), &[(0, number)], &mut acked)?;
+    ///     // what was acknowledged before is not newly acknowledged (RFC 9002, A.7)
+    ///     assert_eq!(acked.numbers, [number]);
+    /// }
+    /// # Ok::<(), Box<dyn std::error::Error>>(())
+    /// ```
     ///
     /// # Errors
     /// Those of [`Sender::on_ack`]. Then nothing has changed, except that the vectors may be empty.
@@ -593,6 +861,25 @@ impl Sender {
     /// [`Sender::probe`] and sends it by [`Sender::send`], in this order. Cost: logarithmic for each packet tracked
     /// below the largest acknowledged.
     ///
+    /// ```
+    /// # use quic_recovery::*;
+    /// # let at = |millis: u64| Instant::from_nanos(millis * 1_000_000);
+    /// # let space = SpaceId::Data;
+    /// # let mut sender = Sender::established(Side::Client, &RecoveryConfig::default(), at(0))?;
+    /// for item in 0..2 {
+    ///     sender.send(space, at(0), 1200, true, None, &[item])?;
+    /// }
+    /// sender.on_ack(space, at(80), &Ack::default(), &[(1, 1)])?;
+    /// // packet 0 is lost 9/8 of the RTT of 80 ms after it was sent (RFC 9002, 6.1.2)
+    /// assert_eq!(sender.timer(), Some(at(90)));
+    /// assert_eq!(sender.on_timeout(at(89))?, Timeout::Nothing);
+    /// match sender.on_timeout(at(90))? {
+    ///     Timeout::Lost { losses, .. } => assert_eq!(losses.numbers, [0]),
+    ///     other => panic!("{other:?}"),
+    /// }
+    /// # Ok::<(), Box<dyn std::error::Error>>(())
+    /// ```
+    ///
     /// # Errors
     /// `NoMemory` if there is no room for the numbers of the packets that may be lost. Then nothing has changed. A
     /// timeout that asks for probes allocates nothing.
@@ -627,6 +914,26 @@ impl Sender {
     /// contents of another packet. If there are no items, send a PING frame. `immediate_ack` asks for an IMMEDIATE_ACK
     /// frame in the probe.
     ///
+    /// ```
+    /// # use quic_recovery::*;
+    /// # let at = |millis: u64| Instant::from_nanos(millis * 1_000_000);
+    /// # let space = SpaceId::Data;
+    /// # let mut sender = Sender::established(Side::Client, &RecoveryConfig::default(), at(0))?;
+    /// for item in [7, 8] {
+    ///     sender.send(space, at(0), 1200, true, None, &[item])?;
+    /// }
+    /// let now = at(333 + 666 + 25);
+    /// // two packets may be sent, even if the window is full (RFC 9002, 6.2.4 and 7.5)
+    /// assert_eq!(sender.on_timeout(now)?, Timeout::Probe { space, count: 2 });
+    /// for item in [7, 8] {
+    ///     assert_eq!(sender.transmit(now, 1200, space, true)?, Transmission::Transmitted);
+    ///     let items = sender.probe(space, false)?;
+    ///     assert_eq!(items, [item]);
+    ///     sender.send(space, now, 1200, true, None, &items)?;
+    /// }
+    /// # Ok::<(), Box<dyn std::error::Error>>(())
+    /// ```
+    ///
     /// # Errors
     /// `SpaceDiscarded`, or `NoMemory` if the queues cannot be joined: then nothing has changed. `NoMemory` also if the
     /// answer cannot be allocated: the items can then still be read by [`Recovery::last_items`].
@@ -641,6 +948,21 @@ impl Sender {
     /// Records a received datagram of this many bytes on the path in use. If its address is not validated, more may be
     /// sent, so that the timer may be due at once (RFC 9000, 8.1; RFC 9002, A.6). Fails with `Overflow`, without a
     /// change, if the bytes received on the path would exceed `u64::MAX`.
+    ///
+    /// ```
+    /// # use quic_recovery::*;
+    /// # let at = |millis: u64| Instant::from_nanos(millis * 1_000_000);
+    /// # let config = RecoveryConfig::default();
+    /// let (mut server, space) = (Sender::new(Side::Server, &config, at(0))?, SpaceId::Initial);
+    /// assert_eq!(server.transmit(at(0), 1200, space, true)?, Transmission::Blocked);
+    /// server.on_datagram(1200)?;
+    /// // three datagrams of this size may be sent, and no fourth (RFC 9000, 8.1)
+    /// for _ in 0..3 {
+    ///     assert_eq!(server.transmit(at(0), 1200, space, true)?, Transmission::Transmitted);
+    /// }
+    /// assert_eq!(server.transmit(at(0), 1200, space, true)?, Transmission::Blocked);
+    /// # Ok::<(), Box<dyn std::error::Error>>(())
+    /// ```
     pub fn on_datagram(&mut self, bytes: u64) -> Result<(), SenderError> {
         let path = PathName::Current;
         let reply = self.recovery.reply_to(Event::DatagramIn { path, bytes });
@@ -649,6 +971,21 @@ impl Sender {
     }
 
     /// Records that Handshake keys are available (RFC 9002, A.8).
+    ///
+    /// ```
+    /// # use quic_recovery::*;
+    /// # let at = |millis: u64| Instant::from_nanos(millis * 1_000_000);
+    /// # let config = RecoveryConfig::default();
+    /// let (mut client, space) = (Sender::new(Side::Client, &config, at(0))?, SpaceId::Initial);
+    /// client.send(space, at(0), 1200, true, None, &[7])?;
+    /// client.on_ack(space, at(50), &Ack::default(), &[(0, 0)])?;
+    /// // the server may be blocked: an Initial packet is to be sent, so that it may send again (RFC 9002, 6.2.2.1)
+    /// assert!(matches!(client.timer_state(), TimerState::DeadlockProbe { space: SpaceId::Initial, .. }));
+    /// client.on_handshake_keys();
+    /// // with Handshake keys it is a Handshake packet
+    /// assert!(matches!(client.timer_state(), TimerState::DeadlockProbe { space: SpaceId::Handshake, .. }));
+    /// # Ok::<(), Box<dyn std::error::Error>>(())
+    /// ```
     pub fn on_handshake_keys(&mut self) {
         // SAFETY: the handle holds a recovery, and `self` is borrowed alone.
         unsafe { ffi::recovery_ffi_sender_handshake_keys(self.recovery.handle()) };
@@ -656,28 +993,83 @@ impl Sender {
 
     /// Records that the handshake is confirmed (RFC 9001, 4.1.2). From then on 1-RTT packets are probed for, and a
     /// client knows its address validated (RFC 9002, 6.2.1 and 6.2.2.1).
+    ///
+    /// ```
+    /// # use quic_recovery::*;
+    /// # let at = |millis: u64| Instant::from_nanos(millis * 1_000_000);
+    /// # let config = RecoveryConfig::default();
+    /// let (mut server, space) = (Sender::new(Side::Server, &config, at(0))?, SpaceId::Data);
+    /// server.on_address_validated();
+    /// for keys in [SpaceId::Initial, SpaceId::Handshake] {
+    ///     server.discard(keys, at(0))?;
+    /// }
+    /// server.send(space, at(0), 1200, true, None, &[7])?;
+    /// // 1-RTT packets are not probed for before the handshake is confirmed (RFC 9002, 6.2.1)
+    /// assert_eq!(server.timer_state(), TimerState::Unconfirmed);
+    /// server.on_handshake_confirmed();
+    /// assert_eq!(server.timer_state(), TimerState::Probes { space, at: at(333 + 666 + 25) });
+    /// # Ok::<(), Box<dyn std::error::Error>>(())
+    /// ```
     pub fn on_handshake_confirmed(&mut self) {
         // SAFETY: the handle holds a recovery, and `self` is borrowed alone.
         unsafe { ffi::recovery_ffi_sender_handshake_confirmed(self.recovery.handle()) };
     }
 
     /// Validates the peer's address on the path in use (RFC 9000, 8.1 and 8.2).
+    ///
+    /// ```
+    /// # use quic_recovery::*;
+    /// # let at = |millis: u64| Instant::from_nanos(millis * 1_000_000);
+    /// # let config = RecoveryConfig::default();
+    /// let mut server = Sender::new(Side::Server, &config, at(0))?;
+    /// assert_eq!(server.transmit(at(0), 1200, SpaceId::Initial, true)?, Transmission::Blocked);
+    /// server.on_address_validated();
+    /// // the limit no longer applies (RFC 9000, 8.1)
+    /// assert_eq!(server.transmit(at(0), 1200, SpaceId::Initial, true)?, Transmission::Transmitted);
+    /// # Ok::<(), Box<dyn std::error::Error>>(())
+    /// ```
     pub fn on_address_validated(&mut self) {
         let path = PathName::Current;
         self.recovery.reply_to(Event::Validated { path });
     }
 
     /// Sets the peer's max_ack_delay, for 1-RTT packets (RFC 9000, 18.2); 25 ms before.
+    ///
+    /// ```
+    /// # use std::time::Duration;
+    /// # use quic_recovery::*;
+    /// # let at = |millis: u64| Instant::from_nanos(millis * 1_000_000);
+    /// # let space = SpaceId::Data;
+    /// # let mut sender = Sender::established(Side::Client, &RecoveryConfig::default(), at(0))?;
+    /// sender.set_peer_max_ack_delay(Duration::from_millis(60));
+    /// sender.send(space, at(0), 1200, true, None, &[7])?;
+    /// // the probe timeout allows for this delay (RFC 9002, 6.2.1)
+    /// assert_eq!(sender.timer(), Some(at(333 + 666 + 60)));
+    /// # Ok::<(), Box<dyn std::error::Error>>(())
+    /// ```
     pub fn set_peer_max_ack_delay(&mut self, span: Duration) {
         let (secs, nanos) = (span.as_secs(), span.subsec_nanos());
         // SAFETY: the handle holds a recovery, and `self` is borrowed alone.
         unsafe { ffi::recovery_ffi_sender_peer_delay(self.recovery.handle(), secs, nanos) };
     }
 
-    /// Sets the RTT that timers use before the first RTT sample of the path in use, in place of that of the settings (RFC
-    /// 9002, 6.2.2): for example that of an earlier connection to the same peer, or the time that a Retry took. Probe
-    /// timeout and loss delay follow at once; the pacer uses the settings until the first sample. A new path whose RTT
-    /// begins anew goes by the settings again.
+    /// Sets the RTT that timers use before the first RTT sample of the path in use, in place of that of the settings
+    /// (RFC 9002, 6.2.2). It may be that of an earlier connection to the same peer, or the time that a Retry took.
+    /// Probe timeout and loss delay follow at once; the pacer uses the settings until the first sample. A new path with
+    /// an initial RTT uses the settings again.
+    ///
+    /// ```
+    /// # use std::time::Duration;
+    /// # use quic_recovery::*;
+    /// # let at = |millis: u64| Instant::from_nanos(millis * 1_000_000);
+    /// # let space = SpaceId::Data;
+    /// # let mut sender = Sender::established(Side::Client, &RecoveryConfig::default(), at(0))?;
+    /// sender.set_initial_rtt(Duration::from_millis(100));
+    /// sender.send(space, at(0), 1200, true, None, &[7])?;
+    /// // 100 ms, four times half of that, and the peer's max_ack_delay (RFC 9002, 5.3 and 6.2)
+    /// assert_eq!(sender.timer(), Some(at(100 + 200 + 25)));
+    /// # Ok::<(), Box<dyn std::error::Error>>(())
+    /// ```
     pub fn set_initial_rtt(&mut self, rtt: Duration) {
         let (secs, nanos) = (rtt.as_secs(), rtt.subsec_nanos());
         // SAFETY: the handle holds a recovery, and `self` is borrowed alone.
@@ -687,6 +1079,21 @@ impl Sender {
     /// Stores the data of the outstanding PATH_CHALLENGE frame on the path in use, if any, and whether a PATH_CHALLENGE
     /// is to be sent (RFC 9000, 8.2.1). While one is outstanding, the window does not grow: an acknowledged packet may
     /// have been sent on the path before it (RFC 9000, 9.4).
+    ///
+    /// ```
+    /// # use quic_recovery::*;
+    /// # let at = |millis: u64| Instant::from_nanos(millis * 1_000_000);
+    /// # let space = SpaceId::Data;
+    /// # let mut sender = Sender::established(Side::Client, &RecoveryConfig::default(), at(0))?;
+    /// for (challenge, window) in [(Some(7), 12_000), (None, 13_200)] {
+    ///     sender.set_challenge(challenge, false);
+    ///     let sent = sender.send(space, at(1), 1200, true, None, &[])?.number;
+    ///     sender.on_ack(space, at(51), &Ack::default(), &[(sent, sent)])?;
+    ///     // in slow start an ACK adds the bytes that it acknowledges (RFC 9002, 7.3.1), unless a challenge is open
+    ///     assert_eq!(sender.recovery().window_and_flight(), (window, 0));
+    /// }
+    /// # Ok::<(), Box<dyn std::error::Error>>(())
+    /// ```
     pub fn set_challenge(&mut self, challenge: Option<u64>, pending: bool) {
         let (data, is_open) = (challenge.unwrap_or(0), challenge.is_some());
         let handle = self.recovery.handle();
@@ -696,6 +1103,21 @@ impl Sender {
 
     /// Discards a space with its keys and its tracked packets, and resets the count of probe timeouts (RFC 9002, 6.2.2,
     /// 6.4 and A.11). Fails with `SpaceDiscarded`, without a change.
+    ///
+    /// ```
+    /// # use quic_recovery::*;
+    /// # let at = |millis: u64| Instant::from_nanos(millis * 1_000_000);
+    /// # let config = RecoveryConfig::default();
+    /// let (mut client, space) = (Sender::new(Side::Client, &config, at(0))?, SpaceId::Initial);
+    /// client.send(space, at(0), 1200, true, None, &[7])?;
+    /// client.discard(space, at(50))?;
+    /// // what was sent in the space is no longer in flight (RFC 9002, 6.4)
+    /// assert!(!client.recovery().has_in_flight(space));
+    /// // an ACK that comes too late: drop it
+    /// let late = client.on_ack(space, at(60), &Ack::default(), &[(0, 0)]);
+    /// assert_eq!(late, Err(Refusal::SpaceDiscarded.into()));
+    /// # Ok::<(), Box<dyn std::error::Error>>(())
+    /// ```
     pub fn discard(&mut self, space: SpaceId, now: Instant) -> Result<(), SenderError> {
         let (handle, now) = (self.recovery.handle(), now.as_nanos());
         // SAFETY: the handle holds a recovery, and `self` is borrowed alone.
@@ -711,17 +1133,21 @@ impl Sender {
     /// If allocation fails for a packet, it is still tracked, the others are lost, and `is_cut` is true: the same call
     /// continues with the rest. Cost: logarithmic for each tracked packet.
     ///
-    /// ```no_run
+    /// ```
     /// # use quic_recovery::*;
-    /// # fn on_retry(sender: &mut Sender, now: Instant) -> Result<(), SenderError> {
-    /// // A Retry packet was received: the first Initial packets will not be acknowledged.
-    /// let lost = sender.retransmit_all(SpaceId::Initial, now)?;
-    /// println!("{} packets are lost", lost.numbers.len());
-    /// if lost.is_cut {
-    ///     println!("others are still tracked: call it again once there is memory");
+    /// # let at = |millis: u64| Instant::from_nanos(millis * 1_000_000);
+    /// # let config = RecoveryConfig::default();
+    /// let (mut client, space) = (Sender::new(Side::Client, &config, at(0))?, SpaceId::Initial);
+    /// for item in [7, 8] {
+    ///     client.send(space, at(0), 1200, true, None, &[item])?;
     /// }
-    /// # Ok(())
-    /// # }
+    /// // a Retry: the first Initial packets will not be acknowledged (RFC 9002, 6.3)
+    /// let lost = client.retransmit_all(space, at(50))?;
+    /// assert_eq!((lost.numbers, lost.is_cut), (vec![0, 1], false));
+    /// assert_eq!(client.on_event(Event::TakePending { space })?, Answer::Queue(vec![7, 8]));
+    /// // no congestion: the window is still that of RFC 9002, 7.2
+    /// assert_eq!(client.recovery().window_and_flight(), (12_000, 0));
+    /// # Ok::<(), Box<dyn std::error::Error>>(())
     /// ```
     ///
     /// # Errors
@@ -747,6 +1173,21 @@ impl Sender {
     /// Applies an event, as [`Recovery::apply`] does and with the same errors. Fails with [`SenderError::Decided`] for
     /// events that only the sender itself makes: `Acked`, `Lost`, `LossesDone`, `Sample`, `EndAcks`, `Congestion`,
     /// `Ecn`, `QueueProbe`, `Transmit`, `DiscardSpace`, and `SetTimer` and `StopTimer` of [`Timer::LossDetection`].
+    ///
+    /// ```
+    /// # use quic_recovery::*;
+    /// # let at = |millis: u64| Instant::from_nanos(millis * 1_000_000);
+    /// # let space = SpaceId::Data;
+    /// # let mut sender = Sender::established(Side::Client, &RecoveryConfig::default(), at(0))?;
+    /// let packet = Event::Received { space, now: at(5), number: 0, ack_eliciting: true };
+    /// assert!(matches!(sender.on_event(packet)?, Answer::New { .. }));
+    /// // a number is new once (RFC 9000, 12.3)
+    /// assert_eq!(sender.on_event(packet)?, Answer::Duplicate);
+    /// // the sender itself declares packets lost
+    /// let lost = sender.on_event(Event::Lost { space, number: 0 });
+    /// assert_eq!(lost, Err(SenderError::Decided));
+    /// # Ok::<(), Box<dyn std::error::Error>>(())
+    /// ```
     pub fn on_event(&mut self, event: Event<'_>) -> Result<Answer, SenderError> {
         let reply = taken(self.recovery.reply_to(event))?;
         Ok(self.recovery.read(reply)?)

@@ -42,6 +42,19 @@ pub enum PathName {
 }
 
 /// A time: nanoseconds since a start that the caller chooses.
+///
+/// ```
+/// # use quic_recovery::*;
+/// # use std::time::Duration;
+/// // the times of a stack, from a start of its own
+/// let start = std::time::Instant::now();
+/// let now = |it: std::time::Instant| Instant::from_nanos(0) + (it - start);
+/// let later = now(start + Duration::from_millis(5));
+/// assert_eq!(later, Instant::from_nanos(5_000_000));
+/// // how long to wait for a timer that is due at 7 ms
+/// assert_eq!(Instant::from_nanos(7_000_000) - later, Duration::from_millis(2));
+/// # Ok::<(), Box<dyn std::error::Error>>(())
+/// ```
 #[derive(Clone, Copy, Debug, PartialEq, Eq, PartialOrd, Ord, Hash)]
 pub struct Instant(u64);
 

@@ -7,6 +7,19 @@ use std::any::Any;
 use std::time::Instant;
 
 /// The configuration of CUBIC, for each new path.
+///
+/// ```
+/// use quinn_proto::congestion::ControllerFactory;
+/// use std::time::{Duration, Instant};
+///
+/// let start = Instant::now();
+/// let mut controller = quinn_congestion::CubicConfig::default().build(start);
+/// assert_eq!(controller.window(), 12_000);
+/// let (sent, now) = (start + Duration::from_millis(1), start + Duration::from_millis(101));
+/// controller.on_congestion_event(now, sent, false, 1200);
+/// // a loss leaves 7/10 of the window (RFC 9438, 4.6)
+/// assert_eq!(controller.window(), 8400);
+/// ```
 #[derive(Clone, Copy, Debug, PartialEq, Eq)]
 pub struct CubicConfig {
     /// The initial window, in bytes, above zero (RFC 9002, 7.2).

@@ -20,6 +20,21 @@ use std::any::Any;
 use std::time::Instant;
 
 /// The configuration of NewReno, for each new path.
+///
+/// ```
+/// use quinn_proto::congestion::ControllerFactory;
+/// use std::time::{Duration, Instant};
+///
+/// let start = Instant::now();
+/// let mut controller = quinn_congestion::NewRenoConfig::default().build(start);
+/// assert_eq!(controller.window(), 12_000);
+/// // a loss halves the window, once for all that was sent before (RFC 9002, 7.3.2)
+/// let (sent, now) = (start + Duration::from_millis(1), start + Duration::from_millis(101));
+/// for lost in [sent, sent, now] {
+///     controller.on_congestion_event(now, lost, false, 1200);
+/// }
+/// assert_eq!(controller.window(), 6000);
+/// ```
 #[derive(Clone, Copy, Debug, PartialEq, Eq)]
 pub struct NewRenoConfig {
     /// The initial window, in bytes, above zero (RFC 9002, 7.2).
