@@ -131,12 +131,7 @@ fn with_name(choice: Choice, is_named: bool, word: &[u8]) -> Option<Choice> {
 }
 
 /// Adds a positional argument to the choices.
-fn with_word(
-    choice: Choice,
-    place: Place,
-    is_named: bool,
-    word: &[u8],
-) -> Option<(Choice, Place)> {
+fn with_word(choice: Choice, place: Place, is_named: bool, word: &[u8]) -> Option<(Choice, Place)> {
     match place {
         Place::Seed => Some((with_seed(choice, word)?, Place::Window)),
         Place::Window => Some((with_window(choice, is_named, word)?, Place::End)),
