@@ -18,7 +18,7 @@ enum recovery_ok { RECOVERY_OK = 0 };
 enum recovery_answer {
     // The packet is new.
     RECOVERY_ANSWER_NEW = 0,
-    // The packet is a duplicate, or too old to tell: drop it.
+    // The packet is a duplicate, or so old that it may be one: drop it.
     RECOVERY_ANSWER_DUPLICATE = 1,
     // The packet is sent.
     RECOVERY_ANSWER_SENT = 2,
@@ -106,7 +106,7 @@ enum recovery_refusal {
     RECOVERY_REFUSAL_DELAY_TOO_SMALL = 15,
     // A skipped number, which was never sent, was acknowledged (RFC 9000, 21.4).
     RECOVERY_REFUSAL_SKIPPED_ACKED = 16,
-    // The peer's ECN counts fail the check of RFC 9000, 13.4.2.1. The text says how.
+    // The peer's ECN counts fail the check of RFC 9000, 13.4.2.1: the text has the reason.
     RECOVERY_REFUSAL_ECN = 17,
     // The initial ID is no longer the active one (RFC 9000, 7.2).
     RECOVERY_REFUSAL_NOT_INITIAL_ID = 18,
@@ -369,7 +369,7 @@ struct recovery_bucket {
     uint16_t mtu;
 };
 
-// The fields of an ACK frame besides its ranges, and what the caller knows at its arrival.
+// The fields of an ACK frame, except its ranges, and what the caller knows at its arrival.
 struct recovery_ack_frame {
     // The ACK delay that the peer reports, in whole seconds.
     uint64_t delay_secs;
@@ -853,7 +853,7 @@ struct recovery_encoded_reply recovery_ffi_sender_transmit(struct recovery_handl
 // `RECOVERY_ANSWER_ACKNOWLEDGED` has in `first` how many packets are newly acknowledged, in `second` how many are
 // declared lost, and in `flag` whether `recovery_ffi_last_outcome` has more than that. Read the packets by
 // `recovery_ffi_told_numbers` and `recovery_ffi_told_packets`. Errors, which change nothing:
-// `RECOVERY_REFUSAL_SPACE_DISCARDED`; `RECOVERY_REFUSAL_BAD_RANGE` if there is no range, one ends before it begins, or
+// `RECOVERY_REFUSAL_SPACE_DISCARDED`; `RECOVERY_REFUSAL_BAD_RANGE` if there is no range, a range ends before it begins, or
 // two have no number between them (RFC 9000, 19.3.1); `RECOVERY_REFUSAL_UNSENT`; `RECOVERY_REFUSAL_SKIPPED_ACKED` (RFC
 // 9000, 21.4); `RECOVERY_REFUSAL_NO_MEMORY`. If the caller limits its room (`is_limited`) and has too little, the reply
 // is `RECOVERY_ANSWER_NEEDS_ROOM`, and nothing changes. `first` is then how many words of packets, and `second` how

@@ -22,8 +22,8 @@ rtt_made initial = record { latest = initial; smoothed = None; variance = initia
 abbrev pub adjusted_rtt : ℕ → ℕ → ℕ → ℕ
 adjusted_rtt least delay sample = if nat_le (least + delay) sample then sample - delay else sample
 
--- after a sample, whose ACK was delayed (RFC 9002, 5.3): the first one replaces the estimate; a later one, minus that
--- delay, moves the smoothed RTT by an eighth, and the RTT variation by a quarter
+-- after a sample, whose ACK was delayed (RFC 9002, 5.3). The first sample replaces the estimate. A later one, minus
+-- that delay, moves the smoothed RTT by an eighth, and the RTT variation by a quarter.
 abbrev pub rtt_updated : ℕ → ℕ → Rtt → Rtt
 rtt_updated delay sample old =
     let first : Rtt = record { latest = sample; smoothed = Some sample; variance = sample / 2; least = sample } in

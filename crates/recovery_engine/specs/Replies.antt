@@ -102,7 +102,7 @@ pub record IsWritten (items old : List ℕ) (count : ℕ) (new : List ℕ) : Typ
 
 -- ---- stored results
 
--- stored besides the recovery, to be read: the queue that was last taken,
+-- stored next to the recovery, to be read: the queue that was last taken,
 abbrev pub taken_after : {Q : Type 0} → History.Reply Q → Q → Q
 taken_after (Ok (Queue queue)) taken = queue
 taken_after reply taken = taken

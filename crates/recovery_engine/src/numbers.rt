@@ -3,7 +3,7 @@
 
 /// The packet is new.
 pub const ANSWER_NEW: u8 = 0;
-/// The packet is a duplicate, or too old to tell: drop it.
+/// The packet is a duplicate, or so old that it may be one: drop it.
 pub const ANSWER_DUPLICATE: u8 = 1;
 /// The packet is sent.
 pub const ANSWER_SENT: u8 = 2;

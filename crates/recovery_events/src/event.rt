@@ -301,7 +301,7 @@ pub enum Answer<Q> {
         /// Whether to start the ACK delay timer (`Timer::MaxAckDelay`).
         arm: bool,
     },
-    /// Duplicate, or too old to tell: drop the packet.
+    /// A duplicate, or so old that it may be one: drop the packet.
     Duplicate,
     /// The packet is sent.
     Sent {
@@ -414,7 +414,7 @@ pub enum Refusal {
     /// A skipped number, which was never sent, was acknowledged (RFC 9000, 21.4).
     #[error("a skipped packet number is acknowledged")]
     SkippedAcked,
-    /// The peer's ECN counts fail the check of RFC 9000, 13.4.2.1. The text says how.
+    /// The peer's ECN counts fail the check of RFC 9000, 13.4.2.1: the text has the reason.
     #[error("{0}")]
     Ecn(&'static str),
     /// The initial ID is no longer the active one (RFC 9000, 7.2).

@@ -116,7 +116,7 @@ pub extern "C" fn recovery_ffi_sender_transmit(
 /// `ANSWER_ACKNOWLEDGED` has in `first` how many packets are newly acknowledged, in `second` how many are
 /// declared lost, and in `flag` whether `recovery_ffi_last_outcome` has more than that. Read the packets by
 /// `recovery_ffi_told_numbers` and `recovery_ffi_told_packets`. Errors, which change nothing:
-/// `REFUSAL_SPACE_DISCARDED`; `REFUSAL_BAD_RANGE` if there is no range, one ends before it begins, or
+/// `REFUSAL_SPACE_DISCARDED`; `REFUSAL_BAD_RANGE` if there is no range, a range ends before it begins, or
 /// two have no number between them (RFC 9000, 19.3.1); `REFUSAL_UNSENT`; `REFUSAL_SKIPPED_ACKED` (RFC
 /// 9000, 21.4); `REFUSAL_NO_MEMORY`. If the caller limits its room (`is_limited`) and has too little, the reply
 /// is `ANSWER_NEEDS_ROOM`, and nothing changes. `first` is then how many words of packets, and `second` how

@@ -1,5 +1,5 @@
--- An event keeps each path within its bounds, if a datagram that it transmits is within the amplification limit (RFC
--- 9000, 8.1), and if it finds congestion or makes a path by the latest start (RFC 9002, 7.3.2).
+-- When each path stays within its bounds: a datagram that an event transmits is within the amplification limit (RFC
+-- 9000, 8.1), and congestion and new paths come by the latest start of a recovery period (RFC 9002, 7.3.2).
 use Rattle.std.specs.Prelude.{◌≡◌, ℕ, ◌≤◌, false}
 use Rattle.recovery_events.specs.declared.event.Event.{Event}
 use Rattle.recovery_events.specs.declared.event.Event.TheVariants.{Congestion, NewPath, ResetPath, Transmit}

@@ -1,4 +1,4 @@
--- The variables of a sender besides its recovery, and how they change (RFC 9002, A.3).
+-- The variables that a sender has next to its recovery, and how they change (RFC 9002, A.3).
 use Rattle.std.specs.Prelude.{ℕ, ◌+◌, ◌||◌, min, max, Bool, true, false, Option, None, Some, if◌then◌else◌, ◌-◌, nat_le}
 use Rattle.std.specs.Option.{option_and_then, option_map_or}
 use Rattle.recovery_base.specs.declared.below.SpaceId.{SpaceId}

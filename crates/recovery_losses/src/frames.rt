@@ -5,7 +5,7 @@ ghost use Rattle.recovery_losses.specs.Frames.{are_ranges, is_apart, is_unsent, 
 use recovery_base::below::EcnCounts;
 use recovery_base::time::Duration;
 
-/// The fields of an ACK frame besides its ranges, and what the caller knows at its arrival.
+/// The fields of an ACK frame, except its ranges, and what the caller knows at its arrival.
 #[derive(Clone, Copy)]
 pub struct Ack {
     /// The ACK delay that the peer reports.

@@ -1,4 +1,4 @@
-//! The variables of a sender besides its tracked packets, and their consequences (RFC 9002, A.3).
+//! The variables that a sender has next to its tracked packets, and their consequences (RFC 9002, A.3).
 ghost use Rattle.std.specs.Prelude.{◌≡◌, min, None, if◌then◌else◌};
 ghost use Rattle.recovery_losses.specs.Variables.{ack_delay_in, based, begun_anew, due_after_end, due_after_packet, fresh, heard_in, is_address_validated, is_probe_due, probed, pto_by, sampled_first, timed_out};
 
@@ -61,7 +61,7 @@ impl DueProbes {
     }
 }
 
-/// The variables of a sender besides its recovery (RFC 9002, A.3).
+/// The variables that a sender has next to its recovery (RFC 9002, A.3).
 #[derive(Clone, Copy)]
 pub struct Variables {
     /// The role of the local endpoint.

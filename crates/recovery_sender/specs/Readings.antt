@@ -1,4 +1,4 @@
--- What can be read of a sender besides its recovery: the purpose of its timer, and the room that is left (RFC 9000,
+-- What can be read of a sender, next to its recovery: the purpose of its timer, and the room that is left (RFC 9000,
 -- 8.1; RFC 9002, 6.2, 7 and A.8).
 use Rattle.std.specs.Prelude.{ℕ, ◌*◌, ◌-◌, min, ◌&&◌, not, Bool, Option, None, Some, if◌then◌else◌}
 use Rattle.recovery_base.specs.Units.{largest_u64}

@@ -1,4 +1,4 @@
--- The state of a sender for its callers: the parts of its recovery, besides its variables (RFC 9002, A.3).
+-- The state of a sender for its callers: the parts of its recovery, next to its variables (RFC 9002, A.3).
 use Rattle.recovery_history.specs.RecoveryState.{RecoveryState}
 use Rattle.quic_recovery.specs.State.{state_of}
 use Rattle.recovery_sender.specs.declared.sender.Sender.{Sender}

@@ -70,7 +70,7 @@ where
         self.recovery.recovery()
     }
 
-    /// Returns the variables besides the recovery.
+    /// Returns the variables that a sender has next to its recovery.
     pub fn variables(&self) -> &Variables
         ensures { result.now ≡ self.now.variables }
     {

@@ -291,8 +291,8 @@ fn a_server(rt: HostRuntime) {
 }
 
 /// What a stack reads of a server: the amplification limit is three times what was received (RFC 9000, 8.1). Before the
-/// first RTT sample the probe timeout is three times the initial RTT (RFC 9002, 6.2.1 and 6.2.2): 300 ms of 100 ms, and
-/// of 200 ms 600 ms, and the peer's delay of 25 ms in the space of 1-RTT packets.
+/// first RTT sample the probe timeout is three times the initial RTT (RFC 9002, 6.2.1 and 6.2.2): 300 ms for 100 ms,
+/// and 600 ms for 200 ms. In the space of 1-RTT packets the peer's delay of 25 ms is added.
 #[test]
 fn what_is_read(rt: HostRuntime) {
     let (initial, data) = (SpaceId::Initial, SpaceId::Data);

@@ -18,7 +18,7 @@ use recovery_engine::views::SenderView;
 use recovery_losses::{Ack, Side};
 use std::alloc::Global;
 
-/// The fields of an ACK frame besides its ranges, and what the caller knows at its arrival.
+/// The fields of an ACK frame, except its ranges, and what the caller knows at its arrival.
 #[repr(C)]
 #[derive(Clone, Copy)]
 pub struct AckFrame {

@@ -3,7 +3,7 @@
 
 /// The packet is new.
 pub const ANSWER_NEW: u8 = 0;
-/// The packet is a duplicate, or too old to tell: drop it.
+/// The packet is a duplicate, or so old that it may be one: drop it.
 pub const ANSWER_DUPLICATE: u8 = 1;
 /// The packet is sent.
 pub const ANSWER_SENT: u8 = 2;
@@ -88,7 +88,7 @@ pub const REFUSAL_UNISSUED_CID: u8 = 14;
 pub const REFUSAL_DELAY_TOO_SMALL: u8 = 15;
 /// A skipped number, which was never sent, was acknowledged (RFC 9000, 21.4).
 pub const REFUSAL_SKIPPED_ACKED: u8 = 16;
-/// The peer's ECN counts fail the check of RFC 9000, 13.4.2.1. The text says how.
+/// The peer's ECN counts fail the check of RFC 9000, 13.4.2.1: the text has the reason.
 pub const REFUSAL_ECN: u8 = 17;
 /// The initial ID is no longer the active one (RFC 9000, 7.2).
 pub const REFUSAL_NOT_INITIAL_ID: u8 = 18;
@@ -346,7 +346,7 @@ pub struct Bucket {
     pub mtu: u16,
 }
 
-/// The fields of an ACK frame besides its ranges, and what the caller knows at its arrival.
+/// The fields of an ACK frame, except its ranges, and what the caller knows at its arrival.
 #[repr(C)]
 #[derive(Clone, Copy, Debug, PartialEq, Eq)]
 pub struct AckFrame {
@@ -990,7 +990,7 @@ unsafe extern "C" {
     /// `ANSWER_ACKNOWLEDGED` has in `first` how many packets are newly acknowledged, in `second` how many are
     /// declared lost, and in `flag` whether `recovery_ffi_last_outcome` has more than that. Read the packets by
     /// `recovery_ffi_told_numbers` and `recovery_ffi_told_packets`. Errors, which change nothing:
-    /// `REFUSAL_SPACE_DISCARDED`; `REFUSAL_BAD_RANGE` if there is no range, one ends before it begins, or
+    /// `REFUSAL_SPACE_DISCARDED`; `REFUSAL_BAD_RANGE` if there is no range, a range ends before it begins, or
     /// two have no number between them (RFC 9000, 19.3.1); `REFUSAL_UNSENT`; `REFUSAL_SKIPPED_ACKED` (RFC
     /// 9000, 21.4); `REFUSAL_NO_MEMORY`. If the caller limits its room (`is_limited`) and has too little, the reply
     /// is `ANSWER_NEEDS_ROOM`, and nothing changes. `first` is then how many words of packets, and `second` how

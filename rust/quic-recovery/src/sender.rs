@@ -95,7 +95,7 @@ pub struct MtuProbe {
     pub size: u16,
 }
 
-/// The fields of an ACK frame besides its ranges, and what the caller knows at its arrival.
+/// The fields of an ACK frame, except its ranges, and what the caller knows at its arrival.
 ///
 /// ```
 /// # use std::time::Duration;
@@ -739,8 +739,8 @@ impl Sender {
     /// ```
     ///
     /// # Errors
-    /// `SpaceDiscarded`. `BadRange` if there is no range, one ends before it begins, or two have no number between them
-    /// (RFC 9000, 19.3.1). [`SenderError::Unsent`] if a number was never sent (RFC 9000, 13.1). `SkippedAcked` if a
+    /// `SpaceDiscarded`. `BadRange` if there is no range, a range ends before it begins, or two have no number between
+    /// them (RFC 9000, 19.3.1). [`SenderError::Unsent`] if a number was never sent (RFC 9000, 13.1). `SkippedAcked` if a
     /// range holds the number that was skipped last (RFC 9000, 21.4). `NoMemory` if there is no room for the answer.
     /// Then nothing has changed.
     pub fn on_ack(

@@ -536,8 +536,8 @@ fn moves() {
     assert_eq!(other, timer);
 }
 
-/// What a stack reads of a server: at most three times the bytes received (RFC 9000, 8.1), ten datagrams in the window (RFC 9002,
-/// 7.2), and a probe timeout of three times the initial RTT (RFC 9002, 6.2.2), with the peer's delay for 1-RTT packets.
+/// What a stack reads of a server: at most three times the bytes received (RFC 9000, 8.1), and ten datagrams in the window (RFC
+/// 9002, 7.2). The probe timeout is three times the initial RTT (RFC 9002, 6.2.2), plus the peer's delay for 1-RTT packets.
 #[test]
 fn rooms_and_the_timer() {
     let mut sender =
