@@ -1,11 +1,13 @@
 #!/usr/bin/env python3
-"""Counts the instructions (valgrind's callgrind) of an event through the Rust crate, beside the same call on the layer in plain Rust
-(tests/careful/layer.rs): what twice as many calls take more than once as many, divided by the calls. `acked` and `lost` come behind a
-send, which is taken off.
+"""Counts the instructions (valgrind's callgrind) of an event through the Rust crate, and of the same call on the layer in plain Rust
+(tests/careful/layer.rs): the difference between twice as many calls and once as many, divided by the calls. `acked` and `lost` follow
+a send, which is subtracted.
 
     bench/events.py              each kind
     bench/events.py send lost    these
-    bench/events.py --sender     a packet that is sent and acknowledged through a sender, beside the same events by hand
+    bench/events.py --sender     a packet that is sent and acknowledged through a sender, and by the careful peer (tests/careful/peer.rs);
+                                 each packet carries an item, and `transmit` is asked for it
+    bench/events.py --sender --time    also the processor time, the shortest of nine runs in turn
 
 The static library has to be there: tests/rust.py --library builds it."""
 import itertools
@@ -22,6 +24,7 @@ CRATE = ROOT / "rust" / "quic-recovery"
 KINDS = "received send acked lost in_flight set_timer next_timeout sample transmit pacer_check check_ack take_pending".split()
 CALLS = 20_000
 ROUNDS = 2_000
+TIMED = 2_000_000  # packets of a run whose time is taken
 
 
 def example(name):
@@ -31,13 +34,12 @@ def example(name):
     return CRATE / "target" / "release" / "examples" / name
 
 
-def build(folder):
-    """The crate's example, and the program in plain Rust."""
-    ours = example("calls")
-    plain = pathlib.Path(folder, "plain")
+def plain(folder, name):
+    """A program in plain Rust."""
+    program = pathlib.Path(folder, name)
     flags = ["--edition", "2024", "-C", "opt-level=3", "-C", "codegen-units=1", "-C", "panic=abort"]
-    subprocess.run(["rustc", *flags, ROOT / "tests" / "careful" / "calls.rs", "-o", plain], check=True)
-    return ours, plain
+    subprocess.run(["rustc", *flags, ROOT / "tests" / "careful" / f"{name}.rs", "-o", program], check=True)
+    return program
 
 
 def taken(program, *words):
@@ -50,21 +52,34 @@ def cost(program, kind):
     return (taken(program, kind, 2 * CALLS) - taken(program, kind, CALLS)) / CALLS
 
 
-def packets():
-    """A packet through a sender, by how many are in flight, and for how many there is an ACK."""
-    program = example("rounds")
-    print("instructions of a packet    sender    by hand   ratio")
-    for flight, each in itertools.product((1, 100, 10_000), (1, 2, 10)):
+def seconds(command):
+    """The processor time of a run."""
+    before = os.times()
+    subprocess.run(list(map(str, command)), check=True)
+    after = os.times()
+    return after.children_user + after.children_system - before.children_user - before.children_system
+
+
+def packets(folder, timed):
+    """A packet through a sender with each controller, and by the peer: by how many are in flight, and for how many an ACK is."""
+    ours, peer = example("rounds"), plain(folder, "peer_rounds")
+    programs = [[peer], [ours, "reno"], [ours, "cubic"]]
+    print("instructions of a packet      peer    NewReno  ratio     CUBIC" + ("   time of NewReno" if timed else ""))
+    for flight, each in itertools.product((10, 100, 10_000), (1, 2, 10)):
         costs = [
-            (taken(program, kind, flight, 2 * ROUNDS, each) - taken(program, kind, flight, ROUNDS, each)) / (ROUNDS * each)
-            for kind in ("sender", "events")
+            (taken(*words, flight, 2 * ROUNDS, each) - taken(*words, flight, ROUNDS, each)) / (ROUNDS * each) for words in programs
         ]
-        print(f"{flight:6} in flight, an ACK for {each:2} {costs[0]:7.0f} {costs[1]:9.0f} {costs[0] / costs[1]:7.2f}", flush=True)
+        line = f"{flight:6} in flight, an ACK for {each:2} {costs[0]:7.0f} {costs[1]:9.0f} {costs[1] / costs[0]:7.2f} {costs[2]:9.0f}"
+        if timed:
+            runs = [[seconds([*words, flight, TIMED // each, each]) for words in programs[:2]] for _ in range(9)]
+            line += f" {min(run[1] for run in runs) / min(run[0] for run in runs):10.2f}"
+        print(line, flush=True)
 
 
 def main():
-    if sys.argv[1:] == ["--sender"] and shutil.which("valgrind"):
-        return packets()
+    if sys.argv[1:2] == ["--sender"] and set(sys.argv[2:]) <= {"--time"} and shutil.which("valgrind"):
+        with tempfile.TemporaryDirectory() as folder:
+            return packets(folder, "--time" in sys.argv)
     chosen = sys.argv[1:] or KINDS
     unknown = sorted(set(chosen) - set(KINDS))
     if unknown:
@@ -72,7 +87,7 @@ def main():
     if not shutil.which("valgrind"):
         return "bench/events.py: valgrind is not installed"
     with tempfile.TemporaryDirectory() as folder:
-        programs = build(folder)
+        programs = example("calls"), plain(folder, "calls")
         ratios, sends = [], [cost(it, "send") for it in programs]
         print("instructions of a call    ours   plain   ratio")
         for kind in chosen:

@@ -695,6 +695,7 @@ def cargo(folder):
     said = ran("little memory in Rust", [examples / "memory"], scarce=SCARCE)
     expect("memory is refused, and all goes on", bool(said) and "out of memory" in said and "goes on" in said, said or "")
     ran("a second of random events", [examples / "fuzz", "1"])
+    ran("200,000 random steps beside a careful peer", [examples / "beside", "7", "200000"])
     said = ran("the tutorial", [examples / "tutorial"])
     expect("it prints what docs/TUTORIAL.md shows", said == (RUST / "examples" / "tutorial.out").read_text(), said or "")
 

@@ -644,6 +644,10 @@ struct recovery_encoded_reply recovery_ffi_losses_done(struct recovery_handle *h
 // Returns the window and the bytes in flight of the path in use.
 struct recovery_window_view recovery_ffi_window(struct recovery_handle *handle);
 
+// Returns how many bytes the pacer permits now on the path in use: the largest datagram that is not delayed (RFC
+// 9002, 7.7). It is `u64::MAX` if nothing is paced, and 0 if there is no recovery.
+uint64_t recovery_ffi_pacer_room(struct recovery_handle *handle, uint64_t now);
+
 // Returns the round-trip time of the path in use.
 struct recovery_rtt_view recovery_ffi_rtt(struct recovery_handle *handle);
 
@@ -1083,7 +1087,7 @@ static inline uint64_t recovery_needs_room_lost(struct recovery_encoded_reply re
 static inline uint64_t recovery_refused_fault(struct recovery_encoded_reply reply) { return reply.first; }
 
 // Does nothing. A library of another layout does not have it, so a program with this header does not link with it.
-void recovery_ffi_layout(void) __asm__("recovery_ffi_layout_75e3d1fc");
+void recovery_ffi_layout(void) __asm__("recovery_ffi_layout_ffc8140e");
 __attribute__((used)) static void (*const recovery_ffi_has_this_layout)(void) = recovery_ffi_layout;
 
 #ifdef __cplusplus

@@ -1,8 +1,8 @@
 -- A token bucket that paces packets (RFC 9002, 7.7): it is refilled at five fourths of a window in each RTT, and what
 -- is sent is subtracted. Times and spans are in nanoseconds.
-use Rattle.std.specs.Prelude.{ℕ, ◌+◌, ◌-◌, ◌*◌, ◌/◌, ◌<◌, ◌≤◌, min, max, Bool, ◌&&◌, ◌||◌, ◌==◌, nat_le, if◌then◌else◌, Option, None, Some}
+use Rattle.std.specs.Prelude.{◌≡◌, ◌↔◌, ℕ, ◌+◌, ◌-◌, ◌*◌, ◌/◌, ◌<◌, ◌≤◌, min, max, Bool, ◌&&◌, ◌||◌, ◌==◌, nat_le, if◌then◌else◌, Option, None, Some}
 use Rattle.recovery_base.specs.Times.{longest_span}
-use Rattle.recovery_base.specs.Units.{last_time, milliseconds, u32_limit}
+use Rattle.recovery_base.specs.Units.{largest_u64, last_time, milliseconds, u32_limit}
 
 pub record Bucket : Type 0 where
   -- its capacity in bytes, and the window and MTU for which it was computed
@@ -95,6 +95,12 @@ next_moment call capacity tokens last =
 abbrev pub pacer_delay : PacerCall → Bucket → Option ℕ
 pacer_delay call bucket =
     if may_send call bucket then None else Some (next_moment call bucket.capacity bucket.tokens bucket.last)
+
+-- what may be sent now, in bytes: exactly that many and fewer are not delayed
+abbrev pub IsPacerRoom : (rtt mtu window now : ℕ) → Bucket → ℕ → Type 0
+IsPacerRoom rtt mtu window now bucket room = (bytes : ℕ) → bytes ≤ largest_u64
+    → let call : PacerCall = record { bytes = bytes; rtt = rtt; mtu = mtu; window = window; now = now } in
+    (bytes ≤ room) ↔ (pacer_delay call (paced call bucket) ≡ None)
 
 -- a packet of this size was sent; a debt is not stored
 abbrev pub less_tokens : ℕ → Bucket → Bucket

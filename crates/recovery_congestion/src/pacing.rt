@@ -3,7 +3,7 @@ ghost use Rattle.std.specs.Prelude.{◌≡◌, ◌+◌, ◌-◌, ◌*◌, ◌/�
 ghost use Rattle.recovery_base.specs.Times.{span_limit};
 ghost use Rattle.recovery_base.specs.Units.{last_time, u32_limit};
 ghost use Rattle.recovery_congestion.specs.PacerView.{bucket_of};
-ghost use Rattle.recovery_congestion.specs.Pacing.{capacity_of, credit_of, wait_of, bucket_made, resized, refilled, paced, pacer_delay, less_tokens, IsBucketSound};
+ghost use Rattle.recovery_congestion.specs.Pacing.{capacity_of, credit_of, wait_of, bucket_made, resized, refilled, paced, pacer_delay, less_tokens, IsBucketSound, IsPacerRoom};
 
 use recovery_base::time::{Duration, Instant};
 use std::marker::Model;
@@ -170,6 +170,28 @@ impl Pacer {
         }
         let short = bytes.max(self.capacity) - self.tokens;
         Some(later_by(self.prev, wait(rtt, window, short)))
+    }
+
+    /// Returns how many bytes may be sent now: the largest count that `delay` does not delay, at most `u64::MAX`. The
+    /// RTT, the MTU and the window are those of the time `now`, as for `delay`.
+    pub fn room(&self, rtt: Duration, mtu: u16, window: u64, now: Instant) -> u64
+        requires window { 0 < window }
+        requires mtu { 0 < mtu }
+        ensures { IsPacerRoom rtt mtu window now self.now result }
+    {
+        if window > u64::from(u32::MAX) || rtt.as_nanos() == 0 {
+            return u64::MAX;
+        }
+        let mut then = Pacer {
+            capacity: self.capacity,
+            last_window: self.last_window,
+            last_mtu: self.last_mtu,
+            tokens: self.tokens,
+            prev: self.prev,
+        };
+        then.resize(rtt, window, mtu);
+        then.refill(rtt, window, now);
+        then.tokens
     }
 
     fn resize(&mut self, rtt: Duration, window: u64, mtu: u16)

@@ -1,10 +1,11 @@
 //! The engine of a stack: a bare recovery, or one of a sender.
-ghost use Rattle.std.specs.Prelude.{◌≡◌, ◌≤◌, Decides, IfOk};
+ghost use Rattle.std.specs.Prelude.{◌≡◌, ◌≤◌, Decides, IfOk, tt};
 ghost use Rattle.rand_core.specs.Steps.{stream_of, steps_u32};
 ghost use Rattle.recovery_base.specs.Units.{number_limit};
 ghost use Rattle.rand_pcg.specs.Pcg.{pcg32};
 ghost use Rattle.quic_recovery.specs.State.{state_of};
 ghost use Rattle.recovery_packet_numbers.specs.Skips.{IsSkips};
+ghost use Rattle.recovery_events.specs.declared.event.Event.TheVariants.{Send};
 ghost use Rattle.recovery_sender.specs.Calls.{IsPassedThrough, EventResult};
 ghost use Rattle.recovery_engine.specs.Kept.{by_sender, numbers_told, packets_told, parts_kept, pto_count_of, EventOutcome, IsFreshAlone, IsFreshEstablished, IsFreshSender, IsFresh, AcceptsEvent, MarksKept};
 ghost use Rattle.recovery_engine.specs.Sending.{told_view, ProbeUnlessNoSender, UnlessNoSender};
@@ -62,6 +63,31 @@ fn passed(sending: &mut Sending, event: Event<ItemQueue>) -> Result<Answer<ItemQ
     ensures told { sending.new.told ≡ sending.old.told }
 {
     match sending.sender.on_event(event) {
+        Ok(answer) => Ok(answer),
+        Err(SenderError::Event(refusal)) => Err(refusal),
+        Err(SenderError::Unsent) => unreachable!(),
+    }
+}
+
+/// Records a sent packet: the event `Send`. Unlike [`passed`], whose frame has room for every event, it is quick.
+#[inline(always)]
+fn sent(
+    sending: &mut Sending,
+    space: SpaceId,
+    now: Instant,
+    size: u16,
+    ack_eliciting: bool,
+    largest_acked: Option<u64>,
+    queue: ItemQueue,
+) -> Result<Answer<ItemQueue>, Refusal>
+    ensures takes { EventResult (Send space now size ack_eliciting largest_acked queue tt)
+        sending.old.sender sending.new.sender (by_sender result) }
+    ensures told { sending.new.told ≡ sending.old.told }
+{
+    let sent = sending
+        .sender
+        .send(space, now, size, ack_eliciting, largest_acked, queue, ());
+    match sent {
         Ok(answer) => Ok(answer),
         Err(SenderError::Event(refusal)) => Err(refusal),
         Err(SenderError::Unsent) => unreachable!(),
@@ -165,7 +191,26 @@ impl Engine {
     {
         match self {
             Engine::Alone(recovery) => recovery.apply(event),
-            Engine::Sends(sending) => passed(sending, event),
+            Engine::Sends(sending) => match event {
+                Event::Send {
+                    space,
+                    now,
+                    size,
+                    ack_eliciting,
+                    largest_acked,
+                    queue,
+                    stream_frames: (),
+                } => sent(
+                    sending,
+                    space,
+                    now,
+                    size,
+                    ack_eliciting,
+                    largest_acked,
+                    queue,
+                ),
+                other => passed(sending, other),
+            },
         }
     }
 
@@ -234,6 +279,7 @@ impl Engine {
     }
 
     /// Makes a call of a sender; an error if there is none.
+    #[inline(always)]
     pub fn call_sender(&mut self, alloc: Global, call: Call, ranges: &[AckRange]) -> EncodedReply
         ensures { UnlessNoSender call ranges.now self.old result self.new }
     {

@@ -394,6 +394,7 @@ impl Sending {
     }
 
     /// Makes a call.
+    #[inline(always)]
     pub fn call_sender(&mut self, alloc: Global, call: Call, ranges: &[AckRange]) -> EncodedReply
         ensures { SenderCallReply call ranges.now self.old result self.new }
     {

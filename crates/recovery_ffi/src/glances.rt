@@ -3,10 +3,13 @@
 ghost use Rattle.std.specs.Prelude.{◌≡◌, false, Decides};
 ghost use Rattle.recovery_ids.specs.CidQueue.{active_of};
 ghost use Rattle.recovery_stack.specs.Answers.{ReadsHandle};
+ghost use Rattle.recovery_engine.specs.Controllers.{chosen_words};
 ghost use Rattle.recovery_engine.specs.Kept.{parts_kept};
+ghost use Rattle.recovery_paths.specs.PathStates.{IsRoomInPacer};
 ghost use Rattle.recovery_stack.specs.Views.{space_named};
 ghost use Rattle.recovery_stack.specs.Stats.{no_number, no_rtt, no_tracked, no_window, rtt_shown, tracked_in, window_shown, HasInFlight, ShowsSmallest};
 
+use recovery_base::time::Instant;
 use recovery_stack::glances::{NumberView, RttView, TrackedView, WindowView};
 use recovery_stack::handle::Handle;
 use std::alloc::Global;
@@ -18,6 +21,17 @@ pub extern "C" fn recovery_ffi_window(alloc: Global, handle: &mut Handle) -> Win
         result ≡ window_shown (parts_kept stack.kept).paths.current) (result ≡ no_window) }
 {
     handle.window(alloc)
+}
+
+/// Returns how many bytes the pacer permits now on the path in use: the largest datagram that is not delayed (RFC
+/// 9002, 7.7). It is `u64::MAX` if nothing is paced, and 0 if there is no recovery.
+#[unsafe(no_mangle)]
+pub extern "C" fn recovery_ffi_pacer_room(alloc: Global, handle: &mut Handle, now: u64) -> u64
+    ensures { ReadsHandle handle.old.slot.held handle.new.slot.held (λ stack.
+        IsRoomInPacer chosen_words now (parts_kept stack.kept).paths.current.state result)
+        (result ≡ 0) }
+{
+    handle.pacer_room(alloc, Instant::from_nanos(now))
 }
 
 /// Returns the round-trip time of the path in use.

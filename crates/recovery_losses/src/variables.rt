@@ -147,20 +147,13 @@ impl Variables {
     /// Records that a packet of a space was newly acknowledged. Resets the count of probe timeouts, except at a client
     /// that does not know its address validated (RFC 9002, 6.2.1). An ACK of a Handshake packet validates the address
     /// (6.2.2.1).
-    pub fn heard(self, space: SpaceId, now: Instant) -> Self
-        ensures { result ≡ heard_in space now self }
+    pub fn hear(&mut self, space: SpaceId, now: Instant)
+        ensures { self.new ≡ heard_in space now self.old }
     {
-        let is_address_known = self.is_address_known || space == SpaceId::Handshake;
-        let pto_count = if self.side == Side::Server || is_address_known {
-            0
-        } else {
-            self.pto_count
-        };
-        Variables {
-            is_address_known,
-            pto_count,
-            base: now,
-            ..self
+        self.is_address_known = self.is_address_known || space == SpaceId::Handshake;
+        self.base = now;
+        if self.is_address_validated() {
+            self.pto_count = 0;
         }
     }
 
@@ -172,20 +165,20 @@ impl Variables {
     }
 
     /// Records `now` as the time of the first RTT sample, if it is the first of the path in use (RFC 9002, 7.6.2).
-    pub fn sampled_first(self, is_first: bool, now: Instant) -> Self
-        ensures { result ≡ sampled_first is_first now self }
+    pub fn sample(&mut self, is_first: bool, now: Instant)
+        ensures { self.new ≡ sampled_first is_first now self.old }
     {
-        let sampled = if is_first { now } else { self.sampled };
-        Variables { sampled, ..self }
+        if is_first {
+            self.sampled = now;
+        }
     }
 
     /// Restarts the anti-deadlock timer at a time, if any (RFC 9002, 6.2.2.1).
-    pub fn based(self, time: Option<Instant>) -> Self
-        ensures { result ≡ based time self }
+    pub fn restart(&mut self, time: Option<Instant>)
+        ensures { self.new ≡ based time self.old }
     {
-        match time {
-            Some(base) => Variables { base, ..self },
-            None => self,
+        if let Some(base) = time {
+            self.base = base;
         }
     }
 
@@ -221,15 +214,11 @@ impl Variables {
 
     /// Records that an ack-eliciting packet of a space was sent, if any. It counts as one of the probes due there (RFC
     /// 9002, 6.2.4).
-    pub fn probed(self, space: Option<SpaceId>) -> Self
-        ensures { result ≡ probed space self }
+    pub fn count_probe(&mut self, space: Option<SpaceId>)
+        ensures { self.new ≡ probed space self.old }
     {
-        match (space, self.due_probes) {
-            (Some(space), Some(due)) => Variables {
-                due_probes: due.after_packet(space),
-                ..self
-            },
-            _ => self,
+        if let (Some(space), Some(due)) = (space, self.due_probes) {
+            self.due_probes = due.after_packet(space);
         }
     }
 

@@ -10,7 +10,7 @@ use Rattle.recovery_spaces.specs.Packets.{Packet}
 use Rattle.recovery_spaces.specs.Paths.{PathLedger, generation_of, after_leaving}
 use Rattle.recovery_mtud.specs.Discovery.{Discovery, is_probe}
 use Rattle.recovery_mtud.specs.DiscoveryLog.{MtuCall, acks as acks_packet, loses_probe, loses, discovery_after}
-use Rattle.recovery_congestion.specs.Pacing.{Bucket, PacerCall, paced, pacer_delay, less_tokens}
+use Rattle.recovery_congestion.specs.Pacing.{Bucket, PacerCall, paced, pacer_delay, less_tokens, IsPacerRoom}
 use Rattle.recovery_paths.specs.declared.responses.PathResponse.{PathResponse}
 use Rattle.recovery_congestion.specs.Rtt.{Rtt, rtt_updated, rtt_get}
 
@@ -148,6 +148,10 @@ module _ {K : Type 0} (words : ControllerSemantics K) where
 
   abbrev pub after_asking : ℕ → ℕ → PathState K → PathState K
   after_asking now bytes path = record path { pacer = paced (pacer_call path now bytes) path.pacer }
+
+  -- what the pacer permits now, in bytes: exactly that many and fewer are not delayed
+  abbrev pub IsRoomInPacer : ℕ → PathState K → ℕ → Type 0
+  IsRoomInPacer now path = IsPacerRoom (rtt_get path.rtt) path.discovery.mtu (words.window path.controller) now path.pacer
 
   -- when to ask again, if the bytes may not be sent yet
   abbrev pub path_delay : ℕ → ℕ → PathState K → Option ℕ

@@ -12,7 +12,7 @@ ghost use Rattle.recovery_mtud.specs.Discovery.{is_probe, is_searching_of, repor
 ghost use Rattle.recovery_mtud.specs.DiscoveryLog.{losses_end, is_limited};
 ghost use Rattle.recovery_paths.specs.PathMaking.{marks_made, path_settings, state_fresh, state_going_on, state_reset, state_resumed, first_discovery};
 ghost use Rattle.recovery_paths.specs.PathStates.{Path, on_state, with_discovery, with_marks, is_blocked, after_receiving, after_validation, after_sample, after_searching, after_transmitting, loss_call};
-ghost use Rattle.recovery_paths.specs.PathStates.{after_telling, after_search, path_acked, is_path_probe, path_lost, after_asking, path_delay};
+ghost use Rattle.recovery_paths.specs.PathStates.{after_telling, after_search, path_acked, is_path_probe, path_lost, after_asking, path_delay, IsRoomInPacer};
 
 use crate::responses::PathResponses;
 use recovery_base::below::{NoMemory, SpaceId};
@@ -453,6 +453,16 @@ impl<C: Controller + Drop> PathData<C> {
         let mtu = self.mtud.current_mtu();
         self.pacing
             .delay(self.rtt.get(), bytes_to_send, mtu, window, now)
+    }
+
+    /// Returns how many bytes the pacer permits now: the largest count that `delay` does not delay, at most `u64::MAX`
+    /// (RFC 9002, 7.7).
+    pub fn pacer_room(&self, now: Instant) -> u64
+        ensures { IsRoomInPacer C.words now self.now.state result }
+    {
+        let window = self.congestion.window();
+        let mtu = self.mtud.current_mtu();
+        self.pacing.room(self.rtt.get(), mtu, window, now)
     }
 
     /// Returns whether the total sent has room for this many bytes more, up to `u64::MAX`.

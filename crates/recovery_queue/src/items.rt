@@ -1,17 +1,22 @@
 //! A queue of item numbers.
-ghost use Rattle.std.specs.Prelude.{◌≡◌};
+ghost use Rattle.std.specs.Prelude.{◌≡◌, ◌<◌, IfOk, OnErr, length};
 ghost use Rattle.recovery_queue.specs.Items.{item_words};
 
 use crate::queue::RetransmitQueue;
-use std::alloc::Global;
+use smallvec::SmallVec;
+use std::alloc::{AllocError, Global};
 use std::marker::Model;
 
-/// The numbers of the items that a packet carries, in the order in which they were added (RFC 9000, 13.3).
+/// How many items a queue stores without an allocation. Two take no more memory than one.
+const INLINE: usize = 2;
+
+/// The numbers of the items that a packet carries, in the order in which they were added (RFC 9000, 13.3). Up to two
+/// are stored without an allocation: most packets carry one.
 ///
 /// In contracts its value is the list of the items.
 #[derive(Drop)]
 pub struct ItemQueue {
-    items: Vec<u64>,
+    items: SmallVec<u64, INLINE>,
 }
 
 impl Model for ItemQueue {
@@ -27,7 +32,19 @@ impl ItemQueue {
     pub fn from_items(items: Vec<u64>) -> Self
         ensures { result ≡ items.items }
     {
-        ItemQueue { items }
+        ItemQueue {
+            items: SmallVec::from_vec(items),
+        }
+    }
+
+    /// Returns a queue with a copy of these items. Allocates only for three or more.
+    pub fn from_slice(alloc: Global, items: &[u64]) -> Result<Self, AllocError>
+        ensures items { IfOk result (λ queue. queue ≡ items.now) }
+        ensures memory { OnErr result (2 < length items.now) }
+    {
+        Ok(ItemQueue {
+            items: SmallVec::from_slice(alloc, items)?,
+        })
     }
 
     /// Returns the items, in the order in which they were added.
@@ -56,7 +73,7 @@ impl RetransmitQueue for ItemQueue {
 
     fn empty(alloc: Global) -> Self {
         ItemQueue {
-            items: Vec::new(alloc),
+            items: SmallVec::new(alloc),
         }
     }
 
@@ -68,7 +85,7 @@ impl RetransmitQueue for ItemQueue {
         self.items.is_empty()
     }
 
-    /// Appends the other queue's items. It allocates only if both queues have items.
+    /// Appends the other queue's items. It allocates only if both queues have items, and three or more together.
     fn append(&mut self, mut other: Self) -> Result<(), Self> {
         if self.items.is_empty() {
             *self = other;

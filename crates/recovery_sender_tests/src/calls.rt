@@ -58,7 +58,7 @@ enum Said {
     /// This many probes are due.
     ProbesDue(u8),
     Nothing,
-    Rooms(u64, Option<u64>, Option<u64>),
+    Rooms(u64, u64, Option<u64>, Option<u64>),
     Idle,
     AwaitsLosses,
     AwaitsProbes(SpaceId),
@@ -187,6 +187,7 @@ fn play(sender: &mut Reno, given: Call) -> Said {
         }
         Call::Rooms(space) => Said::Rooms(
             sender.window_room(),
+            sender.pacer_room(at(0)),
             sender.amplification_room(),
             sender.smallest_tracked(space),
         ),
@@ -290,9 +291,10 @@ fn a_server(rt: HostRuntime) {
     run(&rt, rt.alloc(), Side::Server, rows);
 }
 
-/// What a stack reads of a server: the amplification limit is three times what was received (RFC 9000, 8.1). Before the
-/// first RTT sample the probe timeout is three times the initial RTT (RFC 9002, 6.2.1 and 6.2.2): 300 ms for 100 ms,
-/// and 600 ms for 200 ms. In the space of 1-RTT packets the peer's delay of 25 ms is added.
+/// What a stack reads of a server: the amplification limit is three times what was received (RFC 9000, 8.1), and the
+/// pacer permits a burst of ten datagrams, as the window does. Before the first RTT sample the probe timeout is three
+/// times the initial RTT (RFC 9002, 6.2.1 and 6.2.2): 300 ms for 100 ms, and 600 ms for 200 ms. In the space of 1-RTT
+/// packets the peer's delay of 25 ms is added.
 #[test]
 fn what_is_read(rt: HostRuntime) {
     let (initial, data) = (SpaceId::Initial, SpaceId::Data);
@@ -301,13 +303,13 @@ fn what_is_read(rt: HostRuntime) {
         (Call::State, Said::AwaitsPeer, None),
         (
             Call::Rooms(initial),
-            Said::Rooms(12_000, Some(0), None),
+            Said::Rooms(12_000, 12_000, Some(0), None),
             None,
         ),
         (Call::Datagram(400), Said::Done, None),
         (
             Call::Rooms(initial),
-            Said::Rooms(12_000, Some(1200), None),
+            Said::Rooms(12_000, 12_000, Some(1200), None),
             None,
         ),
         (Call::State, Said::Idle, None),
@@ -320,7 +322,7 @@ fn what_is_read(rt: HostRuntime) {
         (Call::Send(0, 1200, initial), Said::Sent(0), None),
         (
             Call::Rooms(initial),
-            Said::Rooms(10_800, Some(0), Some(0)),
+            Said::Rooms(10_800, 10_800, Some(0), Some(0)),
             None,
         ),
         (Call::State, Said::AwaitsPeer, None),
@@ -328,7 +330,11 @@ fn what_is_read(rt: HostRuntime) {
         (Call::State, Said::AwaitsProbes(initial), first),
         (Call::InitialRtt(200_000_000), Said::Done, second),
         (Call::Validated, Said::Done, second),
-        (Call::Rooms(data), Said::Rooms(10_800, None, None), second),
+        (
+            Call::Rooms(data),
+            Said::Rooms(10_800, 10_800, None, None),
+            second,
+        ),
         (Call::Discard(0, initial), Said::Done, None),
         (Call::Send(0, 1000, data), Said::Sent(0), None),
         (Call::State, Said::AwaitsConfirmation, None),

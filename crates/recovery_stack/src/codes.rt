@@ -106,14 +106,12 @@ pub fn cid(bytes: &[u8]) -> Option<ConnectionId>
     }
 }
 
-/// Returns a queue of these items. Allocates nothing if there are none.
+/// Returns a queue of these items. Allocates nothing for two or fewer.
 pub fn queue_of(alloc: Global, items: &[u64]) -> Result<ItemQueue, NoMemory>
     ensures items { IfOk result (λ queue. queue ≡ items.now) }
-    ensures memory { OnErr result (0 < length items.now) }
+    ensures memory { OnErr result (2 < length items.now) }
 {
-    let mut queue = Vec::new(alloc);
-    queue.extend_from_slice(items)?;
-    Ok(ItemQueue::from_items(queue))
+    Ok(ItemQueue::from_slice(alloc, items)?)
 }
 
 /// Returns the count of the items, and writes them if there is room for all.

@@ -3,13 +3,16 @@
 ghost use Rattle.std.specs.Prelude.{◌≡◌, false, Some, Decides};
 ghost use Rattle.recovery_ids.specs.CidQueue.{active_of};
 ghost use Rattle.recovery_stack.specs.Answers.{ReadsHandle};
+ghost use Rattle.recovery_engine.specs.Controllers.{chosen_words};
 ghost use Rattle.recovery_engine.specs.Kept.{parts_kept};
+ghost use Rattle.recovery_paths.specs.PathStates.{IsRoomInPacer};
 ghost use Rattle.recovery_stack.specs.Views.{space_named};
 ghost use Rattle.recovery_stack.specs.Stats.{no_number, no_rtt, no_tracked, no_window, number_shown, rtt_shown, tracked_in, window_shown, HasInFlight, IsSmallestIn, ShowsSmallest};
 
 use crate::codes::nanos_shown;
 use crate::handle::Handle;
 use crate::stack::{ItemSpace, Stack};
+use recovery_base::time::Instant;
 use recovery_congestion::congestion::Controller;
 use std::alloc::Global;
 
@@ -118,6 +121,13 @@ impl Stack {
         }
     }
 
+    fn pacer_room(&self, now: Instant) -> u64
+        ensures { IsRoomInPacer chosen_words now (parts_kept self.now.kept).paths.current.state
+            result }
+    {
+        self.recovery().current().pacer_room(now)
+    }
+
     fn active_id(&self) -> u64
         ensures { result ≡ active_of (parts_kept self.now.kept).remote_cids }
     {
@@ -166,6 +176,20 @@ impl Handle {
         let view = stack.window();
         self.put(stack);
         view
+    }
+
+    /// Returns how many bytes the pacer permits now on the path in use; 0 if there is no recovery.
+    pub fn pacer_room(&mut self, alloc: Global, now: Instant) -> u64
+        ensures { ReadsHandle self.old.slot.held self.new.slot.held (λ stack.
+            IsRoomInPacer chosen_words now (parts_kept stack.kept).paths.current.state result)
+            (result ≡ 0) }
+    {
+        let Some(stack) = self.take(alloc) else {
+            return 0;
+        };
+        let room = stack.pacer_room(now);
+        self.put(stack);
+        room
     }
 
     /// Returns the round-trip time of the path in use.

@@ -78,13 +78,16 @@ impl Handle {
     }
 
     /// Makes a call of a sender other than an ACK frame; an error if no stack is held.
+    #[inline(always)]
     pub fn call_sender(&mut self, alloc: Global, call: Call) -> EncodedReply
         ensures { CallsSender self.old.slot.held call result self.new.slot.held }
     {
         self.call_sender_with(alloc, call, &[])
     }
 
-    /// Makes a call of a sender, with the ranges of an ACK frame; an error if no stack is held.
+    /// Makes a call of a sender, with the ranges of an ACK frame; an error if no stack is held. Inlined, so that no
+    /// export has the code of another call.
+    #[inline(always)]
     pub fn call_sender_with(
         &mut self,
         alloc: Global,

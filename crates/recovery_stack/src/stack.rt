@@ -110,6 +110,7 @@ impl Stack {
     }
 
     /// Makes a call of a sender; an error if there is none.
+    #[inline(always)]
     pub fn call_sender(&mut self, alloc: Global, call: Call, ranges: &[AckRange]) -> EncodedReply
         ensures { AsksStack call ranges.now self.old result self.new }
     {

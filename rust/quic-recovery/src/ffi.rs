@@ -617,7 +617,7 @@ pub struct IdsView {
 
 unsafe extern "C" {
     /// Does nothing. A library of another layout does not have it.
-    #[link_name = "recovery_ffi_layout_75e3d1fc"]
+    #[link_name = "recovery_ffi_layout_ffc8140e"]
     pub fn recovery_ffi_layout();
 
     /// Makes a recovery, whose peer is at this address and has this connection ID of at most 20 bytes. Returns
@@ -660,6 +660,10 @@ unsafe extern "C" {
 
     /// Returns the window and the bytes in flight of the path in use.
     pub fn recovery_ffi_window(handle: *mut Handle) -> WindowView;
+
+    /// Returns how many bytes the pacer permits now on the path in use: the largest datagram that is not delayed (RFC
+    /// 9002, 7.7). It is `u64::MAX` if nothing is paced, and 0 if there is no recovery.
+    pub fn recovery_ffi_pacer_room(handle: *mut Handle, now: u64) -> u64;
 
     /// Returns the round-trip time of the path in use.
     pub fn recovery_ffi_rtt(handle: *mut Handle) -> RttView;

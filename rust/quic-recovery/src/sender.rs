@@ -216,14 +216,13 @@ impl Acknowledged {
 
     /// Fills the numbers of these packets.
     fn number(&mut self) -> Result<(), Refusal> {
-        let mut numbers = std::mem::take(&mut self.numbers);
-        numbers.clear();
-        let room = numbers.try_reserve(self.words.len() / 2);
-        if room.is_ok() {
-            numbers.extend(self.packets().map(|(number, _)| number));
+        make_room(&mut self.numbers, self.words.len() / 2)?;
+        let mut rest = self.words.as_slice();
+        while let [number, count, behind @ ..] = rest {
+            self.numbers.push(*number);
+            rest = behind.get(*count as usize..).unwrap_or_default();
         }
-        self.numbers = numbers;
-        room.map_err(|_| Refusal::NoMemory)
+        Ok(())
     }
 
     /// Returns for how many words of packets there is room: a packet has its number, its item count and its items, and
@@ -523,6 +522,27 @@ impl Sender {
     /// ```
     pub fn window_room(&self) -> u64 {
         self.view().window_room
+    }
+
+    /// Returns how many bytes the pacer permits now on the path in use: the largest datagram that
+    /// [`Sender::transmit`] does not delay (RFC 9002, 7.7). It is `u64::MAX` if nothing is paced.
+    ///
+    /// ```
+    /// # use quic_recovery::*;
+    /// # let at = |millis: u64| Instant::from_nanos(millis * 1_000_000);
+    /// # let space = SpaceId::Data;
+    /// # let mut sender = Sender::established(Side::Client, &RecoveryConfig::default(), at(0))?;
+    /// // a burst of ten datagrams of 1200 bytes
+    /// assert_eq!(sender.pacer_room(at(0)), 12_000);
+    /// sender.transmit(at(0), 1200, space, true)?;
+    /// assert_eq!(sender.pacer_room(at(0)), 10_800);
+    /// // a fourth of the RTT of 333 ms later: 5/4 of a fourth of the window more, and no more than a burst
+    /// assert_eq!(sender.pacer_room(at(84)), 12_000);
+    /// # Ok::<(), Box<dyn std::error::Error>>(())
+    /// ```
+    pub fn pacer_room(&self, now: Instant) -> u64 {
+        // SAFETY: the handle holds a recovery, and no other call runs.
+        unsafe { ffi::recovery_ffi_pacer_room(self.recovery.handle(), now.as_nanos()) }
     }
 
     /// Returns how many bytes the amplification limit still lets out on the path in use (RFC 9000, 8.1); `None` if its

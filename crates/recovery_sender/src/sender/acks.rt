@@ -333,6 +333,7 @@ where
     }
 
     /// Returns a packet that is tracked in a space, by its number. Cost: logarithmic.
+    #[inline(always)]
     pub fn tracked(&self, space: SpaceId, number: u64) -> Option<&SentPacket<Q>>
         ensures { option_copied result ≡ packet_at (packets_in (state_in self.now) space) number }
     {
@@ -591,7 +592,9 @@ where
         ensures { CompletesCall []
             (heard_in space now (sampled_first is_first now self.old.variables)) self.old self.new }
     {
-        let sampled = self.variables.sampled_first(is_first, now);
-        self.complete(sampled.heard(space, now));
+        self.is_timer_current = false;
+        self.variables.sample(is_first, now);
+        self.variables.hear(space, now);
+        self.set_loss_detection_timer();
     }
 }

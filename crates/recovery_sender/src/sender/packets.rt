@@ -175,8 +175,8 @@ where
             (based (sent_at time answer.now) self.old.variables)) self.old self.new }
     {
         self.is_timer_current = false;
-        let based = self.variables.based(sent_at(time, answer));
-        self.variables = based.probed(sent_in(elicits, answer));
+        self.variables.restart(sent_at(time, answer));
+        self.variables.count_probe(sent_in(elicits, answer));
         self.time_on(was_timed);
     }
 

@@ -1,7 +1,7 @@
 //! Readings of a sender (RFC 9000, 8.1; RFC 9002, 6.2, 7 and A.8).
 ghost use Rattle.std.specs.Prelude.{◌≡◌, ◌*◌, ◌-◌, min, MatchOption};
 ghost use Rattle.recovery_base.specs.Units.{largest_u64};
-ghost use Rattle.recovery_paths.specs.PathStates.{amplification_factor};
+ghost use Rattle.recovery_paths.specs.PathStates.{amplification_factor, IsRoomInPacer};
 ghost use Rattle.recovery_sender.specs.Readings.{amplification_room, timer_state, window_room};
 ghost use Rattle.recovery_sender.specs.RetransmitAll.{HasNoneFrom, IsLeastFrom};
 ghost use Rattle.recovery_sender.specs.Senders.{state_in};
@@ -72,6 +72,15 @@ where
         path.congestion
             .window()
             .saturating_sub(path.in_flight().bytes)
+    }
+
+    /// Returns how many bytes the pacer permits now on the path in use: the largest datagram that `transmit` does not
+    /// delay (RFC 9002, 7.7). At most `u64::MAX`, which is returned if nothing is paced.
+    pub fn pacer_room(&self, now: Instant) -> u64
+        ensures { IsRoomInPacer F.Controller.words now (state_in self.now).paths.current.state
+            result }
+    {
+        self.path().pacer_room(now)
     }
 
     /// Returns how many more bytes the amplification limit permits on the path in use (RFC 9000, 8.1), at most

@@ -1,5 +1,5 @@
 //! The loss detection timer (RFC 9002, 6.2 and A.8).
-ghost use Rattle.std.specs.Prelude.{◌≡◌, ◌∷◌, [], true, Decides, Ok, Err, option_copied, option_map};
+ghost use Rattle.std.specs.Prelude.{◌≡◌, ◌∷◌, [], true, false, Decides, IfSome, None, Some, Ok, Err, option_copied, option_map};
 ghost use Rattle.recovery_base.specs.declared.timer.Timer.TheVariants.{LossDetection};
 ghost use Rattle.recovery_base.specs.Timers.{moment};
 ghost use Rattle.recovery_events.specs.declared.event.Refusal.{Refusal};
@@ -119,6 +119,45 @@ where
     pub(super) fn due(&self) -> Option<(Instant, Due)>
         ensures { result ≡ due_of (state_in self.now) self.now.variables }
     {
+        match self.due_alone() {
+            Some(due) => Some(due),
+            None => self.due_of_all(),
+        }
+    }
+
+    /// Returns whether losses or probes may be due in a space.
+    #[inline(always)]
+    fn competes(&self, space: SpaceId) -> bool
+        ensures losses { result ≡ false → loss_due (state_in self.now) space ≡ None }
+        ensures probes { result ≡ false
+            → probe_due (state_in self.now) self.now.variables space ≡ None }
+    {
+        match self.space(space) {
+            Some(here) => here.loss_time.is_some() || has_eliciting(here),
+            None => false,
+        }
+    }
+
+    /// Returns what is due next if that is a probe of 1-RTT packets and nothing else may be due. So it is after the
+    /// handshake while no packet is suspected lost, and it takes a few instructions.
+    #[inline(always)]
+    fn due_alone(&self) -> Option<(Instant, Due)>
+        ensures { IfSome result (λ due. due_of (state_in self.now) self.now.variables ≡ Some due) }
+    {
+        if self.competes(SpaceId::Initial) || self.competes(SpaceId::Handshake) {
+            return None;
+        }
+        if self.loss_due(SpaceId::Data).is_some() || self.path().anti_amplification_blocked(1) {
+            return None;
+        }
+        self.probe_due(SpaceId::Data)
+    }
+
+    /// Returns what is due next in all spaces, and when.
+    #[inline(never)]
+    fn due_of_all(&self) -> Option<(Instant, Due)>
+        ensures { result ≡ due_of (state_in self.now) self.now.variables }
+    {
         let losses = sooner(
             sooner(
                 self.loss_due(SpaceId::Initial),
@@ -225,6 +264,7 @@ where
     }
 
     /// Returns the probe timeout of a space on the path in use (RFC 9002, 6.2.1).
+    #[inline(always)]
     fn pto(&self, space: SpaceId) -> Duration
         ensures { result ≡ pto_of (state_in self.now) self.now.variables space }
     {
