@@ -1,5 +1,5 @@
 //! The engine of a stack: a bare recovery, or one of a sender.
-ghost use Rattle.std.specs.Prelude.{◌≡◌, ◌≤◌, Decides, IfOk, tt};
+ghost use Rattle.std.specs.Prelude.{◌≡◌, ◌≤◌, Decides, IfOk};
 ghost use Rattle.rand_core.specs.Steps.{stream_of, steps_u32};
 ghost use Rattle.recovery_base.specs.Units.{number_limit};
 ghost use Rattle.rand_pcg.specs.Pcg.{pcg32};

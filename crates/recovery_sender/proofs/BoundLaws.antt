@@ -1,9 +1,8 @@
 -- Every sender keeps its paths within bounds, and so satisfies the amplification limit by the events so far.
-use Rattle.std.proofs.Common.{◌≡◌, ◌≤◌, ◌-◌, ◌*◌, ℕ, max, true, false, Bool, [], ◌∷◌, Option, None, Some, ap, refl, sym, subst, ◌∙◌, arith}
+use Rattle.std.proofs.Common.{◌≡◌, ◌≤◌, ◌*◌, ℕ, max, true, false, Bool, [], Option, None, Some, ap, refl, sym, subst, ◌∙◌, arith}
 use Rattle.std.proofs.lemmas.Option.{none-some}
-use Rattle.std.specs.Prelude.{if◌then◌else◌, option_map, sum_by}
+use Rattle.std.specs.Prelude.{option_map, sum_by}
 use Rattle.std.specs.Option.{ForSome}
-use Rattle.rand_core.specs.Stream.{Stream}
 use Rattle.recovery_base.specs.declared.below.SpaceId.{SpaceId}
 use Rattle.recovery_congestion.specs.Calls.{ControllerCall, congestion_time}
 use Rattle.recovery_congestion.specs.Controllers.{ControllerLaws, ControllerSemantics}

@@ -1,22 +1,19 @@
 -- Persistent congestion results in the smallest window, up to the end of the call that reports it (RFC 9002, 7.6.2).
-use Rattle.std.proofs.Common.{◌≡◌, ◌≢◌, ◌≤◌, ◌<◌, ◌+◌, ℕ, max, min, true, false, Bool, List, [], ◌∷◌, ◌++◌, Option, None, Some, Ok, Err, ap, refl, sym, subst, ◌∙◌, inl, inr, true≢false, arith}
-use Rattle.std.proofs.lemmas.Option.{none-some}
-use Rattle.std.specs.Prelude.{◌⊎◌}
+use Rattle.std.proofs.Common.{◌≡◌, ◌≢◌, ◌≤◌, ℕ, min, true, false, Bool, List, [], ◌∷◌, ◌++◌, Option, None, Some, Ok, Err, ap, refl, sym, subst, ◌∙◌, inl, inr, true≢false, arith}
 use Rattle.recovery_base.specs.declared.below.SpaceId.{SpaceId}
 use Rattle.recovery_base.specs.declared.below.frames.EcnCounts.{EcnCounts}
 use Rattle.recovery_base.specs.Units.{last_time}
 use Rattle.recovery_congestion.specs.Calls.{congests}
 use Rattle.recovery_congestion.specs.Controllers.{ControllerLaws, ControllerSemantics, HasLeastWindow}
 use Rattle.recovery_events.specs.declared.event.Answer.{Answer}
-use Rattle.recovery_events.specs.declared.event.Answer.TheVariants.{BlackHole, Done}
+use Rattle.recovery_events.specs.declared.event.Answer.TheVariants.{BlackHole}
 use Rattle.recovery_events.specs.declared.event.Event.{Event}
-use Rattle.recovery_events.specs.declared.event.Event.TheVariants.{Congestion, Ecn, Lost, LossesDone, SetTimer, StopTimer}
+use Rattle.recovery_events.specs.declared.event.Event.TheVariants.{Congestion, Ecn, Lost, LossesDone}
 use Rattle.recovery_events.specs.declared.event.Refusal.TheVariants.{NoMemory}
 use Rattle.recovery_paths.specs.PathLog.{PathReplyInputs, PathsStep, PerPath, paths_known}
 use Rattle.recovery_paths.specs.PathMaking.{PathSettings}
 use Rattle.recovery_paths.specs.PathStates.{Path, PathMarks}
 use Rattle.recovery_losses.specs.declared.due.Due.{Due}
-use Rattle.recovery_losses.specs.declared.looks.LossPass.{LossPass}
 use Rattle.recovery_losses.specs.declared.variables.Variables.{Variables}
 use Rattle.recovery_losses.specs.Losses.{last_counted}
 use Rattle.recovery_losses.proofs.PersistentCongestionLaws.{one_counted}
@@ -37,7 +34,7 @@ use Rattle.recovery_sender.specs.Detection.{DetectsLosses, congested, ended}
 use Rattle.recovery_sender.specs.Losses.{largest_in, look_of}
 use Rattle.recovery_sender.specs.Senders.{state_in}
 use Rattle.recovery_sender.specs.Spaces.{packets_in}
-use Rattle.recovery_sender.specs.Steps.{CompletesCall, RearmsTimer, SenderStep, StepsLeadTo, TakesSteps, loss_time, marked, occurs, timed, timer_event, told}
+use Rattle.recovery_sender.specs.Steps.{CompletesCall, RearmsTimer, SenderStep, StepsLeadTo, TakesSteps, loss_time, marked, occurs, timer_event, told}
 use Rattle.recovery_sender.specs.Timer.{due_of}
 use Rattle.recovery_sender.proofs.BoundLaws.{loss_time_paths}
 

@@ -1,36 +1,34 @@
 -- The loss detection timer runs while an ack-eliciting packet is outstanding, by the events so far.
-use Rattle.std.proofs.Common.{◌≡◌, ◌≢◌, ◌*◌, ◌+◌, ℕ, Bool, true, false, nat_lt, List, [], ◌∷◌, Option, None, Some, ap, refl, sym, ◌∙◌, arith}
+use Rattle.std.proofs.Common.{◌≡◌, ◌≢◌, ◌*◌, ◌+◌, ℕ, Bool, true, false, nat_lt, [], ◌∷◌, Option, None, Some, ap, refl, sym, ◌∙◌, arith}
 use Rattle.std.proofs.lemmas.Bool.Decides.{nat_tests}
 use Rattle.std.proofs.lemmas.Option.{none-some}
-use Rattle.std.specs.Prelude.{not, ◌&&◌, ◌||◌, sum_by}
+use Rattle.std.specs.Prelude.{not, ◌&&◌, ◌||◌}
 use Rattle.rand_core.specs.Stream.{Stream}
 use Rattle.recovery_base.specs.declared.below.SpaceId.{SpaceId}
 use Rattle.recovery_base.specs.declared.below.SpaceId.TheVariants.{Data}
 use Rattle.recovery_base.specs.declared.timer.Timer.TheVariants.{LossDetection}
 use Rattle.recovery_base.specs.Spaces.{same_space}
-use Rattle.recovery_paths.specs.declared.path_pair.PathName.TheVariants.{Current}
 use Rattle.recovery_paths.specs.PathLog.{PathReplyInputs, PerPath}
-use Rattle.recovery_paths.specs.PathStates.{PathState, is_blocked}
+use Rattle.recovery_paths.specs.PathStates.{is_blocked}
 use Rattle.recovery_spaces.specs.Discarded.{is_discarded}
 use Rattle.recovery_spaces.specs.Packets.{Packet, Packets, packet_at}
 use Rattle.recovery_spaces.specs.Spaces.{packets_of, space_of}
 use Rattle.recovery_spaces.proofs.PacketLaws.{number_at}
 use Rattle.recovery_history.specs.declared.config.RecoveryConfig.{RecoveryConfig}
 use Rattle.recovery_history.specs.History.{Beginning, History, begins, queue_model}
-use Rattle.recovery_history.specs.Promises.Datagrams.{bytes_in, bytes_out, datagrams_on, is_validated}
 use Rattle.recovery_history.specs.Promises.Timeouts.{timer_value}
 use Rattle.recovery_history.specs.Promises.Tracked.{is_tracked}
 use Rattle.recovery_history.specs.RecoveryState.{RecoveryState}
 use Rattle.recovery_history.specs.Reachability.{ReachedBy}
 use Rattle.recovery_history.specs.RepliesAfter.{RepliesAfter, pasts_of}
-use Rattle.recovery_history.proofs.DatagramLaws.{Flow, FlowsAgree, flow_by, flow_of, flows_after, flows_at_first}
+use Rattle.recovery_history.proofs.DatagramLaws.{Flow, FlowsAgree, flow_of, flows_after, flows_at_first}
 use Rattle.recovery_history.proofs.Runs.{kept_after}
 use Rattle.recovery_sender.specs.declared.sender.Sender.{Sender}
 use Rattle.recovery_sender.specs.Promises.Liveness.{IsAckOwed, IsTimerRunning, NeverStalls, may_send}
 use Rattle.recovery_sender.specs.Promises.Lost.{elicits_by}
 use Rattle.recovery_sender.specs.Promises.Pasts.{ForEveryPast, ForEveryRun}
 use Rattle.recovery_sender.specs.Senders.{state_in}
-use Rattle.recovery_sender.specs.Spaces.{packets_in, space_in}
+use Rattle.recovery_sender.specs.Spaces.{packets_in}
 use Rattle.recovery_sender.specs.Timer.{has_eliciting}
 use Rattle.recovery_sender.proofs.PastLaws.{elicits_by_past, tracked_by}
 

@@ -13,9 +13,8 @@ use Rattle.recovery_history.specs.ReplyInputs.{in_flight_on}
 use Rattle.recovery_history.specs.RepliesAfter.{RepliesAfter, inputs_after}
 use Rattle.recovery_history.proofs.CountedLaws.{Kept, flight_now, keeps_counts, none_counted}
 use Rattle.recovery_history.proofs.Runs.{kept_after}
-use Rattle.recovery_losses.specs.declared.variables.Variables.{Variables}
 use Rattle.recovery_sender.specs.declared.sender.packets.Transmission.{Transmission}
-use Rattle.recovery_sender.specs.declared.sender.packets.Transmission.TheVariants.{Blocked, Delayed, Full, Transmitted}
+use Rattle.recovery_sender.specs.declared.sender.packets.Transmission.TheVariants.{Blocked, Full, Transmitted}
 use Rattle.recovery_sender.specs.declared.sender.Sender.{Sender}
 use Rattle.recovery_sender.specs.Calls.{bytes_in_flight, is_full, paced_to, transmission, window_of}
 use Rattle.recovery_sender.specs.Promises.Pasts.{ForEveryRun}

@@ -1,7 +1,7 @@
 -- Amplification (RFC 9000, 8.1): until the address of a path is validated, the bytes transmitted on it are at most
 -- three times the bytes received on it, by the events so far. There is no premise about checks: the sender itself
 -- checks the limit for each datagram.
-use Rattle.std.specs.Prelude.{◌≡◌, ◌*◌, ◌≤◌, Bool, false, sum_by}
+use Rattle.std.specs.Prelude.{◌≡◌, ◌*◌, ◌≤◌, false, sum_by}
 use Rattle.recovery_paths.specs.declared.path_pair.PathName.{PathName}
 use Rattle.recovery_paths.specs.PathStates.{amplification_factor}
 use Rattle.recovery_history.specs.History.{Beginning, History}
