@@ -1,0 +1,53 @@
+package ackhandler
+
+import (
+	"os"
+	"testing"
+	"time"
+
+	"github.com/lucas-clemente/quic-go/internal/protocol"
+	"github.com/lucas-clemente/quic-go/internal/utils"
+	"github.com/lucas-clemente/quic-go/internal/wire"
+)
+
+// What quic-go's connection asks of its handler for a data packet, with an ACK for every second one; sixteen are in flight.
+func benchmark(b *testing.B, mode string) {
+	os.Setenv("QUIC_MODE", mode)
+	rtt := &utils.RTTStats{}
+	rtt.SetMaxAckDelay(25 * time.Millisecond)
+	own := newSentPacketHandler(0, 1252, rtt, true, protocol.PerspectiveServer, nil, utils.DefaultLogger)
+	h := handlerBy(own, 0, 1252, rtt, true, protocol.PerspectiveServer)
+	now := time.Now()
+	h.SetHandshakeConfirmed()
+	numbers := []protocol.PacketNumber{}
+	frames := 0
+	b.ReportAllocs()
+	b.ResetTimer()
+	for i := 0; i < b.N; i++ {
+		now = now.Add(100 * time.Microsecond)
+		h.SendMode()
+		h.HasPacingBudget()
+		h.PeekPacketNumber(protocol.Encryption1RTT)
+		number := h.PopPacketNumber(protocol.Encryption1RTT)
+		h.SentPacket(&Packet{
+			PacketNumber: number, Length: 1252, EncryptionLevel: protocol.Encryption1RTT, SendTime: now, LargestAcked: protocol.InvalidPacketNumber,
+			Frames: []Frame{{Frame: &wire.PingFrame{}, OnAcked: func(wire.Frame) { frames++ }, OnLost: func(wire.Frame) {}}},
+		})
+		h.GetLossDetectionTimeout()
+		numbers = append(numbers, number)
+		if len(numbers) >= 16 && i%2 == 1 {
+			ack := &wire.AckFrame{AckRanges: []wire.AckRange{{Smallest: numbers[0], Largest: numbers[1]}}, DelayTime: time.Millisecond}
+			if numbers[1] != numbers[0]+1 {
+				ack.AckRanges = []wire.AckRange{{Smallest: numbers[1], Largest: numbers[1]}, {Smallest: numbers[0], Largest: numbers[0]}}
+			}
+			if _, err := h.ReceivedAck(ack, protocol.Encryption1RTT, now); err != nil {
+				b.Fatal(err)
+			}
+			h.GetLossDetectionTimeout()
+			numbers = numbers[2:]
+		}
+	}
+}
+
+func BenchmarkOwn(b *testing.B)  { benchmark(b, "own") }
+func BenchmarkOver(b *testing.B) { benchmark(b, "over") }
