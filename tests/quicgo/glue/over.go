@@ -334,8 +334,10 @@ func (o *over) QueueProbePacket(level protocol.EncryptionLevel) bool {
 	return o.again(space, true)
 }
 
+// GetLossDetectionTimeout is no time before the first packet: the library's timer runs at once at a client, and a slow
+// first flight would double the next timeout.
 func (o *over) GetLossDetectionTimeout() time.Time {
-	if o.c.view.timer == 0 {
+	if o.c.view.timer == 0 || o.began.IsZero() {
 		return time.Time{}
 	}
 	return o.moment(o.c.view.timer)

@@ -10,7 +10,8 @@ import (
 	"github.com/lucas-clemente/quic-go/internal/wire"
 )
 
-// What quic-go's connection asks of its handler for a data packet, with an ACK for every second one; sixteen are in flight.
+// benchmark is what quic-go's connection asks of its handler for a data packet, with an ACK for every second one, while
+// sixteen are in flight.
 func benchmark(b *testing.B, mode string) {
 	os.Setenv("QUIC_MODE", mode)
 	rtt := &utils.RTTStats{}
@@ -51,3 +52,11 @@ func benchmark(b *testing.B, mode string) {
 
 func BenchmarkOwn(b *testing.B)  { benchmark(b, "own") }
 func BenchmarkOver(b *testing.B) { benchmark(b, "over") }
+
+// BenchmarkCross is a call from Go to C and back.
+func BenchmarkCross(b *testing.B) {
+	o := newOver(0, 1252, &utils.RTTStats{}, true, protocol.PerspectiveServer)
+	for i := 0; i < b.N; i++ {
+		o.cross()
+	}
+}

@@ -11,6 +11,7 @@ import (
 	"math/rand"
 	"net"
 	"os"
+	"sort"
 	"sync"
 	"sync/atomic"
 	"time"
@@ -42,6 +43,8 @@ var (
 	limit   = flag.Duration("limit", 60*time.Second, "for a connection")
 )
 
+var largest int64 // bytes of a datagram
+
 func check(err error) {
 	if err != nil {
 		panic(err)
@@ -70,6 +73,8 @@ func main() {
 		ports = append(ports, listen(conf, less))
 	}
 	var failed, done int64
+	var mutex sync.Mutex
+	var took []time.Duration
 	var wait sync.WaitGroup
 	began := time.Now()
 	turns := make(chan int)
@@ -79,7 +84,12 @@ func main() {
 		go func() {
 			defer wait.Done()
 			for turn := range turns {
-				if err := fetch(ports[turn%len(ports)], config, cache, *seed+int64(turn)); err != nil {
+				start := time.Now()
+				err := fetch(ports[turn%len(ports)], config, cache, *seed+int64(turn))
+				mutex.Lock()
+				took = append(took, time.Since(start))
+				mutex.Unlock()
+				if err != nil {
 					fmt.Fprintln(os.Stderr, "connection:", err)
 					atomic.AddInt64(&failed, 1)
 				} else {
@@ -94,6 +104,10 @@ func main() {
 	close(turns)
 	wait.Wait()
 	fmt.Printf("done %d failed %d in %v\n", done, failed, time.Since(began).Round(time.Millisecond))
+	sort.Slice(took, func(a, b int) bool { return took[a] < took[b] })
+	at := func(percent int) time.Duration { return took[(len(took)-1)*percent/100].Round(time.Millisecond) }
+	fmt.Printf("largest %d\n", largest)
+	fmt.Printf("took %v, %v, %v, %v (half, nine tenths, 99 of 100, all)\n", at(50), at(90), at(99), at(100))
 	ackhandler.ShadowReport()
 }
 
@@ -135,6 +149,7 @@ func fetch(port int, config *quic.Config, cache tls.ClientSessionCache, seed int
 	random := rand.New(rand.NewSource(seed))
 	var mutex sync.Mutex
 	var seen [3]int
+	most := 0
 	var outageFrom time.Time
 	proxy, err := quicproxy.NewQuicProxy("127.0.0.1:0", &quicproxy.Opts{
 		RemoteAddr: fmt.Sprintf("127.0.0.1:%d", port),
@@ -142,6 +157,9 @@ func fetch(port int, config *quic.Config, cache tls.ClientSessionCache, seed int
 			mutex.Lock()
 			defer mutex.Unlock()
 			seen[dir]++
+			if len(b) > most {
+				most = len(b)
+			}
 			if *outage > 0 && b[0]&0x80 == 0 {
 				if outageFrom.IsZero() {
 					outageFrom = time.Now().Add(30 * time.Millisecond)
@@ -170,6 +188,16 @@ func fetch(port int, config *quic.Config, cache tls.ClientSessionCache, seed int
 		return err
 	}
 	defer proxy.Close()
+	defer func() {
+		mutex.Lock()
+		defer mutex.Unlock()
+		for {
+			was := atomic.LoadInt64(&largest)
+			if int64(most) <= was || atomic.CompareAndSwapInt64(&largest, was, int64(most)) {
+				return
+			}
+		}
+	}()
 	ctx, cancel := context.WithTimeout(context.Background(), *limit)
 	defer cancel()
 	conf := &tls.Config{RootCAs: testdata.GetRootCA(), NextProtos: []string{"x"}, ServerName: "localhost"}

@@ -536,3 +536,6 @@ func (s *shadow) SetHandshakeConfirmed() {
 	}
 	s.compareTimer("confirmed")
 }
+
+// cross is the shortest call of the library, for the benchmarks.
+func (o *over) cross() { C.recovery_ffi_pto_count(&o.c.handle) }
