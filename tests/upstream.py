@@ -1,5 +1,5 @@
-"""What the scripts that put another stack over the library have in common: its sources, as Debian packages them, and our edits of these.
-An edit names lines by their numbers, in the form of `diff -e`, and holds ours: no line of theirs stands here."""
+"""What the scripts that put another stack over the library have in common: its sources, as Debian packages them, and
+our edits of these. An edit names lines by their numbers, in the form of `diff -e`, and holds ours: no line of theirs."""
 import difflib
 import re
 import shutil

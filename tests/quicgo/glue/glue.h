@@ -105,7 +105,8 @@ static void glue_ack(struct glue *it, uint8_t space, uint64_t now, uint64_t dela
         frame.packets_room = it->acked.room;
         frame.lost_room = it->lost.room;
         it->reply = recovery_ffi_sender_ack(&it->handle, space, now, &frame, it->ranges, ranges);
-    } while (it->reply.kind == RECOVERY_ANSWER_NEEDS_ROOM && glue_grow(&it->acked, recovery_needs_room_packets(it->reply))
+    } while (it->reply.kind == RECOVERY_ANSWER_NEEDS_ROOM
+             && glue_grow(&it->acked, recovery_needs_room_packets(it->reply))
              && glue_grow(&it->lost, recovery_needs_room_lost(it->reply)));
     if (it->reply.kind == RECOVERY_ANSWER_ACKNOWLEDGED) {
         it->acked.len = recovery_ffi_told_packets(&it->handle, it->acked.at, it->acked.room);
@@ -121,9 +122,10 @@ static void glue_timeout(struct glue *it, uint64_t now) {
     it->reply = recovery_ffi_sender_on_timeout(&it->handle, now);
     if (it->reply.kind == RECOVERY_ANSWER_LOSSES) {
         glue_losses(it, recovery_losses_space(it->reply));
-        it->lowest[recovery_losses_space(it->reply)] = recovery_ffi_smallest_tracked(&it->handle, recovery_losses_space(it->reply));
+        glue_read_space(it, recovery_losses_space(it->reply));
+    } else {
+        glue_read(it);
     }
-    glue_read(it);
 }
 
 // Takes what a probe carries.

@@ -1,3 +1,39 @@
+// The library's sender, in place of quic-go's loss detection, RTT, congestion control, pacer and MTU search, as an
+// embedder in Go does it.
+//
+// The walk. Streams, frames, keys and packets as bytes stay quic-go's. What was done, by quic-go's SentPacketHandler:
+//
+//  1. Frames stay in Go. A packet's one item is its number, the key of a map. The item comes back with the packet's
+//     ACK, or waits for retransmission once the packet is lost.
+//  2. quic-go builds a datagram first and knows its size last. So SendMode asks for room for a whole one, and
+//     SentPacket reports each packet by transmit, which asks neither window nor pacer here, and by send.
+//  3. QueueProbePacket takes what a probe carries, once SendMode has found room. An empty queue makes quic-go send a
+//     PING. Before a 1-RTT probe a number is skipped, so that the peer acknowledges at once: send, with size 0. An ACK
+//     of that number closes the connection.
+//  4. Handshake keys are reported by both endpoints, with the first packet that has them. Without that, a server's
+//     probe against a deadlock is in Initial, and there is none once that space is discarded: its 0.5-RTT data may then
+//     fill the window for ever.
+//  5. What a ticket or a Retry says of the RTT is an initial RTT, set when it is known, after the sender was made.
+//  6. A probe of the MTU takes its number before it is built, which the next packet then has.
+//  7. The timer of a client runs from the beginning (RFC 9002, 6.2.2.1). It is ignored until a packet was sent.
+//  8. An ACK frame that fails closes the connection, by one conversion of the library's error into quic-go's.
+//
+// What a garbage collector needs. One structure for each connection, in memory of C, holds the handle, what was read
+// of it, and arrays for results. Go passes its address, and C holds no pointer of Go's. A finalizer frees it, and may
+// run while the last call for it is being made: so each call ends with runtime.KeepAlive. One goroutine calls a handle,
+// that of the connection. go build sees no change outside of a package: so the header is copied into it, and the
+// folder of the library is named by a checksum.
+//
+// What cgo costs. A call from Go to C and back takes CROSS ns (BenchmarkCross), more than most calls of the library. So
+// each call of quic-go's is one crossing, with all that is read afterwards (glue.h): one for a packet, one for an ACK
+// frame. Timer, window and tokens are read from memory, and the pacer is asked only if its last tokens are too few. A
+// packet with half an ACK takes OVER microseconds over the library and OWN without, on a busy machine, with five
+// allocations both ways (over_test.go).
+//
+// What quic-go does better. It leaves slow start when the RTT grows, and bounds window and tracked packets (10,000
+// and 25,000). It skips numbers at random: the library does too, but send then chooses the number, which here is in
+// the header already. It sends while the limit against amplification leaves less than a whole datagram; here it waits
+// for a whole one, where RFC 9000, 8.1 lets a smaller one pass. It knows an outcome by callbacks, without a map.
 package ackhandler
 
 // #include "glue.h"

@@ -22,6 +22,7 @@ func benchmark(b *testing.B, mode string) {
 	h.SetHandshakeConfirmed()
 	numbers := []protocol.PacketNumber{}
 	frames := 0
+	count := func(wire.Frame) { frames++ }
 	b.ReportAllocs()
 	b.ResetTimer()
 	for i := 0; i < b.N; i++ {
@@ -31,15 +32,17 @@ func benchmark(b *testing.B, mode string) {
 		h.PeekPacketNumber(protocol.Encryption1RTT)
 		number := h.PopPacketNumber(protocol.Encryption1RTT)
 		h.SentPacket(&Packet{
-			PacketNumber: number, Length: 1252, EncryptionLevel: protocol.Encryption1RTT, SendTime: now, LargestAcked: protocol.InvalidPacketNumber,
-			Frames: []Frame{{Frame: &wire.PingFrame{}, OnAcked: func(wire.Frame) { frames++ }, OnLost: func(wire.Frame) {}}},
+			PacketNumber: number, Length: 1252, EncryptionLevel: protocol.Encryption1RTT, SendTime: now,
+			LargestAcked: protocol.InvalidPacketNumber,
+			Frames:       []Frame{{Frame: &wire.PingFrame{}, OnAcked: count, OnLost: func(wire.Frame) {}}},
 		})
 		h.GetLossDetectionTimeout()
 		numbers = append(numbers, number)
 		if len(numbers) >= 16 && i%2 == 1 {
-			ack := &wire.AckFrame{AckRanges: []wire.AckRange{{Smallest: numbers[0], Largest: numbers[1]}}, DelayTime: time.Millisecond}
-			if numbers[1] != numbers[0]+1 {
-				ack.AckRanges = []wire.AckRange{{Smallest: numbers[1], Largest: numbers[1]}, {Smallest: numbers[0], Largest: numbers[0]}}
+			first, second := numbers[0], numbers[1]
+			ack := &wire.AckFrame{AckRanges: []wire.AckRange{{Smallest: first, Largest: second}}, DelayTime: time.Millisecond}
+			if second != first+1 {
+				ack.AckRanges = []wire.AckRange{{Smallest: second, Largest: second}, {Smallest: first, Largest: first}}
 			}
 			if _, err := h.ReceivedAck(ack, protocol.Encryption1RTT, now); err != nil {
 				b.Fatal(err)

@@ -53,7 +53,9 @@ func check(err error) {
 
 func main() {
 	flag.Parse()
-	config := &quic.Config{DisablePathMTUDiscovery: !*mtud, HandshakeIdleTimeout: 20 * time.Second, MaxIdleTimeout: 30 * time.Second}
+	config := &quic.Config{
+		DisablePathMTUDiscovery: !*mtud, HandshakeIdleTimeout: 20 * time.Second, MaxIdleTimeout: 30 * time.Second,
+	}
 	server := config.Clone()
 	if *retry {
 		server.RequireAddressValidation = func(net.Addr) bool { return true }

@@ -71,16 +71,25 @@ func (r *reno) HasPacingBudget() bool {
 
 func (r *reno) TimeUntilSend(protocol.ByteCount) time.Time { return r.wait }
 
-func (r *reno) OnPacketSent(_ time.Time, _ protocol.ByteCount, _ protocol.PacketNumber, size protocol.ByteCount, _ bool) {
+func (r *reno) OnPacketSent(
+	_ time.Time, _ protocol.ByteCount, _ protocol.PacketNumber, size protocol.ByteCount, _ bool,
+) {
 	r.pacer.take(uint64(size))
 }
 
 func (r *reno) MaybeExitSlowStart() {}
+
 func (r *reno) OnPacketAcked(protocol.PacketNumber, protocol.ByteCount, protocol.ByteCount, time.Time) {
 }
+
 func (r *reno) OnPacketLost(protocol.PacketNumber, protocol.ByteCount, protocol.ByteCount) {}
-func (r *reno) OnRetransmissionTimeout(bool)                                               {}
-func (r *reno) SetMaxDatagramSize(protocol.ByteCount)                                      {}
-func (r *reno) InSlowStart() bool                                                          { return r.window < r.threshold }
-func (r *reno) InRecovery() bool                                                           { return false }
-func (r *reno) GetCongestionWindow() protocol.ByteCount                                    { return protocol.ByteCount(r.window) }
+
+func (r *reno) OnRetransmissionTimeout(bool) {}
+
+func (r *reno) SetMaxDatagramSize(protocol.ByteCount) {}
+
+func (r *reno) InSlowStart() bool { return r.window < r.threshold }
+
+func (r *reno) InRecovery() bool { return false }
+
+func (r *reno) GetCongestionWindow() protocol.ByteCount { return protocol.ByteCount(r.window) }

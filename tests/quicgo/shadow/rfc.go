@@ -9,22 +9,44 @@ import (
 	"github.com/lucas-clemente/quic-go/internal/utils"
 )
 
-// The places in which quic-go's handler can be made to go by RFC 9002 to the letter: the bits of QUIC_ALIGN. Where no
-// other is named, sections are those of RFC 9002. docs/QUIC-GO.md has them as a table.
+// The places in which quic-go leaves RFC 9002, each with quic-go's rule, and with the RFC's, by which it goes if the
+// bit is in QUIC_ALIGN. The library has the RFC's rule, except where docs/SENDER.md says otherwise. Sections are those
+// of RFC 9002 if no other is named.
 const (
-	alRTT      = 1    // whole nanoseconds, and the last sample with its delay (5.1, 5.3)
-	alInitial  = 2    // what an earlier connection left is an initial RTT, and no estimate (6.2.2)
-	alSilent   = 4    // packets that elicit no ACK are tracked (A.1, 5.1)
-	alLate     = 8    // a packet declared lost is not tracked: an ACK of it says nothing (A.10)
-	alProbe    = 16   // a probe declares nothing lost (6.2.4)
-	alBound    = 32   // a packet that was sent exactly the loss delay ago is lost (A.10)
-	alPTO      = 64   // the timer of a space with nothing in flight does not count (A.8)
-	alDeadlock = 128  // what is not in flight does not start the timer again (A.5)
-	alSkip     = 256  // no number is skipped
-	alPeer     = 512  // a 1-RTT ACK does not tell a client that its address is validated (A.6)
-	alRetry    = 1024 // a Retry gives an initial RTT, and no sample (6.3)
-	alLimit    = 2048 // no datagram ends past the limit against amplification (RFC 9000, 8.1)
-	alWindow   = 4096 // the window is that of appendix B, and the pacer the library's, both in Go (reno.go, pacer.go)
+	// RTTs are cut to microseconds, and the latest RTT lacks the ACK delay. Neither is so in 5.1 and 5.3.
+	alRTT = 1
+	// A resumed connection begins with the RTT of an earlier one as its estimate: its first probe timeout is that and a
+	// millisecond. By 6.2.2 that is an initial RTT: three times as much.
+	alInitial = 2
+	// Only ack-eliciting packets are tracked. By A.1 and 5.1 all are: an ACK of one that elicits none may give a sample,
+	// if it newly acknowledges another that does.
+	alSilent = 4
+	// An ACK of a packet that was declared lost is news. By A.10 such a packet is no longer tracked.
+	alLate = 8
+	// A probe declares the packet lost whose frames it carries, and takes it out of flight. 6.2.4: SHOULD NOT.
+	alProbe = 16
+	// A packet that was sent exactly the loss delay ago is not lost. By A.10 it is.
+	alBound = 32
+	// The timer may be that of a space with nothing in flight, whose probes then keep others from being sent: one in
+	// thirty resumptions ended so. By A.8 such a space has no timer.
+	alPTO = 64
+	// At a client that waits for validation, ACKs alone restart the timer. By A.5 only what is in flight does.
+	alDeadlock = 128
+	// Numbers are skipped, some at random and one at each probe timeout (RFC 9000, 21.4). The RFC leaves that open; here
+	// none is, since the library learns of a skip late, and the numbers count for its packet threshold.
+	alSkip = 256
+	// An ACK of a 1-RTT packet shows a client that its address is validated. By A.6 one in Handshake does, or
+	// HANDSHAKE_DONE.
+	alPeer = 512
+	// A Retry gives a sample. By 6.3 it gives an initial RTT.
+	alRetry = 1024
+	// A datagram may begin below the limit against amplification and end past it. RFC 9000, 8.1: MUST NOT.
+	alLimit = 2048
+	// The window grows by a datagram for each packet acknowledged in slow start; a datagram may end past it (7: MUST
+	// NOT); a recovery is known by packet numbers, though each space has its own; persistent congestion is not detected
+	// (7.6); padding without frames is not in flight (2). By appendix B otherwise: window and pacer are then those of
+	// reno.go and pacer.go.
+	alWindow = 4096
 )
 
 var alignment, _ = strconv.Atoi(os.Getenv("QUIC_ALIGN"))
@@ -54,8 +76,8 @@ func anyElicits(packets []*Packet) bool {
 	return false
 }
 
-// rfcPTO is GetPtoTimeAndSpace of A.8. With nothing but 0-RTT in flight a client waits as with nothing (6.2.2.1), and so
-// does each endpoint whose handshake is not confirmed, which the RFC does not have: else neither has a timer once
+// rfcPTO is GetPtoTimeAndSpace of A.8. With nothing but 0-RTT in flight a client waits as with nothing (6.2.2.1), and
+// so does each endpoint whose handshake is not confirmed, which the RFC does not have: else neither has a timer once
 // 1-RTT packets fill the window.
 func (h *sentPacketHandler) rfcPTO() (pto time.Time, level protocol.EncryptionLevel, deadlock, ok bool) {
 	try := func(space *packetNumberSpace, its protocol.EncryptionLevel) {

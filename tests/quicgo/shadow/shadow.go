@@ -130,12 +130,14 @@ func (s *shadow) smoothed() time.Duration {
 func (s *shadow) sync() {
 	if d := s.rttStats.MaxAckDelay(); d != s.delay {
 		s.delay = d
-		s.must("peer_delay", C.recovery_ffi_sender_peer_delay(s.handle, C.uint64_t(d/time.Second), C.uint32_t(d%time.Second)))
+		seconds, rest := C.uint64_t(d/time.Second), C.uint32_t(d%time.Second)
+		s.must("peer_delay", C.recovery_ffi_sender_peer_delay(s.handle, seconds, rest))
 	}
 	if d := s.rttStats.Restored(); d != 0 && d != s.initial && aligned(alInitial) {
 		s.initial = d
 		count("initial RTT")
-		s.must("initial_rtt", C.recovery_ffi_sender_initial_rtt(s.handle, C.uint64_t(d/time.Second), C.uint32_t(d%time.Second)))
+		seconds, rest := C.uint64_t(d/time.Second), C.uint32_t(d%time.Second)
+		s.must("initial_rtt", C.recovery_ffi_sender_initial_rtt(s.handle, seconds, rest))
 		s.setLossDetectionTimer()
 	}
 }
@@ -313,7 +315,8 @@ func (s *shadow) SentPacket(p *Packet) {
 	reply := s.must("transmit", C.recovery_ffi_sender_transmit(s.handle, now, C.uint16_t(length), C.uint8_t(space), false))
 	if reply.kind == C.RECOVERY_ANSWER_BLOCKED {
 		room := C.recovery_ffi_sender_view(s.handle).amplification_room
-		s.differs("sent past the amplification limit", fmt.Sprint("room ", room), fmt.Sprint("sent ", length), int64(length)-int64(room))
+		more := int64(length) - int64(room)
+		s.differs("sent past the amplification limit", fmt.Sprint("room ", room), fmt.Sprint("sent ", length), more)
 		if room > 0 {
 			s.must("transmit", C.recovery_ffi_sender_transmit(s.handle, now, C.uint16_t(room), C.uint8_t(space), false))
 		}
@@ -358,7 +361,8 @@ func (s *shadow) ReceivedAck(ack *wire.AckFrame, level protocol.EncryptionLevel,
 	for _, it := range ack.AckRanges {
 		s.ranges = append(s.ranges, C.struct_recovery_ack_range{first: C.uint64_t(it.Smallest), last: C.uint64_t(it.Largest)})
 	}
-	reply := C.recovery_ffi_sender_ack(s.handle, C.uint8_t(space), s.nanos(at), &frame, &s.ranges[0], C.size_t(len(s.ranges)))
+	ranges := C.size_t(len(s.ranges))
+	reply := C.recovery_ffi_sender_ack(s.handle, C.uint8_t(space), s.nanos(at), &frame, &s.ranges[0], ranges)
 	if (reply.kind == C.RECOVERY_ANSWER_REFUSED) != (err != nil) {
 		s.differs("ACK fails", fmt.Sprint(reply.kind, reply.refusal), fmt.Sprint(err), 0)
 	}
