@@ -1,7 +1,8 @@
 // What a connection of quic-go asks of the library in one call from Go to C: such a call costs more than most calls of
-// the library. All is in memory of C, so that Go passes one pointer, and its garbage collector moves or scans nothing.
+// the library. All is in memory of C, so that Go passes one pointer, and its garbage collector scans nothing.
 #include "recovery_ffi.h"
 #include <stdlib.h>
+#include <string.h>
 
 // Numbers, of which the array has room for so many.
 struct glue_list {
@@ -34,47 +35,39 @@ static void glue_read_space(struct glue *it, uint8_t space) {
     glue_read(it);
 }
 
-// Makes room for so many numbers; false if there is no memory.
-static bool glue_grow(struct glue_list *it, size_t needed) {
+// An array with room for so many elements. A Go program ends if there is no memory, and so does this.
+static void *glue_array(void *old, size_t count, size_t size) {
+    void *grown = realloc(old, count * size);
+    if (grown == NULL) {
+        abort();
+    }
+    return grown;
+}
+
+static void glue_grow(struct glue_list *it, size_t needed) {
     if (needed > it->room) {
-        uint64_t *grown = realloc(it->at, 2 * needed * sizeof *grown);
-        if (grown == NULL) {
-            return false;
-        }
-        it->at = grown;
         it->room = 2 * needed;
+        it->at = glue_array(it->at, it->room, sizeof *it->at);
     }
-    return true;
 }
 
-static bool glue_ranges(struct glue *it, size_t needed) {
+static void glue_ranges(struct glue *it, size_t needed) {
     if (needed > it->ranges_room) {
-        struct recovery_ack_range *grown = realloc(it->ranges, 2 * needed * sizeof *grown);
-        if (grown == NULL) {
-            return false;
-        }
-        it->ranges = grown;
         it->ranges_room = 2 * needed;
+        it->ranges = glue_array(it->ranges, it->ranges_room, sizeof *it->ranges);
     }
-    return true;
 }
 
-// Reads the items of the queue that was taken last; none if there is no memory.
+// Reads the items of the queue that was taken last.
 static void glue_items(struct glue *it) {
-    size_t len = recovery_ffi_last_items(&it->handle, it->items.at, it->items.room);
-    if (len > it->items.room) {
-        len = glue_grow(&it->items, len) ? recovery_ffi_last_items(&it->handle, it->items.at, it->items.room) : 0;
-    }
-    it->items.len = len;
+    glue_grow(&it->items, recovery_ffi_last_items(&it->handle, NULL, 0));
+    it->items.len = recovery_ffi_last_items(&it->handle, it->items.at, it->items.room);
 }
 
 // Reads which packets the last pass declared lost, and takes what waits for retransmission.
 static void glue_losses(struct glue *it, uint8_t space) {
-    size_t len = recovery_ffi_told_numbers(&it->handle, true, it->lost.at, it->lost.room);
-    if (len > it->lost.room) {
-        len = glue_grow(&it->lost, len) ? recovery_ffi_told_numbers(&it->handle, true, it->lost.at, it->lost.room) : 0;
-    }
-    it->lost.len = len;
+    glue_grow(&it->lost, recovery_ffi_told_numbers(&it->handle, true, NULL, 0));
+    it->lost.len = recovery_ffi_told_numbers(&it->handle, true, it->lost.at, it->lost.room);
     if (recovery_ffi_take_pending(&it->handle, space).kind == RECOVERY_ANSWER_QUEUE) {
         glue_items(it);
     }
@@ -101,13 +94,16 @@ static void glue_ack(struct glue *it, uint8_t space, uint64_t now, uint64_t dela
     frame.app_limited = app_limited;
     frame.is_limited = true;
     it->acked.len = it->lost.len = it->items.len = 0;
-    do {
+    frame.packets_room = it->acked.room;
+    frame.lost_room = it->lost.room;
+    it->reply = recovery_ffi_sender_ack(&it->handle, space, now, &frame, it->ranges, ranges);
+    if (it->reply.kind == RECOVERY_ANSWER_NEEDS_ROOM) {
+        glue_grow(&it->acked, recovery_needs_room_packets(it->reply));
+        glue_grow(&it->lost, recovery_needs_room_lost(it->reply));
         frame.packets_room = it->acked.room;
         frame.lost_room = it->lost.room;
         it->reply = recovery_ffi_sender_ack(&it->handle, space, now, &frame, it->ranges, ranges);
-    } while (it->reply.kind == RECOVERY_ANSWER_NEEDS_ROOM
-             && glue_grow(&it->acked, recovery_needs_room_packets(it->reply))
-             && glue_grow(&it->lost, recovery_needs_room_lost(it->reply)));
+    }
     if (it->reply.kind == RECOVERY_ANSWER_ACKNOWLEDGED) {
         it->acked.len = recovery_ffi_told_packets(&it->handle, it->acked.at, it->acked.room);
         if (recovery_acknowledged_lost(it->reply) > 0) {

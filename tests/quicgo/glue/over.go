@@ -118,7 +118,7 @@ func newOver(
 	settings.initial_rtt = C.uint64_t(utils.UsualInitialRTT)
 	var remote C.struct_recovery_address
 	var id C.uint8_t
-	o.c = (*C.struct_glue)(C.calloc(1, C.sizeof_struct_glue))
+	o.c = (*C.struct_glue)(C.memset(C.malloc(C.sizeof_struct_glue), 0, C.sizeof_struct_glue))
 	code := C.recovery_ffi_sender_new(&o.c.handle, C.bool(o.client), &settings, &remote, &id, 0, o.nanos(now))
 	if code != C.RECOVERY_NEW_MADE {
 		panic(C.GoString(C.recovery_ffi_new_text(code)))
@@ -262,9 +262,7 @@ func (o *over) isLimited() bool {
 func (o *over) ReceivedAck(ack *wire.AckFrame, level protocol.EncryptionLevel, at time.Time) (bool, error) {
 	o.sync()
 	space := spaceOf(level)
-	if !C.glue_ranges(o.c, C.size_t(len(ack.AckRanges))) {
-		panic("no memory")
-	}
+	C.glue_ranges(o.c, C.size_t(len(ack.AckRanges)))
 	ranges := unsafe.Slice(o.c.ranges, len(ack.AckRanges))
 	for at, it := range ack.AckRanges {
 		ranges[at] = C.struct_recovery_ack_range{first: C.uint64_t(it.Smallest), last: C.uint64_t(it.Largest)}
@@ -273,12 +271,8 @@ func (o *over) ReceivedAck(ack *wire.AckFrame, level protocol.EncryptionLevel, a
 	C.glue_ack(o.c, C.uint8_t(space), o.nanos(at), C.uint64_t(ack.DelayTime), C.bool(o.isLimited()), C.size_t(len(ranges)))
 	reply, path := o.c.reply, o.c.path
 	runtime.KeepAlive(o)
-	switch reply.kind {
-	case C.RECOVERY_ANSWER_ACKNOWLEDGED:
-	case C.RECOVERY_ANSWER_REFUSED:
+	if reply.kind != C.RECOVERY_ANSWER_ACKNOWLEDGED {
 		return false, o.refused(reply.refusal)
-	default:
-		panic("no memory")
 	}
 	o.acked[space] = utils.Max(o.acked[space], ack.LargestAcked())
 	is1RTT := false

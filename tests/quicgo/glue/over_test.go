@@ -1,6 +1,7 @@
 package ackhandler
 
 import (
+	"fmt"
 	"os"
 	"testing"
 	"time"
@@ -55,6 +56,53 @@ func benchmark(b *testing.B, mode string) {
 
 func BenchmarkOwn(b *testing.B)  { benchmark(b, "own") }
 func BenchmarkOver(b *testing.B) { benchmark(b, "over") }
+
+// TestOver sends a packet that nobody acknowledges: behind the timeout two probes carry its frame and that of the next,
+// and a number is skipped, whose ACK is an error, as that of a number that was not sent (RFC 9000, 13.1 and 21.4). An
+// ACK of a probe acknowledges its own frame.
+func TestOver(t *testing.T) {
+	o := newOver(0, 1252, &utils.RTTStats{}, true, protocol.PerspectiveServer)
+	o.SetHandshakeConfirmed()
+	acked, lost := []int{}, []int{}
+	send := func(frame int) {
+		number := o.PopPacketNumber(protocol.Encryption1RTT)
+		o.SentPacket(&Packet{
+			PacketNumber: number, Length: 1252, EncryptionLevel: protocol.Encryption1RTT, SendTime: time.Now(),
+			LargestAcked: protocol.InvalidPacketNumber,
+			Frames: []Frame{{
+				Frame:   &wire.PingFrame{},
+				OnAcked: func(wire.Frame) { acked = append(acked, frame) },
+				OnLost:  func(wire.Frame) { lost = append(lost, frame) },
+			}},
+		})
+	}
+	receive := func(number protocol.PacketNumber) error {
+		ack := &wire.AckFrame{AckRanges: []wire.AckRange{{Smallest: number, Largest: number}}}
+		_, err := o.ReceivedAck(ack, protocol.Encryption1RTT, time.Now())
+		return err
+	}
+	send(10)
+	send(11)
+	time.Sleep(time.Until(o.GetLossDetectionTimeout()))
+	if o.OnLossDetectionTimeout(); o.SendMode() != SendPTOAppData {
+		t.Fatal("no probe is due")
+	}
+	for frame := 12; o.SendMode() == SendPTOAppData; frame++ {
+		if !o.QueueProbePacket(protocol.Encryption1RTT) {
+			t.Fatal("a probe carries nothing")
+		}
+		send(frame)
+	}
+	if fmt.Sprint(lost) != "[10 11]" || o.PopPacketNumber(protocol.Encryption1RTT) != 5 {
+		t.Fatal("the probes carry", lost, "and the next number is", o.PopPacketNumber(protocol.Encryption1RTT))
+	}
+	if err := receive(4); err != nil || fmt.Sprint(acked) != "[13]" {
+		t.Fatal("the ACK of the second probe:", err, acked)
+	}
+	if receive(2) == nil || receive(5) == nil {
+		t.Fatal("an ACK of a number that was not sent passes")
+	}
+}
 
 // BenchmarkCross is a call from Go to C and back.
 func BenchmarkCross(b *testing.B) {
