@@ -24,11 +24,11 @@
 // that of the connection. go build sees no change outside of a package: so the header is copied into it, and the
 // folder of the library is named by a checksum.
 //
-// What cgo costs. A call from Go to C and back takes CROSS ns (BenchmarkCross), more than most calls of the library. So
-// each call of quic-go's is one crossing, with all that is read afterwards (glue.h): one for a packet, one for an ACK
-// frame. Timer, window and tokens are read from memory, and the pacer is asked only if its last tokens are too few. A
-// packet with half an ACK takes OVER microseconds over the library and OWN without, on a busy machine, with five
-// allocations both ways (over_test.go).
+// What cgo costs. A call from Go to C and back takes 105 to 140 ns (BenchmarkCross), more than most calls of the
+// library. So each call of quic-go's is one crossing, with all that is read afterwards (glue.h): one for a packet, one
+// for an ACK frame. Timer, window and tokens are read from memory, and the pacer is asked only if its last tokens are
+// too few. A packet with half an ACK takes 1.9 microseconds over the library and 1.0 without, the fastest of ten runs
+// on a busy machine, with as many allocations (over_test.go).
 //
 // What quic-go does better. It leaves slow start when the RTT grows, and bounds window and tracked packets (10,000
 // and 25,000). It skips numbers at random: the library does too, but send then chooses the number, which here is in
