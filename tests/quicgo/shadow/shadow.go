@@ -114,16 +114,13 @@ func newShadow(h *sentPacketHandler, size protocol.ByteCount, validated bool, pe
 
 func (s *shadow) nanos(t time.Time) C.uint64_t { return C.uint64_t(t.Sub(s.base)) }
 
-// smoothed is the RTT estimate, or before the first sample the initial RTT.
+// smoothed is the RTT by which the library paces: its estimate, and before the first sample that of the settings. An
+// initial RTT that is set later is for timers alone.
 func (s *shadow) smoothed() time.Duration {
-	switch {
-	case s.rttStats.MinRTT() != 0:
+	if s.rttStats.MinRTT() != 0 {
 		return s.rttStats.SmoothedRTT()
-	case s.rttStats.Restored() != 0:
-		return s.rttStats.Restored()
-	default:
-		return utils.UsualInitialRTT
 	}
+	return utils.UsualInitialRTT
 }
 
 // sync reports the peer's max_ack_delay, and an initial RTT, which quic-go stores where its handler finds them.
