@@ -14,7 +14,6 @@ No line of theirs stands here: an edit names lines by their numbers, in the form
 """
 import argparse
 import collections
-import difflib
 import os
 import pathlib
 import re
@@ -24,6 +23,7 @@ import sys
 
 import tree
 from tree import ROOT
+from upstream import edit, edited, files_of, without_theirs, write
 
 PACKAGES = [f"librust-{it}-dev" for it in ("quinn", "assert-matches", "hex-literal", "tracing-subscriber")]
 CRATES = ["quinn-proto-0.9.2", "quinn-0.9.3"]
@@ -44,7 +44,6 @@ TRANSFERS = [  # by which quinn, its controller, and the window at the start
     (AS_IT_IS, "cubic", "with the proved CUBIC"),
     *((AS_IT_IS, "both", str(window), f"with both from {window} bytes on") for window in (2400, 12000, 100000)),
 ]
-LONGEST = 28  # characters that a line of an edit may share with one of theirs
 
 OFFLINE = """[source.crates-io]
 replace-with = "debian"
@@ -74,12 +73,6 @@ def tell(text):
 # ---- where their sources are, and the folders that are made of them
 
 
-def files_of(package):
-    """The files of a package of Debian; none where it is not installed."""
-    words = ["dpkg", "-L", package]
-    return tree.ran(words, stdin=subprocess.DEVNULL, text=True)[1].split() if shutil.which(words[0]) else []
-
-
 def registry():
     """The folder of the packages' sources; none where a package is not installed, or is another version."""
     manifests = [pathlib.Path(it) for it in files_of("librust-quinn-proto-dev") if it.endswith("/Cargo.toml")]
@@ -88,29 +81,10 @@ def registry():
     return folders[0] if is_whole else None
 
 
-def edited(text, script):
-    """What an edit makes of a text: commands from its end on, as `diff -e` gives them."""
-    lines, given = text.splitlines(True), iter(script.splitlines(True))
-    for command in given:
-        first, last, how = re.fullmatch(r"(\d+)(?:,(\d+))?([acd])\n", command).groups()
-        new = []
-        while how != "d" and (line := next(given)) != ".\n":
-            new.append(line)
-        lines[int(first) - (how != "a"):int(last or first)] = new
-    return "".join(lines)
-
-
 def edits(which):
     """The files that are edited, each with its edit; of those as they are, only that which names our tests."""
     found = {it.stem.replace(".", "/", it.stem.count(".") - 1): it for it in sorted((HERE / "edits").glob("*.ed"))}
     return found if which == PROVED else {it: found[it] for it in found if it.startswith("tests/")}
-
-
-def write(path, text):
-    """Writes a file where it is another one, so that nothing is compiled anew for it."""
-    path.parent.mkdir(parents=True, exist_ok=True)
-    if not path.is_file() or path.read_text() != text:
-        path.write_text(text)
 
 
 def lay_out(which, sources):
@@ -151,18 +125,6 @@ def manifest(which, text):
         text = text.replace("[features]\n", "[features]\nshadow = []\n")
         text += f'\n[dependencies.quic-recovery]\npath = "{ROOT / "rust" / "quic-recovery"}"\n'
     return text
-
-
-def edit(old, new):
-    """What makes a text of another, as `diff -e` gives it; the longest pieces that both have stay."""
-    old, new, commands = old.splitlines(True), new.splitlines(True), []
-    for how, first, last, begin, end in reversed(difflib.SequenceMatcher(None, old, new, False).get_opcodes()):
-        span = f"{first + 1},{last}" if last > first + 1 else str(last)
-        if how == "delete":
-            commands.append(f"{span}d\n")
-        elif how != "equal":
-            commands += [span, "a\n" if how == "insert" else "c\n", *new[begin:end], ".\n"]
-    return "".join(commands)
 
 
 def written(sources):
@@ -289,16 +251,6 @@ PARTS = {"tests": run_tests, "shadow": run_shadow, "transfer": run_transfer, "in
 USUAL = ["tests", "shadow", "transfer"]
 
 
-def without_theirs(sources):
-    """No line of an edit stands in their sources, but for words that every program in Rust has."""
-    plain = lambda line: " ".join(line.split())
-    texts = (file.read_text() for crate in CRATES for file in (sources / crate).rglob("*.rs"))
-    theirs = {plain(line) for text in texts for line in text.splitlines()}
-    for edit in sorted((HERE / "edits").glob("*.ed")):
-        same = [it for it in map(plain, edit.read_text().splitlines()) if len(it) > LONGEST and it in theirs]
-        tests.holds(f"{edit.name} has no line of theirs", not same, "\n".join(same))
-
-
 def main():
     parser = argparse.ArgumentParser(description=__doc__, formatter_class=argparse.RawDescriptionHelpFormatter)
     parser.add_argument("parts", nargs="*", choices=[[], *PARTS], metavar="PART", help=argparse.SUPPRESS)
@@ -313,7 +265,8 @@ def main():
     rt = shutil.which("rt")
     if not LIBRARY.is_file() or not rt:
         sys.exit("quinn: the library is missing: tests/rust.py --library" if rt else "quinn: rt is not on the PATH")
-    without_theirs(sources)
+    theirs = [file for crate in CRATES for file in (sources / crate).rglob("*.rs")]
+    without_theirs(tests, (HERE / "edits").glob("*.ed"), theirs)
     (ROOM / "lib").mkdir(parents=True, exist_ok=True)
     kits = (it / "c" / "liblibc_c.a" for it in pathlib.Path(rt).resolve().parents)
     for file in LIBRARY, next(it for it in kits if it.is_file()):

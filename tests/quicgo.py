@@ -1,0 +1,356 @@
+#!/usr/bin/env python3
+"""quic-go 0.29.0, as Debian 12 packages it, over the proved recovery, through its C header and cgo: quic-go's own tests
+as it is and over the library; transfers over a proxy that loses, delays and reorders, over the library; and the same in
+shadow, where quic-go's own parts, made to go by RFC 9002, get the same inputs, and all that can be read of both is
+compared. A line of counts each; docs/QUIC-GO.md says what was changed, and why.
+
+    tests/quicgo.py             all of it, in out/quicgo: ten minutes, most of it waiting. Needs the library (prebuilt,
+                                or tests/rust.py --library; QUIC_RECOVERY_LIB names a folder with another), a C compiler
+                                and the packages; where these are missing, it says so and fails
+    tests/quicgo.py PART..      some of unit (quic-go's unit tests), suite (its integration tests), shadow, transfer; or
+                                cost: what a packet takes both ways; or sites: in shadow, each of the places left out in
+                                turn, and quic-go as it is
+    tests/quicgo.py --turns N   runs suite N times, and shadow N times as long with other random numbers
+    tests/quicgo.py --write     writes edits and Go files, by what stands in out/quicgo/proved
+
+No line of theirs stands here: an edit names lines by their numbers, in the form of `diff -e`, and holds ours.
+"""
+import argparse
+import collections
+import hashlib
+import os
+import pathlib
+import re
+import shutil
+import subprocess
+import sys
+
+import tree
+from tree import ROOT
+from upstream import edit, edited, files_of, without_theirs, write
+
+PACKAGES = ["golang-1.19-go", "golang-github-lucas-clemente-quic-go-dev"]
+VERSION = "0.29.0-"
+HERE = ROOT / "tests" / "quicgo"
+ROOM = ROOT / "out" / "quicgo"
+PLACE = "src/github.com/lucas-clemente/quic-go"
+GO = "usr/lib/go-1.19/bin/go"
+AS_IT_IS, PROVED = "base", "proved"
+BOTH = [(AS_IT_IS, "as it is"), (PROVED, "over the library")]
+OWN = "integrationtests.self.self_suite_test.go.ed"  # of quic-go as it is: Debian leaves its integration tests out
+FILES = {"glue": "internal/ackhandler", "shadow": "internal/ackhandler", "run": "shadowrun"}
+ELSEWHERE = {"shadow/align.go": "internal/utils"}
+HEADER = ROOT / "rust" / "c" / "recovery_ffi.h"
+SPECS, SKIPPED = 576, 3  # of the integration tests, and those that quic-go leaves out here
+TESTED = 17  # packages that have unit tests
+LIMITED = {  # of the unit tests: three datagrams of 40 bytes allow no whole one by RFC 9000, 8.1, but quic-go sends one
+    f"Connection receiving packets {it} multiple received packets before sending one{when}"
+    for it, when in (("processes", ""), ("doesn't processes", " before handshake completion"))
+}
+ATTEMPTS = 3  # of a spec: those with lost packets or short times fail now and then, with the library and without
+PLACES = 13  # in which quic-go can be made to go by RFC 9002
+ALL = 2**PLACES - 1
+WANTED = 5_000_000  # values that are compared
+HANDSHAKES = "-conns 200 -size 20000 -hsloss 40 -loss 2 -workers 25"
+TRANSFERS = [
+    "-conns 20 -size 2000000",
+    "-conns 20 -size 500000 -up 200000 -jitter 2ms -workers 4",
+    "-conns 20 -size 1000000 -loss 2 -jitter 1ms -workers 4",
+    "-conns 20 -size 300000 -up 300000 -loss 10 -jitter 2ms -workers 10",
+    "-conns 60 -size 20000 -hsloss 25 -loss 2 -workers 20",
+    "-conns 40 -size 20000 -hsloss 33 -long -workers 10",
+    "-conns 20 -size 100000 -retry -hsloss 20 -loss 2 -workers 10",
+    "-conns 20 -size 100000 -part 5000 -pause 15ms -loss 5 -jitter 4ms -workers 10",
+    "-conns 20 -size 200000 -part 20000 -pause 20ms -outage 700ms -workers 10",
+    "-conns 30 -size 50000 -up 3000 -resume -hsloss 20 -loss 2 -workers 3",
+    "-conns 30 -size 20000 -up 3000 -reject -loss 2 -workers 3",
+    HANDSHAKES,
+]
+SEARCH = "-conns 5 -size 3000000 -mtud"  # of a larger MTU, from 1252 bytes on
+FOUND = range(1400, 1453)
+SEEN = [  # what these bring about, and what is compared of it
+    "0-RTT rejected", "ACK", "Retry", "initial RTT", "losses by ACK", "losses by timer", "paced", "sent",
+    "persistent congestion", "timeout: losses", "timeout: 1 probes, mode 2", "timeout: 1 probes, mode 3",
+    *(f"timeout: 2 probes, mode {mode}" for mode in (2, 3, 4)),
+]
+
+tests = tree.Tests("quicgo")
+
+
+def tell(text):
+    print(text, flush=True)
+
+
+# ---- what is there
+
+
+def sources():
+    """The folder of quic-go's sources and the Go compiler, and the packages that are missing, or of another version."""
+    found = {it: files_of(it) for it in PACKAGES}
+    asked = ["dpkg-query", "-W", "-f", "${Version}", PACKAGES[1]]
+    version = tree.ran(asked, stdin=subprocess.DEVNULL, text=True)[1] if found[PACKAGES[1]] else ""
+    go = next((it for it in found[PACKAGES[0]] if it.endswith(f"/{GO}")), None)
+    marks = [it for it in found[PACKAGES[1]] if it.endswith(f"/{PLACE}/connection.go")]
+    if not go or not marks or not version.startswith(VERSION):
+        return None, None, [it for it in PACKAGES if not found[it]] or [f"{PACKAGES[1]}={VERSION}* (here {version})"]
+    return pathlib.Path(marks[0]).parent, go, []
+
+
+def archives():
+    """The archives that are linked: those of a folder that is named, or those of these sources."""
+    named = os.environ.get("QUIC_RECOVERY_LIB")
+    whole, pair = "libquic_recovery.a", ("librecovery_ffi.a", "liblibc_c.a")
+    if named:
+        here = pathlib.Path(named)
+        return [here / whole] if (here / whole).is_file() else [here / it for it in pair]
+    found = pathlib.Path(tree.asked("library", tree.TARGET))
+    return [found] if found.name == whole else [found, tree.kit() / "c" / pair[1]]
+
+
+def linked():
+    """The same for the linker. Go does not see that an archive changes, so their folder is named by what they hold."""
+    files = archives()
+    total = hashlib.sha256(b"".join(it.read_bytes() for it in files)).hexdigest()[:16]
+    room = ROOM / "lib" / total
+    room.mkdir(parents=True, exist_ok=True)
+    for it in files:
+        shutil.copy(it, room)
+    return " ".join(f"'{room / it.name}'" for it in files)
+
+
+# ---- the trees
+
+
+def edits(which):
+    """The files that are edited, each with its edit."""
+    found = {place(it.name): it for it in sorted((HERE / "edits").glob("*.ed"))}
+    return found if which == PROVED else {place(OWN): found[place(OWN)]}
+
+
+def place(name):
+    """The file that an edit is of: its name has a point for each slash."""
+    parts = name.removesuffix(".ed").split(".")
+    return "/".join(parts[:-2] + [".".join(parts[-2:])])
+
+
+def ours():
+    """Our files, each with its place in the tree."""
+    files = sorted(it for part in FILES for it in (HERE / part).iterdir())
+    named = {it: ELSEWHERE.get(str(it.relative_to(HERE)), FILES[it.parent.name]) for it in files}
+    return {**{it: f"{folder}/{it.name}" for it, folder in named.items()}, HEADER: f"internal/ackhandler/{HEADER.name}"}
+
+
+def lay_out(which, theirs):
+    """A GOPATH with quic-go, as it is or with our edits and files."""
+    root = ROOM / which / PLACE
+    changed = edits(which)
+    for file in theirs.rglob("*"):
+        name = str(file.relative_to(theirs))
+        if file.is_file() and name in changed:
+            write(root / name, edited(file.read_text(), changed[name].read_text()))
+        elif file.is_file() and not (root / name).is_file():
+            (root / name).parent.mkdir(parents=True, exist_ok=True)
+            shutil.copy(file, root / name)
+    for file, name in ours().items() if which == PROVED else []:
+        write(root / name, file.read_text())
+
+
+def written(theirs):
+    """Writes the edits and our files, by those that stand in the tree."""
+    root = ROOM / PROVED / PLACE
+    for file in sorted(theirs.rglob("*.go")):
+        name = file.relative_to(theirs)
+        commands = edit(file.read_text(), (root / name).read_text())
+        kept = HERE / "edits" / (str(name).replace("/", ".") + ".ed")
+        if commands:
+            write(kept, commands)
+        else:
+            kept.unlink(missing_ok=True)
+    for file, name in ours().items():
+        if file != HEADER:
+            shutil.copy(root / name, file)
+
+
+class Go:
+    """The compiler, and the programs that it makes of both trees."""
+
+    def __init__(self, theirs, go):
+        self.go, self.libraries = go, linked()
+        self.shared = next(it for it in theirs.parents if f"{it}/{PLACE}" == str(theirs))
+
+    def environment(self, which, **more):
+        own = ("GOFLAGS", "GOROOT", "QUIC_ALIGN", "QUIC_MODE", "QUIC_RECOVERY_LIB")
+        kept = {name: it for name, it in os.environ.items() if name not in own}
+        how = {"GO111MODULE": "off", "GOPATH": f"{ROOM / which}:{self.shared}", "CGO_CFLAGS": "-O2 -Wall -Werror"}
+        return {**kept, **how, "CGO_LDFLAGS": self.libraries if which == PROVED else "", **more}
+
+    def start(self, which, words, folder=".", **more):
+        streams = {"stdin": subprocess.DEVNULL, "stdout": subprocess.PIPE, "stderr": subprocess.STDOUT}
+        where = {"cwd": ROOM / which / PLACE / folder, "env": self.environment(which, **more)}
+        return subprocess.Popen(["nice", *map(str, words)], text=True, errors="replace", **where, **streams)
+
+    def ran(self, which, *words, **more):
+        """Status and output."""
+        call = self.start(which, [self.go, *words], **more)
+        said = call.communicate()[0]
+        return call.returncode, said
+
+    def built(self, which, name, *words):
+        """A program of a tree."""
+        program = ROOM / f"{name}.{which}"
+        status, said = self.ran(which, words[0], "-o", program, *words[1:])
+        tests.holds(f"{name} is built, {which}", status == 0, said[-4000:])
+        return program
+
+
+# ---- what is run
+
+
+def run_unit(go, given):
+    """quic-go's unit tests, in both trees; gofmt and vet of our files."""
+    for which, what in BOTH:
+        more = {"QUIC_MODE": "over"} if which == PROVED else {}
+        _, said = go.ran(which, "test", "-count=1", "-p", "1", "-v", *packages(go, which), **more)
+        ran = len(re.findall(r"^(?:ok|FAIL)\s+github", said, re.M))
+        specs = sum(int(it) for it in re.findall(r"(\d+) Passed", plain(said)))
+        failed = {it.strip() for it in re.findall(r"^\[Fail\] (.*)$", plain(said), re.M)}
+        failed = {re.sub(r" ?\[(?:It|AfterEach)\]", "", it).strip() for it in failed}
+        tests.expect(f"packages with unit tests, {what}", ran, TESTED)
+        tests.expect(f"unit tests of quic-go that fail, {what}", failed, LIMITED if which == PROVED else set())
+        tests.passed += specs
+        tell(f"quic-go {what}: {specs} of its unit tests pass, {len(failed)} fail")
+    status, said = go.ran(PROVED, "vet", "./internal/ackhandler", "./internal/utils", "./shadowrun")
+    tests.holds("go vet", status == 0, said)
+    files = [str(it) for it in ours() if it.suffix == ".go"]
+    format = tree.ran([pathlib.Path(go.go).with_name("gofmt"), "-l", *files], stdin=subprocess.DEVNULL, text=True)[1]
+    tests.expect("what gofmt would change", format, "")
+
+
+def plain(text):
+    """A text without colours."""
+    return re.sub(r"\x1b\[[0-9;]*m", "", text)
+
+
+def packages(go, which):
+    """Those that have tests, without the integration tests, which are a part of their own, and what only measures."""
+    _, said = go.ran(which, "list", "-f", "{{if or .TestGoFiles .XTestGoFiles}}{{.ImportPath}}{{end}}", "./...")
+    left_out = ("/integrationtests/self", "/benchmark", "/fuzzing/")
+    return [it for it in sorted(set(said.split())) if not any(word in it for word in left_out)]
+
+
+def run_suite(go, given):
+    """quic-go's integration tests, in both trees at once: they mostly wait."""
+    programs = {which: go.built(which, "suite", "test", "-c", "./integrationtests/self") for which, _ in BOTH}
+    for turn in range(given.turns):
+        words = ["-test.timeout", "20m", "-ginkgo.noColor", "-ginkgo.flakeAttempts", str(ATTEMPTS)]
+        calls = {which: go.start(which, [programs[which], *words], "integrationtests/self") for which, _ in BOTH}
+        for which, what in BOTH:
+            said = calls[which].communicate()[0]
+            counts = re.search(r"(\d+) Passed \| (\d+) Failed \| (\d+) Flaked \| \d+ Pending \| (\d+) Skipped", said)
+            passed, failed, flaked, skipped = map(int, counts.groups()) if counts else (0, 1, 0, 0)
+            found, wanted = (passed, failed, skipped), (SPECS, 0, SKIPPED)
+            tests.expect(f"quic-go's integration tests, {what}: passed, failed, skipped", found, wanted)
+            tests.holds(f"the status of these, {what}", calls[which].returncode == 0, said[-4000:])
+            tests.passed += passed
+            tell(f"quic-go {what}: {passed} of its integration tests pass, {flaked} of these at a further attempt")
+
+
+def transferred(go, words, seed, mode, align=0):
+    """What a run of transfers said: whether all were done, and counts by name."""
+    call = go.start(PROVED, [go.program, *words.split(), "-seed", seed], QUIC_MODE=mode, QUIC_ALIGN=str(align))
+    said = call.communicate()[0]
+    counts = collections.Counter()
+    for kind, count, name in re.findall(r"^(event|differ) (\d+) (.*)$", said, re.M):
+        counts[kind, name.partition(", by")[0]] = int(count)
+    number = lambda what: int((re.search(rf"^{what} (\d+)", said, re.M) or [0, 0])[1])
+    done = re.search(r"^done (\d+) failed (\d+) in", said, re.M)
+    is_theirs = mode == "own" or (mode == "shadow" and align != ALL)  # quic-go as it is loses a connection now and then
+    ends = call.returncode == 0 and done and (is_theirs or done[2] == "0")
+    tests.holds(f"transfers {words}, {mode}", ends, said[-4000:])
+    return number("values"), number("connections"), counts, said
+
+
+def run_shadow(go, given):
+    """Transfers in shadow, with quic-go made to go by RFC 9002: no value of both differs."""
+    values, connections, counts = 0, 0, collections.Counter()
+    turn = 0
+    while turn < given.turns or values < WANTED:
+        for words in TRANSFERS:
+            more, ends, found, said = transferred(go, words, 1000 * turn + 1, "shadow", ALL)
+            values, connections, counts = values + more, connections + ends, counts + found
+            differ = {name: count for (kind, name), count in found.items() if kind == "differ"}
+            tests.holds(f"in shadow, {words}, turn {turn}: {differ or 'nothing'} differs", not differ, said[:4000])
+        turn += 1
+    for name in SEEN:
+        tests.holds(f"in shadow: {name} comes about", counts["event", name])
+    differ = sum(count for (kind, _), count in counts.items() if kind == "differ")
+    persists, more = (counts["event", f"persistent congestion{it}"] for it in ("", " by the widest reading alone"))
+    tell(f"quic-go in shadow: {values:,} values of both compared, at {connections:,} endpoints, {differ:,} differ")
+    tell(f"persistent congestion {persists} times, and {more} more by the widest reading of RFC 9002")
+
+
+def run_transfer(go, given):
+    """The same transfers as it is and over the library: all arrive."""
+    for mode, what in ("own", "as it is"), ("over", "over the library"):
+        said = [transferred(go, words, 1, mode)[3] for words in TRANSFERS]
+        done = [it for text in said for it in re.findall(r"^done (\d+) failed (\d+) in (\S+)$", text, re.M)]
+        count, failed = (sum(int(it[at]) for it in done) for at in (0, 1))
+        tell(f"quic-go {what}: {count} transfers, {failed} fail, in {', '.join(it[2] for it in done)}")
+        said = transferred(go, SEARCH, 1, mode)[3]
+        largest = int((re.search(r"^largest (\d+)$", said, re.M) or [0, 0])[1])
+        tests.holds(f"the largest datagram, {what}: {largest}", largest in FOUND, said)
+
+
+def run_sites(go, given):
+    """What differs if quic-go is made to go by RFC 9002 in all places but one, and in none."""
+    for bit in [*range(PLACES), None]:
+        align = ALL - (1 << bit) if bit is not None else 0
+        counts = collections.Counter()
+        for words in TRANSFERS[2:]:
+            counts += transferred(go, words, 1, "shadow", align)[2]
+        differ = [f"{name} {count}" for (kind, name), count in sorted(counts.items()) if kind == "differ"]
+        which = f"in all places but {1 << bit}" if bit is not None else "nowhere"
+        tell(f"quic-go made to go by RFC 9002 {which}: {', '.join(differ) or 'nothing differs'}")
+    tests.passed += 1
+
+
+def run_cost(go, given):
+    """Nanoseconds of a data packet with half an ACK, both ways."""
+    how = ["-run", "NONE", "-bench", ".", "-benchtime", "200000x", "-count", "3"]
+    status, said = go.ran(PROVED, "test", *how, "./internal/ackhandler")
+    tests.holds("the benchmarks", status == 0, said)
+    for line in re.findall(r"^Benchmark.*$", said, re.M):
+        tell(" ".join(line.split()))
+
+
+PARTS = {"unit": run_unit, "suite": run_suite, "shadow": run_shadow, "transfer": run_transfer}
+USUAL = [*PARTS]
+PARTS.update(sites=run_sites, cost=run_cost)
+
+
+def main():
+    parser = argparse.ArgumentParser(description=__doc__, formatter_class=argparse.RawDescriptionHelpFormatter)
+    parser.add_argument("parts", nargs="*", choices=[[], *PARTS], metavar="PART", help=argparse.SUPPRESS)
+    parser.add_argument("--turns", type=int, default=1, help=argparse.SUPPRESS)
+    parser.add_argument("--write", action="store_true", help=argparse.SUPPRESS)
+    given = tree.arguments(parser)
+    theirs, compiler, missing = sources()
+    if missing:
+        sys.exit(f"quicgo: packages are missing: apt-get install {' '.join(missing)}")
+    if given.write:
+        return written(theirs)
+    try:
+        go = Go(theirs, compiler)
+    except (tree.Unfit, OSError) as why:
+        sys.exit(f"quicgo: {why}: tests/rust.py --library builds the library")
+    without_theirs(tests, (HERE / "edits").glob("*.ed"), theirs.rglob("*.go"))
+    for which, _ in BOTH:
+        lay_out(which, theirs)
+    go.program = go.built(PROVED, "transfers", "build", "./shadowrun")
+    for part in given.parts or USUAL:
+        PARTS[part](go, given)
+    tests.end()
+
+
+if __name__ == "__main__":
+    tree.ends_quietly(main)

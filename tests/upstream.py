@@ -1,0 +1,56 @@
+"""What the scripts that put another stack over the library have in common: its sources, as Debian packages them, and
+our edits of these. An edit names lines by their numbers, in the form of `diff -e`, and holds ours: no line of theirs."""
+import difflib
+import re
+import shutil
+import subprocess
+
+import tree
+
+LONGEST = 28  # characters that a line of an edit may share with one of theirs
+
+
+def files_of(package):
+    """The files of a package of Debian; none where it is not installed."""
+    words = ["dpkg", "-L", package]
+    return tree.ran(words, stdin=subprocess.DEVNULL, text=True)[1].split() if shutil.which(words[0]) else []
+
+
+def edited(text, script):
+    """What an edit makes of a text: commands from its end on, as `diff -e` gives them."""
+    lines, given = text.splitlines(True), iter(script.splitlines(True))
+    for command in given:
+        first, last, how = re.fullmatch(r"(\d+)(?:,(\d+))?([acd])\n", command).groups()
+        new = []
+        while how != "d" and (line := next(given)) != ".\n":
+            new.append(line)
+        lines[int(first) - (how != "a"):int(last or first)] = new
+    return "".join(lines)
+
+
+def edit(old, new):
+    """What makes a text of another, as `diff -e` gives it; the longest pieces that both have stay."""
+    old, new, commands = old.splitlines(True), new.splitlines(True), []
+    for how, first, last, begin, end in reversed(difflib.SequenceMatcher(None, old, new, False).get_opcodes()):
+        span = f"{first + 1},{last}" if last > first + 1 else str(last)
+        if how == "delete":
+            commands.append(f"{span}d\n")
+        elif how != "equal":
+            commands += [span, "a\n" if how == "insert" else "c\n", *new[begin:end], ".\n"]
+    return "".join(commands)
+
+
+def write(path, text):
+    """Writes a file where it is another one, so that nothing is compiled anew for it."""
+    path.parent.mkdir(parents=True, exist_ok=True)
+    if not path.is_file() or path.read_text() != text:
+        path.write_text(text)
+
+
+def without_theirs(tests, ours, theirs):
+    """No line of our files stands in theirs, but for words that every program in the language has."""
+    plain = lambda line: " ".join(line.split())
+    known = {plain(line) for file in theirs for line in file.read_text().splitlines()}
+    for file in sorted(ours):
+        same = [it for it in map(plain, file.read_text().splitlines()) if len(it) > LONGEST and it in known]
+        tests.holds(f"{file.name} has no line of theirs", not same, "\n".join(same))
