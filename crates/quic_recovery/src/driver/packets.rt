@@ -45,7 +45,6 @@ where
     }
 
     /// A packet is sent (RFC 9002, A.5).
-    #[inline(always)]
     pub(super) fn send(
         &mut self,
         space: SpaceId,
@@ -94,7 +93,6 @@ where
     }
 
     /// A packet is acknowledged (RFC 9002, A.7).
-    #[inline(always)]
     pub(super) fn acked(
         &mut self,
         space: SpaceId,

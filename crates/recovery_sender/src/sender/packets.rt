@@ -121,7 +121,6 @@ where
 
     /// Records a sent packet, as [`Event::Send`] and with its errors. A packet without a size does not start the probe
     /// timeout (RFC 9002, A.5).
-    #[inline(always)]
     pub fn send(
         &mut self,
         space: SpaceId,
