@@ -91,9 +91,9 @@ def main():
         ratios, sends = [], [cost(it, "send") for it in programs]
         print("instructions of a call    ours   plain   ratio")
         for kind in chosen:
-            ours, plain = (cost(it, kind) - (sent if kind in ("acked", "lost") else 0) for it, sent in zip(programs, sends))
-            ratios.append(ours / plain)
-            print(f"{kind:22} {ours:7.0f} {plain:7.0f} {ours / plain:7.2f}", flush=True)
+            ours, careful = (cost(it, kind) - (sent if kind in ("acked", "lost") else 0) for it, sent in zip(programs, sends))
+            ratios.append(ours / careful)
+            print(f"{kind:22} {ours:7.0f} {careful:7.0f} {ours / careful:7.2f}", flush=True)
         print(f"mean {sum(ratios) / len(ratios):40.2f}")
     return 0
 
