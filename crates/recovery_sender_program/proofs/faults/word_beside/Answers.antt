@@ -1,4 +1,4 @@
-use Rattle.std.proofs.Common.{◌+◌, arith}
+use Rattle.std.proofs.Common.{arith}
 use Rattle.recovery_sender_program.proofs.FaultLaws.{counted_more}
 use Rattle.recovery_sender_program.proofs.faults.word_beside.Goals as goal
 
