@@ -33,7 +33,7 @@ QUALIFIED = re.compile(r"([A-Z]\w+)(?:<[^>]*>)?::(?:\{([^}]*)\}|(\w+))")
 OTHERS = {
     "DECISIONS.md": "circular_buffer",
     "DIFFERENCES.md": "first_packet crypto_stream tinyvec Trait f32 Retransmits ArrayRangeSet::default",
-    "EMBEDDING.md": "rand_chacha Retransmits max_data handshake_done reset_stream max_stream_data Meta::default",
+    "EMBEDDING.md": "rand_chacha Retransmits max_data reset_stream max_stream_data Meta::default",
     "PROGRAMS.md": "rttvar",
     "PROVING.md": "same-self- plant",
 }

@@ -14,23 +14,36 @@ import tree
 from tree import ROOT
 
 PROGRAMS = [ROOT / "crates" / it / "out" / it for it in ("recovery_link", "recovery_sender_program", "recovery_trace")]
-USAGE = "usage: recovery-link [--script|--qlog] [NAME=VALUE]..: --help has names and limits\n"
-BAD = [  # arguments that cannot be read: beyond a limit, of no form, of no name
-    "rate=0", "rate=1001G", "rate=10m", "rate=", "rate", "delay=1001s", "delay=-1", "queue=1199", "loss=101%", "loss=1000001", "loss=0.5%", "burst=1000001",
-    "reorder=101%", "late=x", "ack-delay=5min", "bytes=0", "controller=reno", "controller=0", "paced=1", "seed=18446744073709551616", "until=0", "speed=1",
-    "--events", "01", "rate=99999999999999999999G",
-]
+BAD = {  # arguments that cannot be read, by what is said of each: beyond a limit, of no form, of no name
+    "1 to 1000G bits a second, as in rate=10M": ["rate=0", "rate=1001G", "rate=10m", "rate=", "rate=99999999999999999999G", "rate=0.5", "rate=1.0005k"],
+    "0 to 1000s in ns, us, ms or s, as in delay=12.5ms": ["delay=1001s", "delay=-1", "late=x", "ack-delay=5min", "delay=.5s", "delay=1.s", "every=0x1"],
+    "1200 to 1000G bytes, as in queue=62.5k": ["queue=1199"],
+    "0 to 1000000 of a million, or 0% to 100%, as in loss=0.5%": ["loss=101%", "loss=1000001", "loss=0.00001%", "reorder=101%", "ack-loss=-1", "loss=5x%"],
+    "0 to 1M packets, as in burst=4": ["burst=1000001"],
+    "1 to 1000G bytes, as in bytes=1.5M": ["bytes=0"],
+    "newreno, cubic, or a window in bytes, as in controller=cubic": ["controller=reno", "controller=0", "rival=x"],
+    "yes or no, as in paced=no": ["paced=1"],
+    "tail or codel, as in aqm=codel": ["aqm=red"],
+    "1 to 64, as in flows=2": ["flows=65"],
+    "0 to 18446744073709551615, as in seed=7": ["seed=18446744073709551616"],
+    "1 to 1000s in ns, us, ms or s, as in until=2.5s": ["until=0"],
+    "there is no such name; --help has all": ["speed=1", "ack-rate=1"],
+    "an argument is NAME=VALUE, --script or --qlog, as in loss=0.5%; --help has the names": ["rate", "--events", "01"],
+}
 RUNS = [
     ["bytes=600k", "loss=3%", "reorder=1%"],
     ["bytes=600k", "controller=cubic", "loss=2%", "burst=3", "delay=100ms", "ack-delay=0"],
     ["bytes=600k", "paced=no", "queue=24k"],
     ["bytes=120k", "loss=30%", "seed=5"],
     ["bytes=300k", "controller=60000", "rate=1G", "delay=1", "queue=30k"],
+    ["bytes=600k", "ack-loss=20%", "ack-burst=2", "ack-reorder=5%", "ack-duplicate=5%", "duplicate=5%", "loss=1%"],
+    ["bytes=1M", "aqm=codel", "ecn=yes", "queue=1M", "controller=cubic"],
+    ["bytes=300k", "flows=3", "rival=cubic", "chunk=12k", "every=20ms"],
 ]
 PACKET = 9_600  # bits
 
 tests = tree.Tests("link")
-expect = tests.expect
+expect, holds = tests.expect, tests.holds
 
 
 def ran(program, words, given=""):
@@ -41,10 +54,17 @@ def read(line):
     return {name: int(number) for name, _, number in (it.partition("=") for it in line.split())}
 
 
+def flows(*words):
+    """The figures of each flow."""
+    status, lines, told = ran(PROGRAMS[0], words)
+    expect(f"{words}: status and errors", (status, told), (0, ""))
+    return [read(it) for it in lines.splitlines()]
+
+
 def figures(*words):
-    status, line, told = ran(PROGRAMS[0], words)
-    expect(f"{words}: status and errors", (status, told, line.count("\n")), (0, "", 1))
-    return read(line)
+    found = flows(*words)
+    expect(f"{words}: lines", len(found), 1)
+    return found[0]
 
 
 def counted(script, answers):
@@ -75,7 +95,7 @@ def alike(words):
     window = [it.partition("=")[2] for it in words if it.startswith("controller=")]
     status, answers, told = ran(PROGRAMS[1], ["client", "-", *window] if window else ["client"], script)
     expect(f"{words}: replayed", (status, told, "refused" in answers), (0, "", False))
-    said = read(line)
+    said = read(line.splitlines()[0])
     expect(f"{words}: figures by the answers", counted(script, answers), {it: said[it] for it in ("time", "sent", "acked", "lost", "probes", "persistent")})
     status, events, told = events_of(script, answers)
     expect(f"{words}: its events", (status, told), (0, ""))
@@ -134,15 +154,57 @@ def formulas():
 
 
 def arguments():
-    for word in BAD:
-        expect(word, ran(PROGRAMS[0], [word]), (2, "", USAGE))
+    for hint, words in BAD.items():
+        for word in words:
+            expect(word, ran(PROGRAMS[0], ["seed=1", word]), (2, "", f'link: cannot read "{word}": {hint}\n'))
     expect("the last of two values", figures("bytes=12k", "bytes=1200")["sent"], 1)
     expect("units", figures("rate=10000k", "delay=25000us", "loss=0%", "bytes=1M"), figures("rate=10M", "delay=25000000", "loss=0"))
+    for word, same in ("loss=0.5%", "loss=5000"), ("rate=1.5M", "rate=1500k"), ("delay=2.5ms", "delay=2500us"), ("queue=62.5k", "queue=62500"):
+        expect(word, figures("bytes=100k", "seed=3", word), figures("bytes=100k", "seed=3", same))
     expect("another seed", figures("loss=5%", "seed=1") == figures("loss=5%", "seed=2"), False)
     expect("given up", figures("loss=100%", "until=5s")["acked"], 0)
     usage = (ROOT / "crates" / "recovery_link" / "help.txt").read_text()
     expect("--help", ran(PROGRAMS[0], ["--help"]), (0, usage, ""))
     expect("--version", ran(PROGRAMS[0], ["--version"]), (0, f"recovery-link {(ROOT / 'VERSION').read_text()}", ""))
+
+
+def by_hand():
+    """Figures that are worked out: 1200 bytes take 960 us at 10 Mbit/s, and a lone packet is acknowledged after the ACK delay, here 25 ms."""
+    expect("one packet", figures("bytes=1200")["time"], 960_000 + 25_000_000 + 25_000_000 + 25_000_000)
+    expect("two packets, the second is acknowledged at once", figures("bytes=2400")["time"], 2 * 960_000 + 50_000_000)
+    expect("a third of a nanosecond is a whole one", figures("bytes=1200", "rate=7G", "ack-delay=0", "delay=0")["time"], 1372)
+    expect("two that wait", figures("bytes=2400")["wait"], (960_000 + 1_920_000) // 2)
+    chunks = figures("bytes=120k", "chunk=12k", "every=100ms", "ack-delay=0")
+    holds("ten chunks, 100 ms apart", 900e6 + 50e6 < chunks["time"] < 900e6 + 70e6, chunks)
+    starts = flows("bytes=2400", "flows=2", "stagger=1s")
+    expect("a flow that begins later", [it["time"] for it in starts], [51_920_000] * 2)
+
+
+def both_ways():
+    """What happens to ACKs, to late packets and to duplicates, over a queue that never overflows."""
+    link = "bytes=1M", "queue=1M", "seed=4"
+    plain = figures(*link)
+    expect("nothing happens", [plain[it] for it in ("dropped", "lost", "acks-lost", "sent")], [0, 0, 0, 834])
+    expect("all ACKs are lost", figures("ack-loss=100%", "until=5s")["acked"], 0)
+    some = figures(*link, "ack-loss=30%")
+    holds("some ACKs are lost, and no packet", some["acks-lost"] > 50 and some["lost"] == 0, some)
+    expect("each packet and each ACK twice", figures(*link, "duplicate=100%", "ack-duplicate=100%"), plain)
+    expect("late ACKs lose nothing", figures(*link, "ack-reorder=10%", "late=20ms")["lost"], 0)
+    late = figures(*link, "reorder=10%", "late=40ms")
+    holds("packets that come after later ones are declared lost", late["lost"] > 0 and late["dropped"] == 0, late)
+
+
+def managed():
+    """Controlled delay keeps the queue short, by drops or by marks, and two equal flows share the link."""
+    link = "bytes=12M", "queue=1M", "rate=10M"
+    tail, codel, marks = (figures(*link, *it) for it in ([], ["aqm=codel"], ["aqm=codel", "ecn=yes"]))
+    holds("a long queue", tail["wait"] > 200_000_000, tail)
+    for name, found in ("by drops", codel), ("by marks", marks):
+        holds(f"a short queue {name}", found["wait"] < 60_000_000 and found["goodput"] > 8_000_000, found)
+    expect("drops alone", (codel["marked"], codel["dropped"] > 0, tail["marked"]), (0, True, 0))
+    expect("marks alone", (marks["marked"] > 0, marks["dropped"], marks["lost"]), (True, 0, 0))
+    pair = [it["goodput"] for it in flows("flows=2", "bytes=1000G", "until=60s", "queue=125k", "stagger=100ms")]
+    holds("two equal flows", sum(pair) > 9_000_000 and sum(pair) ** 2 / (2 * sum(it * it for it in pair)) > 0.8, pair)
 
 
 def streams():
@@ -159,6 +221,9 @@ def streams():
 def main():
     PROGRAMS[:len(sys.argv) - 1] = sys.argv[1:]
     arguments()
+    by_hand()
+    both_ways()
+    managed()
     streams()
     for words in RUNS:
         alike(words)

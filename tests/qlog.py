@@ -20,12 +20,13 @@ RUNS = [  # several losses at once, a link that is late, a queue that overflows 
     ["bytes=300k", "paced=no", "delay=100ms", "seed=18446744073709551615"],
     ["bytes=60k", "loss=20%", "ack-delay=0", "controller=24000"],
     ["bytes=60k", "loss=100%", "until=20s"],
+    ["bytes=600k", "aqm=codel", "ecn=yes", "queue=1M", "ack-loss=5%"],
 ]
 
 # the schema of the events that are written: of each its data, with '?' behind what may be missing; a list is of any length
 COUNT, MILLIS, FLAG = "count", "millis", "flag"
 HEADER = {"packet_type": {"initial", "handshake", "1RTT"}, "packet_number?": COUNT}
-ACK = {"frame_type": {"ack"}, "ack_delay?": MILLIS, "acked_ranges?": [[COUNT]]}
+ACK = {"frame_type": {"ack"}, "ack_delay?": MILLIS, "acked_ranges?": [[COUNT]], "ect0?": COUNT, "ect1?": COUNT, "ce?": COUNT}
 STREAM = {"frame_type": {"stream"}, "stream_id": COUNT, "offset": COUNT, "length": COUNT}
 SHORT = {"frame_type": {"ping", "padding"}}
 STATES = {"slow_start", "congestion_avoidance", "recovery"}

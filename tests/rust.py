@@ -680,9 +680,9 @@ def cargo_with(folder, **more):
 def cargo(folder):
     """The Rust crate: each test counts."""
     how = cargo_with(folder)
-    said = ran("cargo test", ["cargo", "test", "--release", "--offline"], **how)
+    said = ran("cargo test", ["cargo", "test", "--release", "--all-features", "--offline"], **how)
     tests.passed += sum(int(it) for it in re.findall(r"^test result: ok\. (\d+) passed", said or "", re.M))
-    ran("cargo clippy", ["cargo", "clippy", "--all-targets", "--offline", "--", "-D", "warnings"], **how)
+    ran("cargo clippy", ["cargo", "clippy", "--all-targets", "--all-features", "--offline", "--", "-D", "warnings"], **how)
     ran("the examples", ["cargo", "build", "--release", "--examples", "--offline"], **how)
     examples = RUST / "target" / "release" / "examples"
     said = ran("a sender over UDP", [examples / "sender"])
@@ -713,7 +713,7 @@ def without_library():
         missing = f"no program links: QUIC_RECOVERY_LIB names {empty}, which has neither libquic_recovery.a nor both {LIBRARY.name} and liblibc_c.a"
         check = subprocess.run(["cargo", "check", "--all-targets", "--offline"], stderr=subprocess.PIPE, text=True, **how)
         expect("cargo check without the library", check.returncode == 0 and missing in check.stderr, check.stderr)
-        ran("cargo doc without the library", ["cargo", "doc", "--no-deps", "--offline"], **how)
+        ran("cargo doc without the library", ["cargo", "doc", "--no-deps", "--all-features", "--offline"], **how)
         ran("hostile ACK frames fit the crate", [ROOT / "bench" / "frames.py", "--check"], **how)
         said = ran("no program links without it", ["cargo", "build", "--example", "memory", "--offline"], fails=True, **how)
         expect("the reason is named", said is not None and missing in said, said or "")

@@ -58,10 +58,14 @@ def every_row():
 
 def lines():
     """What stands before a line that cannot be read is answered."""
-    for place, _, bad, _ in rows.scripts(FILES / "lines.txt"):
-        told = "line 2: cannot be read\n"
-        expect(f"lines.txt, line {place}", ran(["server"], f"{GOOD}\n{bad[0]}\n{GOOD}\n"), (2, f"{ANSWER}\n", told))
-    expect("an empty line", ran(["server"], f"{GOOD}\n\n"), (2, f"{ANSWER}\n", "line 2: cannot be read\n"))
+    for place, row in enumerate((FILES / "lines.txt").read_text().splitlines(), 1):
+        bad, gives, told = row.rpartition(" => ")
+        if gives:
+            expect(f"lines.txt, line {place}", ran(["server"], f"{GOOD}\n{bad}\n{GOOD}\n"), (2, f"{ANSWER}\n", f"line 2: {told}\n"))
+    silent = f"# what follows is empty\n\n{GOOD}\n#{GOOD}\n\n"
+    expect("empty lines and comments", ran(["server"], silent), (0, f"{ANSWER}\n", ""))
+    expect("they count as lines", ran(["server"], f"{silent}x\n"), (2, f"{ANSWER}\n", 'line 6: cannot read word 1, "x"\n'))
+    expect("no UTF-8", tree.ran([PROGRAM, "server"], b"keys \xff\n"), (2, b"", b'line 1: cannot read word 2, "\\xff"\n'))
     expect("no input", ran(["server"], ""), (0, "", ""))
 
 

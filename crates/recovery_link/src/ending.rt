@@ -17,8 +17,10 @@ pub enum Ending {
     OutOfMemory,
     /// A call of the sender failed, which no transfer causes.
     SenderError,
-    /// The arguments are wrong; nothing was written.
+    /// The arguments are no text; nothing was written.
     WrongArguments,
+    /// An argument cannot be read, which was reported.
+    Refused,
 }
 
 impl Ending {
@@ -26,7 +28,7 @@ impl Ending {
     pub fn status(self) -> u8 {
         match self {
             Ending::Ended | Ending::Closed => 0,
-            Ending::WrongArguments => 2,
+            Ending::WrongArguments | Ending::Refused => 2,
             Ending::WriteFailed | Ending::OutOfMemory | Ending::SenderError => 1,
         }
     }
@@ -34,7 +36,7 @@ impl Ending {
     /// Returns what is wrong, with a line feed at the end; empty on success.
     pub fn text(self) -> &'static str {
         match self {
-            Ending::Ended | Ending::Closed => "",
+            Ending::Ended | Ending::Closed | Ending::Refused => "",
             Ending::WriteFailed => "link: write failed\n",
             Ending::OutOfMemory => "link: out of memory\n",
             Ending::SenderError => "link: the sender refused a call\n",

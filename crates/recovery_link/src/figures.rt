@@ -1,14 +1,14 @@
-//! The results of a transfer, in a line.
+//! The results of a flow, in a line.
 use crate::settings::SIZE;
 use std::alloc::{AllocError, Global};
 
 /// A second in nanoseconds.
 const SECOND: u128 = 1_000_000_000;
 
-/// The results of a transfer.
+/// The results of a flow.
 #[derive(Clone, Copy)]
 pub struct Figures {
-    /// When the last byte was acknowledged, or, if the transfer was aborted, when the last thing happened, in
+    /// How long after the flow began the last byte was acknowledged, or, if it was aborted, the last thing happened, in
     /// nanoseconds.
     pub time: u64,
     /// How many bytes were to be transferred.
@@ -19,14 +19,20 @@ pub struct Figures {
     pub acked: u64,
     /// How many were declared lost.
     pub lost: u64,
-    /// How many had no room in the queue.
+    /// How many the queue dropped.
     pub dropped: u64,
     /// How many probes timeouts caused (RFC 9002, 6.2.4).
     pub probes: u64,
     /// How often congestion was persistent (RFC 9002, 7.6).
     pub persistent: u64,
-    /// The most bytes that were queued.
+    /// The most bytes that were queued, of all flows.
     pub queue: u64,
+    /// How many packets the queue marked (RFC 3168).
+    pub marked: u64,
+    /// How many ACKs were lost.
+    pub acks_lost: u64,
+    /// How long a packet was in the queue on average, in nanoseconds.
+    pub wait: u64,
 }
 
 impl Figures {
@@ -42,6 +48,9 @@ impl Figures {
             probes: 0,
             persistent: 0,
             queue: 0,
+            marked: 0,
+            acks_lost: 0,
+            wait: 0,
         }
     }
 
@@ -64,11 +73,15 @@ impl Figures {
             probes,
             persistent,
             queue,
+            marked,
+            acks_lost,
+            wait,
             ..
         } = *self;
         format!(in alloc;
             "time={time} goodput={goodput} sent={sent} acked={acked} lost={lost} dropped={dropped} \
-            probes={probes} persistent={persistent} queue={queue}\n"
+            probes={probes} persistent={persistent} queue={queue} marked={marked} \
+            acks-lost={acks_lost} wait={wait}\n"
         )
     }
 }

@@ -2,9 +2,10 @@
 //! `transfer.rt`; docs/EXPERIMENTS.md shows it.
 #![tactic(auto)]
 
-mod bottleneck;
+mod amounts;
 mod ending;
 mod figures;
+mod flow;
 mod link;
 mod pages;
 mod peer;
@@ -13,14 +14,13 @@ mod settings;
 mod tape;
 mod telling;
 mod transfer;
-mod way;
-mod weather;
 
 use ending::Ending;
 use figures::Figures;
 use pages::{HELP, VERSION};
 use recovery_replay::arguments::{ArgumentsError, arguments};
-use settings::{Form, Settings, settings_of};
+use settings::{Form, Settings, hint_of, settings_of};
+use std::alloc::{AllocError, Global};
 use std::io;
 use std::io::ErrorKind;
 use std::process::ExitCode;
@@ -35,9 +35,25 @@ fn written(text: io::Result<()>) -> Ending {
     }
 }
 
-/// Writes the line of figures, to standard error if standard output has the run itself.
-fn shown(rt: &HostRuntime, form: Form, figures: &Figures) -> Ending {
-    match figures.line(rt.alloc()) {
+/// Returns the lines of figures: of several flows each line begins with the flow's number, from 1 on.
+fn lines(alloc: Global, all: &[Figures]) -> Result<String, AllocError> {
+    let mut text = String::new(alloc);
+    let mut number: u64 = 0;
+    for figures in all {
+        number = number.saturating_add(1);
+        let line = figures.line(alloc)?;
+        if all.len() > 1 {
+            let name = format!(in alloc; "flow={number} ")?;
+            text.push_str(&name)?;
+        }
+        text.push_str(&line)?;
+    }
+    Ok(text)
+}
+
+/// Writes the lines of figures, to standard error if standard output has the run itself.
+fn shown(rt: &HostRuntime, form: Form, all: &[Figures]) -> Ending {
+    match lines(rt.alloc(), all) {
         Ok(line) if form == Form::Figures => written(print!(rt; "{line}")),
         Ok(line) => written(eprint!(rt; "{line}")),
         Err(_) => Ending::OutOfMemory,
@@ -47,9 +63,18 @@ fn shown(rt: &HostRuntime, form: Form, figures: &Figures) -> Ending {
 /// Runs a transfer over a link.
 fn run(rt: &HostRuntime, settings: &Settings) -> Ending {
     match transferred(rt.alloc(), settings, &mut rt.stdout()) {
-        Ok(figures) => shown(rt, settings.form, &figures),
+        Ok(all) => shown(rt, settings.form, &all),
         Err(ending) => ending,
     }
+}
+
+/// Reports the argument that cannot be read.
+fn refused(rt: &HostRuntime, words: &[String], place: usize) -> Ending {
+    if let Some(word) = words.get(place) {
+        let hint = hint_of(word.as_str());
+        let _told = eprint!(rt; "link: cannot read {word:?}: {hint}\n");
+    }
+    Ending::Refused
 }
 
 /// Does what the arguments ask for.
@@ -58,8 +83,8 @@ fn asked(rt: &HostRuntime, words: &[String]) -> Ending {
         [word] if word.as_str() == "--help" => written(print!(rt; "{HELP}")),
         [word] if word.as_str() == "--version" => written(print!(rt; "{VERSION}")),
         words => match settings_of(words) {
-            Some(settings) => run(rt, &settings),
-            None => Ending::WrongArguments,
+            Ok(settings) => run(rt, &settings),
+            Err(place) => refused(rt, words, place),
         },
     }
 }

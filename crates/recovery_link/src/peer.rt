@@ -1,6 +1,7 @@
 //! The peer: what it received, and when it acknowledges that (RFC 9000, 13.2).
-use recovery_base::below::{ArrayRangeSet, NoMemory};
-use std::alloc::Global;
+use crate::link::Arrival;
+use recovery_base::below::{ArrayRangeSet, EcnCounts, NoMemory};
+use std::alloc::{AllocError, Global};
 
 /// The most ranges of an ACK: the highest. Numbers below them are forgotten.
 const RANGES: usize = 32;
@@ -15,6 +16,23 @@ pub struct Frame {
     pub delay: u64,
     /// The first and last number of each of its ranges, the highest range first.
     pub ranges: Vec<(u64, u64)>,
+    /// How many packets were received with each mark, if packets are marked (RFC 9000, 19.3.2).
+    pub ecn: Option<EcnCounts>,
+}
+
+impl Frame {
+    /// Returns the same frame.
+    pub fn again(&self, alloc: Global) -> Result<Frame, AllocError> {
+        let mut ranges = Vec::with_capacity(alloc, self.ranges.len())?;
+        for range in self.ranges.iter().copied() {
+            ranges.push(range)?;
+        }
+        Ok(Frame {
+            delay: self.delay,
+            ranges,
+            ecn: self.ecn,
+        })
+    }
 }
 
 /// The peer. Times are in nanoseconds.
@@ -30,6 +48,9 @@ pub struct Peer {
     due: Option<u64>,
     /// The longest ACK delay.
     delay: u64,
+    /// How many packets that may be marked were received, and how many of them are.
+    unmarked: u64,
+    marked: u64,
 }
 
 impl Peer {
@@ -42,6 +63,8 @@ impl Peer {
             owes: false,
             due: None,
             delay,
+            unmarked: 0,
+            marked: 0,
         }
     }
 
@@ -50,13 +73,14 @@ impl Peer {
         self.due
     }
 
-    /// Records a received packet. An ACK is due at once for every second one, for one after a gap, and for one that is
-    /// not the largest (RFC 9000, 13.2.1, 13.2.2).
-    pub fn receive(&mut self, now: u64, number: u64) -> Result<(), NoMemory> {
-        if number >= NUMBERS {
+    /// Records a received packet. An ACK is due at once for every second one, for one after a gap, for one that is not
+    /// the largest, and for one that is marked (RFC 9000, 13.2.1, 13.2.2). One that was received before is ignored.
+    pub fn receive(&mut self, now: u64, arrival: Arrival) -> Result<(), NoMemory> {
+        let number = arrival.packet.number;
+        if number >= NUMBERS || !self.came.insert_one(number)? {
             return Ok(());
         }
-        self.came.insert_one(number)?;
+        self.count(arrival);
         if self.came.len() > RANGES {
             let _forgotten = self.came.pop_min();
         }
@@ -64,13 +88,32 @@ impl Peer {
         if self.is_largest(number) {
             self.largest = Some((number, now));
         }
-        self.due = if self.owes || !is_next {
+        self.due = if self.owes || !is_next || arrival.is_marked {
             Some(now)
         } else {
             Some(now.saturating_add(self.delay))
         };
         self.owes = true;
         Ok(())
+    }
+
+    fn count(&mut self, arrival: Arrival) {
+        if arrival.is_marked {
+            self.marked = self.marked.saturating_add(1);
+        } else if arrival.packet.is_ect {
+            self.unmarked = self.unmarked.saturating_add(1);
+        }
+    }
+
+    fn counts(&self) -> Option<EcnCounts> {
+        if self.marked == 0 && self.unmarked == 0 {
+            return None;
+        }
+        Some(EcnCounts {
+            ect0: self.unmarked,
+            ect1: 0,
+            ce: self.marked,
+        })
     }
 
     fn is_largest(&self, number: u64) -> bool {
@@ -99,6 +142,7 @@ impl Peer {
         for range in self.came.iter().rev() {
             ranges.push((range.start, range.end.saturating_sub(1)))?;
         }
-        Ok(Frame { delay, ranges })
+        let ecn = self.counts();
+        Ok(Frame { delay, ranges, ecn })
     }
 }

@@ -10,23 +10,23 @@ use rand_core::SeedableRng;
 use rand_pcg::Pcg32;
 use recovery_base::below::{NoMemory, SpaceId};
 use recovery_base::time::{Duration, Instant};
-use recovery_congestion::congestion::{Controller, ControllerFactory};
+use recovery_congestion::congestion::Controller;
+use recovery_engine::controllers::ChosenConfig;
 use recovery_events::event::{Answer, Event};
 use recovery_losses::{Ack, Side};
 use recovery_queue::items::ItemQueue;
 use recovery_replay::replay::{FIRST_PORT, config, skips};
 use recovery_script_syntax::lines::peer_at;
-use recovery_sender::{Losses, Sender, SenderError, Timeout, Transmission};
+use recovery_sender::{EcnOutcome, Losses, Sender, SenderError, Timeout, Transmission};
 use std::alloc::Global;
 use std::collections::VecDeque;
-use std::io::Write;
 
 /// The sender, with records of its calls. Times are in nanoseconds.
 #[derive(Drop)]
-pub struct Sending<'a, F: ControllerFactory, W> {
+pub struct Sending {
     alloc: Global,
-    sender: Sender<F, ItemQueue, Pcg32>,
-    teller: Teller<'a, W>,
+    sender: Sender<ChosenConfig, ItemQueue, Pcg32>,
+    pub teller: Teller,
     is_paced: bool,
     /// How many packets in flight carry an item, and the numbers of those that carry none.
     carrying: u64,
@@ -57,17 +57,13 @@ fn again_at(sent: &Transmission) -> Option<u64> {
     }
 }
 
-impl<'a, F, W> Sending<'a, F, W>
-where
-    F: ControllerFactory,
-    W: Write,
-{
+impl Sending {
     /// Returns a sender as in `recovery-sender client`, which has sent nothing.
     pub fn new(
         alloc: Global,
-        factory: F,
+        factory: ChosenConfig,
         settings: &Settings,
-        teller: Teller<'a, W>,
+        teller: Teller,
     ) -> Result<Self, NoMemory> {
         let config = config(factory, peer_at(FIRST_PORT), skips(None));
         let rng = Pcg32::seed_from_u64(0);
@@ -89,11 +85,6 @@ where
             .set_peer_max_ack_delay(Duration::from_nanos(max_ack_delay));
         self.sender.on_handshake_confirmed();
         self.teller.begins(max_ack_delay)
-    }
-
-    /// Writes all records.
-    pub fn finish(&mut self) -> Result<(), Ending> {
-        self.teller.finish()
     }
 
     /// Returns whether some packet in flight carries an item.
@@ -120,6 +111,11 @@ where
         let window = self.sender.recovery().current().congestion.window();
         let with = self.in_flight().saturating_add(u64::from(SIZE));
         with <= window || self.is_probing()
+    }
+
+    /// Returns whether packets may be marked: the peer's counts were right so far (RFC 9000, 13.4.2).
+    pub fn may_mark(&self) -> bool {
+        self.sender.recovery().current().sending_ecn
     }
 
     /// Returns whether a probe is due.
@@ -192,7 +188,7 @@ where
         self.teller.received(now, frame, app_limited)?;
         let ack = Ack {
             delay: Duration::from_nanos(frame.delay),
-            ecn: None,
+            ecn: frame.ecn,
             app_limited,
         };
         let at = Instant::from_nanos(now);
@@ -201,6 +197,9 @@ where
                 let count = acknowledged.numbers.len() as u64;
                 self.figures.acked = self.figures.acked.saturating_add(count);
                 self.settle(&acknowledged.numbers);
+                if matches!(acknowledged.ecn, EcnOutcome::Marked) {
+                    self.teller.marked(now)?;
+                }
                 self.look(now, &acknowledged.losses)
             }
             Err(refused) => Err(Ending::from(refused)),

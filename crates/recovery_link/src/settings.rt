@@ -1,4 +1,6 @@
 //! The settings that the arguments choose.
+use crate::amounts::{choice_in, count_in, share_in, span_in, within};
+use recovery_network::draws::Chances;
 use recovery_script_syntax::words::number_in;
 
 /// The bytes of each packet, all of which are payload.
@@ -10,8 +12,8 @@ const MOST: u64 = 1_000_000_000_000;
 /// The longest burst of losses, in packets.
 const LONGEST_BURST: u64 = 1_000_000;
 
-/// The whole of which chances are parts.
-pub const MILLION: u64 = 1_000_000;
+/// The most flows.
+const MOST_FLOWS: u64 = 64;
 
 /// What is written on standard output.
 #[derive(Clone, Copy, PartialEq, Eq)]
@@ -44,33 +46,50 @@ pub struct Shape {
     pub delay: u64,
     /// How many bytes the queue has room for, including the packet that is being sent.
     pub queue: u64,
-    /// Of a million packets this many are lost after the queue.
-    pub loss: u64,
-    /// How many are lost in a row, on average; 0: each independently.
-    pub burst: u64,
-    /// Of a million packets this many are late.
-    pub reorder: u64,
-    /// How late, in nanoseconds.
+    /// What happens to packets after the queue, and to ACKs.
+    pub there: Chances,
+    pub back: Chances,
+    /// How late is what is late, in nanoseconds.
     pub late: u64,
 }
 
-/// The settings of a transfer.
+/// The settings of a transfer. Times are in nanoseconds.
 #[derive(Clone, Copy)]
 pub struct Settings {
     pub form: Form,
     pub window: Window,
     /// Whether datagrams wait for the pacer.
     pub is_paced: bool,
-    /// How many bytes are transferred, above zero.
+    /// How many bytes each flow transfers, above zero.
     pub bytes: u64,
     pub link: Shape,
-    /// The peer's longest ACK delay, in nanoseconds.
+    /// Whether controlled delay manages the queue (RFC 8289), with its target and its interval.
+    pub is_managed: bool,
+    pub target: u64,
+    pub interval: u64,
+    /// Whether packets are marked instead of dropped by it (RFC 3168).
+    pub is_ect: bool,
+    /// How many flows share the queue, the controller of all but the first, and how long after one another they begin.
+    pub flows: u64,
+    pub rival: Option<Window>,
+    pub stagger: u64,
+    /// How many bytes an application writes at a time, and how often; 0: all at once.
+    pub chunk: u64,
+    pub every: u64,
+    /// The peer's longest ACK delay.
     pub ack_delay: u64,
     /// The seed of the random losses and late packets.
     pub seed: u64,
-    /// When the transfer is aborted, in nanoseconds.
+    /// When the transfer is aborted.
     pub until: u64,
 }
+
+const CERTAIN: Chances = Chances {
+    loss: 0,
+    burst: 0,
+    reorder: 0,
+    duplicate: 0,
+};
 
 /// 10 Mbit/s, 25 ms in each direction, a queue of 62,500 bytes (one bandwidth-delay product), and a megabyte.
 const USUAL: Settings = Settings {
@@ -82,23 +101,36 @@ const USUAL: Settings = Settings {
         rate: 10_000_000,
         delay: 25_000_000,
         queue: 62_500,
-        loss: 0,
-        burst: 0,
-        reorder: 0,
+        there: CERTAIN,
+        back: CERTAIN,
         late: 5_000_000,
     },
+    is_managed: false,
+    target: 5_000_000,
+    interval: 100_000_000,
+    is_ect: false,
+    flows: 1,
+    rival: None,
+    stagger: 0,
+    chunk: 12_000,
+    every: 0,
     ack_delay: 25_000_000,
     seed: 0,
     until: MOST,
 };
 
-/// Parses the arguments after the program's name as settings.
-pub fn settings_of(words: &[String]) -> Option<Settings> {
+/// Parses the arguments after the program's name as settings. If one cannot be read, returns its place.
+pub fn settings_of(words: &[String]) -> Result<Settings, usize> {
     let mut settings = USUAL;
+    let mut place = 0;
     for word in words {
-        settings = with_word(settings, word.as_str())?;
+        settings = match with_word(settings, word.as_str()) {
+            Some(settings) => settings,
+            None => return Err(place),
+        };
+        place = place.saturating_add(1);
     }
-    Some(settings)
+    Ok(settings)
 }
 
 fn with_word(settings: Settings, word: &str) -> Option<Settings> {
@@ -125,7 +157,7 @@ fn with_value(settings: Settings, name: &str, value: &str) -> Option<Settings> {
             ..settings
         }),
         "paced" => Some(Settings {
-            is_paced: choice_in(value)?,
+            is_paced: choice_in(value, "yes", "no")?,
             ..settings
         }),
         "bytes" => Some(Settings {
@@ -142,6 +174,54 @@ fn with_value(settings: Settings, name: &str, value: &str) -> Option<Settings> {
         }),
         "until" => Some(Settings {
             until: within(1, span_in(value)?, MOST)?,
+            ..settings
+        }),
+        _ => with_flow(settings, name, value),
+    }
+}
+
+fn with_flow(settings: Settings, name: &str, value: &str) -> Option<Settings> {
+    match name {
+        "flows" => Some(Settings {
+            flows: within(1, count_in(value)?, MOST_FLOWS)?,
+            ..settings
+        }),
+        "rival" => Some(Settings {
+            rival: Some(window_in(value)?),
+            ..settings
+        }),
+        "stagger" => Some(Settings {
+            stagger: within(0, span_in(value)?, MOST)?,
+            ..settings
+        }),
+        "chunk" => Some(Settings {
+            chunk: within(1, count_in(value)?, MOST)?,
+            ..settings
+        }),
+        "every" => Some(Settings {
+            every: within(0, span_in(value)?, MOST)?,
+            ..settings
+        }),
+        _ => with_manager(settings, name, value),
+    }
+}
+
+fn with_manager(settings: Settings, name: &str, value: &str) -> Option<Settings> {
+    match name {
+        "aqm" => Some(Settings {
+            is_managed: choice_in(value, "codel", "tail")?,
+            ..settings
+        }),
+        "target" => Some(Settings {
+            target: within(0, span_in(value)?, MOST)?,
+            ..settings
+        }),
+        "interval" => Some(Settings {
+            interval: within(1, span_in(value)?, MOST)?,
+            ..settings
+        }),
+        "ecn" => Some(Settings {
+            is_ect: choice_in(value, "yes", "no")?,
             ..settings
         }),
         _ => Some(Settings {
@@ -165,21 +245,40 @@ fn with_shape(link: Shape, name: &str, value: &str) -> Option<Shape> {
             queue: within(u64::from(SIZE), count_in(value)?, MOST)?,
             ..link
         }),
-        "loss" => Some(Shape {
-            loss: share_in(value)?,
-            ..link
-        }),
-        "burst" => Some(Shape {
-            burst: within(0, count_in(value)?, LONGEST_BURST)?,
-            ..link
-        }),
-        "reorder" => Some(Shape {
-            reorder: share_in(value)?,
-            ..link
-        }),
         "late" => Some(Shape {
             late: within(0, span_in(value)?, MOST)?,
             ..link
+        }),
+        _ => match name.strip_prefix("ack-") {
+            Some(name) => Some(Shape {
+                back: with_chance(link.back, name, value)?,
+                ..link
+            }),
+            None => Some(Shape {
+                there: with_chance(link.there, name, value)?,
+                ..link
+            }),
+        },
+    }
+}
+
+fn with_chance(chances: Chances, name: &str, value: &str) -> Option<Chances> {
+    match name {
+        "loss" => Some(Chances {
+            loss: share_in(value)?,
+            ..chances
+        }),
+        "burst" => Some(Chances {
+            burst: within(0, count_in(value)?, LONGEST_BURST)?,
+            ..chances
+        }),
+        "reorder" => Some(Chances {
+            reorder: share_in(value)?,
+            ..chances
+        }),
+        "duplicate" => Some(Chances {
+            duplicate: share_in(value)?,
+            ..chances
         }),
         _ => None,
     }
@@ -193,60 +292,28 @@ fn window_in(word: &str) -> Option<Window> {
     }
 }
 
-fn choice_in(word: &str) -> Option<bool> {
-    match word {
-        "yes" => Some(true),
-        "no" => Some(false),
-        _ => None,
-    }
-}
-
-/// Returns a number if it is within these bounds.
-fn within(least: u64, number: u64, most: u64) -> Option<u64> {
-    if least <= number && number <= most {
-        Some(number)
-    } else {
-        None
-    }
-}
-
-/// Parses a number of nanoseconds, or of `us`, `ms` or `s`.
-fn span_in(word: &str) -> Option<u64> {
-    if let Some(number) = word.strip_suffix("us") {
-        return times(number, 1_000);
-    }
-    if let Some(number) = word.strip_suffix("ms") {
-        return times(number, 1_000_000);
-    }
-    match word.strip_suffix("s") {
-        Some(number) => times(number, 1_000_000_000),
-        None => times(word, 1),
-    }
-}
-
-/// Parses a number, or one of `k`, `M` or `G`.
-fn count_in(word: &str) -> Option<u64> {
-    if let Some(number) = word.strip_suffix("k") {
-        return times(number, 1_000);
-    }
-    if let Some(number) = word.strip_suffix("M") {
-        return times(number, 1_000_000);
-    }
-    match word.strip_suffix("G") {
-        Some(number) => times(number, 1_000_000_000),
-        None => times(word, 1),
-    }
-}
-
-/// Parses parts of a million, or `%`.
-fn share_in(word: &str) -> Option<u64> {
-    let share = match word.strip_suffix("%") {
-        Some(number) => times(number, 10_000)?,
-        None => times(word, 1)?,
+/// Returns what an argument may be, if it cannot be read.
+pub fn hint_of(word: &str) -> &'static str {
+    let Some((name, _)) = word.split_once('=') else {
+        return "an argument is NAME=VALUE, --script or --qlog, as in loss=0.5%; --help has the names";
     };
-    within(0, share, MILLION)
-}
-
-fn times(number: &str, unit: u64) -> Option<u64> {
-    number_in(number.as_bytes())?.checked_mul(unit)
+    match name {
+        "controller" | "rival" => "newreno, cubic, or a window in bytes, as in controller=cubic",
+        "paced" | "ecn" => "yes or no, as in paced=no",
+        "aqm" => "tail or codel, as in aqm=codel",
+        "bytes" | "chunk" => "1 to 1000G bytes, as in bytes=1.5M",
+        "rate" => "1 to 1000G bits a second, as in rate=10M",
+        "queue" => "1200 to 1000G bytes, as in queue=62.5k",
+        "flows" => "1 to 64, as in flows=2",
+        "seed" => "0 to 18446744073709551615, as in seed=7",
+        "until" | "interval" => "1 to 1000s in ns, us, ms or s, as in until=2.5s",
+        "delay" | "late" | "ack-delay" | "stagger" | "every" | "target" => {
+            "0 to 1000s in ns, us, ms or s, as in delay=12.5ms"
+        }
+        "loss" | "reorder" | "duplicate" | "ack-loss" | "ack-reorder" | "ack-duplicate" => {
+            "0 to 1000000 of a million, or 0% to 100%, as in loss=0.5%"
+        }
+        "burst" | "ack-burst" => "0 to 1M packets, as in burst=4",
+        _ => "there is no such name; --help has all",
+    }
 }

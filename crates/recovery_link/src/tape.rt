@@ -15,11 +15,10 @@ pub enum Piece {
     Number(u64),
 }
 
-/// Output that is written in large pieces.
+/// Text that waits to be written.
 #[derive(Drop)]
-pub struct Tape<'a, W> {
+pub struct Tape {
     text: String,
-    output: &'a mut W,
 }
 
 fn push(text: &mut String, pieces: &[Piece]) -> Result<(), AllocError> {
@@ -32,27 +31,31 @@ fn push(text: &mut String, pieces: &[Piece]) -> Result<(), AllocError> {
     Ok(())
 }
 
-impl<'a, W: Write> Tape<'a, W> {
+impl Tape {
     /// Returns an empty output.
-    pub fn new(alloc: Global, output: &'a mut W) -> Self {
+    pub fn new(alloc: Global) -> Self {
         Tape {
             text: String::new(alloc),
-            output,
         }
     }
 
     /// Appends pieces.
     pub fn write(&mut self, pieces: &[Piece]) -> Result<(), Ending> {
         push(&mut self.text, pieces)?;
+        Ok(())
+    }
+
+    /// Writes what was appended so far, if it is long enough.
+    pub fn pass<W: Write>(&mut self, output: &mut W) -> Result<(), Ending> {
         if self.text.len() < ROOM {
             return Ok(());
         }
-        self.finish()
+        self.finish(output)
     }
 
     /// Writes what was appended so far.
-    pub fn finish(&mut self) -> Result<(), Ending> {
-        match deliver(self.output, self.text.as_bytes()) {
+    pub fn finish<W: Write>(&mut self, output: &mut W) -> Result<(), Ending> {
+        match deliver(output, self.text.as_bytes()) {
             Ok(()) => {
                 self.text.clear();
                 Ok(())

@@ -22,11 +22,11 @@ pub struct Metrics {
     pub pto_count: u64,
 }
 
-/// Writes the records of a run to an output.
+/// The records of a run.
 #[derive(Drop)]
-pub struct Teller<'a, W> {
+pub struct Teller {
     form: Form,
-    tape: Tape<'a, W>,
+    tape: Tape,
     /// The timer and the window in the last record.
     timer: Option<u64>,
     window: u64,
@@ -34,12 +34,12 @@ pub struct Teller<'a, W> {
     state: &'static str,
 }
 
-impl<'a, W: Write> Teller<'a, W> {
+impl Teller {
     /// Returns a writer without any record.
-    pub fn new(alloc: Global, form: Form, output: &'a mut W) -> Self {
+    pub fn new(alloc: Global, form: Form) -> Self {
         Teller {
             form,
-            tape: Tape::new(alloc, output),
+            tape: Tape::new(alloc),
             timer: None,
             window: 0,
             state: "slow_start",
@@ -51,9 +51,14 @@ impl<'a, W: Write> Teller<'a, W> {
         self.form == Form::Qlog
     }
 
-    /// Writes all records.
-    pub fn finish(&mut self) -> Result<(), Ending> {
-        self.tape.finish()
+    /// Writes the records to an output, if there are many.
+    pub fn pass<W: Write>(&mut self, output: &mut W) -> Result<(), Ending> {
+        self.tape.pass(output)
+    }
+
+    /// Writes all records to an output.
+    pub fn finish<W: Write>(&mut self, output: &mut W) -> Result<(), Ending> {
+        self.tape.finish(output)
     }
 
     fn is_script(&self) -> bool {
@@ -215,6 +220,16 @@ impl<'a, W: Write> Teller<'a, W> {
             self.tape
                 .write(&[Text(" "), Number(first), Text(" "), Number(last)])?;
         }
+        if let Some(counts) = &frame.ecn {
+            self.tape.write(&[
+                Text(" ecn "),
+                Number(counts.ect0),
+                Text(" "),
+                Number(counts.ect1),
+                Text(" "),
+                Number(counts.ce),
+            ])?;
+        }
         self.tape.write(&[Text("\n")])
     }
 
@@ -238,10 +253,21 @@ impl<'a, W: Write> Teller<'a, W> {
             ])?;
             is_first = false;
         }
+        self.tape.write(&[Text("]")])?;
+        if let Some(counts) = &frame.ecn {
+            self.tape.write(&[
+                Text(",\"ect0\":"),
+                Number(counts.ect0),
+                Text(",\"ect1\":"),
+                Number(counts.ect1),
+                Text(",\"ce\":"),
+                Number(counts.ce),
+            ])?;
+        }
         self.tape.write(&[Text(if app_limited {
-            "]}],\"app_limited\":true}}\n"
+            "}],\"app_limited\":true}}\n"
         } else {
-            "]}]}}\n"
+            "}]}}\n"
         })])
     }
 
@@ -292,6 +318,14 @@ impl<'a, W: Write> Teller<'a, W> {
             Some(_) => self.turns(now, "recovery", ""),
             None => Ok(()),
         }
+    }
+
+    /// Records that the controller reacts to packets that were marked as congested (RFC 9002, 7.1).
+    pub fn marked(&mut self, now: u64) -> Result<(), Ending> {
+        if !self.is_qlog() {
+            return Ok(());
+        }
+        self.turns(now, "recovery", ",\"trigger\":\"ECN\"")
     }
 
     /// Records that the controller is in another state.

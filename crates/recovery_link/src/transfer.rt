@@ -1,180 +1,118 @@
-//! A transfer: a sender and a link in a closed loop.
+//! A transfer: flows and a link in a closed loop.
 use crate::ending::Ending;
 use crate::figures::Figures;
+use crate::flow::Flow;
 use crate::link::{Link, sooner};
-use crate::sending::Sending;
-use crate::settings::{SIZE, Settings, Window};
-use crate::telling::Teller;
-use recovery_congestion::congestion::{ControllerFactory, NewRenoConfig};
-use recovery_cubic::CubicConfig;
-use recovery_replay::fixed_window::FixedWindowConfig;
+use crate::settings::Settings;
+use recovery_base::below::NoMemory;
 use std::alloc::Global;
-use std::collections::VecDeque;
 use std::io::Write;
 
 /// A transfer: bytes in packets, each with an item of the same size.
 #[derive(Drop)]
-struct Transfer<'a, F: ControllerFactory, W> {
-    sending: Sending<'a, F, W>,
+struct Transfer {
+    flows: Vec<Flow>,
     link: Link,
-    /// How many items there are, and how many were sent for the first time.
-    items: u64,
-    begun: u64,
-    /// Items to retransmit.
-    again: VecDeque<u64>,
-    /// Until when the sender waits for the pacer, if it does.
-    wake: Option<u64>,
 }
 
-impl<'a, F, W> Transfer<'a, F, W>
-where
-    F: ControllerFactory,
-    W: Write,
-{
-    /// Returns whether nothing waits to be sent.
-    fn has_nothing(&self) -> bool {
-        self.begun >= self.items && self.again.is_empty()
+impl Transfer {
+    fn new(alloc: Global, settings: &Settings) -> Result<Self, NoMemory> {
+        let mut flows = Vec::new(alloc);
+        for index in 0..settings.flows {
+            let flow = Flow::new(alloc, settings, index)?;
+            flows.push(flow)?;
+        }
+        let link = Link::new(alloc, settings)?;
+        Ok(Transfer { flows, link })
     }
 
-    /// Removes and returns the item to send next, if any.
-    fn take_item(&mut self) -> Option<u64> {
-        if let Some(item) = self.again.pop_front() {
-            return Some(item);
-        }
-        let item = self.begun;
-        if item >= self.items {
-            return None;
-        }
-        self.begun = item.saturating_add(1);
-        Some(item)
-    }
-
-    /// Runs the transfer, up to the last ACK or to the given time.
-    fn run(&mut self, settings: &Settings) -> Result<(), Ending> {
-        self.sending.begin(settings.ack_delay)?;
-        self.send(0)?;
-        let mut now = 0;
-        // Bounded, here and in `send`, as `MAX_CALLS` of recovery_replay: no measure shows that the loop ends.
-        for _ in 0..u64::MAX {
-            now = match self.next(now) {
-                Some(next) if next <= settings.until => next,
-                _ => break,
-            };
-            self.step(now)?;
-        }
-        self.end(now);
-        self.sending.finish()
-    }
-
-    /// Returns when something happens next, unless all items are acknowledged.
-    fn next(&self, now: u64) -> Option<u64> {
-        if self.has_nothing() && !self.sending.is_carrying() {
-            return None;
-        }
-        let next = sooner(sooner(self.link.next(), self.wake), self.sending.timer())?;
-        Some(next.max(now))
-    }
-
-    /// Does one thing that happens at this time, on the link or at the sender.
-    fn step(&mut self, now: u64) -> Result<(), Ending> {
-        self.link.go_on(now)?;
-        let changes = if let Some(frame) = self.link.take_ack(now) {
-            let app_limited = self.has_nothing();
-            self.sending.acknowledged(now, &frame, app_limited)?
-        } else if is_due(self.sending.timer(), now) {
-            self.sending.expire(now)?
-        } else if is_due(self.wake, now) {
-            false
-        } else {
-            return Ok(());
-        };
-        if changes {
-            self.sending.take_pending(now, &mut self.again)?;
-        }
-        self.send(now)
-    }
-
-    /// Sends packets, as window and pacer allow.
-    fn send(&mut self, now: u64) -> Result<(), Ending> {
-        self.wake = None;
-        for _ in 0..u64::MAX {
-            if !self.goes_on() {
-                break;
-            }
-            if let Some(until) = self.sending.transmit(now)? {
-                self.wake = Some(until.max(now.saturating_add(1)));
-                break;
-            }
-            if self.sending.is_probing() {
-                self.sending.probe(now, &mut self.again)?;
-            }
-            let item = self.take_item();
-            let number = self.sending.send(now, item)?;
-            self.link.enter(now, number)?;
+    fn begin(&mut self, settings: &Settings) -> Result<(), Ending> {
+        for flow in self.flows.iter_mut() {
+            flow.begin(settings)?;
         }
         Ok(())
     }
 
-    /// Returns whether a packet is to be sent: something waits, or a probe is due.
-    fn goes_on(&self) -> bool {
-        self.sending.may_send() && (self.sending.is_probing() || !self.has_nothing())
+    /// Returns when something happens next, unless all items are acknowledged.
+    fn next(&self) -> Option<u64> {
+        let mut next = None;
+        for flow in self.flows.iter() {
+            next = sooner(next, flow.next());
+        }
+        next?;
+        sooner(next, self.link.next())
     }
 
-    fn end(&mut self, now: u64) {
-        let queue = self.link.most();
-        let dropped = self.link.dropped;
-        self.sending.figures.time = now;
-        self.sending.figures.queue = queue;
-        self.sending.figures.dropped = dropped;
+    /// Does what happens at this time: on the link one thing, and one at each flow.
+    fn step(&mut self, now: u64) -> Result<(), Ending> {
+        self.link.go_on(now)?;
+        if let Some(arrival) = self.link.take(now) {
+            if let Some(flow) = self.flows.get_mut(arrival.packet.flow as usize) {
+                flow.receive(now, arrival)?;
+            }
+        }
+        for flow in self.flows.iter_mut() {
+            flow.step(now, &mut self.link)?;
+        }
+        Ok(())
+    }
+
+    /// Writes the records of the first flow, if there are many or at the end.
+    fn write<W: Write>(&mut self, output: &mut W, is_end: bool) -> Result<(), Ending> {
+        match self.flows.first_mut() {
+            Some(flow) if is_end => flow.teller().finish(output),
+            Some(flow) => flow.teller().pass(output),
+            None => Ok(()),
+        }
+    }
+
+    /// Runs the transfer, up to the last ACK or to the given time. Returns when it ended.
+    fn run<W: Write>(&mut self, settings: &Settings, output: &mut W) -> Result<u64, Ending> {
+        self.begin(settings)?;
+        let mut now = 0;
+        // Bounded, here and in `flow.rt` and `link.rt`, as `MAX_CALLS` of recovery_replay: no measure shows that the
+        // loop ends.
+        for _ in 0..u64::MAX {
+            now = match self.next() {
+                Some(next) if next <= settings.until => next.max(now),
+                _ => break,
+            };
+            self.step(now)?;
+            self.write(output, false)?;
+        }
+        self.write(output, true)?;
+        Ok(now)
+    }
+
+    /// Returns the figures of each flow.
+    fn figures(&self, alloc: Global, now: u64) -> Result<Vec<Figures>, NoMemory> {
+        let mut all = Vec::new(alloc);
+        for flow in self.flows.iter() {
+            all.push(flow.figures(now, &self.link))?;
+        }
+        Ok(all)
     }
 }
 
-fn is_due(moment: Option<u64>, now: u64) -> bool {
-    match moment {
-        Some(moment) => moment <= now,
-        None => false,
-    }
-}
-
-/// Runs a transfer with controllers of this factory.
-fn transferred_by<F, W>(
+fn ran<W: Write>(
     alloc: Global,
-    factory: F,
+    transfer: &mut Transfer,
     settings: &Settings,
     output: &mut W,
-) -> Result<Figures, Ending>
-where
-    F: ControllerFactory,
-    W: Write,
-{
-    let teller = Teller::new(alloc, settings.form, output);
-    let sending = Sending::new(alloc, factory, settings, teller)?;
-    let mut transfer = Transfer {
-        sending,
-        link: Link::new(alloc, settings),
-        items: settings.bytes.div_ceil(u64::from(SIZE)),
-        begun: 0,
-        again: VecDeque::new(alloc),
-        wake: None,
-    };
-    let ran = transfer.run(settings);
-    let figures = transfer.sending.figures;
-    drop(transfer);
-    ran?;
-    Ok(figures)
+) -> Result<Vec<Figures>, Ending> {
+    let now = transfer.run(settings, output)?;
+    let all = transfer.figures(alloc, now)?;
+    Ok(all)
 }
 
-/// Runs a transfer. Returns its figures, and writes its records to an output.
+/// Runs a transfer. Returns the figures of each flow, and writes the records of the first one to an output.
 pub fn transferred<W: Write>(
     alloc: Global,
     settings: &Settings,
     output: &mut W,
-) -> Result<Figures, Ending> {
-    match settings.window {
-        Window::Fixed(bytes) if bytes > 0 => {
-            transferred_by(alloc, FixedWindowConfig::new(bytes), settings, output)
-        }
-        Window::Cubic => transferred_by(alloc, CubicConfig::default(), settings, output),
-        _ => transferred_by(alloc, NewRenoConfig::default(), settings, output),
-    }
+) -> Result<Vec<Figures>, Ending> {
+    let mut transfer = Transfer::new(alloc, settings)?;
+    let all = ran(alloc, &mut transfer, settings, output);
+    drop(transfer);
+    all
 }

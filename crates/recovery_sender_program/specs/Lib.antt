@@ -1,2 +1,3 @@
 pub mod Giving
+pub mod LineWords
 pub mod Report

@@ -4,6 +4,7 @@
 
 mod answers;
 mod choice;
+mod faults;
 mod lines;
 mod pages;
 mod play;
@@ -23,7 +24,13 @@ use std::process::ExitCode;
 /// Answers the calls on standard input.
 fn played(rt: &HostRuntime, choice: Choice) -> Outcome {
     match BufReader::new(rt.alloc(), rt.reader()) {
-        Ok(mut input) => play(rt.alloc(), choice, &mut input, &mut rt.stdout()),
+        Ok(mut input) => play(
+            rt.alloc(),
+            choice,
+            &mut input,
+            &mut rt.stdout(),
+            &mut rt.stderr(),
+        ),
         Err(_) => Outcome::OutOfMemory,
     }
 }

@@ -17,6 +17,6 @@ Answers the calls of a sender one at a time: reads a line, writes its answer wit
   --help         writes this
   --version      writes which recovery this is
 
-It ends at the first line that cannot be read.
+Empty lines and lines that begin with # are skipped. It ends at the first other line that is no call, and says why.
 Status: 0, or 1 where reading, writing or memory failed, or 2 where a line or the arguments could not be read.
 ";

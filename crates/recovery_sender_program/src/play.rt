@@ -3,6 +3,7 @@ ghost use Rattle.recovery_sender_program.specs.Giving.{YieldsItems};
 
 use crate::answers::write_said;
 use crate::choice::{Choice, Settings, Window};
+use crate::faults::{fault_line, is_silent};
 use crate::lines::call_in;
 use rand_core::SeedableRng;
 use rand_pcg::Pcg32;
@@ -25,26 +26,60 @@ use std::io::{Read, Write};
 
 /// The lines of an input as calls, up to the first that is no call.
 #[derive(Drop)]
-struct Lines<'a, R> {
+struct Lines<'a, R, E> {
     alloc: Global,
     input: &'a mut R,
+    errors: &'a mut E,
     /// How the input ended.
     outcome: Outcome,
 }
 
-impl<'a, R: Read> Source<Call<ItemQueue>> for Lines<'a, R> {
+impl<'a, R: Read, E: Write> Source<Call<ItemQueue>> for Lines<'a, R, E> {
     ghost gives = { λ old calls new. Unit {0} };
 
     fn feed<S: Sink<Call<ItemQueue>>>(&mut self, sink: &mut S) {
-        self.outcome = give_all(self.alloc, self.input, sink);
+        self.outcome = give_all(self.alloc, self.input, sink, self.errors);
+    }
+}
+
+/// Reports the line that is no call.
+fn report_line<E: Write>(alloc: Global, line: &[u8], number: u64, errors: &mut E) -> Outcome {
+    match fault_line(alloc, line, number) {
+        Ok(text) => {
+            let _told = deliver(errors, text.as_bytes());
+            Outcome::Ended(Ending::BadLine(number))
+        }
+        Err(_) => Outcome::OutOfMemory,
+    }
+}
+
+/// Passes the call of a line to a sink, unless it is empty or a comment. Returns whether that asks for more, or how the
+/// input ends.
+fn give<S: Sink<Call<ItemQueue>>, E: Write>(
+    alloc: Global,
+    line: &[u8],
+    number: u64,
+    sink: &mut S,
+    errors: &mut E,
+) -> Result<bool, Outcome>
+    ensures { YieldsItems S.takes sink.old sink.new }
+{
+    if is_silent(line) {
+        return Ok(true);
+    }
+    match call_in(alloc, line) {
+        Ok(Some(call)) => Ok(sink.put(call)),
+        Ok(None) => Err(report_line(alloc, line, number, errors)),
+        Err(_) => Err(Outcome::OutOfMemory),
     }
 }
 
 /// Passes the calls of an input to a sink, while that asks for more. Returns how the input ended.
-fn give_all<R: Read, S: Sink<Call<ItemQueue>>>(
+fn give_all<R: Read, S: Sink<Call<ItemQueue>>, E: Write>(
     alloc: Global,
     input: &mut R,
     sink: &mut S,
+    errors: &mut E,
 ) -> Outcome
     ensures { YieldsItems S.takes sink.old sink.new }
 {
@@ -55,10 +90,9 @@ fn give_all<R: Read, S: Sink<Call<ItemQueue>>>(
             Ok(None) => return Outcome::Ended(Ending::Whole),
             Err(unread) => return Outcome::from(unread),
         };
-        let goes_on = match call_in(alloc, &line) {
-            Ok(Some(call)) => sink.put(call),
-            Ok(None) => return Outcome::Ended(Ending::BadLine(number)),
-            Err(_) => return Outcome::OutOfMemory,
+        let goes_on = match give(alloc, &line, number, sink, errors) {
+            Ok(goes_on) => goes_on,
+            Err(outcome) => return outcome,
         };
         match next {
             Next::Line if goes_on => {}
@@ -110,17 +144,19 @@ fn set<F>(transport: &mut TransportConfig<F>, settings: &Settings) {
 }
 
 /// Answers the calls of an input, with a sender that has sent nothing.
-fn play_over<F, R, W>(
+fn play_over<F, R, W, E>(
     alloc: Global,
     factory: F,
     choice: Choice,
     input: &mut R,
     output: &mut W,
+    errors: &mut E,
 ) -> Result<Outcome, NoMemory>
 where
     F: ControllerFactory,
     R: Read,
     W: Write,
+    E: Write,
 {
     let mut config = config(factory, peer_at(FIRST_PORT), skips(choice.seed));
     if let Some(settings) = &choice.settings {
@@ -136,6 +172,7 @@ where
     let mut calls = Lines {
         alloc,
         input,
+        errors,
         outcome: Outcome::Ended(Ending::Whole),
     };
     let answers = Answers {
@@ -149,17 +186,24 @@ where
     Ok(answers.broken.unwrap_or(calls.outcome))
 }
 
-/// Reads calls and answers each before it reads the next.
-pub fn play<R: Read, W: Write>(
+/// Reads calls and answers each before it reads the next. A line that is no call is reported to `errors`.
+pub fn play<R: Read, W: Write, E: Write>(
     alloc: Global,
     choice: Choice,
     input: &mut R,
     output: &mut W,
+    errors: &mut E,
 ) -> Outcome {
     let played = match choice.window {
-        Window::Fixed(factory) => play_over(alloc, factory, choice, input, output),
-        Window::Cubic => play_over(alloc, CubicConfig::default(), choice, input, output),
-        Window::NewReno => play_over(alloc, NewRenoConfig::default(), choice, input, output),
+        Window::Fixed(factory) => play_over(alloc, factory, choice, input, output, errors),
+        Window::Cubic => {
+            let factory = CubicConfig::default();
+            play_over(alloc, factory, choice, input, output, errors)
+        }
+        Window::NewReno => {
+            let factory = NewRenoConfig::default();
+            play_over(alloc, factory, choice, input, output, errors)
+        }
     };
     played.unwrap_or(Outcome::OutOfMemory)
 }

@@ -4,6 +4,7 @@ ghost use Rattle.std.specs.Io.KnownBytes.{Appends};
 ghost use Rattle.recovery_sender_program.specs.Report.{error_text};
 
 use recovery_replay::outcome::Outcome;
+use recovery_replay::script::Ending;
 use std::io;
 use std::io::Write;
 
@@ -14,10 +15,13 @@ const NAME: &str = "sender";
 const USAGE: &str = "usage: recovery-sender client|server|established \
     [SEED [cubic|WINDOW [PACKETS NUMERATOR DENOMINATOR PERIODS]]]\n";
 
-/// Writes the error text.
+/// Writes the error text. A line that cannot be read was reported already.
 pub fn report<E: Write>(outcome: Outcome, errors: &mut E) -> io::Result<()>
     ensures { OnOk result
         (Appends (E.contents errors.old) (E.contents errors.new) (error_text outcome)) }
 {
-    outcome.report(NAME, USAGE, errors)
+    match outcome {
+        Outcome::Ended(Ending::BadLine(_)) => Ok(()),
+        outcome => outcome.report(NAME, USAGE, errors),
+    }
 }

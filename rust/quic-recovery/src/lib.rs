@@ -48,6 +48,8 @@ mod event;
 mod ffi;
 mod mtud;
 mod pacing;
+#[cfg(feature = "qlog")]
+mod qlog;
 mod recovery;
 mod sender;
 mod timer;
@@ -60,6 +62,8 @@ pub use config::{
 pub use event::{Answer, EcnFault, Event, Refusal};
 pub use mtud::{InvalidArgument, MtuDiscovery};
 pub use pacing::Pacer;
+#[cfg(feature = "qlog")]
+pub use qlog::Qlog;
 pub use recovery::{IdStats, PacerStats, PathStats, Recovery, RttEstimate, SpaceStats};
 pub use sender::{
     Ack, Acknowledged, EcnOutcome, Losses, MtuProbe, Packets, Retransmitted, Sender, SenderError,

@@ -1,0 +1,277 @@
+//! A flow: an application, a sender, its peer, and the way back.
+use crate::ending::Ending;
+use crate::figures::Figures;
+use crate::link::{Arrival, Link, sooner};
+use crate::peer::{Frame, Peer};
+use crate::sending::Sending;
+use crate::settings::{Form, SIZE, Settings, Window};
+use crate::telling::Teller;
+use rand_core::SeedableRng;
+use rand_pcg::Pcg32;
+use recovery_base::below::NoMemory;
+use recovery_congestion::congestion::NewRenoConfig;
+use recovery_cubic::CubicConfig;
+use recovery_engine::controllers::{ChosenConfig, FixedConfig};
+use recovery_network::bottleneck::QueuedPacket;
+use recovery_network::draws::Draws;
+use recovery_network::way::Way;
+use std::alloc::Global;
+use std::collections::VecDeque;
+
+/// What an application writes: items of the size of a packet.
+#[derive(Clone, Copy)]
+struct Application {
+    /// How many it writes in all.
+    items: u64,
+    /// How many it writes at a time, and how long after one another, in nanoseconds; 0: all at once.
+    chunk: u64,
+    every: u64,
+    /// When it begins, in nanoseconds.
+    start: u64,
+}
+
+impl Application {
+    /// Returns how many items it has written by now.
+    fn written(&self, now: u64) -> u64 {
+        if now < self.start {
+            return 0;
+        }
+        match (now - self.start).checked_div(self.every) {
+            Some(times) => self
+                .items
+                .min(times.saturating_add(1).saturating_mul(self.chunk)),
+            None => self.items,
+        }
+    }
+
+    /// Returns when it writes the item of this index.
+    fn writes(&self, index: u64) -> u64 {
+        let times = match index.checked_div(self.chunk) {
+            Some(times) => times,
+            None => 0,
+        };
+        self.start.saturating_add(times.saturating_mul(self.every))
+    }
+}
+
+/// A flow. Times are in nanoseconds.
+#[derive(Drop)]
+pub struct Flow {
+    alloc: Global,
+    index: u64,
+    sending: Sending,
+    application: Application,
+    is_ect: bool,
+    /// How many items were sent for the first time.
+    begun: u64,
+    /// Items to retransmit.
+    again: VecDeque<u64>,
+    /// Until when the sender waits for the pacer or the application, if it does.
+    wake: Option<u64>,
+    peer: Peer,
+    draws: Draws<Pcg32>,
+    back: Way<Frame>,
+    late: u64,
+}
+
+fn chosen(window: Window) -> ChosenConfig {
+    match window {
+        Window::Fixed(bytes) if bytes > 0 => ChosenConfig::Fixed(FixedConfig::new(bytes)),
+        Window::Cubic => ChosenConfig::Cubic(CubicConfig::default()),
+        _ => ChosenConfig::Reno(NewRenoConfig::default()),
+    }
+}
+
+fn is_due(moment: Option<u64>, now: u64) -> bool {
+    match moment {
+        Some(moment) => moment <= now,
+        None => false,
+    }
+}
+
+impl Flow {
+    /// Returns a flow that has sent nothing. The first one has the records, the others have the rivals' controller and
+    /// begin later.
+    pub fn new(alloc: Global, settings: &Settings, index: u64) -> Result<Self, NoMemory> {
+        let (form, window) = if index == 0 {
+            (settings.form, settings.window)
+        } else {
+            (Form::Figures, settings.rival.unwrap_or(settings.window))
+        };
+        let sending = Sending::new(alloc, chosen(window), settings, Teller::new(alloc, form))?;
+        let size = u64::from(SIZE);
+        let start = settings.stagger.saturating_mul(index);
+        let seed = settings.seed.wrapping_add(index).wrapping_add(1);
+        Ok(Flow {
+            alloc,
+            index,
+            sending,
+            application: Application {
+                items: settings.bytes.div_ceil(size),
+                chunk: settings.chunk.div_ceil(size),
+                every: settings.every,
+                start,
+            },
+            is_ect: settings.is_ect,
+            begun: 0,
+            again: VecDeque::new(alloc),
+            wake: Some(start),
+            peer: Peer::new(alloc, settings.ack_delay),
+            draws: Draws::new(Pcg32::seed_from_u64(seed), settings.link.back),
+            back: Way::new(alloc, settings.link.delay),
+            late: settings.link.late,
+        })
+    }
+
+    /// Ends the handshake.
+    pub fn begin(&mut self, settings: &Settings) -> Result<(), Ending> {
+        self.sending.begin(settings.ack_delay)
+    }
+
+    /// Returns the records.
+    pub fn teller(&mut self) -> &mut Teller {
+        &mut self.sending.teller
+    }
+
+    /// Returns whether nothing waits to be sent.
+    fn has_nothing(&self, now: u64) -> bool {
+        self.begun >= self.application.written(now) && self.again.is_empty()
+    }
+
+    /// Returns whether all items are acknowledged.
+    pub fn is_done(&self) -> bool {
+        self.begun >= self.application.items && self.again.is_empty() && !self.sending.is_carrying()
+    }
+
+    /// Returns when something happens next, unless all is done.
+    pub fn next(&self) -> Option<u64> {
+        if self.is_done() {
+            return None;
+        }
+        let peer = sooner(self.peer.due(), self.back.next());
+        sooner(peer, sooner(self.wake, self.sending.timer()))
+    }
+
+    /// Removes and returns the item to send next, if any.
+    fn take_item(&mut self, now: u64) -> Option<u64> {
+        if let Some(item) = self.again.pop_front() {
+            return Some(item);
+        }
+        let item = self.begun;
+        if item >= self.application.written(now) {
+            return None;
+        }
+        self.begun = item.saturating_add(1);
+        Some(item)
+    }
+
+    /// Passes a packet to the peer.
+    pub fn receive(&mut self, now: u64, arrival: Arrival) -> Result<(), NoMemory> {
+        self.peer.receive(now, arrival)
+    }
+
+    /// Sends the ACK that is due.
+    fn acknowledge(&mut self, now: u64) -> Result<(), NoMemory> {
+        if !is_due(self.peer.due(), now) {
+            return Ok(());
+        }
+        let frame = self.peer.acknowledge(now)?;
+        if self.draws.loses() {
+            let lost = self.sending.figures.acks_lost;
+            self.sending.figures.acks_lost = lost.saturating_add(1);
+            return Ok(());
+        }
+        let late = if self.draws.delays() { self.late } else { 0 };
+        if self.draws.doubles() {
+            let twin = frame.again(self.alloc)?;
+            self.back.send(now, late, twin)?;
+        }
+        self.back.send(now, late, frame)?;
+        Ok(())
+    }
+
+    /// Does one thing that happens at this time, at the peer or at the sender.
+    pub fn step(&mut self, now: u64, link: &mut Link) -> Result<(), Ending> {
+        self.acknowledge(now)?;
+        if self.is_done() {
+            return Ok(());
+        }
+        let changes = if let Some(frame) = self.back.take(now) {
+            let app_limited = self.has_nothing(now);
+            self.sending.acknowledged(now, &frame, app_limited)?
+        } else if is_due(self.sending.timer(), now) {
+            self.sending.expire(now)?
+        } else if is_due(self.wake, now) {
+            false
+        } else {
+            return Ok(());
+        };
+        if changes {
+            self.sending.take_pending(now, &mut self.again)?;
+        }
+        self.sending.figures.time = now;
+        self.send(now, link)
+    }
+
+    /// Sends packets, as window and pacer allow.
+    fn send(&mut self, now: u64, link: &mut Link) -> Result<(), Ending> {
+        self.wake = None;
+        // Bounded as in `transfer.rt`.
+        for _ in 0..u64::MAX {
+            if !self.goes_on(now) {
+                break;
+            }
+            if let Some(until) = self.sending.transmit(now)? {
+                self.wake = Some(until.max(now.saturating_add(1)));
+                return Ok(());
+            }
+            if self.sending.is_probing() {
+                self.sending.probe(now, &mut self.again)?;
+            }
+            let item = self.take_item(now);
+            let number = self.sending.send(now, item)?;
+            link.enter(self.packet(now, number))?;
+        }
+        if self.has_nothing(now) && self.begun < self.application.items {
+            self.wake = Some(
+                self.application
+                    .writes(self.begun)
+                    .max(now.saturating_add(1)),
+            );
+        }
+        Ok(())
+    }
+
+    fn packet(&self, now: u64, number: u64) -> QueuedPacket {
+        QueuedPacket {
+            flow: self.index,
+            number,
+            size: SIZE,
+            came: now,
+            is_ect: self.is_ect && self.sending.may_mark(),
+        }
+    }
+
+    /// Returns whether a packet is to be sent: something waits, or a probe is due.
+    fn goes_on(&self, now: u64) -> bool {
+        self.sending.may_send() && (self.sending.is_probing() || !self.has_nothing(now))
+    }
+
+    /// Returns the figures, at the end of a run.
+    pub fn figures(&self, now: u64, link: &Link) -> Figures {
+        let passage = link.passage(self.index);
+        let mut figures = self.sending.figures;
+        if !self.is_done() {
+            figures.time = now;
+        }
+        figures.time = figures.time.saturating_sub(self.application.start);
+        figures.queue = link.most();
+        figures.dropped = passage.dropped;
+        figures.marked = passage.marked;
+        figures.wait = match passage.waited.checked_div(passage.left) {
+            Some(mean) => mean,
+            None => 0,
+        };
+        figures
+    }
+}

@@ -1,0 +1,104 @@
+-- The queue before a link: when packets leave it, how many bytes wait, and which packets are dropped. All follow from
+-- the packets that were let in.
+use Rattle.std.specs.Prelude.{◌≡◌, ℕ, ◌+◌, ◌*◌, ◌<◌, ◌≤◌, min, max, Bool, true, false, List, [], ◌∷◌, ◌++◌, reverse, Option, None, Some}
+use Rattle.std.specs.Int.{div_ceil}
+use Rattle.recovery_base.specs.Units.{last_time, seconds}
+use Rattle.recovery_network.specs.declared.bottleneck.QueuedPacket.{QueuedPacket}
+
+-- ---- what follows from the packets that were let in, the newest first
+
+-- the nanoseconds in which a link of this many bits a second sends these bytes, rounded up
+abbrev pub service : ℕ → ℕ → ℕ
+service rate size = div_ceil (size * 8 * seconds) rate
+
+-- When the last bit of the newest packet is sent. The first one is sent when the packet has come and all packets before
+-- it have left. Times end with the clock.
+abbrev pub departure : ℕ → List QueuedPacket → ℕ
+departure rate [] = 0
+departure rate (packet ∷ before) =
+    min last_time (max packet.came (departure rate before) + service rate packet.size)
+
+abbrev pub bytes_of : List QueuedPacket → ℕ
+bytes_of [] = 0
+bytes_of (packet ∷ packets) = packet.size + bytes_of packets
+
+-- ---- a queue after a history
+
+pub record Queue : Type 0 where
+  -- bits a second, and the bytes that may wait
+  pub rate : ℕ
+  pub room : ℕ
+  -- the packets that have not left, the first to leave first, and their bytes
+  pub waiting : List QueuedPacket
+  pub bytes : ℕ
+  -- when the last one that left did
+  pub free : ℕ
+  -- the most bytes that waited
+  pub most : ℕ
+
+pub record IsSound (queue : Queue) : Type 0 where
+  pub flows : 0 < queue.rate
+  pub fits : queue.bytes ≤ queue.room
+  pub largest : queue.bytes ≤ queue.most
+  pub fitted : queue.most ≤ queue.room
+
+-- After these packets were let in, and these of them have left: the others wait, in the order in which they came, their
+-- bytes are those that were let in and have not left, and the link is free when the last one has left.
+pub record IsAfter (let_in left : List QueuedPacket) (queue : Queue) : Type 0 where
+  pub order : let_in ≡ reverse queue.waiting ++ left
+  pub waits : bytes_of let_in ≡ queue.bytes + bytes_of left
+  pub free : queue.free ≡ departure queue.rate left
+
+-- the rate and the room stay
+pub record IsSameLink (old new : Queue) : Type 0 where
+  pub rate : new.rate ≡ old.rate
+  pub room : new.room ≡ old.room
+
+-- nothing happened, whatever the history
+abbrev pub Keeps : Queue → Queue → Type 0
+Keeps old new = (let_in left : List QueuedPacket) → IsAfter let_in left old → IsAfter let_in left new
+
+-- A packet is let in exactly if it has room next to the bytes that wait.
+abbrev pub AdmitsAfter : List QueuedPacket → List QueuedPacket → QueuedPacket → Queue → Queue → Bool → Type 0
+AdmitsAfter let_in left packet old new true =
+    (bytes_of let_in + packet.size ≤ old.room + bytes_of left) × IsAfter (packet ∷ let_in) left new
+AdmitsAfter let_in left packet old new false =
+    (old.room + bytes_of left < bytes_of let_in + packet.size) × IsAfter let_in left new
+
+abbrev pub Admits : QueuedPacket → Queue → Queue → Bool → Type 0
+Admits packet old new is_in =
+    (let_in left : List QueuedPacket) → IsAfter let_in left old → AdmitsAfter let_in left packet old new is_in
+
+-- the departure of the packet that leaves next, if any waits
+abbrev pub IsNextOf : List QueuedPacket → List QueuedPacket → ℕ → Option ℕ → Type 0
+IsNextOf waiting left rate None = waiting ≡ []
+IsNextOf waiting left rate (Some leaves) =
+    (first : QueuedPacket) × (rest : List QueuedPacket) × (waiting ≡ first ∷ rest)
+    × (leaves ≡ departure rate (first ∷ left))
+
+abbrev pub IsNext : Queue → Option ℕ → Type 0
+IsNext queue leaves =
+    (let_in left : List QueuedPacket) → IsAfter let_in left queue → IsNextOf queue.waiting left queue.rate leaves
+
+-- The packet that leaves next is the first one that was let in and has not left, and it has left by now. Or none has.
+abbrev pub TakesAfter : List QueuedPacket → List QueuedPacket → ℕ → Queue → Queue → Option QueuedPacket → Type 0
+TakesAfter let_in left now old new None =
+    ((first : QueuedPacket) (later : List QueuedPacket) → let_in ≡ later ++ first ∷ left
+    → now < departure old.rate (first ∷ left))
+    × IsAfter let_in left new
+TakesAfter let_in left now old new (Some first) =
+    (departure old.rate (first ∷ left) ≤ now) × IsAfter let_in (first ∷ left) new
+
+abbrev pub Takes : ℕ → Queue → Queue → Option QueuedPacket → Type 0
+Takes now old new taken =
+    (let_in left : List QueuedPacket) → IsAfter let_in left old → TakesAfter let_in left now old new taken
+
+-- the packet that would leave next is gone, as if it had never been let in
+abbrev pub DiscardsAfter : List QueuedPacket → List QueuedPacket → Queue → Queue → Option QueuedPacket → Type 0
+DiscardsAfter let_in left old new None = (let_in ≡ left) × IsAfter let_in left new
+DiscardsAfter let_in left old new (Some first) =
+    (later : List QueuedPacket) × (let_in ≡ later ++ first ∷ left) × IsAfter (later ++ left) left new
+
+abbrev pub Discards : Queue → Queue → Option QueuedPacket → Type 0
+Discards old new gone =
+    (let_in left : List QueuedPacket) → IsAfter let_in left old → DiscardsAfter let_in left old new gone

@@ -1,0 +1,5 @@
+pub mod BottleneckView
+pub mod Bottlenecks
+pub mod RandomEvents
+pub mod Sojourns
+pub mod Ways
