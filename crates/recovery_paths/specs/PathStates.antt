@@ -151,7 +151,8 @@ module _ {K : Type 0} (words : ControllerSemantics K) where
 
   -- what the pacer permits now, in bytes: exactly that many and fewer are not delayed
   abbrev pub IsRoomInPacer : ℕ → PathState K → ℕ → Type 0
-  IsRoomInPacer now path = IsPacerRoom (rtt_get path.rtt) path.discovery.mtu (words.window path.controller) now path.pacer
+  IsRoomInPacer now path =
+      IsPacerRoom (rtt_get path.rtt) path.discovery.mtu (words.window path.controller) now path.pacer
 
   -- when to ask again, if the bytes may not be sent yet
   abbrev pub path_delay : ℕ → ℕ → PathState K → Option ℕ
