@@ -4,7 +4,7 @@ as it is and over the library; transfers over a proxy that loses, delays and reo
 shadow, where quic-go's own parts, made to go by RFC 9002, get the same inputs, and all that can be read of both is
 compared. A line of counts each; docs/QUIC-GO.md says what was changed, and why.
 
-    tests/quicgo.py             all of it, in out/quicgo: ten minutes, most of it waiting. Needs the library (prebuilt,
+    tests/quicgo.py             all of it, in out/quicgo: 11 minutes, most of it waiting. Needs the library (prebuilt,
                                 or tests/rust.py --library; QUIC_RECOVERY_LIB names a folder with another), a C compiler
                                 and the packages; where these are missing, it says so and fails
     tests/quicgo.py PART..      some of unit (quic-go's unit tests), suite (its integration tests), shadow, transfer; or
