@@ -4,7 +4,7 @@ as it is and over the library; transfers over a proxy that loses, delays and reo
 shadow, where quic-go's own parts, made to go by RFC 9002, get the same inputs, and all that can be read of both is
 compared. A line of counts each; docs/QUIC-GO.md says what was changed, and why.
 
-    tests/quicgo.py             all of it, in out/quicgo: ten minutes, most of it waiting. Needs the library (prebuilt,
+    tests/quicgo.py             all of it, in out/quicgo: 11 minutes, most of it waiting. Needs the library (prebuilt,
                                 or tests/rust.py --library; QUIC_RECOVERY_LIB names a folder with another), a C compiler
                                 and the packages; where these are missing, it says so and fails
     tests/quicgo.py PART..      some of unit (quic-go's unit tests), suite (its integration tests), shadow, transfer; or
@@ -51,6 +51,7 @@ ATTEMPTS = 3  # of a spec: those with lost packets or short times fail now and t
 PLACES = 13  # in which quic-go can be made to go by RFC 9002
 ALL = 2**PLACES - 1
 WANTED = 5_000_000  # values that are compared
+PATIENCE = ["-idle", "180s", "-limit", "300s"]  # with 40 % of a handshake lost, timeouts may double up to a minute
 HANDSHAKES = "-conns 200 -size 20000 -hsloss 40 -loss 2 -workers 25"
 TRANSFERS = [
     "-conns 20 -size 2000000",
@@ -257,14 +258,15 @@ def run_suite(go, given):
 
 def transferred(go, words, seed, mode, align=0):
     """What a run of transfers said: whether all were done, and counts by name."""
-    call = go.start(PROVED, [go.program, *words.split(), "-seed", seed], QUIC_MODE=mode, QUIC_ALIGN=str(align))
+    is_theirs = mode == "own" or (mode == "shadow" and align != ALL)  # quic-go as it is loses a connection now and then
+    words_and_more = [*words.split(), *([] if is_theirs else PATIENCE), "-seed", seed]
+    call = go.start(PROVED, [go.program, *words_and_more], QUIC_MODE=mode, QUIC_ALIGN=str(align))
     said = call.communicate()[0]
     counts = collections.Counter()
     for kind, count, name in re.findall(r"^(event|differ) (\d+) (.*)$", said, re.M):
         counts[kind, name.partition(", by")[0]] = int(count)
     number = lambda what: int((re.search(rf"^{what} (\d+)", said, re.M) or [0, 0])[1])
     done = re.search(r"^done (\d+) failed (\d+) in", said, re.M)
-    is_theirs = mode == "own" or (mode == "shadow" and align != ALL)  # quic-go as it is loses a connection now and then
     ends = call.returncode == 0 and done and (is_theirs or done[2] == "0")
     tests.holds(f"transfers {words}, {mode}", ends, said[-4000:])
     return number("values"), number("connections"), counts, said

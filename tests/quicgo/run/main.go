@@ -41,6 +41,7 @@ var (
 	long    = flag.Bool("long", false, "the server has a long chain of certificates")
 	outage  = flag.Duration("outage", 0, "all is lost so long, 30 ms behind the first 1-RTT datagrams")
 	limit   = flag.Duration("limit", 60*time.Second, "for a connection")
+	idle    = flag.Duration("idle", 20*time.Second, "so long an endpoint waits for the other")
 )
 
 var largest int64 // bytes of a datagram
@@ -54,7 +55,7 @@ func check(err error) {
 func main() {
 	flag.Parse()
 	config := &quic.Config{
-		DisablePathMTUDiscovery: !*mtud, HandshakeIdleTimeout: 20 * time.Second, MaxIdleTimeout: 30 * time.Second,
+		DisablePathMTUDiscovery: !*mtud, HandshakeIdleTimeout: *idle, MaxIdleTimeout: *idle + 10*time.Second,
 	}
 	server := config.Clone()
 	if *retry {

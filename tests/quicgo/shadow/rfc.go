@@ -42,7 +42,8 @@ const (
 	// A Retry gives a sample. By 6.3 it gives an initial RTT.
 	alRetry = 1024
 	// A datagram may begin below the limit against amplification and end past it. RFC 9000, 8.1: MUST NOT. With a third
-	// of the handshake's datagrams lost half of all connections take 0.47 s so, and 0.62 s by the RFC.
+	// of the handshake's datagrams lost half of all connections take 0.47 s so, and 0.62 s by the RFC; with 40 % lost
+	// the slowest of 200 takes 5 s, and 12 s by the RFC, over the library as well.
 	alLimit = 2048
 	// The window grows by a datagram for each packet acknowledged in slow start; a datagram may end past it (7: MUST
 	// NOT); a recovery is known by packet numbers, though each space has its own; persistent congestion is not detected
