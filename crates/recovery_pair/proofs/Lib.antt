@@ -1,0 +1,10 @@
+pub mod FrameLaws
+pub mod GoingLaws
+pub mod HonestLaws
+pub mod NewLaws
+pub mod PacketLaws
+pub mod QuietLaws
+pub mod RunLaws
+pub mod StepTies
+pub mod TieLaws
+pub mod TurnLaws

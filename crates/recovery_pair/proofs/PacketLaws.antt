@@ -1,0 +1,132 @@
+-- The calls by which a packet is sent or received.
+use Rattle.std.proofs.Common.{◌≡◌, ℕ, ◌==◌, ◌&&◌, Bool, true, [], ◌∷◌, Option, Result, Ok, Err, sym, subst, arith}
+use Rattle.std.specs.Prelude.{IfOk, OnErr}
+use Rattle.std.proofs.lemmas.Bool.Decides.{nat_tests}
+use Rattle.rand_core.specs.Stream.{Stream}
+use Rattle.recovery_base.specs.declared.below.SpaceId.{SpaceId}
+use Rattle.recovery_base.specs.Spaces.{same_space}
+use Rattle.recovery_events.specs.declared.event.Answer.{Answer}
+use Rattle.recovery_events.specs.declared.event.Answer.TheVariants.{New, Sent}
+use Rattle.recovery_events.specs.declared.event.Event.{Event}
+use Rattle.recovery_events.specs.declared.event.Event.TheVariants.{Received, Send}
+use Rattle.recovery_losses.specs.declared.variables.Variables.{Variables}
+use Rattle.recovery_history.specs.declared.config.RecoveryConfig.{RecoveryConfig}
+use Rattle.recovery_history.specs.History.{History, Reply, begins, queue_model}
+use Rattle.recovery_history.specs.Reachability.{ReachedBy, StepGuarantees}
+use Rattle.recovery_history.specs.RecoveryState.{RecoveryState}
+use Rattle.recovery_sender.specs.Calls.{EventResult, transmit_steps}
+use Rattle.recovery_sender.specs.Senders.{state_in}
+use Rattle.recovery_sender.specs.Steps.{CompletesCall, TakesSteps, told}
+use Rattle.recovery_sender.specs.declared.sender.Sender.{Sender}
+use Rattle.recovery_sender.specs.declared.sender.SenderError.{SenderError}
+use Rattle.recovery_sender.specs.declared.sender.SenderError.TheVariants as refused
+use Rattle.recovery_sender.specs.declared.sender.packets.Transmission.{Transmission}
+use Rattle.recovery_pair.specs.Pasts.{Continues, GoesOnQuietly, HearsNumber, HearsOrNot, SendsNumber, arm_told}
+use Rattle.recovery_pair.proofs.GoingLaws.{hears_event, hears_then_quiet, known_event, quiet_then, same_itself, sends_event, sends_then_quiet}
+use Rattle.recovery_pair.proofs.QuietLaws.{rearms_quietly, same_quietly, transmits_quietly}
+
+it_goes : (space : SpaceId) (n : ℕ) → (same_space space space && n == n) ≡ true
+it_goes space n = let same = same_itself space in grind (arith, nat_tests, same)
+
+module _ {F Q R C K S M P : Type 0} {f : _} {c : _} {q : _} {m : _} {r : _} (event : Event Q S M P) (reply : Reply Q)
+    (Goes : History Q S M P → History Q S M P → Type 0)
+    (joins : (past between after : History Q S M P) → Goes past between → GoesOnQuietly between after → Goes past after)
+  where
+    -- what an event does to a past a call does that makes it
+    pub call_goes : (kept : Variables) (old new : Sender F Q R C K S M P f c q m r)
+        → CompletesCall (told event reply ∷ []) kept old new
+        → ((config : RecoveryConfig F) (start : ℕ) (random : Stream) (past : History Q S M P)
+        → StepGuarantees (begins f.built c.words (queue_model q.contents q.words q.blank) config start random) past
+        event
+        reply → Goes past ((event, reply) ∷ past)) → Continues Goes old new
+    call_goes kept old new does goes = record {
+      from = λ config start random past came. (
+          let queue = queue_model q.contents q.words q.blank in
+          let leads = does.leads in
+          let one = leads.2 config start random past came in
+          let two = rearms_quietly f.built c.words queue config start random kept does.between (state_in new) does.sets
+          ((event, reply) ∷ past) (subst (λ (at : RecoveryState K P M). ReachedBy (begins f.built c.words queue config
+          start random) ((event, reply) ∷ past) at) (sym leads.3) one.came) in
+          (two.0, two.1, joins past ((event, reply) ∷ past) two.0 (goes config start random past one.keeps) two.2));
+    }
+
+    pub steps_go : (old new : Sender F Q R C K S M P f c q m r) → TakesSteps (told event reply ∷ []) old new
+        → ((config : RecoveryConfig F) (start : ℕ) (random : Stream) (past : History Q S M P)
+        → StepGuarantees (begins f.built c.words (queue_model q.contents q.words q.blank) config start random) past
+        event
+        reply → Goes past ((event, reply) ∷ past)) → Continues Goes old new
+    steps_go old new takes goes = record {
+      from = λ config start random past came. (
+          let leads = takes.leads in
+          let one = leads.2 config start random past came in (
+            (event, reply) ∷ past,
+            subst (λ (at : RecoveryState K P M). ReachedBy (begins f.built c.words (queue_model q.contents q.words
+                q.blank)
+                config start random) ((event, reply) ∷ past) at) (sym leads.3) one.came,
+            goes config start random past one.keeps,
+          ));
+    }
+
+module _ {F Q R C K S M P : Type 0} {f : _} {c : _} {q : _} {m : _} {r : _} where
+  pub sends_by_call : (space : SpaceId) (now size : ℕ) (eliciting : Bool) (largest : Option ℕ) (queue : Q) (frames : M)
+      (number : ℕ) (forgotten : Option ℕ) (kept : Variables) (old new : Sender F Q R C K S M P f c q m r)
+      → CompletesCall (told (Send space now size eliciting largest queue frames) (Ok (Sent number forgotten)) ∷ []) kept
+      old new → Continues (SendsNumber space number) old new
+  sends_by_call space now size eliciting largest queue frames number forgotten kept old new does =
+      call_goes (Send space now size eliciting largest queue frames) (Ok (Sent number forgotten))
+      (SendsNumber space number) (sends_then_quiet space number) kept old new does
+      (λ config start random past keeps. sends_event past (Send space now size eliciting largest queue frames)
+      (Ok (Sent number forgotten)) space number keeps.numbers_increase (it_goes space number) tt)
+
+  pub hears_by_call : (space : SpaceId) (now n : ℕ) (eliciting arm : Bool) (kept : Variables)
+      (old new : Sender F Q R C K S M P f c q m r)
+      → CompletesCall (told (Received space now n eliciting) (Ok (New arm)) ∷ []) kept old new
+      → Continues (HearsNumber space n) old new
+  hears_by_call space now n eliciting arm kept old new does =
+      call_goes (Received space now n eliciting) (Ok (New arm)) (HearsNumber space n) (hears_then_quiet space n) kept
+      old
+      new does (λ config start random past keeps. hears_event past space now n eliciting arm keeps.new)
+
+  pub known_by_call : (space : SpaceId) (now n : ℕ) (eliciting : Bool) (answer : Answer Q) (kept : Variables)
+      (old new : Sender F Q R C K S M P f c q m r) → ((arm : Bool) → answer ≡ New arm → ⊥)
+      → CompletesCall (told (Received space now n eliciting) (Ok answer) ∷ []) kept old new
+      → Continues GoesOnQuietly old new
+  known_by_call space now n eliciting answer kept old new other does =
+      call_goes (Received space now n eliciting) (Ok answer) GoesOnQuietly
+      (λ past between after first second. quiet_then past between after first second) kept old new does
+      (λ config start random past keeps. known_event past space now n eliciting (Ok answer)
+      (λ arm is. other arm (cc)))
+
+  pub refused_quietly : (space : SpaceId) (now n : ℕ) (eliciting : Bool) (reply : Reply Q)
+      (old new : Sender F Q R C K S M P f c q m r) → ((arm : Bool) → reply ≡ Ok (New arm) → ⊥)
+      → TakesSteps (told (Received space now n eliciting) reply ∷ []) old new → Continues GoesOnQuietly old new
+  refused_quietly space now n eliciting reply old new other takes =
+      steps_go (Received space now n eliciting) reply GoesOnQuietly
+      (λ past between after first second. quiet_then past between after first second) old new takes
+      (λ config start random past keeps. known_event past space now n eliciting reply other)
+
+  -- whether a datagram may be sent
+  pub may_quietly : (now bytes : ℕ) (checked : Bool) (kept : Variables) (old new : Sender F Q R C K S M P f c q m r)
+      (result : Result Transmission SenderError)
+      → IfOk result (λ sent. CompletesCall (transmit_steps now bytes checked sent) kept old new)
+      → OnErr result (new ≡ old) → Continues GoesOnQuietly old new
+  may_quietly now bytes checked kept old new (Ok sent) does same =
+      transmits_quietly now bytes checked sent kept old new does
+  may_quietly now bytes checked kept old new (Err refusal) does same = same_quietly old new same
+
+  -- an error is not the receipt of a new packet
+  pub unheard_quietly : (space : SpaceId) (now n : ℕ) (eliciting : Bool) (refusal : SenderError)
+      (old new : Sender F Q R C K S M P f c q m r) → EventResult (Received space now n eliciting) old new (Err refusal)
+      → Continues GoesOnQuietly old new
+  unheard_quietly space now n eliciting (refused.Event refusal) old new takes =
+      refused_quietly space now n eliciting (Err refusal) old new (λ arm is. absurd cc) takes
+  unheard_quietly space now n eliciting refused.Unsent old new never = absurd never
+
+  pub heard_or_not : (space : SpaceId) (now n : ℕ) (eliciting : Bool) (answer : Answer Q) (kept : Variables)
+      (old new : Sender F Q R C K S M P f c q m r)
+      → CompletesCall (told (Received space now n eliciting) (Ok answer) ∷ []) kept old new
+      → HearsOrNot space n old new (Ok (arm_told answer))
+  heard_or_not space now n eliciting (New arm) kept old new does =
+      hears_by_call space now n eliciting arm kept old new does
+  heard_or_not space now n eliciting answer kept old new does =
+      known_by_call space now n eliciting answer kept old new (λ arm is. absurd cc) does

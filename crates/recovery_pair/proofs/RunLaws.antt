@@ -1,0 +1,48 @@
+-- What holds for each step holds for all that a source gives.
+use Rattle.std.proofs.Common.{◌≡◌, List, [], ◌∷◌, Result, ap}
+use Rattle.recovery_events.specs.Feeding.{TakesAll}
+use Rattle.recovery_sender.specs.declared.sender.Sender.{Sender}
+use Rattle.recovery_sender.specs.declared.sender.SenderError.{SenderError}
+use Rattle.recovery_pair.specs.declared.steps.PairAnswer.{PairAnswer}
+use Rattle.recovery_pair.specs.declared.steps.PairStep.{PairStep}
+use Rattle.recovery_pair.specs.declared.steps.WirePacket.{WirePacket}
+use Rattle.recovery_pair.specs.Logs.{PairLog}
+use Rattle.recovery_pair.specs.Runs.{HoldAlong, PairStepIntoSink, StepsOverSource, log_after}
+use Rattle.recovery_pair.specs.Tied.{IsTied}
+
+module _ {F Q R C K S M P : Type 0} {f : _} {c : _} {q : _} {m : _} {r : _} {A T : Type 0}
+    (takes : T → Result PairAnswer SenderError → T → Type 0) (took : A → PairStep → A → Type 0)
+    (client server : A → Sender F Q R C K S M P f c q m r) (wire : A → List WirePacket) (sink : A → T)
+    (each : (old : A) (step : PairStep) (new : A) → took old step new
+    → PairStepIntoSink (client old) (server old) (wire old) takes (sink old) step (client new) (server new) (wire new)
+    (sink new)) where
+  abbrev Along : List PairStep → List (Result PairAnswer SenderError) → A → A → Type 0
+  Along steps answers old new = (log : PairLog) → IsTied log (client old) (server old) (wire old)
+      → HoldAlong log steps answers
+      × IsTied (log_after log steps answers) (client new) (server new) (wire new)
+
+  same_along : (old new : A) → new ≡ old → Along [] [] old new
+  same_along old new same log tied = rw same (tt, tied)
+
+  along : (steps : List PairStep) (old new : A) → TakesAll took old steps new
+      → (answers : List (Result PairAnswer SenderError)) × TakesAll takes (sink old) answers (sink new)
+      × Along steps answers old new
+  along [] old new is = ([], ap sink is, same_along old new is)
+  along (step ∷ steps) old new is =
+      let one = each old step is.0 is.1 in
+      let rest = along steps is.0 new is.2 in (
+        one.answer ∷ rest.0,
+        (sink is.0, one.taken, rest.1),
+        λ log tied. (
+            let now = one.keeps log tied in
+            let later = rest.2 ((step, one.answer) ∷ log) now.1 in
+            ((now.0, later.0), later.1)),
+      )
+
+  pub along_source : (AreGiven : List PairStep → Type 0) (steps : List PairStep) (old new : A) → AreGiven steps
+      → TakesAll took old steps new
+      → StepsOverSource (client old) (server old) (wire old) AreGiven
+      (λ all. TakesAll takes (sink old) all (sink new)) (client new) (server new) (wire new)
+  along_source AreGiven steps old new given is =
+      let all = along steps old new is in
+      record { steps = steps; answers = all.0; given = given; taken = all.1; keeps = all.2 }

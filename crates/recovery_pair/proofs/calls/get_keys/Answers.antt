@@ -1,0 +1,5 @@
+use Rattle.recovery_pair.proofs.QuietLaws.{call_quietly}
+use Rattle.recovery_pair.proofs.calls.get_keys.Goals as goal
+
+pub returns : goal.returns
+returns g c = call_quietly _ _ c.args.sender.now c.on_handshake_keys.new.self c.on_handshake_keys.ensures tt

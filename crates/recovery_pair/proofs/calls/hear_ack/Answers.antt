@@ -1,0 +1,23 @@
+use Rattle.std.proofs.Common.{ℕ, List, None, false, Err, Ok, subst}
+use Rattle.recovery_sender.specs.Acking.{AckResult}
+use Rattle.recovery_pair.proofs.HonestLaws.{refused_spared, some_items, taken_within}
+use Rattle.recovery_pair.proofs.QuietLaws.{ack_quietly}
+use Rattle.recovery_pair.proofs.calls.hear_ack.Goals as goal
+
+pub returns-in-Ok-clause-goes : goal.returns-in-Ok-clause-goes
+returns-in-Ok-clause-goes g c = ack_quietly c.args.packet.now.space c.args.now _ _ c.args.sender.now c.on_ack.new.self
+    (Ok c.in-Ok.acknowledged) c.in-Ok.ensures
+
+pub returns-in-Ok-clause-within : goal.returns-in-Ok-clause-within
+returns-in-Ok-clause-within g c = rw (← c.deref.ensures.value)
+    (taken_within c.args.packet.now.space c.args.now _ _ c.args.sender.now c.on_ack.new.self c.in-Ok.acknowledged
+    c.in-Ok.ensures)
+
+pub returns-in-Err-clause-honest : goal.returns-in-Err-clause-honest
+returns-in-Err-clause-honest g c =
+    refused_spared c.args.packet.now.space c.args.now c.args.packet.now.ranges.items
+    (record { delay = c.args.packet.now.delay; ecn = None; app_limited = false }) c.args.sender.now
+    c.on_ack.new.self c.in-Err.refused (some_items c.args.packet.now.ranges c.if-is_empty.ensures)
+    (subst (λ (ranges : List (ℕ × ℕ)). AckResult c.args.packet.now.space c.args.now ranges
+    (record { delay = c.args.packet.now.delay; ecn = None; app_limited = false }) c.args.sender.now
+    c.on_ack.new.self (Err c.in-Err.refused)) c.deref.ensures.value c.in-Err.ensures)

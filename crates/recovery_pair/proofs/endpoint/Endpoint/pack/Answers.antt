@@ -1,0 +1,22 @@
+use Rattle.std.proofs.Common.{refl}
+use Rattle.recovery_pair.proofs.QuietLaws.{quietly_then}
+use Rattle.recovery_pair.proofs.TurnLaws.{quietly_sends, sends_quietly}
+use Rattle.recovery_pair.proofs.endpoint.Endpoint.pack.Goals as goal
+
+pub returns-in-Ok-track : goal.returns-in-Ok-track
+returns-in-Ok-track g c =
+    let first = c.in-Ok-copied.ensures in
+    let second = c.in-Ok-copied-2.ensures in
+    record {
+      sender = refl;
+      there = refl;
+      told = cc (first, second);
+      acks = refl;
+      goes = quietly_sends c.args.space c.in-Ok-track.number c.args.self.now.sender c.contents.new.sender
+          c.end_acks.new.self.sender c.contents.ensures (sends_quietly c.args.space c.in-Ok-track.number
+          c.contents.new.sender c.track.new.sender c.end_acks.new.self.sender c.in-Ok-track.ensures c.end_acks.ensures);
+    }
+
+pub returns-in-Err-track : goal.returns-in-Err-track
+returns-in-Err-track g c = quietly_then c.args.self.now.sender c.contents.new.sender c.keep-in-Err-track.new.self.sender
+    c.contents.ensures (rw c.keep-in-Err-track.ensures c.in-Err-track.ensures)

@@ -1,0 +1,6 @@
+use Rattle.recovery_pair.proofs.TurnLaws.{packed_turn}
+use Rattle.recovery_pair.proofs.endpoint.Endpoint.send.Goals as goal
+
+pub returns : goal.returns
+returns g c = packed_turn c.args.from c.args.space c.in-Ok.ack.ranges.items c.args.self.now.sender c.transmit.new.sender
+    c.pack.new.self.sender c.pack.result c.in-Ok.ensures c.transmit.ensures c.pack.ensures

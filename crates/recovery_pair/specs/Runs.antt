@@ -1,0 +1,49 @@
+-- A run of two ends over a source of steps: the promises hold at each.
+use Rattle.std.specs.Prelude.{List, [], ◌∷◌, Result}
+use Rattle.recovery_sender.specs.declared.sender.Sender.{Sender}
+use Rattle.recovery_sender.specs.declared.sender.SenderError.{SenderError}
+use Rattle.recovery_pair.specs.declared.steps.PairAnswer.{PairAnswer}
+use Rattle.recovery_pair.specs.declared.steps.PairStep.{PairStep}
+use Rattle.recovery_pair.specs.declared.steps.WirePacket.{WirePacket}
+use Rattle.recovery_pair.specs.Logs.{PairLog}
+use Rattle.recovery_pair.specs.Promises.{KeepsPromises}
+use Rattle.recovery_pair.specs.Tied.{IsTied}
+
+-- the promises hold at each step, and each has one answer
+abbrev pub HoldAlong : PairLog → List PairStep → List (Result PairAnswer SenderError) → Type 0
+HoldAlong log [] [] = Unit {0}
+HoldAlong log (step ∷ steps) (answer ∷ answers) =
+    KeepsPromises log (step, answer) × HoldAlong ((step, answer) ∷ log) steps answers
+HoldAlong log steps answers = ⊥
+
+-- the log after these
+abbrev pub log_after : PairLog → List PairStep → List (Result PairAnswer SenderError) → PairLog
+log_after log (step ∷ steps) (answer ∷ answers) = log_after ((step, answer) ∷ log) steps answers
+log_after log steps answers = log
+
+module _ {F Q R C K S M P : Type 0} {f : _} {c : _} {q : _} {m : _} {r : _}
+    (client server : Sender F Q R C K S M P f c q m r) (wire : List WirePacket) where
+  -- a step keeps the promises, and the tie of the log
+  abbrev pub StepKeeps : PairStep → Result PairAnswer SenderError → Sender F Q R C K S M P f c q m r
+      → Sender F Q R C K S M P f c q m r → List WirePacket → Type 0
+  StepKeeps step answer client_after server_after wire_after = (log : PairLog) → IsTied log client server wire
+      → KeepsPromises log (step, answer) × IsTied ((step, answer) ∷ log) client_after server_after wire_after
+
+  -- its answer is put into a sink
+  pub record PairStepIntoSink {T : Type 0} (takes : T → Result PairAnswer SenderError → T → Type 0) (before : T)
+      (step : PairStep) (client_after server_after : Sender F Q R C K S M P f c q m r) (wire_after : List WirePacket)
+      (behind : T) : Type 0 where
+    pub answer : Result PairAnswer SenderError
+    pub keeps : StepKeeps step answer client_after server_after wire_after
+    pub taken : takes before answer behind
+
+  -- these steps were given, and these answers taken
+  pub record StepsOverSource (AreGiven : List PairStep → Type 0)
+      (IsTaken : List (Result PairAnswer SenderError) → Type 0)
+      (client_after server_after : Sender F Q R C K S M P f c q m r) (wire_after : List WirePacket) : Type 0 where
+    pub steps : List PairStep
+    pub answers : List (Result PairAnswer SenderError)
+    pub given : AreGiven steps
+    pub taken : IsTaken answers
+    pub keeps : (log : PairLog) → IsTied log client server wire
+        → HoldAlong log steps answers × IsTied (log_after log steps answers) client_after server_after wire_after

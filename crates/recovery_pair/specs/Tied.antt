@@ -1,0 +1,79 @@
+-- The log of two ends is tied to what their senders know: what came is on the wire, and what is on the wire went out.
+use Rattle.std.specs.Prelude.{◌≡◌, ℕ, ◌<◌, ◌⊎◌, List, [], ◌∷◌}
+use Rattle.std.specs.List.{AllByRecursion}
+use Rattle.rand_core.specs.Stream.{Stream}
+use Rattle.recovery_base.specs.declared.below.SpaceId.{SpaceId}
+use Rattle.recovery_base.specs.Units.{number_limit}
+use Rattle.recovery_losses.specs.Frames.{IsInAckRanges}
+use Rattle.recovery_history.specs.declared.config.RecoveryConfig.{RecoveryConfig}
+use Rattle.recovery_history.specs.History.{History, begins, queue_model}
+use Rattle.recovery_history.specs.Promises.Acknowledged.{WasReceived}
+use Rattle.recovery_history.specs.Reachability.{ReachedBy}
+use Rattle.recovery_sender.specs.Senders.{state_in}
+use Rattle.recovery_sender.specs.declared.sender.Sender.{Sender}
+use Rattle.recovery_pair.specs.declared.steps.End.{End}
+use Rattle.recovery_pair.specs.declared.steps.End.TheVariants.{Client, Server}
+use Rattle.recovery_pair.specs.declared.steps.WirePacket.{WirePacket}
+use Rattle.recovery_pair.specs.Frames.{IsSoundFrame}
+use Rattle.recovery_pair.specs.Logs.{PairLog, deliveries_of, other_end, sends_of}
+use Rattle.recovery_pair.specs.Pasts.{Came, WasSentUnder}
+
+-- ---- one number, from one end to the other
+
+module _ {Q S M P : Type 0} (log : PairLog) (from : End) (space : SpaceId) (n : ℕ) (past peer : History Q S M P) where
+  -- the other end knows nothing of it
+  pub record IsNotThere : Type 0 where
+    pub undelivered : deliveries_of (other_end from) space n log ≡ []
+    pub unheard : WasReceived space n peer → ⊥
+
+  -- nothing was sent under it
+  pub record IsUnsent : Type 0 where
+    pub none : sends_of from space n log ≡ []
+    pub away : IsNotThere
+
+  -- it arrived, and its items were delivered
+  pub record HasArrived (items : List ℕ) : Type 0 where
+    pub delivered : deliveries_of (other_end from) space n log ≡ items ∷ []
+    pub came : Came space n peer
+    pub small : n < number_limit
+
+  -- one packet was sent under it, with these items
+  pub record WasSentWith (items : List ℕ) : Type 0 where
+    pub once : sends_of from space n log ≡ items ∷ []
+    pub given : WasSentUnder space n past
+    pub arrival : IsNotThere ⊎ HasArrived items
+
+  abbrev pub Travels : Type 0
+  Travels = IsUnsent ⊎ (items : List ℕ) × WasSentWith items
+
+-- all numbers of an end
+pub record Flows {Q S M P : Type 0} (log : PairLog) (from : End) (past peer : History Q S M P) : Type 0 where
+  pub each : (space : SpaceId) (n : ℕ) → Travels log from space n past peer
+
+-- ---- the wire
+
+-- a packet was sent with its items under its number, and all that it acknowledges was delivered to its sender
+pub record IsOnWire (log : PairLog) (packet : WirePacket) : Type 0 where
+  pub sent : sends_of packet.from packet.space packet.number log ≡ packet.items.items ∷ []
+  pub sound : IsSoundFrame packet.ranges.items
+  pub acks : (n : ℕ) → IsInAckRanges n packet.ranges.items
+      → (items : List ℕ) × (deliveries_of packet.from packet.space n log ≡ items ∷ [])
+
+-- ---- both ends
+
+module _ {F Q R C K S M P : Type 0} {f : _} {c : _} {q : _} {m : _} {r : _} where
+  pub record HasPast (sender : Sender F Q R C K S M P f c q m r) : Type 0 where
+    pub config : RecoveryConfig F
+    pub start : ℕ
+    pub random : Stream
+    pub past : History Q S M P
+    pub came : ReachedBy (begins f.built c.words (queue_model q.contents q.words q.blank) config start random) past
+        (state_in sender)
+
+  pub record IsTied (log : PairLog) (client server : Sender F Q R C K S M P f c q m r) (wire : List WirePacket) : Type 0
+    where
+      pub own : HasPast client
+      pub peer : HasPast server
+      pub up : Flows log Client own.past peer.past
+      pub down : Flows log Server peer.past own.past
+      pub wired : AllByRecursion (IsOnWire log) wire

@@ -1,0 +1,288 @@
+//! The calls of a sender that an end makes, and how each continues the sender's past.
+ghost use Rattle.std.specs.Prelude.{◌≡◌, ◌≢◌, [], ◌∷◌, true, IfOk, MatchResult, Some};
+ghost use Rattle.recovery_pair.specs.Frames.{IsFrameFor};
+ghost use Rattle.recovery_pair.specs.Pasts.{Continues, GoesOnQuietly, HearsOrNot, NoAccusation, SendsNumber, AcksWithin, arm_told};
+
+use crate::steps::{AckOutcome, WirePacket};
+use rand_core::Rng;
+use recovery_base::below::SpaceId;
+use recovery_base::time::{Duration, Instant};
+use recovery_congestion::congestion::ControllerFactory;
+use recovery_events::event::{Answer, Event, Refusal};
+use recovery_losses::Ack;
+use recovery_queue::items::ItemQueue;
+use recovery_sender::{Sender, SenderError, Timeout, Transmission};
+use std::alloc::Global;
+
+/// The error of an allocation that failed.
+pub(crate) const NO_MEMORY: SenderError = SenderError::Event(Refusal::NoMemory);
+
+/// Returns a copy of some items. Fails with `NoMemory`.
+pub(crate) fn copied(alloc: Global, items: &[u64]) -> Result<Vec<u64>, SenderError>
+    ensures { IfOk result (λ copy. copy.items ≡ items.now) }
+{
+    let mut copy = Vec::new(alloc);
+    match copy.extend_from_slice(items) {
+        Ok(()) => Ok(copy),
+        Err(_) => Err(NO_MEMORY),
+    }
+}
+
+/// An ACK frame that may be sent.
+#[derive(Drop)]
+pub(crate) struct AckToSend {
+    /// The first and last number of each range, the highest range first.
+    pub ranges: Vec<(u64, u64)>,
+    /// How long ago the largest number was received.
+    pub delay: Duration,
+    /// Whether it is to be sent in a packet of its own (RFC 9000, 13.2.1).
+    pub required: bool,
+}
+
+/// Returns the ACK of all numbers of a space that are to be acknowledged, without ranges if there are none. Fails with
+/// `NoMemory`.
+pub(crate) fn frame<F, R>(
+    alloc: Global,
+    sender: &Sender<F, ItemQueue, R>,
+    space: SpaceId,
+    now: Instant,
+) -> Result<AckToSend, SenderError>
+where
+    F: ControllerFactory,
+    R: Rng + Drop,
+    ensures { IfOk result (λ frame. IsFrameFor space sender.now frame.ranges.items) }
+{
+    let Some(here) = sender.recovery().space(space) else {
+        return Err(SenderError::Event(Refusal::SpaceDiscarded));
+    };
+    let acks = &here.pending_acks;
+    let all = acks.ranges().iter().as_slice();
+    let mut ranges = Vec::new(alloc);
+    let mut at = all.len();
+    while at > 0 {
+        at -= 1;
+        let start = all[at].start;
+        let end = all[at].end;
+        if ranges.push((start, end - 1)).is_err() {
+            return Err(NO_MEMORY);
+        }
+    }
+    Ok(AckToSend {
+        ranges,
+        delay: acks.ack_delay(now),
+        required: acks.can_send(),
+    })
+}
+
+/// Asks whether a datagram may be sent.
+pub(crate) fn transmit<F, R>(
+    sender: &mut Sender<F, ItemQueue, R>,
+    space: SpaceId,
+    now: Instant,
+    size: u16,
+    eliciting: bool,
+) -> Result<Transmission, SenderError>
+where
+    F: ControllerFactory,
+    R: Rng + Drop,
+    ensures { Continues GoesOnQuietly sender.old sender.new }
+{
+    sender.transmit(now, size, space, eliciting)
+}
+
+/// Takes what waits to be repeated in a space, or the contents of a probe if one is due.
+pub(crate) fn contents<F, R>(
+    sender: &mut Sender<F, ItemQueue, R>,
+    space: SpaceId,
+) -> Result<ItemQueue, SenderError>
+where
+    F: ControllerFactory,
+    R: Rng + Drop,
+    ensures { Continues GoesOnQuietly sender.old sender.new }
+{
+    if sender.variables().is_probe_due(space) {
+        return sender.probe(space, false, ());
+    }
+    match sender.on_event(Event::TakePending { space }) {
+        Ok(Answer::Queue(queue)) => Ok(queue),
+        Ok(_) => unreachable!(),
+        Err(refused) => Err(refused),
+    }
+}
+
+/// Records a sent packet. Returns its number.
+pub(crate) fn track<F, R>(
+    sender: &mut Sender<F, ItemQueue, R>,
+    space: SpaceId,
+    now: Instant,
+    size: u16,
+    eliciting: bool,
+    largest: Option<u64>,
+    queue: ItemQueue,
+) -> Result<u64, SenderError>
+where
+    F: ControllerFactory,
+    R: Rng + Drop,
+    ensures { MatchResult result
+        (λ number. Continues (SendsNumber space number) sender.old sender.new)
+        (λ refused. Continues GoesOnQuietly sender.old sender.new) }
+{
+    let counted = if eliciting { size } else { 0 };
+    match sender.send(space, now, counted, eliciting, largest, queue, ()) {
+        Ok(Answer::Sent { number, .. }) => return Ok(number),
+        Ok(_) => unreachable!(),
+        Err(refused) => return Err(refused),
+    }
+}
+
+/// Records that an ACK of all numbers that are to be acknowledged went out.
+pub(crate) fn end_acks<F, R>(sender: &mut Sender<F, ItemQueue, R>, space: SpaceId)
+where
+    F: ControllerFactory,
+    R: Rng + Drop,
+    ensures { Continues GoesOnQuietly sender.old sender.new }
+{
+    let _ = sender.on_event(Event::AcksSent { space });
+}
+
+/// Records that the ACK delay timer expired.
+pub(crate) fn end_delay<F, R>(sender: &mut Sender<F, ItemQueue, R>, space: SpaceId)
+where
+    F: ControllerFactory,
+    R: Rng + Drop,
+    ensures { Continues GoesOnQuietly sender.old sender.new }
+{
+    let _ = sender.on_event(Event::AckDelayTimeout { space });
+}
+
+/// Records a received datagram (RFC 9000, 8.1).
+pub(crate) fn datagram<F, R>(
+    sender: &mut Sender<F, ItemQueue, R>,
+    size: u16,
+) -> Result<(), SenderError>
+where
+    F: ControllerFactory,
+    R: Rng + Drop,
+    ensures { Continues GoesOnQuietly sender.old sender.new }
+{
+    sender.on_datagram(u64::from(size))
+}
+
+/// Returns whether to start the ACK delay timer, if a received packet is new.
+fn arm_of(answer: &Answer<ItemQueue>) -> Option<bool>
+    ensures { result ≡ arm_told answer.now }
+{
+    match answer {
+        Answer::New { arm } => Some(*arm),
+        _ => None,
+    }
+}
+
+/// Records a received packet. If it is new, returns whether to start the ACK delay timer.
+pub(crate) fn hear<F, R>(
+    sender: &mut Sender<F, ItemQueue, R>,
+    space: SpaceId,
+    now: Instant,
+    number: u64,
+    eliciting: bool,
+) -> Result<Option<bool>, SenderError>
+where
+    F: ControllerFactory,
+    R: Rng + Drop,
+    ensures { HearsOrNot space number sender.old sender.new result }
+{
+    let received = Event::Received {
+        space,
+        now,
+        number,
+        ack_eliciting: eliciting,
+    };
+    match sender.on_event(received) {
+        Ok(answer) => Ok(arm_of(&answer)),
+        Err(refused) => Err(refused),
+    }
+}
+
+/// Processes the ACK frame of a packet, if it has one. If memory runs out, the frame is dropped as if it were lost.
+pub(crate) fn hear_ack<F, R>(
+    sender: &mut Sender<F, ItemQueue, R>,
+    packet: &WirePacket,
+    now: Instant,
+) -> AckOutcome
+where
+    F: ControllerFactory,
+    R: Rng + Drop,
+    ensures goes { Continues GoesOnQuietly sender.old sender.new }
+    ensures honest { NoAccusation packet.now.space packet.now.ranges.items sender.old result }
+    ensures within { AcksWithin packet.now.ranges.items result }
+{
+    if packet.ranges.is_empty() {
+        return AckOutcome::NoFrame;
+    }
+    let ack = Ack {
+        delay: packet.delay,
+        ecn: None,
+        app_limited: false,
+    };
+    match sender.on_ack(packet.space, now, &packet.ranges, ack) {
+        Ok(acknowledged) => AckOutcome::Taken(acknowledged),
+        Err(refused) => AckOutcome::Refused(refused),
+    }
+}
+
+/// Handles the loss detection timer.
+pub(crate) fn expire<F, R>(
+    sender: &mut Sender<F, ItemQueue, R>,
+    now: Instant,
+) -> Result<Timeout, SenderError>
+where
+    F: ControllerFactory,
+    R: Rng + Drop,
+    ensures { Continues GoesOnQuietly sender.old sender.new }
+{
+    sender.on_timeout(now)
+}
+
+/// Records that the peer's address is validated.
+pub(crate) fn validate<F, R>(sender: &mut Sender<F, ItemQueue, R>)
+where
+    F: ControllerFactory,
+    R: Rng + Drop,
+    ensures { Continues GoesOnQuietly sender.old sender.new }
+{
+    sender.on_address_validated();
+}
+
+/// Records that Handshake keys are available.
+pub(crate) fn get_keys<F, R>(sender: &mut Sender<F, ItemQueue, R>)
+where
+    F: ControllerFactory,
+    R: Rng + Drop,
+    ensures { Continues GoesOnQuietly sender.old sender.new }
+{
+    sender.on_handshake_keys();
+}
+
+/// Records that the handshake is confirmed.
+pub(crate) fn confirm<F, R>(sender: &mut Sender<F, ItemQueue, R>)
+where
+    F: ControllerFactory,
+    R: Rng + Drop,
+    ensures { Continues GoesOnQuietly sender.old sender.new }
+{
+    sender.on_handshake_confirmed();
+}
+
+/// Discards a space with its keys.
+pub(crate) fn discard<F, R>(
+    sender: &mut Sender<F, ItemQueue, R>,
+    space: SpaceId,
+    now: Instant,
+) -> Result<(), SenderError>
+where
+    F: ControllerFactory,
+    R: Rng + Drop,
+    ensures { Continues GoesOnQuietly sender.old sender.new }
+{
+    sender.discard(space, now)
+}

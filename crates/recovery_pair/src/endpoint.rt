@@ -1,0 +1,309 @@
+//! One end of a connection: a sender with the layer above it.
+ghost use Rattle.std.specs.Prelude.{◌≡◌, IfOk};
+ghost use Rattle.recovery_pair.specs.Pasts.{Continues, GoesOnQuietly};
+ghost use Rattle.recovery_pair.specs.Turns.{HearTurn, IsLocalAnswer, PackTurn, SendTurn};
+
+use crate::calls::{
+    AckToSend, NO_MEMORY, confirm, contents, copied, datagram, discard, end_acks, end_delay,
+    expire, frame, get_keys, hear, hear_ack, track, transmit, validate,
+};
+use crate::steps::{End, Fate, LocalStep, PairAnswer, WirePacket};
+use rand_core::Rng;
+use recovery_base::below::SpaceId;
+use recovery_base::time::Instant;
+use recovery_congestion::congestion::ControllerFactory;
+use recovery_losses::largest_of;
+use recovery_queue::items::ItemQueue;
+use recovery_sender::{Sender, SenderError, Transmission};
+use std::alloc::Global;
+
+/// Items that wait to be sent in one packet.
+#[derive(Drop)]
+pub struct Waiting {
+    space: SpaceId,
+    queue: ItemQueue,
+}
+
+/// One end of a connection: a sender with the layer above it.
+#[derive(Drop)]
+pub struct Endpoint<F: ControllerFactory, R: Rng> {
+    /// Its sender.
+    pub sender: Sender<F, ItemQueue, R>,
+    /// What the layer above wants delivered and what was not sent yet.
+    pub waiting: Vec<Waiting>,
+    /// When its ACK delay timer is due.
+    pub late: Option<Instant>,
+}
+
+/// What an end sends.
+#[derive(Drop)]
+pub enum Outgoing {
+    /// There is nothing to send.
+    Nothing,
+    /// The datagram may not be sent now.
+    Held(Transmission),
+    /// Its packet cannot be tracked.
+    Failed(SenderError),
+    /// The packet goes out, with a copy of its items.
+    Sent(WirePacket, Vec<u64>),
+}
+
+/// Returns whether items wait to be sent in a space.
+fn has_waiting(waiting: &[Waiting], space: SpaceId) -> bool {
+    for one in waiting {
+        if one.space == space {
+            return true;
+        }
+    }
+    false
+}
+
+/// Returns the items that are to be repeated, or if there are none, those that wait longest in the space, if any.
+fn take_waiting(waiting: &mut Vec<Waiting>, space: SpaceId, repeated: ItemQueue) -> ItemQueue {
+    if !repeated.items().is_empty() {
+        return repeated;
+    }
+    for at in 0..waiting.len() {
+        if waiting[at].space == space {
+            return waiting.remove(at).queue;
+        }
+    }
+    repeated
+}
+
+impl<F, R> Endpoint<F, R>
+where
+    F: ControllerFactory,
+    R: Rng + Drop,
+{
+    /// Returns an end to which nothing was handed in.
+    pub fn new(alloc: Global, sender: Sender<F, ItemQueue, R>) -> Self
+        ensures { result.sender ≡ sender }
+    {
+        Endpoint {
+            sender,
+            waiting: Vec::new(alloc),
+            late: None,
+        }
+    }
+
+    /// Returns whether an ack-eliciting packet is to be sent in a space: a probe is due, or items wait.
+    fn has_items(&self, space: SpaceId) -> bool {
+        if self.sender.variables().is_probe_due(space) || has_waiting(&self.waiting, space) {
+            return true;
+        }
+        match self.sender.recovery().space(space) {
+            Some(here) => !here.pending.items().is_empty(),
+            None => false,
+        }
+    }
+
+    /// Sends one datagram, if there is something to send and it may be sent. An `Err` changes nothing.
+    pub(crate) fn send(
+        &mut self,
+        alloc: Global,
+        from: End,
+        space: SpaceId,
+        now: Instant,
+        size: u16,
+    ) -> Result<Outgoing, SenderError>
+        ensures { SendTurn self.old.sender self.new.sender from space result }
+    {
+        let eliciting = self.has_items(space);
+        let ack = match frame(alloc, &self.sender, space, now) {
+            Ok(ack) => ack,
+            Err(refused) => return Err(refused),
+        };
+        if !eliciting && !ack.required {
+            return Ok(Outgoing::Nothing);
+        }
+        if self.waiting.reserve(1).is_err() {
+            return Err(NO_MEMORY);
+        }
+        match transmit(&mut self.sender, space, now, size, eliciting) {
+            Ok(Transmission::Transmitted) => {}
+            Ok(held) => return Ok(Outgoing::Held(held)),
+            Err(refused) => return Err(refused),
+        }
+        Ok(self.pack(alloc, from, space, now, size, eliciting, ack))
+    }
+
+    /// Packs and records the packet of a datagram that is permitted.
+    fn pack(
+        &mut self,
+        alloc: Global,
+        from: End,
+        space: SpaceId,
+        now: Instant,
+        size: u16,
+        eliciting: bool,
+        ack: AckToSend,
+    ) -> Outgoing
+        ensures { PackTurn self.old.sender self.new.sender from space ack.ranges.items result }
+    {
+        let repeated = match contents(&mut self.sender, space) {
+            Ok(queue) => queue,
+            Err(refused) => return Outgoing::Failed(refused),
+        };
+        let queue = take_waiting(&mut self.waiting, space, repeated);
+        let items = match copied(alloc, queue.items()) {
+            Ok(items) => items,
+            Err(refused) => {
+                self.keep(space, queue);
+                return Outgoing::Failed(refused);
+            }
+        };
+        let told = match copied(alloc, queue.items()) {
+            Ok(told) => told,
+            Err(refused) => {
+                self.keep(space, queue);
+                return Outgoing::Failed(refused);
+            }
+        };
+        let largest = largest_of(&ack.ranges);
+        match track(
+            &mut self.sender,
+            space,
+            now,
+            size,
+            eliciting,
+            largest,
+            queue,
+        ) {
+            Ok(number) => {
+                self.end_acks(space);
+                let packet = WirePacket {
+                    from,
+                    space,
+                    number,
+                    size,
+                    eliciting,
+                    items,
+                    ranges: ack.ranges,
+                    delay: ack.delay,
+                };
+                Outgoing::Sent(packet, told)
+            }
+            Err(refused) => {
+                self.keep(space, ItemQueue::from_items(items));
+                Outgoing::Failed(refused)
+            }
+        }
+    }
+
+    /// Items wait again: `send` made room for them.
+    fn keep(&mut self, space: SpaceId, queue: ItemQueue)
+        ensures { self.new.sender ≡ self.old.sender }
+    {
+        let _ = self.waiting.push(Waiting { space, queue });
+    }
+
+    /// Records that all numbers that are to be acknowledged went out in an ACK, if there are any.
+    fn end_acks(&mut self, space: SpaceId)
+        ensures { Continues GoesOnQuietly self.old.sender self.new.sender }
+    {
+        end_acks(&mut self.sender, space);
+        if space == SpaceId::Data {
+            self.late = None;
+        }
+    }
+
+    /// Takes a packet that arrives. An `Err` changes nothing.
+    pub(crate) fn hear(
+        &mut self,
+        alloc: Global,
+        packet: &WirePacket,
+        now: Instant,
+    ) -> Result<Fate, SenderError>
+        ensures { HearTurn self.old.sender self.new.sender packet.now result }
+    {
+        let items = match copied(alloc, &packet.items) {
+            Ok(items) => items,
+            Err(refused) => return Err(refused),
+        };
+        if let Err(refused) = datagram(&mut self.sender, packet.size) {
+            return Err(refused);
+        }
+        match hear(
+            &mut self.sender,
+            packet.space,
+            now,
+            packet.number,
+            packet.eliciting,
+        ) {
+            Ok(Some(arm)) => {
+                let acked = hear_ack(&mut self.sender, packet, now);
+                self.plan_ack(packet.space, now, arm);
+                Ok(Fate::New { items, acked })
+            }
+            Ok(None) => Ok(Fate::Duplicate),
+            Err(refused) => Ok(Fate::Dropped(refused)),
+        }
+    }
+
+    /// Starts the ACK delay timer. Initial and Handshake packets are acknowledged at once (RFC 9000, 13.2.1).
+    fn plan_ack(&mut self, space: SpaceId, now: Instant, arm: bool)
+        ensures { Continues GoesOnQuietly self.old.sender self.new.sender }
+    {
+        if arm && space == SpaceId::Data {
+            let delay = self.sender.recovery().ack_frequency().max_ack_delay;
+            self.late = Some(now + delay);
+        } else if arm {
+            end_delay(&mut self.sender, space);
+        }
+    }
+
+    /// Makes a step of one end.
+    pub(crate) fn local(&mut self, step: LocalStep) -> Result<PairAnswer, SenderError>
+        ensures goes { Continues GoesOnQuietly self.old.sender self.new.sender }
+        ensures answer { IfOk result IsLocalAnswer }
+    {
+        match step {
+            LocalStep::Hand { space, items } => {
+                let queue = ItemQueue::from_items(items);
+                match self.waiting.push(Waiting { space, queue }) {
+                    Ok(()) => Ok(PairAnswer::Done),
+                    Err(_) => Err(NO_MEMORY),
+                }
+            }
+            LocalStep::Expire { now } => match expire(&mut self.sender, now) {
+                Ok(timeout) => Ok(PairAnswer::Expired(timeout)),
+                Err(refused) => Err(refused),
+            },
+            LocalStep::Late { now } => Ok(self.end_delay(now)),
+            LocalStep::AddressValidated => {
+                validate(&mut self.sender);
+                Ok(PairAnswer::Done)
+            }
+            LocalStep::HandshakeKeys => {
+                get_keys(&mut self.sender);
+                Ok(PairAnswer::Done)
+            }
+            LocalStep::HandshakeConfirmed => {
+                confirm(&mut self.sender);
+                Ok(PairAnswer::Done)
+            }
+            LocalStep::Discard { space, now } => match discard(&mut self.sender, space, now) {
+                Ok(()) => Ok(PairAnswer::Done),
+                Err(refused) => Err(refused),
+            },
+        }
+    }
+
+    /// Requires an ACK at once if the ACK delay timer is due.
+    fn end_delay(&mut self, now: Instant) -> PairAnswer
+        ensures goes { Continues GoesOnQuietly self.old.sender self.new.sender }
+        ensures answer { IsLocalAnswer result }
+    {
+        let is_due = match self.late {
+            Some(due) => due <= now,
+            None => false,
+        };
+        if !is_due {
+            return PairAnswer::Nothing;
+        }
+        self.late = None;
+        end_delay(&mut self.sender, SpaceId::Data);
+        PairAnswer::Done
+    }
+}

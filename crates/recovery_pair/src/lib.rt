@@ -1,0 +1,17 @@
+//! Two ends of a connection over a network that may drop, duplicate, reorder and delay what they send. A source of
+//! steps says what happens next: it is the layers above, the clocks and the adversary in one. Begin at `steps.rt` and
+//! `specs/Promises.antt`.
+#![tactic(auto)]
+
+mod calls;
+mod endpoint;
+mod pair;
+mod runs;
+mod steps;
+#[cfg(test)]
+mod tests;
+
+pub use endpoint::Endpoint;
+pub use pair::Pair;
+pub use runs::run_over;
+pub use steps::{AckOutcome, End, Fate, LocalStep, PairAnswer, PairStep, WirePacket};

@@ -1,0 +1,228 @@
+//! Two ends of a connection, and the wire between them.
+ghost use Rattle.std.specs.Prelude.{◌≡◌, ◌≤◌, [], ◌∷◌, IfOk};
+ghost use Rattle.recovery_base.specs.Units.{number_limit};
+ghost use Rattle.recovery_packet_numbers.specs.Skips.{IsSkips};
+ghost use Rattle.recovery_pair.specs.Pasts.{Continues, GoesOnQuietly};
+ghost use Rattle.recovery_pair.specs.Runs.{StepKeeps};
+ghost use Rattle.recovery_pair.specs.Tied.{IsTied};
+ghost use Rattle.recovery_pair.specs.Turns.{HearTurn, IsLocalAnswer, SendTurn, TurnsAt};
+
+use crate::calls::NO_MEMORY;
+use crate::endpoint::{Endpoint, Outgoing};
+use crate::steps::{End, Fate, LocalStep, PairAnswer, PairStep, WirePacket};
+use rand_core::Rng;
+use recovery_base::below::{NoMemory, SpaceId};
+use recovery_base::time::Instant;
+use recovery_congestion::congestion::ControllerFactory;
+use recovery_history::RecoveryConfig;
+use recovery_losses::Side;
+use recovery_sender::{Sender, SenderError};
+use std::alloc::Global;
+
+/// Two ends of a connection, and the wire between them. The wire is a list that only grows: whoever chooses the steps
+/// is the network.
+#[derive(Drop)]
+pub struct Pair<F: ControllerFactory, R: Rng> {
+    alloc: Global,
+    /// The client.
+    pub client: Endpoint<F, R>,
+    /// The server.
+    pub server: Endpoint<F, R>,
+    /// All packets that were sent, in the order of sending.
+    pub wire: Vec<WirePacket>,
+}
+
+/// The settings of an end, and the random words by which it skips packet numbers.
+#[derive(Drop)]
+pub struct EndConfig<F, R> {
+    /// The settings.
+    pub config: RecoveryConfig<F>,
+    /// The random words.
+    pub rng: R,
+}
+
+/// One end sends one datagram, if it has something to send and may.
+fn send_from<F, R>(
+    client: &mut Endpoint<F, R>,
+    server: &mut Endpoint<F, R>,
+    alloc: Global,
+    end: End,
+    space: SpaceId,
+    now: Instant,
+    size: u16,
+) -> Result<Outgoing, SenderError>
+where
+    F: ControllerFactory,
+    R: Rng + Drop,
+    ensures { TurnsAt end (λ old new. SendTurn old new end space result)
+        client.old.sender server.old.sender client.new.sender server.new.sender }
+{
+    match end {
+        End::Client => client.send(alloc, end, space, now, size),
+        End::Server => server.send(alloc, end, space, now, size),
+    }
+}
+
+/// One end takes a packet that arrives.
+fn hear_at<F, R>(
+    client: &mut Endpoint<F, R>,
+    server: &mut Endpoint<F, R>,
+    alloc: Global,
+    to: End,
+    packet: &WirePacket,
+    now: Instant,
+) -> Result<Fate, SenderError>
+where
+    F: ControllerFactory,
+    R: Rng + Drop,
+    ensures { TurnsAt to (λ old new. HearTurn old new packet.now result)
+        client.old.sender server.old.sender client.new.sender server.new.sender }
+{
+    match to {
+        End::Client => client.hear(alloc, packet, now),
+        End::Server => server.hear(alloc, packet, now),
+    }
+}
+
+/// Something happens at one end.
+fn local_at<F, R>(
+    client: &mut Endpoint<F, R>,
+    server: &mut Endpoint<F, R>,
+    end: End,
+    step: LocalStep,
+) -> Result<PairAnswer, SenderError>
+where
+    F: ControllerFactory,
+    R: Rng + Drop,
+    ensures goes { TurnsAt end (λ old new. Continues GoesOnQuietly old new)
+        client.old.sender server.old.sender client.new.sender server.new.sender }
+    ensures answer { IfOk result IsLocalAnswer }
+{
+    match end {
+        End::Client => client.local(step),
+        End::Server => server.local(step),
+    }
+}
+
+impl<F, R> Pair<F, R>
+where
+    F: ControllerFactory,
+    R: Rng + Drop,
+{
+    /// Returns two ends that are made at time `start`, with an empty wire. Fails with `NoMemory`, as [`Sender::new`].
+    pub fn new(
+        alloc: Global,
+        client: EndConfig<F, R>,
+        server: EndConfig<F, R>,
+        start: Instant,
+    ) -> Result<Self, NoMemory>
+        requires client_issued { client.config.issued ≤ number_limit }
+        requires client_skips { IsSkips client.config.skips }
+        requires server_issued { server.config.issued ≤ number_limit }
+        requires server_skips { IsSkips server.config.skips }
+        ensures { IfOk result (λ pair.
+            IsTied [] pair.client.sender pair.server.sender pair.wire.items) }
+    {
+        let client = Sender::new(alloc, Side::Client, client.config, client.rng, start)?;
+        let server = Sender::new(alloc, Side::Server, server.config, server.rng, start)?;
+        Ok(Pair {
+            alloc,
+            client: Endpoint::new(alloc, client),
+            server: Endpoint::new(alloc, server),
+            wire: Vec::new(alloc),
+        })
+    }
+
+    /// Makes a step. However the steps are chosen, the promises of `KeepsPromises` hold for its answer, by the steps
+    /// and answers before it.
+    pub fn step(&mut self, step: PairStep) -> Result<PairAnswer, SenderError>
+        ensures { StepKeeps self.old.client.sender self.old.server.sender self.old.wire.items step
+            result self.new.client.sender self.new.server.sender self.new.wire.items }
+    {
+        match step {
+            PairStep::Send {
+                end,
+                space,
+                now,
+                size,
+            } => self.send(end, space, now, size),
+            PairStep::Arrive { at, now } => self.arrive(at, now),
+            PairStep::Local { end, step } => self.local(end, step),
+        }
+    }
+
+    /// One end sends a datagram.
+    fn send(
+        &mut self,
+        end: End,
+        space: SpaceId,
+        now: Instant,
+        size: u16,
+    ) -> Result<PairAnswer, SenderError>
+        ensures { StepKeeps self.old.client.sender self.old.server.sender self.old.wire.items
+            (PairStep.Send end space now size) result self.new.client.sender
+            self.new.server.sender self.new.wire.items }
+    {
+        match self.wire.reserve(1) {
+            Ok(()) => {}
+            Err(_) => return Err(NO_MEMORY),
+        }
+        match send_from(
+            &mut self.client,
+            &mut self.server,
+            self.alloc,
+            end,
+            space,
+            now,
+            size,
+        ) {
+            Ok(Outgoing::Sent(packet, items)) => {
+                let number = packet.number;
+                self.wire.push_reserved(packet);
+                Ok(PairAnswer::Sent { number, items })
+            }
+            Ok(Outgoing::Nothing) => Ok(PairAnswer::Nothing),
+            Ok(Outgoing::Held(held)) => Ok(PairAnswer::Held(held)),
+            Ok(Outgoing::Failed(refused)) => Ok(PairAnswer::Failed(refused)),
+            Err(refused) => Err(refused),
+        }
+    }
+
+    /// A copy of a packet arrives.
+    fn arrive(&mut self, at: usize, now: Instant) -> Result<PairAnswer, SenderError>
+        ensures { StepKeeps self.old.client.sender self.old.server.sender self.old.wire.items
+            (PairStep.Arrive at now) result self.new.client.sender self.new.server.sender
+            self.new.wire.items }
+    {
+        let Some(packet) = self.wire.get(at) else {
+            return Ok(PairAnswer::Nothing);
+        };
+        let to = packet.from.other();
+        match hear_at(
+            &mut self.client,
+            &mut self.server,
+            self.alloc,
+            to,
+            packet,
+            now,
+        ) {
+            Ok(fate) => Ok(PairAnswer::Arrived {
+                to,
+                space: packet.space,
+                number: packet.number,
+                size: packet.size,
+                fate,
+            }),
+            Err(refused) => Err(refused),
+        }
+    }
+
+    /// Something happens at one end.
+    fn local(&mut self, end: End, step: LocalStep) -> Result<PairAnswer, SenderError>
+        ensures { (whole : LocalStep) → StepKeeps self.old.client.sender self.old.server.sender
+            self.old.wire.items (PairStep.Local end whole) result self.new.client.sender
+            self.new.server.sender self.new.wire.items }
+    {
+        local_at(&mut self.client, &mut self.server, end, step)
+    }
+}

@@ -1,0 +1,176 @@
+//! What may happen next to two ends, and what is answered.
+ghost use Rattle.std.specs.Prelude.{◌≡◌};
+ghost use Rattle.recovery_pair.specs.Logs.{other_end};
+
+use recovery_base::below::SpaceId;
+use recovery_base::time::{Duration, Instant};
+use recovery_sender::{Acknowledged, SenderError, Timeout, Transmission};
+
+/// One of the two ends of a connection.
+#[derive(Clone, Copy, PartialEq, Eq, Debug)]
+pub enum End {
+    Client,
+    Server,
+}
+
+impl End {
+    /// Returns the other end.
+    pub fn other(self) -> End
+        ensures { result ≡ other_end self }
+    {
+        match self {
+            End::Client => End::Server,
+            End::Server => End::Client,
+        }
+    }
+}
+
+/// A packet on the wire, alone in its datagram.
+#[derive(Drop)]
+pub struct WirePacket {
+    /// Who sent it.
+    pub from: End,
+    /// Its packet number space.
+    pub space: SpaceId,
+    /// Its packet number.
+    pub number: u64,
+    /// The size of its datagram in bytes.
+    pub size: u16,
+    /// Whether it is ack-eliciting (RFC 9002, 2).
+    pub eliciting: bool,
+    /// The items that it carries.
+    pub items: Vec<u64>,
+    /// The first and last number of each range of its ACK frame, the highest range first; empty if it has no ACK frame.
+    pub ranges: Vec<(u64, u64)>,
+    /// The ACK delay of that frame (RFC 9000, 13.2.5).
+    pub delay: Duration,
+}
+
+/// What happens at one end, without the network.
+#[derive(Drop)]
+pub enum LocalStep {
+    /// The layer above wants these items delivered, in one packet of the space.
+    Hand {
+        /// The packet number space.
+        space: SpaceId,
+        /// The items.
+        items: Vec<u64>,
+    },
+    /// The loss detection timer may be due.
+    Expire {
+        /// When.
+        now: Instant,
+    },
+    /// The ACK delay timer may be due.
+    Late {
+        /// When.
+        now: Instant,
+    },
+    /// The peer's address is validated (RFC 9000, 8).
+    AddressValidated,
+    /// Handshake keys are available (RFC 9002, A.8).
+    HandshakeKeys,
+    /// The handshake is confirmed (RFC 9001, 4.1.2).
+    HandshakeConfirmed,
+    /// The keys of a space are dropped (RFC 9001, 4.9).
+    Discard {
+        /// The packet number space.
+        space: SpaceId,
+        /// When.
+        now: Instant,
+    },
+}
+
+/// What happens next.
+#[derive(Drop)]
+pub enum PairStep {
+    /// An end sends one datagram, if it has something to send and may: items that wait, those to be repeated first, or
+    /// a PING for a probe, with an ACK of all that is to be acknowledged; or an ACK alone if one is required.
+    Send {
+        /// The end.
+        end: End,
+        /// The packet number space.
+        space: SpaceId,
+        /// When.
+        now: Instant,
+        /// The size of the datagram in bytes.
+        size: u16,
+    },
+    /// A copy of a packet arrives at the other end. A packet that no step names was dropped. One that several name was
+    /// duplicated.
+    Arrive {
+        /// Its position on the wire.
+        at: usize,
+        /// When.
+        now: Instant,
+    },
+    /// Something happens at one end.
+    Local {
+        /// The end.
+        end: End,
+        /// What.
+        step: LocalStep,
+    },
+}
+
+/// What becomes of the ACK frame of a packet.
+#[derive(Drop)]
+pub enum AckOutcome {
+    /// The packet has none.
+    NoFrame,
+    /// It is processed.
+    Taken(Acknowledged),
+    /// It is refused, and changes nothing.
+    Refused(SenderError),
+}
+
+/// What becomes of a packet that arrives.
+#[derive(Drop)]
+pub enum Fate {
+    /// It is dropped: its space is discarded, or memory runs out.
+    Dropped(SenderError),
+    /// It came before, or is so old that it may have.
+    Duplicate,
+    /// It is new.
+    New {
+        /// The items that are delivered to the layer above.
+        items: Vec<u64>,
+        /// What becomes of its ACK frame.
+        acked: AckOutcome,
+    },
+}
+
+/// The answer to a step.
+#[derive(Drop)]
+pub enum PairAnswer {
+    /// It is done.
+    Done,
+    /// There is nothing to send, no such packet, or no timer is due.
+    Nothing,
+    /// The amplification limit, the window or the pacer does not permit the datagram.
+    Held(Transmission),
+    /// The datagram was permitted, but its packet cannot be tracked: it does not go out, and its items wait again.
+    Failed(SenderError),
+    /// The packet went out.
+    Sent {
+        /// Its packet number.
+        number: u64,
+        /// The items that it carries.
+        items: Vec<u64>,
+    },
+    /// A packet arrived.
+    Arrived {
+        /// The end that received it.
+        to: End,
+        /// Its packet number space.
+        space: SpaceId,
+        /// Its packet number.
+        number: u64,
+        /// The size of its datagram in bytes.
+        size: u16,
+        /// What becomes of it.
+        fate: Fate,
+    },
+    /// The loss detection timer was looked at.
+    Expired(Timeout),
+}
