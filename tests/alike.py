@@ -187,16 +187,16 @@ def script(seed):
     return [], [lines.line() for _ in range(lines.one_of(20, 100, 400, 2000))]
 
 
-def played(program, words, lines):
-    """The answers line by line, then the error, and the status."""
+def played(program, words, lines, error):
+    """The answers line by line, then the error, as far as it is compared, and the status."""
     run = subprocess.run([program, *words], input="".join(f"{line}\n" for line in lines), capture_output=True, text=True)
-    return [*run.stdout.split("\n"), run.stderr, run.returncode]
+    return [*run.stdout.split("\n"), error(run.stderr), run.returncode]
 
 
-def fault(program, other, script, seed):
+def fault(program, other, script, seed, error):
     """Where the two part, if they do."""
     words, lines = script(seed)
-    ours, theirs = played(program, words, lines), played(other, words, lines)
+    ours, theirs = played(program, words, lines, error), played(other, words, lines, error)
     if ours == theirs:
         return None
     places = zip([*lines, *[None] * 3], ours, theirs)
@@ -204,7 +204,7 @@ def fault(program, other, script, seed):
     return "seed {}, line {} ({}): {}, and {} by plain Rust".format(seed, *parted)
 
 
-def main(about, program, source, script):
+def main(about, program, source, script, error=str):
     """Plays the scripts of so many seeds on a program and on a source of tests/careful."""
     options = argparse.ArgumentParser(description=about, formatter_class=argparse.RawDescriptionHelpFormatter)
     options.add_argument("count", nargs="?", type=int, default=300)
@@ -219,7 +219,7 @@ def main(about, program, source, script):
     with tempfile.TemporaryDirectory() as folder:
         other = pathlib.Path(folder) / "careful"
         subprocess.run(["rustc", "--edition", "2024", "-C", "opt-level=3", "-C", "panic=abort", CAREFUL / source, "-o", other], check=True)
-        faults = [it for it in (fault(program, other, script, seed) for seed in range(chosen.seed, chosen.seed + chosen.count)) if it]
+        faults = [it for it in (fault(program, other, script, seed, error) for seed in range(chosen.seed, chosen.seed + chosen.count)) if it]
     for it in faults[:MOST_FAULTS]:
         print(f"alike: {it}", file=sys.stderr)
     print(f"alike: {chosen.count - len(faults)} passed, {len(faults)} failed")

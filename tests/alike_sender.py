@@ -5,6 +5,7 @@ does with events. Some scripts have a seed of skipped numbers and a fixed window
     tests/alike_sender.py                     300 scripts
     tests/alike_sender.py 5000 --seed 1000    so many, the first of this seed
 """
+import re
 import sys
 
 import alike
@@ -166,5 +167,10 @@ def script(seed):
     return words, [*calls.first(), *(calls.line() for _ in range(2000 if calls.is_silent else calls.one_of(20, 100, 400, 2000)))]
 
 
+def number(error):
+    """The number of the line that cannot be read. The program also says which word it is (tests/sender.py), and plain Rust does not."""
+    return re.sub(r"\A(line \d+): .*\n\Z", r"\1", error)
+
+
 if __name__ == "__main__":
-    sys.exit(alike.main(__doc__, sender.PROGRAM, "sender.rs", script))
+    sys.exit(alike.main(__doc__, sender.PROGRAM, "sender.rs", script, number))

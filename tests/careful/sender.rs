@@ -252,6 +252,9 @@ fn main() -> ExitCode {
         if !line.ends_with(b"\n") {
             line.push(b'\n');
         }
+        if line == b"\n" || line.starts_with(b"#") {
+            continue;
+        }
         if play_line(&mut sender, &line, &mut out).is_none() {
             return fails(2, &format!("line {number}: cannot be read"));
         }
