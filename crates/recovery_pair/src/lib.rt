@@ -8,10 +8,8 @@ mod endpoint;
 mod pair;
 mod runs;
 mod steps;
-#[cfg(test)]
-mod tests;
 
 pub use endpoint::Endpoint;
-pub use pair::Pair;
+pub use pair::{EndConfig, Pair};
 pub use runs::run_over;
 pub use steps::{AckOutcome, End, Fate, LocalStep, PairAnswer, PairStep, WirePacket};

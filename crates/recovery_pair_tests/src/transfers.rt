@@ -1,12 +1,12 @@
 //! Transfers between two ends, over a network that drops, duplicates and reorders.
-use crate::pair::{EndConfig, Pair};
-use crate::runs::run_over;
-use crate::steps::{AckOutcome, End, Fate, LocalStep, PairAnswer, PairStep};
 use quic_recovery_rows::config::{settings, words};
 use rand_pcg::Pcg32;
 use recovery_base::below::SpaceId;
 use recovery_base::time::Instant;
 use recovery_congestion::congestion::NewRenoConfig;
+use recovery_pair::{
+    AckOutcome, End, EndConfig, Fate, LocalStep, Pair, PairAnswer, PairStep, run_over,
+};
 use recovery_sender::{SenderError, Timeout};
 use std::alloc::Global;
 
