@@ -9,7 +9,7 @@ use recovery_network::draws::Draws;
 use recovery_network::way::Way;
 use std::alloc::Global;
 
-/// A packet on its way behind the queue.
+/// A packet in transit after the queue.
 #[derive(Clone, Copy)]
 pub struct Arrival {
     pub packet: QueuedPacket,
@@ -52,7 +52,7 @@ impl Passage {
 pub struct Link {
     queue: Bottleneck,
     manager: Option<CoDel>,
-    /// Whether the manager has looked at the first packet, and whether it marked it.
+    /// Whether the manager examined the first packet, and whether it marked it.
     is_seen: bool,
     is_marked: bool,
     draws: Draws<Pcg32>,

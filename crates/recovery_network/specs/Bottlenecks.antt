@@ -42,8 +42,8 @@ pub record IsSound (queue : Queue) : Type 0 where
   pub largest : queue.bytes ≤ queue.most
   pub fitted : queue.most ≤ queue.room
 
--- After these packets were let in, and these of them have left: the others wait, in the order in which they came, their
--- bytes are those that were let in and have not left, and the link is free when the last one has left.
+-- These packets were let in, and these of them have left. The others wait, in the order in which they came. Their bytes
+-- are those that were let in and have not left. The link is free when the last one has left.
 pub record IsAfter (let_in left : List QueuedPacket) (queue : Queue) : Type 0 where
   pub order : let_in ≡ reverse queue.waiting ++ left
   pub waits : bytes_of let_in ≡ queue.bytes + bytes_of left

@@ -1,4 +1,4 @@
--- Random events: they follow only from the chances and from the words of a generator.
+-- Random events: they follow only from the chances and from a generator's outputs.
 use Rattle.std.specs.Prelude.{ℕ, ◌-◌, ◌*◌, ◌%◌, ◌==◌, min, Bool, true, false, not, nat_lt, nat_le, if◌then◌else◌}
 use Rattle.rand_core.specs.Stream.{Stream, next_u64}
 use Rattle.recovery_base.specs.Units.{largest_u64}
@@ -8,8 +8,8 @@ use Rattle.recovery_network.specs.declared.draws.Chances.{Chances}
 abbrev pub million : ℕ
 million = 1000000
 
--- An event with a chance of parts among all happens if the next word's rest is one of the parts. It leaves the words
--- after that one; an event without a chance draws none.
+-- An event with a chance of parts among all happens if the next output's rest is one of the parts. It uses up that
+-- output; an event without a chance uses up none.
 abbrev pub happens_by : ℕ → ℕ → ℕ × Stream → Bool × Stream
 happens_by parts all (word, words) = (nat_lt (word % all) parts, words)
 
@@ -18,7 +18,7 @@ happens parts all words = if parts == 0 then (false, words) else happens_by part
 
 -- ---- losses: of each packet by itself, or in bursts
 
--- whether the packet is lost, whether those after it are in a burst, and the words that are left
+-- whether the packet is lost, whether those after it are in a burst, and the outputs that are left
 abbrev pub alone : Bool → Bool × Stream → Bool × Bool × Stream
 alone is_bad (is_lost, words) = (is_lost, is_bad, words)
 

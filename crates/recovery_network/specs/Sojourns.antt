@@ -8,7 +8,7 @@ use Rattle.recovery_network.specs.declared.codel.Look.{Look}
 abbrev pub largest_packet : ℕ
 largest_packet = 1500
 
--- the packet waited for less than the target, or no more than one packet is behind it
+-- the packet waited for less than the target, or no more than one packet waits after it
 abbrev pub is_short : ℕ → Look → Bool
 is_short target look = if nat_lt look.sojourn target then true else nat_le look.behind largest_packet
 

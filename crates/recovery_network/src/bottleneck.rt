@@ -18,7 +18,7 @@ pub struct QueuedPacket {
     pub number: u64,
     /// In bytes.
     pub size: u16,
-    /// When it came to the queue, in nanoseconds.
+    /// When it reached the queue, in nanoseconds.
     pub came: u64,
     /// Whether it may be marked instead of dropped (RFC 3168).
     pub is_ect: bool,

@@ -5,7 +5,7 @@ ghost use Rattle.recovery_network.specs.Sojourns.{Drops, above_since};
 /// The largest packet in bytes: a queue of no more is never too long.
 const LARGEST: u64 = 1_500;
 
-/// How many intervals after an episode of drops the next one begins where that one ended (RFC 8289, 4.2).
+/// An episode of drops within this many intervals of the last one continues at its rate (RFC 8289, 4.2).
 const EPISODE: u64 = 16;
 
 /// A packet at the time when its first bit is sent.
@@ -15,7 +15,7 @@ pub struct Look {
     pub now: u64,
     /// How long it waited, in nanoseconds.
     pub sojourn: u64,
-    /// How many bytes wait behind it.
+    /// How many bytes wait after it.
     pub behind: u64,
 }
 

@@ -1,4 +1,4 @@
-//! Random events behind the queue: which packets are lost, and which are late or duplicated.
+//! Random events after the queue: which packets are lost, and which are late or duplicated.
 ghost use Rattle.std.specs.Prelude.{◌≡◌, ◌<◌, false};
 ghost use Rattle.recovery_network.specs.RandomEvents.{happens, lost, million};
 

@@ -1,5 +1,5 @@
-//! A simulated network: the queue before a link, which drops or marks packets, and the way behind it, on which they are
-//! lost, late or duplicated. It knows nothing of QUIC.
+//! A simulated network. The queue before a link drops or marks packets. On the way after it they are lost, late or
+//! duplicated. It knows nothing of QUIC.
 #![tactic(auto)]
 
 pub mod bottleneck;

@@ -16,13 +16,13 @@ pub struct Carried<T> {
 /// What is in transit, in order of arrival, and at one time in order of departure.
 #[derive(Drop)]
 pub struct Way<T> {
-    /// How long each item takes at least, in nanoseconds.
+    /// The minimum delay of an item, in nanoseconds.
     delay: u64,
     carried: VecDeque<Carried<T>>,
 }
 
 impl<T: Drop> Way<T> {
-    /// Returns a direction without anything in transit, on which each item takes at least this long.
+    /// Returns a direction without anything in transit, in which each item has this minimum delay.
     pub fn new(alloc: Global, delay: u64) -> Self
         ensures delay { result.delay ≡ delay }
         ensures empty { AreDelayed delay [] result.carried.items }
