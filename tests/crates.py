@@ -85,6 +85,17 @@ def long_clauses(name):
                        "≡, →, × or an argument, and go on four columns further in (rt fmt keeps a clause's lines as they are)")
 
 
+def function_at(text, place):
+    """The function in whose body a place of a file is, if it is in one's."""
+    inside = None
+    for it in re.finditer(r'^( *)(?:pub(?:\([a-z]+\))? )?(?:extern "C" )?fn (\w+)', text, re.M):
+        if it.start() > place:
+            break
+        end = re.compile(rf"^{it[1]}}}", re.M).search(text, it.end())
+        inside = it[2] if end is None or place < end.start() else None
+    return inside
+
+
 def missed_edits(name):
     """Edits of a crate that a change of the code has left behind."""
     for edit in edits(name):
@@ -102,6 +113,8 @@ def missed_edits(name):
                 if text.count(turned) != 1:
                     yield (f"{edit.relative_to(ROOT)}: {turned.strip()!r} stands {text.count(turned)} times in its file, and not once: turn a value of the code "
                            "as it is now, and see which goal refuses it (rt must-fail, tests/wrong_bodies.py --goals)")
+                elif function and function_at(text, text.index(turned)) not in (function, None):
+                    yield f"{edit.relative_to(ROOT)}: its line is in {function_at(text, text.index(turned))}, and 'fn:' says {function}: nothing would be tried"
             elif word == "new":
                 text = text.replace(turned, rest)
 
