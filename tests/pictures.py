@@ -19,7 +19,7 @@ PICTURES = [  # the picture, the arguments, and the input
     ("connection-fixed.svg", ["connection", "-", "60000"], SCRIPT),
     ("tunnel.svg", ["tunnel"], MEASURED),
 ]
-USAGE = "usage: recovery-pictures connection [from=MOMENT] [to=MOMENT] [over=WINDOW] [SEED [WINDOW]] | tunnel\n"
+USAGE = "usage: recovery-pictures connection [from=TIME] [to=TIME] [over=WINDOW] [SEED [WINDOW]] | tunnel\n"
 REFUSED = [  # the arguments, the input, and what is told
     ([], "", USAGE),
     (["nothing"], "", USAGE),

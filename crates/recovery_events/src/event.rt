@@ -372,7 +372,7 @@ pub enum Refusal {
     #[error("a number is 2^62 or more")]
     NumberTooLarge,
     /// The space has assigned all packet numbers below 2^62 (RFC 9000, 12.3).
-    #[error("no packet number is left")]
+    #[error("no packet numbers are left")]
     NumbersExhausted,
     /// The packet is not tracked: it was never sent, or it was acknowledged, lost or forgotten.
     #[error("the packet is not tracked")]
@@ -384,28 +384,28 @@ pub enum Refusal {
     #[error("there is no such path")]
     NoSuchPath,
     /// An MTU search runs on the current path (RFC 8899, 5).
-    #[error("the MTU is searched for")]
+    #[error("an MTU search is running")]
     Searching,
     /// A size is zero bytes.
     #[error("the size is zero")]
     ZeroMtu,
     /// A counter would exceed the maximum of its type.
-    #[error("a counter passes 2^64 - 1")]
+    #[error("a counter would exceed 2^64 - 1")]
     Overflow,
     /// The peer's ID number is below the active one (RFC 9000, 19.15).
-    #[error("the connection id was already retired")]
+    #[error("the connection ID is already retired")]
     Retired,
     /// The peer's ID number exceeds those that can be held (RFC 9000, 5.1.1).
-    #[error("the connection id exceeds the limit")]
+    #[error("the connection ID exceeds the limit")]
     ExceedsLimit,
     /// The frame's retire-prior-to exceeds its own number (RFC 9000, 19.15).
-    #[error("retire-prior-to exceeds the number of the frame")]
+    #[error("retire-prior-to exceeds the frame's sequence number")]
     BadRetirePriorTo,
     /// The local endpoint uses zero-length IDs, which cannot be retired (RFC 9000, 19.16).
-    #[error("connection ids are not in use")]
+    #[error("connection IDs are not in use")]
     CidsNotInUse,
     /// The ID number was not issued (RFC 9000, 19.16).
-    #[error("the connection id was not issued")]
+    #[error("the connection ID was not issued")]
     UnissuedCid,
     /// An ACK_FREQUENCY frame asks for a delay below 1 ms (draft-ietf-quic-ack-frequency-04, section 4). The number of
     /// the frame is stored.
@@ -418,13 +418,13 @@ pub enum Refusal {
     #[error("{0}")]
     Ecn(&'static str),
     /// The initial ID is no longer the active one (RFC 9000, 7.2).
-    #[error("the initial id is not active")]
+    #[error("the initial connection ID is not active")]
     NotInitialId,
     /// Numbers do not continue from the expected one, or a range ends before it begins.
-    #[error("the range of numbers is wrong")]
+    #[error("invalid range of packet numbers")]
     BadRange,
     /// The peer's ID number is held with another ID, or with another token (RFC 9000, 19.15).
-    #[error("the connection id conflicts with the one that is held")]
+    #[error("the connection ID conflicts with the stored one")]
     Conflict,
 }
 

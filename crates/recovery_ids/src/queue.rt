@@ -39,13 +39,13 @@ impl Model for CidQueue {
 #[derive(Clone, Copy, Debug, PartialEq, Eq, Error)]
 pub enum InsertError {
     /// The number is below the active one.
-    #[error("the connection id was already retired")]
+    #[error("the connection ID is already retired")]
     Retired,
     /// The number is above the window.
-    #[error("the connection id exceeds the limit")]
+    #[error("the connection ID exceeds the limit")]
     ExceedsLimit,
     /// The number is held with another ID, or with another token.
-    #[error("the connection id conflicts with the one that is held")]
+    #[error("the connection ID conflicts with the stored one")]
     Conflict,
 }
 

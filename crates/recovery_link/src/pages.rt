@@ -6,37 +6,38 @@ pub const VERSION: &str = "recovery-link 0.2.0 after quinn-proto 0.11.19\n";
 /// What `--help` writes.
 pub const HELP: &str = "\
 usage: recovery-link [--script|--qlog] [NAME=VALUE]..
-Transfers bytes over a simulated link, by senders as recovery-sender has them, and writes a line of figures a flow.
+Transfers bytes over a simulated link with the sender of recovery-sender, and prints a line of figures for each flow.
 
-  --script      writes the calls of the first sender, as lines of recovery-sender client; the figures on standard error
-  --qlog        writes what happened to it, as qlog in JSON text sequences; the figures on standard error
-  controller=   newreno, cubic, or a window in bytes that nothing changes (newreno)
+  --script      prints the calls of the first sender, as lines for recovery-sender client; figures go to standard error
+  --qlog        prints its events as qlog, in JSON text sequences; figures go to standard error
+  controller=   newreno, cubic, or a constant window in bytes (newreno)
   paced=        yes or no: whether datagrams wait for the pacer (yes)
   bytes=        how many bytes each flow transfers, 1 to 1000G (1M)
   flows=        how many flows share the link, 1 to 64 (1)
-  rival=        the controller of all flows but the first (that of the first)
-  stagger=      how long after one another the flows begin (0)
+  rival=        the controller of all flows except the first (the controller of the first)
+  stagger=      the time from the start of one flow to the start of the next (0)
   chunk=        how many bytes the application writes at a time (12k)
-  every=        how often it does; 0: it writes all at once (0)
-  rate=         of the link, in bits a second, 1 to 1000G (10M)
-  delay=        how long a packet takes there, and an ACK back (25ms)
-  queue=        how many bytes wait before the link, 1200 to 1000G (62500)
-  aqm=          tail, which drops what has no room, or codel besides (tail)
-  target=       of codel: how long packets may wait (5ms)
-  interval=     of codel: for how long they may wait longer (100ms)
-  ecn=          yes or no: whether codel marks packets instead of dropping them (no)
-  loss=         how many packets of a million are lost behind the queue, or so many % (0)
-  burst=        how many are lost at once, on the average, to 1M; 0: each by itself (0)
-  reorder=      how many packets of a million come late, or so many % (0)
-  duplicate=    how many come twice (0)
-  ack-loss= ack-burst= ack-reorder= ack-duplicate=   the same of ACKs (0)
-  late=         how late is what comes late (5ms)
-  ack-delay=    how long the peer delays an ACK at most (25ms)
-  seed=         what losses and late packets are drawn by, 0 to 18446744073709551615 (0)
-  until=        when it is given up (1000s)
-  --help        writes this
-  --version     writes which recovery this is
+  every=        the time from one write to the next; 0: the application writes all at once (0)
+  rate=         the rate of the link, in bits per second, 1 to 1000G (10M)
+  delay=        the one-way delay of a packet, and of an ACK on the way back (25ms)
+  queue=        the size of the queue before the link, in bytes, 1200 to 1000G (62500)
+  aqm=          tail: a full queue drops packets; codel: CoDel does so too (tail)
+  target=       CoDel's target: how long packets may wait (5ms)
+  interval=     CoDel's interval: for how long they may wait longer than that (100ms)
+  ecn=          yes or no: whether CoDel marks packets instead of dropping them (no)
+  loss=         the packets lost after the queue, per million or with % (0)
+  burst=        the mean number of packets lost in a row, at most 1M; 0: losses are independent (0)
+  reorder=      the packets that arrive late, per million or with % (0)
+  duplicate=    the packets that arrive twice, per million or with % (0)
+  ack-loss= ack-burst= ack-reorder= ack-duplicate=   the same for ACKs (0)
+  late=         the extra delay of a packet or an ACK that arrives late (5ms)
+  ack-delay=    the longest time that the peer delays an ACK (25ms)
+  seed=         the seed of losses and late packets, 0 to 18446744073709551615 (0)
+  until=        the time at which the transfer is given up (1000s)
+  --help        prints this text
+  --version     prints the version
 
-A time is a number of ns, us, ms or s, to 1000s; a count may end with k, M or G. Both may have a fraction: 12.5ms, 0.5%.
-Status: 0, or 1 where writing or memory failed, or 2 where the arguments could not be read.
+A time has the unit ns, us, ms or s, and is at most 1000s. A count may end with k, M or G. Both may have a fraction:
+12.5ms, 0.5%.
+Exit status: 0; 1 if writing or allocation failed; 2 if an argument could not be read.
 ";

@@ -41,7 +41,7 @@ pub enum DatagramError {
     #[error("there is no such path")]
     NoSuchPath,
     /// The bytes received on the path would exceed `u64::MAX`.
-    #[error("the total passes 2^64 - 1 bytes")]
+    #[error("the total would exceed 2^64 - 1 bytes")]
     Overflow,
 }
 

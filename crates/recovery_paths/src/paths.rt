@@ -32,7 +32,7 @@ use thiserror::Error;
 
 /// A total would exceed `u64::MAX` bytes. It is unchanged.
 #[derive(Clone, Copy, Debug, PartialEq, Eq, Error)]
-#[error("the total passes 2^64 - 1 bytes")]
+#[error("the total would exceed 2^64 - 1 bytes")]
 pub struct TotalOverflow;
 
 /// The caller's marks of a path: no event changes them.

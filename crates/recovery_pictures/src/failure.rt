@@ -9,7 +9,7 @@ use thiserror::Error;
 /// Why no picture is written.
 #[derive(Clone, Copy, Debug, Error)]
 pub enum Failure {
-    #[error("usage: recovery-pictures connection [from=MOMENT] [to=MOMENT] [over=WINDOW] [SEED [WINDOW]] | tunnel")]
+    #[error("usage: recovery-pictures connection [from=TIME] [to=TIME] [over=WINDOW] [SEED [WINDOW]] | tunnel")]
     Usage,
     #[error("line {0}: cannot be read")]
     BadLine(u64),

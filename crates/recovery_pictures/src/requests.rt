@@ -8,19 +8,19 @@ pub const VERSION: &str = "recovery-pictures 0.2.0 after quinn-proto 0.11.19\n";
 
 /// What `--help` writes.
 pub const HELP: &str = "\
-usage: recovery-pictures connection [from=MOMENT] [to=MOMENT] [over=WINDOW] [SEED [WINDOW]] | tunnel
-Draws what a connection or a path did: reads a text from standard input, and writes an SVG picture.
+usage: recovery-pictures connection [from=TIME] [to=TIME] [over=WINDOW] [SEED [WINDOW]] | tunnel
+Draws a connection or an MTU search: reads a text from standard input, and writes an SVG picture.
 
-  connection  a script of recovery-replay: window, flight and round-trip time
-    from, to  draws what lies between two moments of the script, in nanoseconds; none: all of it
-    over      draws the window of a second script over it, which follows a line 'over': cubic, newreno or bytes
-    SEED      skips packet numbers as this seed draws them (0 to 18446744073709551615); -, or none: skips none
-    WINDOW    cubic, or a congestion window that never changes, in bytes, above 0; none: NewReno
-  tunnel      a line for each measurement of a link, 'SIZE yes' or 'SIZE no': the search for the MTU
-  --help      writes this
-  --version   writes which recovery this is
+  connection  draws window, bytes in flight and round-trip time of a script of recovery-replay
+    from, to  draws the script between these times, in nanoseconds; none: all of it
+    over      also draws the window of a second script, after a line 'over': cubic, newreno or bytes
+    SEED      the seed by which packet numbers are skipped, 0 to 18446744073709551615; - or none: no skips
+    WINDOW    cubic, or a constant congestion window, in bytes, above 0; none: NewReno
+  tunnel      draws the MTU search over a link; each line is a measurement, 'SIZE yes' or 'SIZE no'
+  --help      prints this text
+  --version   prints the version
 
-Status: 0, or 1 where reading, writing or memory failed, or 2 where the arguments or the text could not be read.
+Exit status: 0; 1 if reading, writing or allocation failed; 2 if an argument or the text could not be read.
 ";
 
 /// How a connection is drawn.

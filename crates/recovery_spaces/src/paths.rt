@@ -48,6 +48,6 @@ pub enum LedgerError {
     #[error("out of memory")]
     NoMemory,
     /// The bytes in flight, or the count of ack-eliciting packets, would exceed `u64::MAX`.
-    #[error("the bytes in flight pass 2^64 - 1")]
+    #[error("the bytes in flight would exceed 2^64 - 1")]
     Overflow,
 }

@@ -11,19 +11,19 @@ pub const VERSION: &str = "recovery-trace 0.2.0 after quinn-proto 0.11.19\n";
 
 /// What `--help` writes after the usage.
 pub const HELP: &str = "\
-Answers events one at a time: reads a line, writes its answer, reads the next.
+Answers events one at a time: reads a line, prints its answer, and reads the next line.
 
-  SEED       skips packet numbers as this seed draws them (0 to 18446744073709551615); -, or none: skips none
-  WINDOW     a congestion window that never changes, in bytes, above 0; none: NewReno
-  --controller NAME  in place of a WINDOW: newreno, or cubic (RFC 9438)
-  --state    writes a JSON object behind each answer: time, what is in flight, window, RTT, MTU, pacer
-  --qlog     writes qlog in place of answers, as JSON text sequences (RFC 7464)
-  --strict   stops at the first line that cannot be read; without it that line is named and passed over
-  --help     writes this
-  --version  writes which recovery this is
+  SEED       the seed by which packet numbers are skipped, 0 to 18446744073709551615; - or none: no skips
+  WINDOW     a constant congestion window, in bytes, above 0; none: NewReno
+  --controller NAME  the controller instead of a WINDOW: newreno, or cubic (RFC 9438)
+  --state    prints a JSON object after each answer: time, bytes in flight, window, RTT, MTU, pacer
+  --qlog     prints qlog instead of answers, as JSON text sequences (RFC 7464)
+  --strict   stops at the first line that cannot be read; else such a line is reported and skipped
+  --help     prints this text
+  --version  prints the version
 
-Lines are those of recovery-replay. Empty lines, and those that begin with #, are passed over.
-Status: 0, or 1 where reading, writing or memory failed, or 2 where a line or the arguments could not be read.
+The lines are those of recovery-replay. Empty lines and lines that begin with # are skipped.
+Exit status: 0; 1 if reading, writing or allocation failed; 2 if a line or an argument could not be read.
 ";
 
 /// The controllers of paths.

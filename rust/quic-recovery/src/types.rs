@@ -157,7 +157,7 @@ pub struct CidTooLong;
 
 impl fmt::Display for CidTooLong {
     fn fmt(&self, f: &mut fmt::Formatter<'_>) -> fmt::Result {
-        f.write_str("a connection id has more than 20 bytes")
+        f.write_str("a connection ID has more than 20 bytes")
     }
 }
 
