@@ -19,6 +19,7 @@ import shutil
 import subprocess
 import sys
 import tempfile
+import textwrap
 
 import tree
 from tree import ROOT
@@ -162,6 +163,7 @@ BARE = set("DUPLICATE TRANSMITTED BLOCKED READY NO_PROBE QUEUE DONE FULL NOTHING
 IN_C = {"flag": "bool", "other": "bool", "size": "uint16_t", "first": "uint64_t", "second": "uint64_t"}
 
 # what each group of numbers says
+PROGRAMS_IN_C = "transfer.c", "handshake.c", "sender.c", "tunnel.c", "main.c"  # whose calls the header shows, the first that has one
 GROUPS = {
     "ANSWER": "The answers: `kind` of a reply.",
     "REFUSAL": "The errors: `refusal` of a reply.",
@@ -364,6 +366,41 @@ def readers_in_c():
             yield f"static inline {IN_C[field]} recovery_{kind.lower()}_{name}(struct recovery_encoded_reply reply) {{ return reply.{field}; }}"
 
 
+def statement(lines, at):
+    """The statement of a line, with its block; nothing if it is long, or a declaration of a function."""
+    ends = lambda line: line.endswith(("{", "}", ";")) or not line.strip() or line.strip().startswith(("//", "#"))
+    while not ends(lines[at - 1]):
+        at -= 1
+    end = at
+    while not ends(lines[end]):
+        end += 1
+    if lines[end].endswith("{"):
+        indent = re.match(" *", lines[at])[0]
+        end = next(it for it in range(end + 1, len(lines)) if lines[it].startswith(f"{indent}}}"))
+    said = textwrap.dedent("\n".join(lines[at : end + 1])).split("\n")
+    return said if lines[at].startswith(" ") and len(said) <= 6 and not said[0].startswith("}") else None
+
+
+def called_in_c(name):
+    """How a program in C calls a function: its first short statement with the call."""
+    for program in PROGRAMS_IN_C:
+        lines = (ROOT / "rust" / "c" / program).read_text().splitlines()
+        for at, line in enumerate(lines):
+            if f"{name}(" in line and (said := statement(lines, at)):
+                return program, said
+    return None
+
+
+def example_in_c(name):
+    """The lines of a comment with that statement; nothing if no program calls the function."""
+    found = called_in_c(name)
+    if found:
+        yield "//"
+        yield f"// In rust/c/{found[0]}:"
+        yield "//"
+        yield from (f"//     {line}".rstrip() for line in found[1])
+
+
 def declared_in_c():
     yield "// The declarations of the proved library. tests/rust.py --write writes them from its sources, and its tests compare"
     yield "// them. docs/C.md states what a caller must ensure. A handle begins as all zeros."
@@ -401,6 +438,7 @@ def declared_in_c():
     for docs, name, parameters, result in exports():
         yield ""
         yield from (f"// {it}" for it in in_c_words(docs))
+        yield from example_in_c(name)
         given = ", ".join(word for it, kind in parameters for word in crossing(it, kind, True))
         result = NUMBERS.get(result) or (struct_in_c(result) if result else "void")
         yield f"{result} {name}({given or 'void'});"
@@ -774,7 +812,7 @@ def in_c(folder, source, program):
 
 def programs_in_c(folder, made):
     """The programs in C and C++: each prints what stands beside it."""
-    for source in "main.c", "misuse.c", "sender.c", "transfer.c", "tunnel.c", "main.cpp":
+    for source in "main.c", "misuse.c", "handshake.c", "sender.c", "transfer.c", "tunnel.c", "main.cpp":
         program = made / source.replace(".", "_")
         if ran(f"{source} is compiled", in_c(folder, source, program)) is not None:
             found = ran(f"{source} ends well", [program])

@@ -618,40 +618,81 @@ struct recovery_ids_view {
 
 // Makes a recovery, whose peer is at this address and has this connection ID of at most 20 bytes. Returns
 // `RECOVERY_NEW_MADE`, or the number of what is wrong, which leaves the handle unchanged.
+//
+// In rust/c/main.c:
+//
+//     uint8_t code = recovery_ffi_new(&recovery, &settings, &remote, id, sizeof id, 0);
 uint8_t recovery_ffi_new(struct recovery_handle *handle, const struct recovery_settings *settings, const struct recovery_address *remote, const uint8_t *initial_cid, size_t initial_cid_len, uint64_t now);
 
 // Frees a recovery. The handle then holds none. A handle that holds none is unchanged.
+//
+// In rust/c/transfer.c:
+//
+//     recovery_ffi_drop(&ends.sender);
 void recovery_ffi_drop(struct recovery_handle *handle);
 
 // Processes a received ACK_FREQUENCY frame: the event `AckFrequencyIn`. Its numbers are below 2^62.
 struct recovery_encoded_reply recovery_ffi_ack_frequency(struct recovery_handle *handle, uint64_t sequence, uint64_t threshold, uint64_t micros, uint64_t reordering);
 
 // Records that an ACK frame was sent (RFC 9000, 13.2.1): the event `AcksSent`.
+//
+// In rust/c/handshake.c:
+//
+//     recovery_ffi_acks_sent(server, space);
 struct recovery_encoded_reply recovery_ffi_acks_sent(struct recovery_handle *handle, uint8_t space);
 
 // Handles the ACK delay timer: the event `AckDelayTimeout`.
+//
+// In rust/c/handshake.c:
+//
+//     recovery_ffi_ack_delay_timeout(&server, RECOVERY_SPACE_DATA);
 struct recovery_encoded_reply recovery_ffi_ack_delay_timeout(struct recovery_handle *handle, uint8_t space);
 
 // Returns an MTU probe to send, if one is due (RFC 9000, 14.3), and tracks it: the event `PollMtu`.
+//
+// In rust/c/handshake.c:
+//
+//     struct recovery_encoded_reply probe = recovery_ffi_poll_mtu(server, 60 * ms);
 struct recovery_encoded_reply recovery_ffi_poll_mtu(struct recovery_handle *handle, uint64_t now);
 
 // Sets the largest datagram that the peer accepts (RFC 9000, 18.2): the event `PeerLimit`.
+//
+// In rust/c/handshake.c:
+//
+//     recovery_ffi_peer_limit(server, 1400);
 struct recovery_encoded_reply recovery_ffi_peer_limit(struct recovery_handle *handle, uint16_t size);
 
 // Ends the losses of packets that were lost together: the event `LossesDone`.
 struct recovery_encoded_reply recovery_ffi_losses_done(struct recovery_handle *handle, uint64_t now);
 
 // Returns the window and the bytes in flight of the path in use.
+//
+// In rust/c/handshake.c:
+//
+//     struct recovery_window_view window = recovery_ffi_window(server);
 struct recovery_window_view recovery_ffi_window(struct recovery_handle *handle);
 
 // Returns how many bytes the pacer permits now on the path in use: the largest datagram that is not delayed (RFC
 // 9002, 7.7). It is `u64::MAX` if nothing is paced, and 0 if there is no recovery.
+//
+// In rust/c/handshake.c:
+//
+//     printf("%" PRIu64 " of %" PRIu64 " bytes are in flight; the pacer permits %" PRIu64 "\n", window.in_flight, window.window,
+//            recovery_ffi_pacer_room(server, now));
 uint64_t recovery_ffi_pacer_room(struct recovery_handle *handle, uint64_t now);
 
 // Returns the round-trip time of the path in use.
+//
+// In rust/c/handshake.c:
+//
+//     printf("%" PRIu64 " packets acknowledged, RTT %" PRIu64 " ns\n", recovery_acknowledged_count(reply), recovery_ffi_rtt(server).rtt);
 struct recovery_rtt_view recovery_ffi_rtt(struct recovery_handle *handle);
 
 // Returns the sequence number of the peer's connection ID in use (RFC 9000, 5.1.1); 0 if there is no recovery.
+//
+// In rust/c/handshake.c:
+//
+//     printf("retire the IDs from %" PRIu64 ", use %" PRIu64 "\n", recovery_retire_start(retired), recovery_ffi_active_id(server));
 uint64_t recovery_ffi_active_id(struct recovery_handle *handle);
 
 // Returns whether a space tracks a packet that counts in flight (RFC 9002, 2), on any path.
@@ -659,27 +700,51 @@ bool recovery_ffi_has_in_flight(struct recovery_handle *handle, uint8_t space);
 
 // Returns the smallest packet number that a space tracks: all smaller ones are acknowledged, lost, forgotten or
 // discarded. A stack may choose the length of packet numbers by it (RFC 9000, 17.1). Cost: logarithmic.
+//
+// In rust/c/sender.c:
+//
+//     struct recovery_number_view smallest = recovery_ffi_smallest_tracked(&sender, space);
 struct recovery_number_view recovery_ffi_smallest_tracked(struct recovery_handle *handle, uint8_t space);
 
 // Returns how many packets a space tracks, and when a sender declares the next of them lost by its age.
+//
+// In rust/c/sender.c:
+//
+//     printf("%" PRIu64 " packets are tracked\n", recovery_ffi_tracked(&sender, space).packets);
 struct recovery_tracked_view recovery_ffi_tracked(struct recovery_handle *handle, uint8_t space);
 
 // Processes a received NEW_CONNECTION_ID frame (RFC 9000, 19.15): the event `NewId`. The ID has at most 20 bytes.
+//
+// In rust/c/handshake.c:
+//
+//     recovery_ffi_new_id(server, 1, 0, theirs, sizeof theirs, token);
 struct recovery_encoded_reply recovery_ffi_new_id(struct recovery_handle *handle, uint64_t sequence, uint64_t retire_prior_to, const uint8_t *id, size_t id_len, const uint8_t *token);
 
 // Switches to the next connection ID of the peer: the event `NextId`.
+//
+// In rust/c/handshake.c:
+//
+//     struct recovery_encoded_reply retired = recovery_ffi_next_id(server);
 struct recovery_encoded_reply recovery_ffi_next_id(struct recovery_handle *handle);
 
 // Sets the connection ID that the server chose (RFC 9000, 7.2): the event `InitialId`. It has at most 20 bytes.
 struct recovery_encoded_reply recovery_ffi_initial_id(struct recovery_handle *handle, const uint8_t *id, size_t id_len);
 
 // Issues connection IDs of at most 20 bytes (RFC 9000, 5.1.1): the event `IssueIds`.
+//
+// In rust/c/handshake.c:
+//
+//     recovery_ffi_issue_ids(server, 60 * ms, ours, 2);
 struct recovery_encoded_reply recovery_ffi_issue_ids(struct recovery_handle *handle, uint64_t now, const struct recovery_id *given, size_t given_len);
 
 // Handles the timer for new connection IDs: the event `IdTimeout`.
 struct recovery_encoded_reply recovery_ffi_id_timeout(struct recovery_handle *handle);
 
 // Processes a received RETIRE_CONNECTION_ID frame (RFC 9000, 19.16): the event `PeerRetired`.
+//
+// In rust/c/handshake.c:
+//
+//     struct recovery_encoded_reply more = recovery_ffi_peer_retired(server, 0, 3);
 struct recovery_encoded_reply recovery_ffi_peer_retired(struct recovery_handle *handle, uint64_t sequence, uint64_t limit);
 
 // Writes the bytes of the token that was returned last: all zeros before the first, or if there is no recovery.
@@ -698,16 +763,35 @@ bool recovery_ffi_set_marks(struct recovery_handle *handle, bool previous, const
 // Makes an MTU discovery from `initial_mtu`, `min_mtu`, `allow_mtud` and the settings of the search, as a path has
 // it. The peer accepts datagrams of at most `limit` bytes, or 0 if it stated no limit. Returns `RECOVERY_NEW_MADE`, or
 // the number of what is wrong, which leaves the handle unchanged.
+//
+// In rust/c/tunnel.c:
+//
+//     if (recovery_ffi_mtu_new(&mtu, &settings, 0) != RECOVERY_NEW_MADE) {
+//         printf("no discovery was made\n");
+//         return 1;
+//     }
 uint8_t recovery_ffi_mtu_new(struct recovery_mtu_handle *mtu, const struct recovery_settings *settings, uint16_t limit);
 
 // Frees a discovery. The handle then holds none. A handle that holds none is unchanged.
+//
+// In rust/c/tunnel.c:
+//
+//     recovery_ffi_mtu_drop(&mtu);
 void recovery_ffi_mtu_drop(struct recovery_mtu_handle *mtu);
 
 // Returns the state of the discovery.
+//
+// In rust/c/tunnel.c:
+//
+//     printf("MTU %u\n", recovery_ffi_mtu(&mtu).mtu);
 struct recovery_mtu_view recovery_ffi_mtu(struct recovery_mtu_handle *mtu);
 
 // Checks whether a probe is due. The reply is `RECOVERY_ANSWER_PROBE` with its size, or `RECOVERY_ANSWER_NO_PROBE`. The
 // caller sends the probe as the packet of this number.
+//
+// In rust/c/tunnel.c:
+//
+//     struct recovery_encoded_reply probe = recovery_ffi_mtu_poll(mtu, 0, number);
 struct recovery_encoded_reply recovery_ffi_mtu_poll(struct recovery_mtu_handle *mtu, uint64_t now, uint64_t number);
 
 // Sets the largest datagram that the peer accepts, in bytes. An error if it is 0, or while a search is running:
@@ -716,17 +800,33 @@ struct recovery_encoded_reply recovery_ffi_mtu_limit(struct recovery_mtu_handle 
 
 // Records that a packet of this many bytes was acknowledged (`RECOVERY_ANSWER_ACKED`). The flag is true if it was the
 // probe in flight, whose size is then the MTU.
+//
+// In rust/c/tunnel.c:
+//
+//     recovery_ffi_mtu_acked(mtu, number, probe.size);
 struct recovery_encoded_reply recovery_ffi_mtu_acked(struct recovery_mtu_handle *mtu, uint64_t number, uint16_t bytes);
 
 // Records that the probe in flight was lost. Changes nothing if there is none.
+//
+// In rust/c/tunnel.c:
+//
+//     recovery_ffi_mtu_probe_lost(mtu);
 struct recovery_encoded_reply recovery_ffi_mtu_probe_lost(struct recovery_mtu_handle *mtu);
 
 // Records that a packet other than the probe in flight was lost. Report packets that are lost together in
 // increasing order, then call `recovery_ffi_mtu_losses_done`.
+//
+// In rust/c/tunnel.c:
+//
+//     recovery_ffi_mtu_lost(&mtu, number, 1452);
 struct recovery_encoded_reply recovery_ffi_mtu_lost(struct recovery_mtu_handle *mtu, uint64_t number, uint16_t bytes);
 
 // Ends the losses of packets that were lost together. The flag is true if they are a black hole, which resets the
 // MTU to the minimum.
+//
+// In rust/c/tunnel.c:
+//
+//     printf("black hole %d\n", recovery_ffi_mtu_losses_done(&mtu, 0).flag);
 struct recovery_encoded_reply recovery_ffi_mtu_losses_done(struct recovery_mtu_handle *mtu, uint64_t now);
 
 // Resets the discovery with these sizes; an error if one is zero. The peer's limit is unchanged.
@@ -734,26 +834,50 @@ struct recovery_encoded_reply recovery_ffi_mtu_reset(struct recovery_mtu_handle 
 
 // Returns a full bucket at time `now`, from the RTT (nanoseconds), the congestion window and the MTU (bytes). If
 // the window or the MTU is 0, it is all zeros, which is no bucket.
+//
+// In rust/c/tunnel.c:
+//
+//     struct recovery_bucket pacer = recovery_ffi_pacer(rtt, 12000, 1200, 0);
 struct recovery_bucket recovery_ffi_pacer(uint64_t rtt, uint64_t window, uint16_t mtu, uint64_t now);
 
 // Takes the tokens of a sent packet (`RECOVERY_ANSWER_TRANSMITTED`), at most all. An error if there is no bucket.
+//
+// In rust/c/tunnel.c:
+//
+//     recovery_ffi_pacer_transmit(&pacer, 1200);
 struct recovery_encoded_reply recovery_ffi_pacer_transmit(struct recovery_bucket *bucket, uint16_t bytes);
 
 // Checks whether this many bytes may be sent at time `now` (`RECOVERY_ANSWER_READY`), or when to ask again
 // (`RECOVERY_ANSWER_DELAYED`). The RTT (nanoseconds), the MTU and the congestion window (bytes) are those of that time.
 // An error if the window or the MTU is 0, or if there is no bucket.
+//
+// In rust/c/tunnel.c:
+//
+//     struct recovery_encoded_reply reply = recovery_ffi_pacer_delay(&pacer, rtt, 1200, 1200, 12000, 0);
 struct recovery_encoded_reply recovery_ffi_pacer_delay(struct recovery_bucket *bucket, uint64_t rtt, uint64_t bytes, uint16_t mtu, uint64_t window, uint64_t now);
 
 // Records a received packet (RFC 9000, 12.3): the event `Received`.
+//
+// In rust/c/handshake.c:
+//
+//     struct recovery_encoded_reply received = recovery_ffi_received(server, space, now, number, true);
 struct recovery_encoded_reply recovery_ffi_received(struct recovery_handle *handle, uint8_t space, uint64_t now, uint64_t number, bool ack_eliciting);
 
 // Records a sent packet with these items (RFC 9002, A.5): the event `Send`.
+//
+// In rust/c/transfer.c:
+//
+//     struct recovery_encoded_reply sent = recovery_ffi_send(&it->sender, space, it->now, SIZE, true, false, 0, items, count);
 struct recovery_encoded_reply recovery_ffi_send(struct recovery_handle *handle, uint8_t space, uint64_t now, uint16_t size, bool ack_eliciting, bool has_largest, uint64_t largest, const uint64_t *items, size_t items_len);
 
 // Records that a sent packet was acknowledged (RFC 9002, A.7): the event `Acked`.
 struct recovery_encoded_reply recovery_ffi_acked(struct recovery_handle *handle, uint8_t space, uint64_t now, uint64_t number, bool app_limited);
 
 // Declares a sent packet lost (RFC 9002, A.10): the event `Lost`.
+//
+// In rust/c/main.c:
+//
+//     struct recovery_encoded_reply lost = recovery_ffi_lost(&recovery, RECOVERY_SPACE_DATA, recovery_sent_number(sent));
 struct recovery_encoded_reply recovery_ffi_lost(struct recovery_handle *handle, uint8_t space, uint64_t number);
 
 // Discards a space with its keys (RFC 9002, 6.4): the event `DiscardSpace`.
@@ -761,18 +885,34 @@ struct recovery_encoded_reply recovery_ffi_discard(struct recovery_handle *handl
 
 // Returns the item count of the queue that was taken last, and writes the items if there is room for all. None
 // before the first.
+//
+// In rust/c/transfer.c:
+//
+//     is_to_send(it, items, recovery_ffi_last_items(&it->sender, items, ITEMS));
 size_t recovery_ffi_last_items(struct recovery_handle *handle, uint64_t *out, size_t out_len);
 
 // Returns what is in flight on a path: the event `InFlight`.
+//
+// In rust/c/handshake.c:
+//
+//     struct recovery_encoded_reply old = recovery_ffi_in_flight(server, true);
 struct recovery_encoded_reply recovery_ffi_in_flight(struct recovery_handle *handle, bool previous);
 
 // Takes an RTT sample (RFC 9002, 5): the event `Sample`. Nanoseconds are below 10^9.
 struct recovery_encoded_reply recovery_ffi_sample(struct recovery_handle *handle, uint64_t delay_secs, uint32_t delay_nanos, uint64_t rtt_secs, uint32_t rtt_nanos);
 
 // Records a received datagram on a path (RFC 9000, 8.1): the event `DatagramIn`.
+//
+// In rust/c/handshake.c:
+//
+//     recovery_ffi_datagram_in(server, false, bytes);
 struct recovery_encoded_reply recovery_ffi_datagram_in(struct recovery_handle *handle, bool previous, uint64_t bytes);
 
 // Validates the peer's address on a path (RFC 9000, 8): the event `Validated`.
+//
+// In rust/c/handshake.c:
+//
+//     recovery_ffi_validated(server, false);
 struct recovery_encoded_reply recovery_ffi_validated(struct recovery_handle *handle, bool previous);
 
 // Counts a datagram on the path in use; if it is checked, only if limit and pacer permit. The event `Transmit`.
@@ -788,12 +928,20 @@ struct recovery_encoded_reply recovery_ffi_congestion(struct recovery_handle *ha
 struct recovery_encoded_reply recovery_ffi_end_acks(struct recovery_handle *handle, uint64_t now, bool app_limited, bool has_largest, uint64_t largest);
 
 // Changes to another path (RFC 9000, 9.3): the event `NewPath`.
+//
+// In rust/c/handshake.c:
+//
+//     recovery_ffi_new_path(server, now, &moved, true);
 struct recovery_encoded_reply recovery_ffi_new_path(struct recovery_handle *handle, uint64_t now, const struct recovery_address *remote, bool fresh);
 
 // Resets the path in use (RFC 9000, 9.4): the event `ResetPath`.
 struct recovery_encoded_reply recovery_ffi_reset_path(struct recovery_handle *handle, uint64_t now);
 
 // Drops the previous path (RFC 9000, 9.3.3): the event `DropPrevious`.
+//
+// In rust/c/handshake.c:
+//
+//     recovery_ffi_drop_previous(server);
 struct recovery_encoded_reply recovery_ffi_drop_previous(struct recovery_handle *handle);
 
 // Returns to the previous path, and drops the current one (RFC 9000, 9.3.2): the event `RevertPath`.
@@ -809,25 +957,55 @@ struct recovery_encoded_reply recovery_ffi_check_ack(struct recovery_handle *han
 struct recovery_encoded_reply recovery_ffi_queue_probe(struct recovery_handle *handle, uint8_t space, bool immediate_ack);
 
 // Takes the retransmission queue, to be read by `recovery_ffi_last_items`: the event `TakePending`.
+//
+// In rust/c/transfer.c:
+//
+//     if (recovery_ffi_take_pending(&it->sender, space).kind == RECOVERY_ANSWER_QUEUE) {
+//         is_to_send(it, items, recovery_ffi_last_items(&it->sender, items, ITEMS));
+//     }
 struct recovery_encoded_reply recovery_ffi_take_pending(struct recovery_handle *handle, uint8_t space);
 
 // Returns the state of a path.
+//
+// In rust/c/handshake.c:
+//
+//     printf("MTU %u\n", recovery_ffi_path(server, false).mtu);
 struct recovery_path_view recovery_ffi_path(struct recovery_handle *handle, bool previous);
 
 // Returns what a space has to send. A space that does not exist is read as a discarded one.
+//
+// In rust/c/handshake.c:
+//
+//     struct recovery_space_view view = recovery_ffi_space(server, space);
 struct recovery_space_view recovery_ffi_space(struct recovery_handle *handle, uint8_t space);
 
 // Returns one of the ranges of packet numbers to be acknowledged in a space, in ascending order.
+//
+// In rust/c/handshake.c:
+//
+//     struct recovery_range_view range = recovery_ffi_range(server, space, at - 1);
 struct recovery_range_view recovery_ffi_range(struct recovery_handle *handle, uint8_t space, size_t index);
 
 // Returns how long ago the largest packet of a space was received, for the ACK Delay of an ACK frame (RFC 9000,
 // 13.2.5). It is zero before the first, and none if there is no such space or it is discarded.
+//
+// In rust/c/handshake.c:
+//
+//     printf("ACK, delayed by %" PRIu64 " ns:", recovery_ffi_ack_delay(server, space, now).nanos);
 struct recovery_time_view recovery_ffi_ack_delay(struct recovery_handle *handle, uint8_t space, uint64_t now);
 
 // Returns when a timer expires.
+//
+// In rust/c/transfer.c:
+//
+//     struct recovery_time_view timer = recovery_ffi_timer(&it->sender, RECOVERY_TIMER_LOSS_DETECTION);
 struct recovery_time_view recovery_ffi_timer(struct recovery_handle *handle, uint8_t timer);
 
 // Returns the connection IDs of both endpoints, and their max_ack_delay.
+//
+// In rust/c/handshake.c:
+//
+//     uint64_t delay = recovery_ffi_ids(server).max_ack_delay;
 struct recovery_ids_view recovery_ffi_ids(struct recovery_handle *handle);
 
 // Returns when the oldest of the local connection IDs is to be retired (RFC 9000, 5.1.2), if they expire. Set
@@ -837,12 +1015,20 @@ struct recovery_time_view recovery_ffi_next_id_timeout(struct recovery_handle *h
 // Makes a recovery of a sender, of a client if `client`, else of a server. Its peer is at this address and has
 // this connection ID of at most 20 bytes. A client's first path is validated, whatever the settings say (RFC 9000,
 // 8.1). Returns `RECOVERY_NEW_MADE`, or the number of what is wrong, which leaves the handle unchanged.
+//
+// In rust/c/handshake.c:
+//
+//     uint8_t code = recovery_ffi_sender_new(&server, false, &settings, &client, id, sizeof id, 0);
 uint8_t recovery_ffi_sender_new(struct recovery_handle *handle, bool client, const struct recovery_settings *settings, const struct recovery_address *remote, const uint8_t *initial_cid, size_t initial_cid_len, uint64_t now);
 
 // Makes a recovery of a sender whose handshake is confirmed (RFC 9001, 4.1.2 and 4.9). It calls
 // `recovery_ffi_sender_new`, `recovery_ffi_validated`, `recovery_ffi_sender_handshake_confirmed`, and
 // `recovery_ffi_sender_discard` for the Initial and the Handshake space. Only 1-RTT packets are then sent and
 // probed for. The results are those of `recovery_ffi_sender_new`.
+//
+// In rust/c/transfer.c:
+//
+//     return recovery_ffi_sender_established(&it->sender, true, &settings, &remote, id, sizeof id, it->now);
 uint8_t recovery_ffi_sender_established(struct recovery_handle *handle, bool client, const struct recovery_settings *settings, const struct recovery_address *remote, const uint8_t *initial_cid, size_t initial_cid_len, uint64_t now);
 
 // Checks whether a datagram with packets of a space may be sent now. The reply is `RECOVERY_ANSWER_TRANSMITTED`, and
@@ -851,6 +1037,10 @@ uint8_t recovery_ffi_sender_established(struct recovery_handle *handle, bool cli
 // nothing in it counts in flight, or a probe is due in the space, only the amplification limit is checked. Report
 // its packets by `recovery_ffi_send` before the next datagram. Errors: `RECOVERY_REFUSAL_SPACE_DISCARDED`, then
 // `RECOVERY_REFUSAL_OVERFLOW`.
+//
+// In rust/c/transfer.c:
+//
+//     struct recovery_encoded_reply goes = recovery_ffi_sender_transmit(&it->sender, it->now, SIZE, space, true);
 struct recovery_encoded_reply recovery_ffi_sender_transmit(struct recovery_handle *handle, uint64_t now, uint16_t bytes, uint8_t space, bool in_flight);
 
 // Processes a received ACK frame (RFC 9002, A.7), with its ranges, the highest first, as on the wire. The reply
@@ -862,6 +1052,10 @@ struct recovery_encoded_reply recovery_ffi_sender_transmit(struct recovery_handl
 // 9000, 21.4); `RECOVERY_REFUSAL_NO_MEMORY`. If the caller limits its room (`is_limited`) and has too little, the reply
 // is `RECOVERY_ANSWER_NEEDS_ROOM`, and nothing changes. `first` is then how many words of packets, and `second` how
 // many lost numbers, it needs room for.
+//
+// In rust/c/transfer.c:
+//
+//     struct recovery_encoded_reply reply = recovery_ffi_sender_ack(&it->sender, space, it->now, &frame, ack->ranges, ack->count);
 struct recovery_encoded_reply recovery_ffi_sender_ack(struct recovery_handle *handle, uint8_t space, uint64_t now, const struct recovery_ack_frame *frame, const struct recovery_ack_range *ranges, size_t ranges_len);
 
 // Handles the loss detection timer, which may be due (RFC 9002, A.9). The reply is `RECOVERY_ANSWER_NOTHING` if it is
@@ -871,16 +1065,31 @@ struct recovery_encoded_reply recovery_ffi_sender_ack(struct recovery_handle *ha
 // by `recovery_ffi_sender_probe`, and send it by `recovery_ffi_send`. The error is `RECOVERY_REFUSAL_NO_MEMORY` if
 // there is no room for the numbers of the packets that may be lost; then nothing has changed. A timeout that asks
 // for probes allocates nothing.
+//
+// In rust/c/transfer.c:
+//
+//     struct recovery_encoded_reply due = recovery_ffi_sender_on_timeout(&it->sender, it->now);
 struct recovery_encoded_reply recovery_ffi_sender_on_timeout(struct recovery_handle *handle, uint64_t now);
 
 // Takes the contents of a probe in a space (RFC 9002, 6.2.4), to be read by `recovery_ffi_last_items`:
 // `RECOVERY_ANSWER_QUEUE`. They are what is queued for retransmission, or else the contents of the first packet in
 // flight that has any. If there are no items, send a PING frame. `immediate_ack` asks for an IMMEDIATE_ACK frame
 // in it. Errors, which change nothing: `RECOVERY_REFUSAL_SPACE_DISCARDED`, then `RECOVERY_REFUSAL_NO_MEMORY`.
+//
+// In rust/c/transfer.c:
+//
+//     if (recovery_ffi_sender_transmit(&it->sender, it->now, SIZE, space, true).kind != RECOVERY_ANSWER_TRANSMITTED
+//         || recovery_ffi_sender_probe(&it->sender, space, false).kind != RECOVERY_ANSWER_QUEUE) {
+//         return;
+//     }
 struct recovery_encoded_reply recovery_ffi_sender_probe(struct recovery_handle *handle, uint8_t space, bool immediate_ack);
 
 // Discards a space with its keys and its tracked packets, and resets the count of probe timeouts (RFC 9002, 6.2.2,
 // 6.4 and A.11): `RECOVERY_ANSWER_DONE`. Error: `RECOVERY_REFUSAL_SPACE_DISCARDED`.
+//
+// In rust/c/handshake.c:
+//
+//     recovery_ffi_sender_discard(server, RECOVERY_SPACE_INITIAL, 30 * ms);
 struct recovery_encoded_reply recovery_ffi_sender_discard(struct recovery_handle *handle, uint8_t space, uint64_t now);
 
 // Declares all packets of a space lost, because they will not be acknowledged: after a Retry, or if 0-RTT is
@@ -888,31 +1097,59 @@ struct recovery_encoded_reply recovery_ffi_sender_discard(struct recovery_handle
 // reply is `RECOVERY_ANSWER_LOSSES`; read the packets by `recovery_ffi_told_numbers`. If `is_cut` in
 // `recovery_ffi_last_outcome`, allocation failed for some packets, which are still tracked: the same call
 // continues with them. Errors, which change nothing: `RECOVERY_REFUSAL_SPACE_DISCARDED`, `RECOVERY_REFUSAL_NO_MEMORY`.
+//
+// In rust/c/sender.c:
+//
+//     tell(&sender, recovery_ffi_sender_retransmit_all(&sender, space, 446000000));
 struct recovery_encoded_reply recovery_ffi_sender_retransmit_all(struct recovery_handle *handle, uint8_t space, uint64_t now);
 
 // Records that Handshake keys are available (RFC 9002, A.8): `RECOVERY_ANSWER_DONE`.
+//
+// In rust/c/handshake.c:
+//
+//     recovery_ffi_sender_handshake_keys(server);
 struct recovery_encoded_reply recovery_ffi_sender_handshake_keys(struct recovery_handle *handle);
 
 // Records that the handshake is confirmed (RFC 9001, 4.1.2): `RECOVERY_ANSWER_DONE`. From then on 1-RTT packets are
 // probed for, and a client knows its address validated (RFC 9002, 6.2.1 and 6.2.2.1).
+//
+// In rust/c/handshake.c:
+//
+//     recovery_ffi_sender_handshake_confirmed(server);
 struct recovery_encoded_reply recovery_ffi_sender_handshake_confirmed(struct recovery_handle *handle);
 
 // Sets the peer's max_ack_delay, for 1-RTT packets (RFC 9000, 18.2): `RECOVERY_ANSWER_DONE`. Nanoseconds are below
 // 10^9.
+//
+// In rust/c/handshake.c:
+//
+//     recovery_ffi_sender_peer_delay(server, 0, 20 * ms);
 struct recovery_encoded_reply recovery_ffi_sender_peer_delay(struct recovery_handle *handle, uint64_t secs, uint32_t nanos);
 
 // Sets the RTT that timers use before the first RTT sample of the path in use, instead of the one in the settings
 // (RFC 9002, 6.2.2): `RECOVERY_ANSWER_DONE`. If the RTT of the path is reset, the settings apply again. Nanoseconds are
 // below 10^9.
+//
+// In rust/c/sender.c:
+//
+//     tell(&sender, recovery_ffi_sender_initial_rtt(&sender, 0, 100000000));
 struct recovery_encoded_reply recovery_ffi_sender_initial_rtt(struct recovery_handle *handle, uint64_t secs, uint32_t nanos);
 
 // Returns the purpose of the loss detection timer, or why it is not set, and how many more bytes the window and
 // the amplification limit permit on the path in use. All is 0 if there is no sender.
+//
+// In rust/c/handshake.c:
+//
+//     printf("%" PRIu64 " bytes are left of the limit\n", recovery_ffi_sender_view(server).amplification_room);
 struct recovery_sender_view recovery_ffi_sender_view(struct recovery_handle *handle);
 
 // Stores whether a PATH_CHALLENGE frame with this data is outstanding on the path in use (`is_open`), and whether
 // one is to be sent (`pending`) (RFC 9000, 8.2.1): `RECOVERY_ANSWER_DONE`. While one is outstanding, the window does
 // not grow: an acknowledged packet may have been sent on the path before it (RFC 9000, 9.4).
+//
+// In rust/c/handshake.c:
+//
+//     recovery_ffi_sender_challenge(server, 0x0123456789abcdef, true, true);
 struct recovery_encoded_reply recovery_ffi_sender_challenge(struct recovery_handle *handle, uint64_t content, bool is_open, bool pending);
 
 // Returns the number of consecutive probe timeouts, each of which doubles the next (RFC 9002, 6.2.1); 0 if there
@@ -921,29 +1158,57 @@ uint32_t recovery_ffi_pto_count(struct recovery_handle *handle);
 
 // Returns the last outcome: of an ACK frame, of a timeout that made a loss detection pass, or of a space whose
 // packets were all declared lost. It is empty before the first, and if there is no sender.
+//
+// In rust/c/sender.c:
+//
+//     struct recovery_outcome_view told = recovery_ffi_last_outcome(sender);
 struct recovery_outcome_view recovery_ffi_last_outcome(struct recovery_handle *handle);
 
 // Returns how many packets the last outcome newly acknowledged or, with `lost`, declared lost, without the MTU
 // probe. Writes their numbers in increasing order, if there is room for all.
+//
+// In rust/c/sender.c:
+//
+//     size_t count = recovery_ffi_told_numbers(sender, lost, out, 8);
 size_t recovery_ffi_told_numbers(struct recovery_handle *handle, bool lost, uint64_t *out, size_t out_len);
 
 // Returns how many words the packets take that the last outcome newly acknowledged, and writes these if there is
 // room for all. For each packet, in increasing order: its number, its item count, and its items.
+//
+// In rust/c/transfer.c:
+//
+//     size_t count = recovery_ffi_told_packets(&it->sender, told, 2 * ITEMS);
 size_t recovery_ffi_told_packets(struct recovery_handle *handle, uint64_t *out, size_t out_len);
 
 // Returns the default settings: an address that is not validated, a max_ack_delay of 25 ms, and one issued
 // connection ID of 8 bytes with a lifetime of 10 s. No skips, an RTT of 333 ms, MTUs from 1200 to 1452 bytes, and
 // NewReno with a window of 12,000 bytes and a factor of a half. For senders, thresholds of 3 packets, 9/8 of an
 // RTT and 3 probe timeouts.
+//
+// In rust/c/transfer.c:
+//
+//     struct recovery_settings settings = recovery_ffi_default_settings();
 struct recovery_settings recovery_ffi_default_settings(void);
 
 // Sets a timer to a time in nanoseconds: the event `SetTimer`.
+//
+// In rust/c/handshake.c:
+//
+//     recovery_ffi_set_timer(server, RECOVERY_TIMER_MAX_ACK_DELAY, space == RECOVERY_SPACE_DATA ? now + delay : now);
 struct recovery_encoded_reply recovery_ffi_set_timer(struct recovery_handle *handle, uint8_t timer, uint64_t time);
 
 // Stops a timer: the event `StopTimer`.
+//
+// In rust/c/handshake.c:
+//
+//     recovery_ffi_stop_timer(server, RECOVERY_TIMER_MAX_ACK_DELAY);
 struct recovery_encoded_reply recovery_ffi_stop_timer(struct recovery_handle *handle, uint8_t timer);
 
 // Returns when the next timer expires: the event `NextTimeout`.
+//
+// In rust/c/handshake.c:
+//
+//     struct recovery_encoded_reply next = recovery_ffi_next_timeout(server);
 struct recovery_encoded_reply recovery_ffi_next_timeout(struct recovery_handle *handle);
 
 // Returns the text of an error, the `refusal` of a reply. For an ECN error, `recovery_ffi_fault_text` returns more.
