@@ -1,6 +1,7 @@
 #!/usr/bin/env python3
 """Reads docs/EMBEDDING.md beside the program that it walks through: each block of code stands in a source of the program, and each event is
-handed in by the program, or by the sender that it calls, and named on the page."""
+handed in by the program, or by the sender that it calls, and named on the page. The examples in comments of the crates stand in tests, or in that
+program; what users begin with has one."""
 import pathlib
 import re
 import sys
@@ -11,6 +12,10 @@ PAGE = ROOT / "docs" / "EMBEDDING.md"
 PROGRAM = ROOT / "crates" / "recovery_embedding" / "src"
 SENDER = ROOT / "crates" / "recovery_sender" / "src"
 EVENTS = ROOT / "crates" / "recovery_events" / "src" / "event.rt"
+TESTS = "recovery_parts_tests", "quic_recovery_tests", "recovery_sender_tests", "recovery_pair_tests", "recovery_embedding"
+WITH_EXAMPLES = set("""Dedup PendingAcks RttEstimator Pacer NewRenoConfig CubicConfig MtuDiscovery CidQueue CidState PacketNumberFilter SentPackets ItemQueue
+    LiveRecovery Sender""".split())
+COMMENT = re.compile(r"((?:^///[^\n]*\n)+)(?:^#\[[^\n]*\n)*^pub (?:struct|enum|trait|fn) (\w+)", re.M)
 
 
 def plain(text):
@@ -40,6 +45,26 @@ def is_handed_in(event, sources):
     return any(re.search(rf"\bEvent::{event}\b|\.recovery\(\)\s*\.{method}\(", text) for text in sources)
 
 
+def in_comments():
+    """The blocks of code in comments, each with its file and what the comment is for."""
+    for file in sorted(ROOT.glob("crates/*/src/**/*.rt")):
+        for comment, name in COMMENT.findall(file.read_text()):
+            lines = "\n".join(line[4:] for line in comment.split("\n"))
+            for block in re.findall(r"^```\n(.*?)^```$", lines, re.M | re.S):
+                yield file.relative_to(ROOT), name, plain(block)
+
+
+def faults_of_examples():
+    """What is wrong with the examples in comments."""
+    tests = [it.read_text() for name in TESTS for it in sorted((ROOT / "crates" / name).glob("src/**/*.rt"))]
+    shown = [*in_comments()]
+    for file, name, block in shown:
+        if not any(stands_in(block, it) for it in tests):
+            yield f"{file}: the example in the comment of {name} is in no test as it is there: quote the test"
+    for name in sorted(WITH_EXAMPLES - {name for _, name, _ in shown}):
+        yield f"the comment of {name} has no example: quote one from a test"
+
+
 def main():
     page = PAGE.read_text()
     sources = [it.read_text() for it in sorted(PROGRAM.glob("*.rt"))]
@@ -51,9 +76,10 @@ def main():
                for it in events() if not is_handed_in(it, callers)]
     faults += [f"docs/EMBEDDING.md does not name `{it}`: it has a row in All events" for it in events() if f"`{it}`" not in page]
     faults += [] if found else ["the page has no block of code"]
+    faults += faults_of_examples()
     for fault in faults:
         print(f"embedding: {fault}", file=sys.stderr)
-    print(f"embedding: {len(found) + 2 * len(events()) - len(faults)} passed, {len(faults)} failed")
+    print(f"embedding: {len(found) + 2 * len(events()) + len([*in_comments()]) - len(faults)} passed, {len(faults)} failed")
     return 1 if faults else 0
 
 

@@ -27,6 +27,23 @@ use std::alloc::Global;
 ///
 /// No list is stored. That one exists is proved of every value of this type, at no cost at run time. So the guarantees
 /// of [`LiveRecovery::apply`] hold at each call of a connection that never ends, without a premise.
+///
+/// ```
+/// let packet = Event::Received {
+///     space: SpaceId::Handshake,
+///     now: at(5),
+///     number: 0,
+///     ack_eliciting: true,
+/// };
+/// match live.apply(packet) {
+///     // Process the frames of the packet.
+///     Ok(Answer::New { .. }) => true,
+///     // A duplicate: drop the packet.
+///     Ok(_) => false,
+///     // The call failed, and nothing has changed.
+///     Err(_) => false,
+/// }
+/// ```
 #[derive(Drop)]
 pub struct LiveRecovery<F: ControllerFactory, Q: RetransmitQueue, R: Rng> {
     recovery: Recovery<F, Q, R>,

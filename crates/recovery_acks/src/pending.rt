@@ -22,6 +22,20 @@ const MAX_ACK_BLOCKS: usize = 64;
 const LAZY_ACK_THRESHOLD: u64 = 10;
 
 /// The packets to be acknowledged, and when an ACK is due (RFC 9000, 13.2).
+///
+/// ```
+/// let now = Instant::from_nanos(0);
+/// let mut received = Dedup::new();
+/// let mut acks = PendingAcks::new(rt.alloc());
+/// if !received.insert(0) && acks.insert_one(0, now).is_ok() {
+///     // The first ack-eliciting packet starts the ACK delay timer.
+///     assert!(&rt; acks.packet_received(now, 0, true, &received));
+/// }
+/// acks.on_max_ack_delay_timeout();
+/// assert!(&rt; acks.can_send());
+/// acks.acks_sent();
+/// assert!(&rt; !acks.can_send());
+/// ```
 #[derive(Drop)]
 pub struct PendingAcks {
     immediate_ack_required: bool,

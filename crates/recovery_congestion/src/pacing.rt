@@ -24,6 +24,14 @@ const MAX_BURST_SIZE: u128 = 256;
 ///
 /// In contracts its value is a `Bucket`. It holds at most its capacity, which is 10 to 256 times the MTU of the last
 /// call.
+///
+/// ```
+/// let (now, rtt) = (Instant::from_nanos(0), Duration::from_millis(100));
+/// let mut pacer = Pacer::new(rtt, 12_000, 1200, now);
+/// pacer.on_transmit(12_000);
+/// // The bucket is empty: ask again at the time that is returned.
+/// assert!(&rt; pacer.delay(rtt, 1200, 1200, 12_000, now).is_some());
+/// ```
 #[derive(Drop)]
 pub struct Pacer {
     capacity: u64,

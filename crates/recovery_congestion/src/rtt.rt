@@ -13,6 +13,14 @@ const TIMER_GRANULARITY_NANOS: u128 = 1_000_000;
 ///
 /// All values are whole nanoseconds, exact; halves are rounded down. Samples and delays may be any span, including zero
 /// and the longest.
+///
+/// ```
+/// let mut rtt = RttEstimator::new(Duration::from_millis(333));
+/// rtt.update(Duration::from_millis(5), Duration::from_millis(40));
+/// assert!(&rt; rtt.get() == Duration::from_millis(40));
+/// // 40 ms, and four times the deviation of 20 ms.
+/// assert!(&rt; rtt.pto_base() == Duration::from_millis(120));
+/// ```
 #[derive(Clone, Copy)]
 pub struct RttEstimator {
     latest: Duration,

@@ -36,6 +36,15 @@ const ALPHA_NUMERATOR: u128 = 9;
 const ALPHA_DENOMINATOR: u128 = 17;
 
 /// The settings of a [`Cubic`].
+///
+/// ```
+/// let now = Instant::from_nanos(1);
+/// let mut controller = CubicConfig::default().build(Instant::from_nanos(0), 1200);
+/// assert!(&rt; controller.window() == 12_000);
+/// // A packet of 1200 bytes, sent at the same time, is lost: the window is reduced to 70%.
+/// controller.on_congestion_event(now, now, false, 1200);
+/// assert!(&rt; controller.window() == 8400);
+/// ```
 #[derive(Clone, Copy)]
 pub struct CubicConfig {
     initial_window: u64,

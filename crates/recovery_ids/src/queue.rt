@@ -17,6 +17,23 @@ use thiserror::Error;
 /// 5.1.1). The initial ID has number 0 and no token.
 ///
 /// In contracts its value is the entry of each number, and the active number.
+///
+/// ```
+/// let mut queue = CidQueue::new(ConnectionId::new(&[0; 8]));
+/// let frame = NewConnectionId {
+///     sequence: 1,
+///     retire_prior_to: 0,
+///     id: ConnectionId::new(&[1; 8]),
+///     reset_token: ResetToken::from([1; 16]),
+/// };
+/// assert!(&rt; matches!(queue.insert(frame), Ok(None)));
+/// // Another ID is used from now on: send RETIRE_CONNECTION_ID for number 0.
+/// match queue.next() {
+///     Some((_, range)) => assert!(&rt; range.start == 0 && range.end == 1),
+///     None => panic!(&rt; "no ID is held"),
+/// }
+/// assert!(&rt; queue.active_seq() == 1);
+/// ```
 #[derive(Drop)]
 pub struct CidQueue {
     window: Window,

@@ -27,6 +27,15 @@ struct CidTimestamp {
 /// The memory grows with the numbers that are not retired, however far they are apart, and with the deadlines, of which
 /// each batch with the same time has one. A number has a slot of 16 bytes; there are at most two slots for each number
 /// and 64 more.
+///
+/// ```
+/// let (now, life) = (Instant::from_nanos(0), Duration::from_secs(10));
+/// if let Ok(mut ids) = CidState::new(rt.alloc(), 8, Some(life), now, 2) {
+///     assert!(&rt; ids.next_timeout() == Some(Instant::from_nanos(10_000_000_000)));
+///     // The peer retires number 0, and accepts 2 IDs: one more may be issued.
+///     assert!(&rt; matches!(ids.on_cid_retirement(0, 2), Ok(true)));
+/// }
+/// ```
 #[derive(Drop)]
 pub struct CidState {
     /// Deadlines, the oldest first.

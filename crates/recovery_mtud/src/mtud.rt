@@ -21,6 +21,15 @@ use std::marker::Model;
 ///
 /// In contracts its value is a `Discovery`. Its MTU is above zero, and it stores at most four bursts. Sizes are in
 /// bytes.
+///
+/// ```
+/// let now = Instant::from_nanos(0);
+/// let mut discovery = MtuDiscovery::new(1200, 1200, None, MtuDiscoveryConfig::default());
+/// // Packet 5 is sent in a datagram of the size that is returned.
+/// assert!(&rt; discovery.poll_transmit(now, 5) == Some(1326));
+/// assert!(&rt; discovery.on_acked(SpaceId::Data, 5, 1326));
+/// assert!(&rt; discovery.current_mtu() == 1326);
+/// ```
 #[derive(Clone, Copy)]
 pub struct MtuDiscovery {
     current_mtu: u16,

@@ -33,6 +33,15 @@ pub enum Skips {
 ///
 /// In contracts its value is the next skip, the last one, and the exponent of 2 from which the skip after the next one
 /// is drawn.
+///
+/// ```
+/// let mut rng = Pcg32::seed_from_u64(7);
+/// let mut filter = PacketNumberFilter::starting(1);
+/// assert!(&rt; filter.allocate(&mut rng, 0) == Some(0));
+/// // Number 1 is skipped. A peer that acknowledges it acknowledges what it cannot have received.
+/// assert!(&rt; filter.allocate(&mut rng, 1) == Some(2));
+/// assert!(&rt; filter.check_ack(SpaceId::Data, 0..=2).is_err());
+/// ```
 #[derive(Clone, Copy)]
 pub struct PacketNumberFilter {
     next_skipped_packet_number: Option<u64>,

@@ -18,6 +18,8 @@ mod congestion;
 mod cubic;
 #[cfg(test)]
 mod ecn;
+#[cfg(test)]
+mod examples;
 pub mod halving;
 #[cfg(test)]
 mod ids;

@@ -14,6 +14,16 @@ const INLINE: usize = 2;
 /// are stored without an allocation: most packets carry one.
 ///
 /// In contracts its value is the list of the items.
+///
+/// ```
+/// let lost = ItemQueue::from_slice(rt.alloc(), &[3]);
+/// let waiting = ItemQueue::from_slice(rt.alloc(), &[1, 2]);
+/// if let (Ok(mut lost), Ok(waiting)) = (lost, waiting) {
+///     // What was lost is sent again first.
+///     assert!(&rt; lost.append(waiting).is_ok());
+///     assert!(&rt; lost.items() == [3, 1, 2].as_slice());
+/// }
+/// ```
 #[derive(Drop)]
 pub struct ItemQueue {
     items: SmallVec<u64, INLINE>,

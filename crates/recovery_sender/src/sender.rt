@@ -46,6 +46,36 @@ impl From<Refusal> for SenderError {
 }
 
 /// The sender of one endpoint. Its recovery tracks the packets in flight; the sender has no second list.
+///
+/// A stack sends a packet whose datagram [`Sender::transmit`] has permitted, with the contents that it carries:
+///
+/// ```
+/// match self.sender.send(space, now, size, true, None, items, ()) {
+///     Ok(Answer::Sent { number, .. }) => Ok(number),
+///     Ok(_) => unreachable!(),
+///     Err(refused) => Err(refused),
+/// }
+/// ```
+///
+/// It passes each ACK frame to [`Sender::on_ack`]. When the loss detection timer expires, it asks what is due:
+///
+/// ```
+/// match self.sender.on_timeout(now) {
+///     Ok(Timeout::Probe { space, count }) => Ok(Some((space, count))),
+///     Ok(_) => Ok(None),
+///     Err(refused) => Err(refused),
+/// }
+/// ```
+///
+/// The contents of lost packets wait in the recovery, until they are taken to be sent again:
+///
+/// ```
+/// match self.sender.on_event(Event::TakePending { space }) {
+///     Ok(Answer::Queue(items)) => Ok(items),
+///     Ok(_) => unreachable!(),
+///     Err(refused) => Err(refused),
+/// }
+/// ```
 #[derive(Drop)]
 pub struct Sender<F: ControllerFactory, Q: RetransmitQueue, R: Rng> {
     alloc: Global,

@@ -27,6 +27,25 @@ pub const MAX_SILENT: u64 = 1001;
 /// The search for the first non-ack-eliciting packet after the last ack-eliciting one starts at `silent_from`: none is
 /// below it, so each emptied slot is passed over once. The search for packets with contents starts at `filled_from`.
 /// Those below it have no contents, whatever streams the test is passed, so each is passed over once.
+///
+/// ```
+/// let mut packets = SentPackets::new(rt.alloc());
+/// let packet = SentPacket {
+///     path_generation: 0,
+///     time_sent: Instant::from_nanos(0),
+///     size: 1200,
+///     ack_eliciting: true,
+///     largest_acked: None,
+///     retransmits: ItemQueue::empty(rt.alloc()),
+///     stream_frames: (),
+/// };
+/// if packets.insert(0, packet).is_ok() {
+///     assert!(&rt; packets.get(0).map_or(0, |it| it.size) == 1200);
+///     // An acknowledged or lost packet is removed.
+///     assert!(&rt; packets.remove(0).is_some());
+///     assert!(&rt; packets.len() == 0);
+/// }
+/// ```
 #[derive(Drop)]
 pub struct SentPackets<Q: RetransmitQueue> {
     packets: SlotQueue<SentPacket<Q>>,

@@ -51,7 +51,26 @@ fn leaves_marks(rt: &impl Abort, left: &Reno) {
     holds(rt, is_marked, 4);
 }
 
+/// The example in the comment of `LiveRecovery`. Returns whether the packet is new.
+fn hear(live: &mut Live) -> bool {
+    let packet = Event::Received {
+        space: SpaceId::Handshake,
+        now: at(5),
+        number: 0,
+        ack_eliciting: true,
+    };
+    match live.apply(packet) {
+        // Process the frames of the packet.
+        Ok(Answer::New { .. }) => true,
+        // A duplicate: drop the packet.
+        Ok(_) => false,
+        // The call failed, and nothing has changed.
+        Err(_) => false,
+    }
+}
+
 fn play(rt: &impl Abort, live: &mut Live) {
+    holds(rt, hear(live), 0);
     apply(rt, live);
     marked(rt, live);
     live.set_loss_time(SpaceId::Data, Some(at(9)));

@@ -16,6 +16,15 @@ use std::marker::Model;
 const INITIAL_WINDOW: u64 = 12_000;
 
 /// The settings of a [`NewReno`]: its initial window, and how a loss reduces the window.
+///
+/// ```
+/// let now = Instant::from_nanos(1);
+/// let mut controller = NewRenoConfig::default().build(Instant::from_nanos(0), 1200);
+/// assert!(&rt; controller.window() == 12_000);
+/// // A packet of 1200 bytes, sent at the same time, is lost: the window is halved.
+/// controller.on_congestion_event(now, now, false, 1200);
+/// assert!(&rt; controller.window() == 6000);
+/// ```
 #[derive(Clone, Copy)]
 pub struct NewRenoConfig {
     initial_window: u64,
