@@ -1,5 +1,5 @@
 //! The history of a connection, and its settings. The reply to each event follows from the history
-//! (`specs/Table.antt`), and so does the state (`specs/StateAfter.antt`). `specs/Reachability.antt`, where to begin,
+//! (`specs/Table.antt`), and so does the state (`specs/StateAfter.antt`). Begin at `specs/Reachability.antt`, which
 //! states the promises of every event. Their proofs depend on no driver.
 #![tactic(auto)]
 

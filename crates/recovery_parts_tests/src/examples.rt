@@ -22,7 +22,7 @@ use recovery_spaces::spaces::SentPacket;
 fn received_numbers(rt: HostRuntime) {
     let mut received = Dedup::new();
     assert!(&rt; !received.insert(7));
-    // The same number again, or one that is too old to tell: drop the packet.
+    // The same number again, or one that is too old to know: drop the packet.
     assert!(&rt; received.insert(7));
 }
 

@@ -281,7 +281,7 @@ fn the_only_loss(rt: HostRuntime) {
     run(&rt, rt.alloc(), Side::Server, rows);
 }
 
-/// All packets of a space were sent in vain (RFC 9002, 6.3). Allocation fails for packet 0, and the same call goes on
+/// All packets of a space were declared lost (RFC 9002, 6.3). Allocation fails for packet 0, and the same call goes on
 /// with it.
 #[test]
 fn one_of_all_packets(rt: HostRuntime) {

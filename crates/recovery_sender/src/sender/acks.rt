@@ -114,8 +114,8 @@ where
     ///
     /// # Errors
     /// The first that applies; nothing changes. `SpaceDiscarded`. `BadRange` if there is no range, a range ends before
-    /// it begins, or two have no number between them (RFC 9000, 19.3.1). `Unsent` if a number was never sent (RFC 9000,
-    /// 13.1). `SkippedAcked` if a range holds the number that was skipped last (RFC 9000, 21.4). `NoMemory` if there is
+    /// it begins, or two have no number between them (RFC 9000, 19.3.1). `Unsent` if a number is above all that were
+    /// sent (RFC 9000, 13.1). `SkippedAcked` if a range holds the number that was skipped last (RFC 9000, 21.4). `NoMemory` if there is
     /// no room for the numbers that are acknowledged or may be lost.
     pub fn on_ack(
         &mut self,
@@ -200,8 +200,8 @@ where
         self.acknowledge(space, now, ranges, ack, newly)
     }
 
-    /// Checks a frame. Fails with `SpaceDiscarded`, `BadRange` if the ranges are invalid, `Unsent` if a number was
-    /// never sent, or `SkippedAcked`, in this order.
+    /// Checks a frame. Fails with `SpaceDiscarded`, `BadRange` if the ranges are invalid, `Unsent` if a number is above
+    /// all that were sent, or `SkippedAcked`, in this order.
     fn check_ack(&self, space: SpaceId, ranges: &[(u64, u64)]) -> Result<(), SenderError>
         ensures small { OnOk result (IfSome (largest_of ranges.now)
             (λ largest. largest + 1 < u64_limit)) }
