@@ -1,5 +1,6 @@
 pub mod BottleneckView
 pub mod Bottlenecks
 pub mod RandomEvents
+pub mod Schedules
 pub mod Sojourns
 pub mod Ways

@@ -5,4 +5,5 @@
 pub mod bottleneck;
 pub mod codel;
 pub mod draws;
+pub mod schedule;
 pub mod way;
