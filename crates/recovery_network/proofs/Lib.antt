@@ -1,1 +1,2 @@
 mod BottleneckLaws
+mod PeerLaws

@@ -5,5 +5,6 @@
 pub mod bottleneck;
 pub mod codel;
 pub mod draws;
+pub mod peer;
 pub mod schedule;
 pub mod way;
