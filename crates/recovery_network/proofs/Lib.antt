@@ -1,2 +1,3 @@
 mod BottleneckLaws
 mod PeerLaws
+mod WriteLaws

@@ -49,11 +49,13 @@ remembered number true old mid new lowest inserts is =
       | inl same ↦ inr same
       | inr was ↦ inl was
     ]
-remembered number false old mid new lowest inserts is =
-    (inserts.answer, λ n held. elim ((inserts.numbers n).0 (rest_in lowest mid new is n held)) [
-      | inl same ↦ subst (InRanges old) (sym same) inserts.answer
-      | inr was ↦ was
-    ])
+remembered number false old mid new lowest inserts is = (
+  inserts.answer,
+  λ n held. elim ((inserts.numbers n).0 (rest_in lowest mid new is n held)) [
+    | inl same ↦ subst (InRanges old) (sym same) inserts.answer
+    | inr was ↦ was
+  ],
+)
 
 -- all ranges of the ACK so far, and one more
 pub one_more : (all : List (Range ℕ)) (at last : ℕ) (ranges more : List (ℕ × ℕ)) → at < length all

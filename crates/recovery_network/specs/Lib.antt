@@ -5,3 +5,4 @@ pub mod Receipts
 pub mod Schedules
 pub mod Sojourns
 pub mod Ways
+pub mod Writes

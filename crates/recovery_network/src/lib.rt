@@ -2,6 +2,7 @@
 //! duplicated. It knows nothing of QUIC.
 #![tactic(auto)]
 
+pub mod application;
 pub mod bottleneck;
 pub mod codel;
 pub mod draws;
