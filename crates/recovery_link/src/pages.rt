@@ -13,6 +13,7 @@ Transfers bytes over a simulated link, by senders as recovery-sender has them, a
   controller=   newreno, cubic, or a window in bytes that nothing changes (newreno)
   paced=        yes or no: whether datagrams wait for the pacer (yes)
   bytes=        how many bytes each flow transfers, 1 to 1000G (1M)
+  size=         the bytes of each packet, 40 to 1200 (1200)
   flows=        how many flows share the link, 1 to 64 (1)
   rival=        the controller of all flows but the first (that of the first)
   stagger=      how long after one another the flows begin (0)
@@ -20,6 +21,7 @@ Transfers bytes over a simulated link, by senders as recovery-sender has them, a
   every=        how often it does; 0: it writes all at once (0)
   rate=         of the link, in bits a second, 1 to 1000G (10M)
   delay=        how long a packet takes there, and an ACK back (25ms)
+  rate@TIME= delay@TIME=   the rate and the delay from a time on, in order of time, as in rate@2s=1M
   queue=        how many bytes wait before the link, 1200 to 1000G (62500)
   aqm=          tail, which drops what has no room, or codel besides (tail)
   target=       of codel: how long packets may wait (5ms)

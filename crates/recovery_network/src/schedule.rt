@@ -1,5 +1,5 @@
 //! A quantity that changes at given times: the rate of a link, or its delay.
-ghost use Rattle.std.specs.Prelude.{◌≡◌, ◌∷◌, ◌++◌, [], OnOk, OnErr};
+ghost use Rattle.std.specs.Prelude.{◌≡◌, IfOk};
 ghost use Rattle.recovery_network.specs.Schedules.{value_at};
 
 use std::alloc::{AllocError, Global};
@@ -33,25 +33,17 @@ fn value_at(first: u64, changes: &[Change], now: u64) -> u64
 }
 
 impl Schedule {
-    /// Returns a quantity that never changes.
-    pub fn fixed(alloc: Global, value: u64) -> Self
-        ensures first { result.first ≡ value }
-        ensures changes { result.changes.items ≡ [] }
+    /// Returns a quantity with this value at first, and with these changes, in order of time.
+    pub fn new(alloc: Global, first: u64, changes: &[Change]) -> Result<Self, AllocError>
+        ensures { IfOk result (λ schedule. (schedule.first ≡ first)
+            × (schedule.changes.items ≡ changes.now)) }
     {
-        Schedule {
-            first: value,
-            changes: Vec::new(alloc),
-        }
-    }
-
-    /// Adds a change after all others.
-    pub fn push(&mut self, change: Change) -> Result<(), AllocError>
-        ensures first { self.new.first ≡ self.old.first }
-        ensures pushed { OnOk result (self.new.changes.items ≡ self.old.changes.items ++ (change ∷ [])) }
-        ensures unchanged { OnErr result (self.new.changes.items ≡ self.old.changes.items) }
-    {
-        self.changes.push(change)?;
-        Ok(())
+        let mut all = Vec::with_capacity(alloc, changes.len())?;
+        all.extend_from_slice(changes)?;
+        Ok(Schedule {
+            first,
+            changes: all,
+        })
     }
 
     /// Returns the value that holds at a time: that of the last change which is not after it. Cost: linear in the
