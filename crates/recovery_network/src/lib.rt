@@ -1,5 +1,5 @@
 //! A simulated network. The queue before a link drops or marks packets. On the way after it they are lost, late or
-//! duplicated. It knows nothing of QUIC.
+//! duplicated. At its ends are an application that writes and a peer that acknowledges. It knows nothing of a sender.
 #![tactic(auto)]
 
 pub mod application;
