@@ -18,6 +18,10 @@ BAD = {  # arguments that cannot be read, by what is said of each: beyond a limi
     "1 to 1000G bits a second, as in rate=10M": ["rate=0", "rate=1001G", "rate=10m", "rate=", "rate=99999999999999999999G", "rate=0.5", "rate=1.0005k"],
     "0 to 1000s in ns, us, ms or s, as in delay=12.5ms": ["delay=1001s", "delay=-1", "late=x", "ack-delay=5min", "delay=.5s", "delay=1.s", "every=0x1"],
     "1200 to 1000G bytes, as in queue=62.5k": ["queue=1199"],
+    "40 to 1200 bytes, as in size=600": ["size=39", "size=1201"],
+    "the rate from a time on, in order of time, as in rate@2s=1M": ["rate@2s=0", "rate@=1M", "rate@2m=1M", "rate@1001s=1M"],
+    "the delay from a time on, in order of time, as in delay@2s=50ms": ["delay@2s=", "delay@-1s=1ms"],
+    "only rate and delay change, as in rate@2s=1M": ["queue@2s=10k", "@2s=1"],
     "0 to 1000000 of a million, or 0% to 100%, as in loss=0.5%": ["loss=101%", "loss=1000001", "loss=0.00001%", "reorder=101%", "ack-loss=-1", "loss=5x%"],
     "0 to 1M packets, as in burst=4": ["burst=1000001"],
     "1 to 1000G bytes, as in bytes=1.5M": ["bytes=0"],
@@ -39,6 +43,7 @@ RUNS = [
     ["bytes=600k", "ack-loss=20%", "ack-burst=2", "ack-reorder=5%", "ack-duplicate=5%", "duplicate=5%", "loss=1%"],
     ["bytes=1M", "aqm=codel", "ecn=yes", "queue=1M", "controller=cubic"],
     ["bytes=300k", "flows=3", "rival=cubic", "chunk=12k", "every=20ms"],
+    ["bytes=300k", "size=500", "rate@100ms=2M", "delay@200ms=60ms", "delay@400ms=10ms"],
 ]
 PACKET = 9_600  # bits
 
@@ -162,6 +167,8 @@ def arguments():
     for word, same in ("loss=0.5%", "loss=5000"), ("rate=1.5M", "rate=1500k"), ("delay=2.5ms", "delay=2500us"), ("queue=62.5k", "queue=62500"):
         expect(word, figures("bytes=100k", "seed=3", word), figures("bytes=100k", "seed=3", same))
     expect("another seed", figures("loss=5%", "seed=1") == figures("loss=5%", "seed=2"), False)
+    expect("changes out of order", ran(PROGRAMS[0], ["rate@2s=1M", "delay@1s=0", "rate@1s=2M"])[1:], (
+        "", 'link: cannot read "rate@1s=2M": the rate from a time on, in order of time, as in rate@2s=1M\n'))
     expect("given up", figures("loss=100%", "until=5s")["acked"], 0)
     usage = (ROOT / "crates" / "recovery_link" / "help.txt").read_text()
     expect("--help", ran(PROGRAMS[0], ["--help"]), (0, usage, ""))
@@ -178,6 +185,26 @@ def by_hand():
     holds("ten chunks, 100 ms apart", 900e6 + 50e6 < chunks["time"] < 900e6 + 70e6, chunks)
     starts = flows("bytes=2400", "flows=2", "stagger=1s")
     expect("a flow that begins later", [it["time"] for it in starts], [51_920_000] * 2)
+
+
+def changing():
+    """A link that changes: a packet is sent at the rate, and takes the delay, that hold when its first bit is sent and when it leaves."""
+    alone = "bytes=1200", "ack-delay=0"
+    expect("another rate from the start", figures(*alone, "rate@0=1M")["time"], 9_600_000 + 50_000_000)
+    expect("another rate after the only packet", figures(*alone, "rate@1ns=1M")["time"], 960_000 + 50_000_000)
+    expect("another delay there and back", figures(*alone, "delay@960us=5ms")["time"], 960_000 + 10_000_000)
+    expect("another delay back", figures(*alone, "delay@10ms=5ms")["time"], 960_000 + 30_000_000)
+    expect("two packets, the second at another rate", figures("bytes=2400", "ack-delay=0", "rate@960us=1M")["time"], 10_560_000 + 50_000_000)
+    slow = figures("bytes=6M", "rate@2s=1M")
+    holds("a tenth of the rate after two seconds", 28e9 < slow["time"] - 2e9 < 33e9, slow)
+
+
+def sizes():
+    """Packets of another size: as many as carry the bytes, the last one filled up."""
+    for size, packets in (600, 3), (1199, 2), (40, 45):
+        found = figures("bytes=1800", f"size={size}", "ack-delay=0")
+        expect(f"packets of {size} bytes", (found["sent"], found["acked"]), (packets, packets))
+    expect("a packet of 600 bytes", figures("bytes=600", "size=600", "ack-delay=0")["time"], 480_000 + 50_000_000)
 
 
 def both_ways():
@@ -222,6 +249,8 @@ def main():
     PROGRAMS[:len(sys.argv) - 1] = sys.argv[1:]
     arguments()
     by_hand()
+    changing()
+    sizes()
     both_ways()
     managed()
     streams()

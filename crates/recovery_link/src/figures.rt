@@ -1,5 +1,4 @@
 //! The results of a flow, in a line.
-use crate::settings::SIZE;
 use std::alloc::{AllocError, Global};
 
 /// A second in nanoseconds.
@@ -11,8 +10,9 @@ pub struct Figures {
     /// How long after the flow began the last byte was acknowledged, or, if it was aborted, the last thing happened, in
     /// nanoseconds.
     pub time: u64,
-    /// How many bytes were to be transferred.
+    /// How many bytes were to be transferred, in packets of this size.
     pub bytes: u64,
+    pub size: u16,
     /// How many packets were sent.
     pub sent: u64,
     /// How many were acknowledged.
@@ -37,10 +37,11 @@ pub struct Figures {
 
 impl Figures {
     /// Returns the figures before anything was sent.
-    pub fn new(bytes: u64) -> Self {
+    pub fn new(bytes: u64, size: u16) -> Self {
         Figures {
             time: 0,
             bytes,
+            size,
             sent: 0,
             acked: 0,
             lost: 0,
@@ -56,7 +57,7 @@ impl Figures {
 
     /// Returns how many bits per second of the payload were acknowledged, rounded down.
     fn goodput(&self) -> u128 {
-        let bytes = self.acked.saturating_mul(u64::from(SIZE)).min(self.bytes);
+        let bytes = self.acked.saturating_mul(u64::from(self.size)).min(self.bytes);
         let time = u128::from(self.time).max(1);
         u128::from(bytes) * 8 * SECOND / time
     }

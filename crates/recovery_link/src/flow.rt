@@ -1,10 +1,10 @@
 //! A flow: an application, a sender, its peer, and the way back.
 use crate::ending::Ending;
 use crate::figures::Figures;
-use crate::link::{Arrival, Link, sooner};
-use crate::peer::{Frame, Peer};
+use crate::changes::Changes;
+use crate::link::{Link, sooner};
 use crate::sending::Sending;
-use crate::settings::{Form, SIZE, Settings, Window};
+use crate::settings::{Form, Settings, Window};
 use crate::telling::Teller;
 use rand_core::SeedableRng;
 use rand_pcg::Pcg32;
@@ -12,47 +12,14 @@ use recovery_base::below::NoMemory;
 use recovery_congestion::congestion::NewRenoConfig;
 use recovery_cubic::CubicConfig;
 use recovery_engine::controllers::{ChosenConfig, FixedConfig};
+use recovery_network::application::{Application, items_of};
 use recovery_network::bottleneck::QueuedPacket;
 use recovery_network::draws::Draws;
+use recovery_network::peer::{Arrival, Frame, Peer};
+use recovery_network::schedule::Schedule;
 use recovery_network::way::Way;
 use std::alloc::Global;
 use std::collections::VecDeque;
-
-/// What an application writes: items of the size of a packet.
-#[derive(Clone, Copy)]
-struct Application {
-    /// How many it writes in all.
-    items: u64,
-    /// How many it writes at a time, and how long after one another, in nanoseconds; 0: all at once.
-    chunk: u64,
-    every: u64,
-    /// When it begins, in nanoseconds.
-    start: u64,
-}
-
-impl Application {
-    /// Returns how many items it has written by now.
-    fn written(&self, now: u64) -> u64 {
-        if now < self.start {
-            return 0;
-        }
-        match (now - self.start).checked_div(self.every) {
-            Some(times) => self
-                .items
-                .min(times.saturating_add(1).saturating_mul(self.chunk)),
-            None => self.items,
-        }
-    }
-
-    /// Returns when it writes the item of this index.
-    fn writes(&self, index: u64) -> u64 {
-        let times = match index.checked_div(self.chunk) {
-            Some(times) => times,
-            None => 0,
-        };
-        self.start.saturating_add(times.saturating_mul(self.every))
-    }
-}
 
 /// A flow. Times are in nanoseconds.
 #[derive(Drop)]
@@ -61,6 +28,8 @@ pub struct Flow {
     index: u64,
     sending: Sending,
     application: Application,
+    /// The bytes of each packet.
+    size: u16,
     is_ect: bool,
     /// How many items were sent for the first time.
     begun: u64,
@@ -82,6 +51,13 @@ fn chosen(window: Window) -> ChosenConfig {
     }
 }
 
+/// Returns the application of a flow that begins at this time: its items have the size of a packet.
+fn application(settings: &Settings, start: u64) -> Application {
+    let size = u64::from(settings.size.max(1));
+    let items = items_of(settings.bytes, size);
+    Application::new(items, items_of(settings.chunk, size), settings.every, start)
+}
+
 fn is_due(moment: Option<u64>, now: u64) -> bool {
     match moment {
         Some(moment) => moment <= now,
@@ -92,33 +68,35 @@ fn is_due(moment: Option<u64>, now: u64) -> bool {
 impl Flow {
     /// Returns a flow that has sent nothing. The first one has the records, the others have the rivals' controller and
     /// begin later.
-    pub fn new(alloc: Global, settings: &Settings, index: u64) -> Result<Self, NoMemory> {
+    pub fn new(
+        alloc: Global,
+        settings: &Settings,
+        changes: &Changes,
+        index: u64,
+    ) -> Result<Self, NoMemory> {
         let (form, window) = if index == 0 {
             (settings.form, settings.window)
         } else {
             (Form::Figures, settings.rival.unwrap_or(settings.window))
         };
-        let sending = Sending::new(alloc, chosen(window), settings, Teller::new(alloc, form))?;
-        let size = u64::from(SIZE);
+        let teller = Teller::new(alloc, form, settings.size);
+        let sending = Sending::new(alloc, chosen(window), settings, teller)?;
+        let delays = Schedule::new(alloc, settings.link.delay, &changes.delays)?;
         let start = settings.stagger.saturating_mul(index);
         let seed = settings.seed.wrapping_add(index).wrapping_add(1);
         Ok(Flow {
             alloc,
             index,
             sending,
-            application: Application {
-                items: settings.bytes.div_ceil(size),
-                chunk: settings.chunk.div_ceil(size),
-                every: settings.every,
-                start,
-            },
+            application: application(settings, start),
+            size: settings.size,
             is_ect: settings.is_ect,
             begun: 0,
             again: VecDeque::new(alloc),
             wake: Some(start),
             peer: Peer::new(alloc, settings.ack_delay),
             draws: Draws::new(Pcg32::seed_from_u64(seed), settings.link.back),
-            back: Way::new(alloc, settings.link.delay),
+            back: Way::new(alloc, delays),
             late: settings.link.late,
         })
     }
@@ -140,7 +118,7 @@ impl Flow {
 
     /// Returns whether all items are acknowledged.
     pub fn is_done(&self) -> bool {
-        self.begun >= self.application.items && self.again.is_empty() && !self.sending.is_carrying()
+        self.begun >= self.application.items() && self.again.is_empty() && !self.sending.is_carrying()
     }
 
     /// Returns when something happens next, unless all is done.
@@ -167,7 +145,8 @@ impl Flow {
 
     /// Passes a packet to the peer.
     pub fn receive(&mut self, now: u64, arrival: Arrival) -> Result<(), NoMemory> {
-        self.peer.receive(now, arrival)
+        let _is_new = self.peer.receive(now, arrival)?;
+        Ok(())
     }
 
     /// Sends the ACK that is due.
@@ -232,7 +211,7 @@ impl Flow {
             let number = self.sending.send(now, item)?;
             link.enter(self.packet(now, number))?;
         }
-        if self.has_nothing(now) && self.begun < self.application.items {
+        if self.has_nothing(now) && self.begun < self.application.items() {
             self.wake = Some(
                 self.application
                     .writes(self.begun)
@@ -246,7 +225,7 @@ impl Flow {
         QueuedPacket {
             flow: self.index,
             number,
-            size: SIZE,
+            size: self.size,
             came: now,
             is_ect: self.is_ect && self.sending.may_mark(),
         }
@@ -264,7 +243,7 @@ impl Flow {
         if !self.is_done() {
             figures.time = now;
         }
-        figures.time = figures.time.saturating_sub(self.application.start);
+        figures.time = figures.time.saturating_sub(self.application.start());
         figures.queue = link.most();
         figures.dropped = passage.dropped;
         figures.marked = passage.marked;

@@ -1,4 +1,5 @@
 //! The link that all flows share: a queue, its manager, and a way with losses, late packets and duplicates.
+use crate::changes::Changes;
 use crate::settings::Settings;
 use rand_core::SeedableRng;
 use rand_pcg::Pcg32;
@@ -6,16 +7,10 @@ use recovery_base::below::NoMemory;
 use recovery_network::bottleneck::{Bottleneck, QueuedPacket};
 use recovery_network::codel::{CoDel, Look};
 use recovery_network::draws::Draws;
+use recovery_network::peer::Arrival;
+use recovery_network::schedule::Schedule;
 use recovery_network::way::Way;
 use std::alloc::Global;
-
-/// A packet in transit after the queue.
-#[derive(Clone, Copy)]
-pub struct Arrival {
-    pub packet: QueuedPacket,
-    /// Whether the queue marked it (RFC 3168).
-    pub is_marked: bool,
-}
 
 /// What happened to a flow's packets at the queue.
 #[derive(Clone, Copy)]
@@ -64,8 +59,10 @@ pub struct Link {
 
 impl Link {
     /// Returns a link with nothing on it.
-    pub fn new(alloc: Global, settings: &Settings) -> Result<Self, NoMemory> {
+    pub fn new(alloc: Global, settings: &Settings, changes: &Changes) -> Result<Self, NoMemory> {
         let shape = settings.link;
+        let rates = Schedule::new(alloc, shape.rate, &changes.rates)?;
+        let delays = Schedule::new(alloc, shape.delay, &changes.delays)?;
         let mut passages = Vec::new(alloc);
         for _ in 0..settings.flows {
             passages.push(Passage::NONE)?;
@@ -76,12 +73,12 @@ impl Link {
             None
         };
         Ok(Link {
-            queue: Bottleneck::new(alloc, shape.rate.max(1), shape.queue),
+            queue: Bottleneck::new(alloc, rates, shape.queue),
             manager,
             is_seen: false,
             is_marked: false,
             draws: Draws::new(Pcg32::seed_from_u64(settings.seed), shape.there),
-            way: Way::new(alloc, shape.delay),
+            way: Way::new(alloc, delays),
             late: shape.late,
             passages,
         })

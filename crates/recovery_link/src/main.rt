@@ -3,18 +3,19 @@
 #![tactic(auto)]
 
 mod amounts;
+mod changes;
 mod ending;
 mod figures;
 mod flow;
 mod link;
 mod pages;
-mod peer;
 mod sending;
 mod settings;
 mod tape;
 mod telling;
 mod transfer;
 
+use changes::{Changes, Unfit, changes_of};
 use ending::Ending;
 use figures::Figures;
 use pages::{HELP, VERSION};
@@ -61,10 +62,19 @@ fn shown(rt: &HostRuntime, form: Form, all: &[Figures]) -> Ending {
 }
 
 /// Runs a transfer over a link.
-fn run(rt: &HostRuntime, settings: &Settings) -> Ending {
-    match transferred(rt.alloc(), settings, &mut rt.stdout()) {
+fn run(rt: &HostRuntime, settings: &Settings, changes: &Changes) -> Ending {
+    match transferred(rt.alloc(), settings, changes, &mut rt.stdout()) {
         Ok(all) => shown(rt, settings.form, &all),
         Err(ending) => ending,
+    }
+}
+
+/// Runs a transfer over a link that changes as the arguments ask for.
+fn run_with(rt: &HostRuntime, settings: &Settings, words: &[String]) -> Ending {
+    match changes_of(rt.alloc(), words) {
+        Ok(changes) => run(rt, settings, &changes),
+        Err(Unfit::OutOfMemory) => Ending::OutOfMemory,
+        Err(Unfit::Order(place)) => refused(rt, words, place),
     }
 }
 
@@ -83,7 +93,7 @@ fn asked(rt: &HostRuntime, words: &[String]) -> Ending {
         [word] if word.as_str() == "--help" => written(print!(rt; "{HELP}")),
         [word] if word.as_str() == "--version" => written(print!(rt; "{VERSION}")),
         words => match settings_of(words) {
-            Ok(settings) => run(rt, &settings),
+            Ok(settings) => run_with(rt, &settings, words),
             Err(place) => refused(rt, words, place),
         },
     }

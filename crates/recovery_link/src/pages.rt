@@ -13,6 +13,7 @@ Transfers bytes over a simulated link with the sender of recovery-sender, and pr
   controller=   newreno, cubic, or a constant window in bytes (newreno)
   paced=        yes or no: whether datagrams wait for the pacer (yes)
   bytes=        how many bytes each flow transfers, 1 to 1000G (1M)
+  size=         the bytes of each packet, 40 to 1200 (1200)
   flows=        how many flows share the link, 1 to 64 (1)
   rival=        the controller of all flows except the first (the controller of the first)
   stagger=      the time from the start of one flow to the start of the next (0)
@@ -20,6 +21,7 @@ Transfers bytes over a simulated link with the sender of recovery-sender, and pr
   every=        the time from one write to the next; 0: the application writes all at once (0)
   rate=         the rate of the link, in bits per second, 1 to 1000G (10M)
   delay=        the one-way delay of a packet, and of an ACK on the way back (25ms)
+  rate@TIME= delay@TIME=   the rate and the delay from a time on, in order of time, as in rate@2s=1M
   queue=        the size of the queue before the link, in bytes, 1200 to 1000G (62500)
   aqm=          tail: a full queue drops packets; codel: CoDel does so too (tail)
   target=       CoDel's target: how long packets may wait (5ms)

@@ -3,8 +3,7 @@ ghost use Rattle.std.specs.Prelude.{◌≡◌};
 
 use crate::ending::Ending;
 use crate::figures::Figures;
-use crate::peer::Frame;
-use crate::settings::{SIZE, Settings};
+use crate::settings::Settings;
 use crate::telling::{Metrics, Teller};
 use rand_core::SeedableRng;
 use rand_pcg::Pcg32;
@@ -14,6 +13,7 @@ use recovery_congestion::congestion::Controller;
 use recovery_engine::controllers::ChosenConfig;
 use recovery_events::event::{Answer, Event};
 use recovery_losses::{Ack, Side};
+use recovery_network::peer::Frame;
 use recovery_queue::items::ItemQueue;
 use recovery_replay::replay::{FIRST_PORT, config, skips};
 use recovery_script_syntax::lines::peer_at;
@@ -28,6 +28,8 @@ pub struct Sending {
     sender: Sender<ChosenConfig, ItemQueue, Pcg32>,
     pub teller: Teller,
     is_paced: bool,
+    /// The bytes of each packet.
+    size: u16,
     /// How many packets in flight carry an item, and the numbers of those that carry none.
     carrying: u64,
     silent: Vec<u64>,
@@ -73,9 +75,10 @@ impl Sending {
             sender,
             teller,
             is_paced: settings.is_paced,
+            size: settings.size,
             carrying: 0,
             silent: Vec::new(alloc),
-            figures: Figures::new(settings.bytes),
+            figures: Figures::new(settings.bytes, settings.size),
         })
     }
 
@@ -109,7 +112,7 @@ impl Sending {
     /// Returns whether the window has room for a packet (RFC 9002, 7), or a probe is due, which may exceed it (7.5).
     pub fn may_send(&self) -> bool {
         let window = self.sender.recovery().current().congestion.window();
-        let with = self.in_flight().saturating_add(u64::from(SIZE));
+        let with = self.in_flight().saturating_add(u64::from(self.size));
         with <= window || self.is_probing()
     }
 
@@ -141,7 +144,10 @@ impl Sending {
 
     fn ask(&mut self, now: u64) -> Result<Option<u64>, SenderError> {
         let at = Instant::from_nanos(now);
-        match self.sender.transmit(at, SIZE, SpaceId::Data, self.is_paced) {
+        match self
+            .sender
+            .transmit(at, self.size, SpaceId::Data, self.is_paced)
+        {
             Ok(sent) => Ok(again_at(&sent)),
             Err(refused) => Err(refused),
         }
@@ -170,7 +176,7 @@ impl Sending {
         let at = Instant::from_nanos(now);
         match self
             .sender
-            .send(SpaceId::Data, at, SIZE, true, None, queue, ())
+            .send(SpaceId::Data, at, self.size, true, None, queue, ())
         {
             Ok(Answer::Sent { number, .. }) => Ok(number),
             Ok(_) => Err(Ending::SenderError),

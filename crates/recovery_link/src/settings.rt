@@ -1,10 +1,14 @@
 //! The settings that the arguments choose.
 use crate::amounts::{choice_in, count_in, share_in, span_in, within};
+use crate::changes::is_change;
 use recovery_network::draws::Chances;
 use recovery_script_syntax::words::number_in;
 
-/// The bytes of each packet, all of which are payload.
-pub const SIZE: u16 = 1200;
+/// The most bytes of a packet: the MTU, since no larger one is searched.
+pub const LARGEST: u16 = 1200;
+
+/// The fewest bytes of a packet.
+const SMALLEST: u64 = 40;
 
 /// The largest rate, size and span that can be chosen.
 const MOST: u64 = 1_000_000_000_000;
@@ -62,6 +66,8 @@ pub struct Settings {
     pub is_paced: bool,
     /// How many bytes each flow transfers, above zero.
     pub bytes: u64,
+    /// The bytes of each packet, above zero, all of which are payload.
+    pub size: u16,
     pub link: Shape,
     /// Whether controlled delay manages the queue (RFC 8289), with its target and its interval.
     pub is_managed: bool,
@@ -97,6 +103,7 @@ const USUAL: Settings = Settings {
     window: Window::NewReno,
     is_paced: true,
     bytes: 1_000_000,
+    size: LARGEST,
     link: Shape {
         rate: 10_000_000,
         delay: 25_000_000,
@@ -143,6 +150,7 @@ fn with_word(settings: Settings, word: &str) -> Option<Settings> {
             form: Form::Qlog,
             ..settings
         }),
+        _ if is_change(word) => Some(settings),
         _ => {
             let (name, value) = word.split_once('=')?;
             with_value(settings, name, value)
@@ -162,6 +170,10 @@ fn with_value(settings: Settings, name: &str, value: &str) -> Option<Settings> {
         }),
         "bytes" => Some(Settings {
             bytes: within(1, count_in(value)?, MOST)?,
+            ..settings
+        }),
+        "size" => Some(Settings {
+            size: size_in(value)?,
             ..settings
         }),
         "ack-delay" => Some(Settings {
@@ -242,7 +254,7 @@ fn with_shape(link: Shape, name: &str, value: &str) -> Option<Shape> {
             ..link
         }),
         "queue" => Some(Shape {
-            queue: within(u64::from(SIZE), count_in(value)?, MOST)?,
+            queue: within(u64::from(LARGEST), count_in(value)?, MOST)?,
             ..link
         }),
         "late" => Some(Shape {
@@ -284,6 +296,11 @@ fn with_chance(chances: Chances, name: &str, value: &str) -> Option<Chances> {
     }
 }
 
+fn size_in(word: &str) -> Option<u16> {
+    let size = within(SMALLEST, count_in(word)?, u64::from(LARGEST))?;
+    u16::try_from(size).ok()
+}
+
 fn window_in(word: &str) -> Option<Window> {
     match word {
         "newreno" => Some(Window::NewReno),
@@ -292,17 +309,30 @@ fn window_in(word: &str) -> Option<Window> {
     }
 }
 
+/// Returns what a change may be, if it cannot be read or is out of order.
+fn hint_of_change(name: &str) -> &'static str {
+    match name {
+        "rate" => "the rate from a time on, in order of time, as in rate@2s=1M",
+        "delay" => "the delay from a time on, in order of time, as in delay@2s=50ms",
+        _ => "only rate and delay change, as in rate@2s=1M",
+    }
+}
+
 /// Returns what an argument may be, if it cannot be read.
 pub fn hint_of(word: &str) -> &'static str {
     let Some((name, _)) = word.split_once('=') else {
         return "an argument is NAME=VALUE, --script or --qlog, as in loss=0.5%; --help has the names";
     };
+    if let Some((name, _)) = name.split_once('@') {
+        return hint_of_change(name);
+    }
     match name {
         "controller" | "rival" => "newreno, cubic, or a window in bytes, as in controller=cubic",
         "paced" | "ecn" => "yes or no, as in paced=no",
         "aqm" => "tail or codel, as in aqm=codel",
         "bytes" | "chunk" => "1 to 1000G bytes, as in bytes=1.5M",
         "rate" => "1 to 1000G bits a second, as in rate=10M",
+        "size" => "40 to 1200 bytes, as in size=600",
         "queue" => "1200 to 1000G bytes, as in queue=62.5k",
         "flows" => "1 to 64, as in flows=2",
         "seed" => "0 to 18446744073709551615, as in seed=7",

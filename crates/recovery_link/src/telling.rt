@@ -1,10 +1,10 @@
 //! The records of a run: the calls of the sender, as lines of `recovery-sender`, or what happened, as qlog in JSON text
 //! sequences (RFC 7464; draft-ietf-quic-qlog-main-schema, draft-ietf-quic-qlog-quic-events).
 use crate::ending::Ending;
-use crate::peer::Frame;
-use crate::settings::{Form, SIZE};
+use crate::settings::Form;
 use crate::tape::{Piece, Tape};
 use Piece::{Number, Text};
+use recovery_network::peer::Frame;
 use recovery_sender::Losses;
 use std::alloc::Global;
 use std::io::Write;
@@ -26,6 +26,8 @@ pub struct Metrics {
 #[derive(Drop)]
 pub struct Teller {
     form: Form,
+    /// The bytes of each packet.
+    size: u16,
     tape: Tape,
     /// The timer and the window in the last record.
     timer: Option<u64>,
@@ -36,9 +38,10 @@ pub struct Teller {
 
 impl Teller {
     /// Returns a writer without any record.
-    pub fn new(alloc: Global, form: Form) -> Self {
+    pub fn new(alloc: Global, form: Form, size: u16) -> Self {
         Teller {
             form,
+            size,
             tape: Tape::new(alloc),
             timer: None,
             window: 0,
@@ -120,7 +123,7 @@ impl Teller {
             Text("transmit data "),
             Number(now),
             Text(" "),
-            Number(u64::from(SIZE)),
+            Number(u64::from(self.size)),
             Text(if is_paced { " 1\n" } else { " 0\n" }),
         ])
     }
@@ -150,7 +153,7 @@ impl Teller {
             Text("send data "),
             Number(now),
             Text(" "),
-            Number(u64::from(SIZE)),
+            Number(u64::from(self.size)),
             Text(" 1 -"),
         ])?;
         if let Some(item) = item {
@@ -175,7 +178,7 @@ impl Teller {
             Text("\"header\":{\"packet_type\":\"1RTT\",\"packet_number\":"),
             Number(number),
             Text("},\"raw\":{\"length\":"),
-            Number(u64::from(SIZE)),
+            Number(u64::from(self.size)),
             Text("},\"frames\":["),
         ])?;
         self.content(item)?;
@@ -190,9 +193,9 @@ impl Teller {
         match item {
             Some(item) => self.tape.write(&[
                 Text("{\"frame_type\":\"stream\",\"stream_id\":0,\"offset\":"),
-                Number(item.saturating_mul(u64::from(SIZE))),
+                Number(item.saturating_mul(u64::from(self.size))),
                 Text(",\"length\":"),
-                Number(u64::from(SIZE)),
+                Number(u64::from(self.size)),
                 Text("}"),
             ]),
             None => self.tape.write(&[Text("{\"frame_type\":\"ping\"}")]),

@@ -1,4 +1,5 @@
 //! A transfer: flows and a link in a closed loop.
+use crate::changes::Changes;
 use crate::ending::Ending;
 use crate::figures::Figures;
 use crate::flow::Flow;
@@ -16,13 +17,13 @@ struct Transfer {
 }
 
 impl Transfer {
-    fn new(alloc: Global, settings: &Settings) -> Result<Self, NoMemory> {
+    fn new(alloc: Global, settings: &Settings, changes: &Changes) -> Result<Self, NoMemory> {
         let mut flows = Vec::new(alloc);
         for index in 0..settings.flows {
-            let flow = Flow::new(alloc, settings, index)?;
+            let flow = Flow::new(alloc, settings, changes, index)?;
             flows.push(flow)?;
         }
-        let link = Link::new(alloc, settings)?;
+        let link = Link::new(alloc, settings, changes)?;
         Ok(Transfer { flows, link })
     }
 
@@ -105,13 +106,14 @@ fn ran<W: Write>(
     Ok(all)
 }
 
-/// Runs a transfer. Returns the figures of each flow, and writes the records of the first one to an output.
+/// Runs a transfer over a link with these changes. Returns the figures of each flow, and writes the records of the first one to an output.
 pub fn transferred<W: Write>(
     alloc: Global,
     settings: &Settings,
+    changes: &Changes,
     output: &mut W,
 ) -> Result<Vec<Figures>, Ending> {
-    let mut transfer = Transfer::new(alloc, settings)?;
+    let mut transfer = Transfer::new(alloc, settings, changes)?;
     let all = ran(alloc, &mut transfer, settings, output);
     drop(transfer);
     all

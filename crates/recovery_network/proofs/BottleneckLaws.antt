@@ -1,10 +1,9 @@
 -- The first packet of a queue leaves it: `take`, `discard` and `next` rest on it.
-use Rattle.std.proofs.Common.{◌≡◌, ℕ, ◌+◌, ◌-◌, ◌<◌, ◌≤◌, min, max, List, [], ◌∷◌, ◌++◌, length, reverse, refl, sym, ap, subst, ◌∙◌, Some, slice_index_or, arith, length-append}
+use Rattle.std.proofs.Common.{◌≡◌, ℕ, ◌+◌, ◌-◌, ◌<◌, ◌≤◌, max, List, [], ◌∷◌, ◌++◌, length, reverse, refl, sym, ap, subst, ◌∙◌, Some, slice_index_or, arith, length-append}
 use Rattle.std.proofs.lemmas.List.{append_assoc}
 use Rattle.std.proofs.lemmas.Grind.{reverse_onto}
-use Rattle.recovery_base.specs.Units.{last_time}
 use Rattle.recovery_network.specs.declared.bottleneck.QueuedPacket.{QueuedPacket}
-use Rattle.recovery_network.specs.Bottlenecks.{IsAfter, IsNextOf, Queue, bytes_of, departure, service}
+use Rattle.recovery_network.specs.Bottlenecks.{IsAfter, IsNextOf, Queue, bytes_of, departure, end_of, rate_of}
 
 pub headed : (items : List QueuedPacket) (first : QueuedPacket) → 0 < length items
     → first ≡ slice_index_or items 0 first
@@ -58,22 +57,22 @@ gone let_in left rest first bytes order waits =
     (found.0, omega (arith, found.1, bytes_joined (reverse rest) left))
 
 -- the first packet has not left yet: none has
-pub undue : (let_in left rest waiting : List QueuedPacket) (next : QueuedPacket) (rate now leaves : ℕ)
-    → let_in ≡ reverse waiting ++ left → waiting ≡ next ∷ rest → leaves ≡ departure rate (next ∷ left) → now < leaves
+pub undue : (let_in left rest waiting : List QueuedPacket) (next : QueuedPacket) (rate_at : ℕ → ℕ) (now leaves : ℕ)
+    → let_in ≡ reverse waiting ++ left → waiting ≡ next ∷ rest → leaves ≡ departure rate_at (next ∷ left) → now < leaves
     → (first : QueuedPacket) (later : List QueuedPacket) → let_in ≡ later ++ first ∷ left
-    → now < departure rate (first ∷ left)
-undue let_in left rest waiting next rate now leaves order is leaving lt first later apart =
+    → now < departure rate_at (first ∷ left)
+undue let_in left rest waiting next rate_at now leaves order is leaving lt first later apart =
     let same = same_first later (reverse rest) first next left
     (sym apart ∙ order ∙ ap (λ packets. reverse packets ++ left) is ∙ unreversed next rest left) in
     rw same (rw leaving at lt)
 
 pub takes_first : (let_in left rest : List QueuedPacket) (old new : Queue) (first : QueuedPacket) (leaves now : ℕ)
-    → IsAfter let_in left old → old.waiting ≡ first ∷ rest → IsNextOf old.waiting left old.rate (Some leaves)
+    → IsAfter let_in left old → old.waiting ≡ first ∷ rest → IsNextOf old.waiting left (rate_of old) (Some leaves)
     → leaves ≤ now → new ≡ record old { waiting = rest; bytes = old.bytes - first.size; free = leaves }
-    → (departure old.rate (first ∷ left) ≤ now) × IsAfter let_in (first ∷ left) new
+    → (departure (rate_of old) (first ∷ left) ≤ now) × IsAfter let_in (first ∷ left) new
 takes_first let_in left rest old new first leaves now after is next le becomes =
     let same : next.0 ≡ first = cc (is, next.2) in
-    let leaving : leaves ≡ departure old.rate (first ∷ left) = rw same at next.3 in
+    let leaving : leaves ≡ departure (rate_of old) (first ∷ left) = rw same at next.3 in
     let found = took let_in left rest first old.bytes
     (after.order ∙ ap (λ packets. reverse packets ++ left) is) after.waits in (
       rw leaving at le,
@@ -95,18 +94,18 @@ discards_first let_in left rest old new first after is becomes =
     )
 
 pub takes_none : (let_in left : List QueuedPacket) (queue : Queue) (leaves now : ℕ) → IsAfter let_in left queue
-    → IsNextOf queue.waiting left queue.rate (Some leaves) → now < leaves
+    → IsNextOf queue.waiting left (rate_of queue) (Some leaves) → now < leaves
     → ((first : QueuedPacket) (later : List QueuedPacket) → let_in ≡ later ++ first ∷ left
-    → now < departure queue.rate (first ∷ left)) × IsAfter let_in left queue
+    → now < departure (rate_of queue) (first ∷ left)) × IsAfter let_in left queue
 takes_none let_in left queue leaves now after next lt = (
-  undue let_in left next.1 queue.waiting next.0 queue.rate now leaves after.order next.2 next.3 lt,
+  undue let_in left next.1 queue.waiting next.0 (rate_of queue) now leaves after.order next.2 next.3 lt,
   after,
 )
 
 pub leads : (let_in left : List QueuedPacket) (queue : Queue) (first : QueuedPacket) (leaves : ℕ)
     → IsAfter let_in left queue → 0 < length queue.waiting → first ≡ slice_index_or queue.waiting 0 first
-    → leaves ≡ min last_time (max first.came queue.free + service queue.rate first.size)
-    → IsNextOf queue.waiting left queue.rate (Some leaves)
+    → leaves ≡ end_of (rate_of queue) (max first.came queue.free) first.size
+    → IsNextOf queue.waiting left (rate_of queue) (Some leaves)
 leads let_in left queue first leaves after lt is leaving =
     let found = headed queue.waiting first lt is in
     (first, found.0, found.1, rw after.free at leaving)

@@ -1,1 +1,3 @@
 mod BottleneckLaws
+mod PeerLaws
+mod WriteLaws

@@ -4,7 +4,8 @@ use Rattle.recovery_network.specs.Bottlenecks.{Queue}
 
 abbrev pub queue_in : Inside → Queue
 queue_in queue = record {
-  rate = queue.rate;
+  rate = queue.rates.first;
+  changes = queue.rates.changes.items;
   room = queue.room;
   waiting = queue.waiting.items;
   bytes = queue.bytes;

@@ -4,19 +4,25 @@ use Rattle.std.specs.Prelude.{◌≡◌, ℕ, ◌+◌, ◌*◌, ◌<◌, ◌≤�
 use Rattle.std.specs.Int.{div_ceil}
 use Rattle.recovery_base.specs.Units.{last_time, seconds}
 use Rattle.recovery_network.specs.declared.bottleneck.QueuedPacket.{QueuedPacket}
+use Rattle.recovery_network.specs.declared.schedule.Change.{Change}
+use Rattle.recovery_network.specs.Schedules.{value_at}
 
 -- ---- what follows from the packets that were let in, the newest first
 
--- the nanoseconds in which a link of this many bits a second sends these bytes, rounded up
+-- the nanoseconds in which a link of this many bits a second sends these bytes, rounded up; no rate is below one
 abbrev pub service : ℕ → ℕ → ℕ
-service rate size = div_ceil (size * 8 * seconds) rate
+service rate size = div_ceil (size * 8 * seconds) (max 1 rate)
+
+-- When the last bit of a packet is sent, whose first bit is sent at this time, at the rate of that time. Times end with
+-- the clock.
+abbrev pub end_of : (ℕ → ℕ) → ℕ → ℕ → ℕ
+end_of rate_at begins size = min last_time (begins + service (rate_at begins) size)
 
 -- When the last bit of the newest packet is sent. The first one is sent when the packet has come and all packets before
--- it have left. Times end with the clock.
-abbrev pub departure : ℕ → List QueuedPacket → ℕ
-departure rate [] = 0
-departure rate (packet ∷ before) =
-    min last_time (max packet.came (departure rate before) + service rate packet.size)
+-- it have left.
+abbrev pub departure : (ℕ → ℕ) → List QueuedPacket → ℕ
+departure rate_at [] = 0
+departure rate_at (packet ∷ before) = end_of rate_at (max packet.came (departure rate_at before)) packet.size
 
 abbrev pub bytes_of : List QueuedPacket → ℕ
 bytes_of [] = 0
@@ -25,8 +31,10 @@ bytes_of (packet ∷ packets) = packet.size + bytes_of packets
 -- ---- a queue after a history
 
 pub record Queue : Type 0 where
-  -- bits a second, and the bytes that may wait
+  -- bits a second, at first and from later times on
   pub rate : ℕ
+  pub changes : List Change
+  -- the bytes that may wait
   pub room : ℕ
   -- the packets that have not left, the first to leave first, and their bytes
   pub waiting : List QueuedPacket
@@ -36,8 +44,11 @@ pub record Queue : Type 0 where
   -- the most bytes that waited
   pub most : ℕ
 
+-- bits a second at each time
+abbrev pub rate_of : Queue → ℕ → ℕ
+rate_of queue = value_at queue.rate queue.changes
+
 pub record IsSound (queue : Queue) : Type 0 where
-  pub flows : 0 < queue.rate
   pub fits : queue.bytes ≤ queue.room
   pub largest : queue.bytes ≤ queue.most
   pub fitted : queue.most ≤ queue.room
@@ -47,11 +58,11 @@ pub record IsSound (queue : Queue) : Type 0 where
 pub record IsAfter (let_in left : List QueuedPacket) (queue : Queue) : Type 0 where
   pub order : let_in ≡ reverse queue.waiting ++ left
   pub waits : bytes_of let_in ≡ queue.bytes + bytes_of left
-  pub free : queue.free ≡ departure queue.rate left
+  pub free : queue.free ≡ departure (rate_of queue) left
 
--- the rate and the room stay
+-- the rates and the room stay
 pub record IsSameLink (old new : Queue) : Type 0 where
-  pub rate : new.rate ≡ old.rate
+  pub rates : rate_of new ≡ rate_of old
   pub room : new.room ≡ old.room
 
 -- nothing happened, whatever the history
@@ -70,24 +81,24 @@ Admits packet old new is_in =
     (let_in left : List QueuedPacket) → IsAfter let_in left old → AdmitsAfter let_in left packet old new is_in
 
 -- the departure of the packet that leaves next, if any waits
-abbrev pub IsNextOf : List QueuedPacket → List QueuedPacket → ℕ → Option ℕ → Type 0
-IsNextOf waiting left rate None = waiting ≡ []
-IsNextOf waiting left rate (Some leaves) =
+abbrev pub IsNextOf : List QueuedPacket → List QueuedPacket → (ℕ → ℕ) → Option ℕ → Type 0
+IsNextOf waiting left rate_at None = waiting ≡ []
+IsNextOf waiting left rate_at (Some leaves) =
     (first : QueuedPacket) × (rest : List QueuedPacket) × (waiting ≡ first ∷ rest)
-    × (leaves ≡ departure rate (first ∷ left))
+    × (leaves ≡ departure rate_at (first ∷ left))
 
 abbrev pub IsNext : Queue → Option ℕ → Type 0
 IsNext queue leaves =
-    (let_in left : List QueuedPacket) → IsAfter let_in left queue → IsNextOf queue.waiting left queue.rate leaves
+    (let_in left : List QueuedPacket) → IsAfter let_in left queue → IsNextOf queue.waiting left (rate_of queue) leaves
 
 -- The packet that leaves next is the first one that was let in and has not left, and it has left by now. Or none has.
 abbrev pub TakesAfter : List QueuedPacket → List QueuedPacket → ℕ → Queue → Queue → Option QueuedPacket → Type 0
 TakesAfter let_in left now old new None =
     ((first : QueuedPacket) (later : List QueuedPacket) → let_in ≡ later ++ first ∷ left
-    → now < departure old.rate (first ∷ left))
+    → now < departure (rate_of old) (first ∷ left))
     × IsAfter let_in left new
 TakesAfter let_in left now old new (Some first) =
-    (departure old.rate (first ∷ left) ≤ now) × IsAfter let_in (first ∷ left) new
+    (departure (rate_of old) (first ∷ left) ≤ now) × IsAfter let_in (first ∷ left) new
 
 abbrev pub Takes : ℕ → Queue → Queue → Option QueuedPacket → Type 0
 Takes now old new taken =

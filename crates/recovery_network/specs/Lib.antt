@@ -1,5 +1,8 @@
 pub mod BottleneckView
 pub mod Bottlenecks
 pub mod RandomEvents
+pub mod Receipts
+pub mod Schedules
 pub mod Sojourns
 pub mod Ways
+pub mod Writes

@@ -1,8 +1,9 @@
 //! The queue before a simulated link: packets are sent at a rate, one after another, and one without room is dropped.
-ghost use Rattle.std.specs.Prelude.{◌≡◌, ◌+◌, ◌≤◌, ◌<◌, min, max, [], OnErr, IfOk};
-ghost use Rattle.recovery_base.specs.Units.{last_time};
-ghost use Rattle.recovery_network.specs.Bottlenecks.{Admits, IsAfter, IsNext, IsSameLink, Keeps, Takes, Discards, service};
+ghost use Rattle.std.specs.Prelude.{◌≡◌, ◌≤◌, max, [], OnErr, IfOk};
+ghost use Rattle.recovery_network.specs.Bottlenecks.{Admits, IsAfter, IsNext, IsSameLink, Keeps, Takes, Discards, end_of, rate_of, service};
+ghost use Rattle.recovery_network.specs.Schedules.{value_at};
 
+use crate::schedule::Schedule;
 use std::alloc::{AllocError, Global};
 use std::collections::VecDeque;
 use std::marker::Model;
@@ -27,7 +28,7 @@ pub struct QueuedPacket {
 /// The queue before a link. Times are in nanoseconds.
 #[derive(Drop)]
 pub struct Bottleneck {
-    rate: u64,
+    rates: Schedule,
     room: u64,
     /// The packets that have not left, in the order in which they came; the first is being sent.
     waiting: VecDeque<QueuedPacket>,
@@ -50,36 +51,32 @@ impl Model for Bottleneck {
     ghost invariant = { λ queue. IsSound (queue_in queue) };
 }
 
-/// Returns how long a packet of this size takes to be sent, rounded up to whole nanoseconds.
+/// Returns how long a packet of this size takes to be sent, rounded up to whole nanoseconds. A rate of 0 counts as 1.
 fn service(rate: u64, size: u16) -> u64
-    requires { 0 < rate }
     ensures { result ≡ service rate size }
 {
-    (u64::from(size) * 8 * SECOND).div_ceil(rate)
+    (u64::from(size) * 8 * SECOND).div_ceil(rate.max(1))
 }
 
 /// Returns when the last bit of a packet is sent over a link that is free from this time on.
-fn departure(rate: u64, free: u64, packet: QueuedPacket) -> u64
-    requires { 0 < rate }
-    ensures { result ≡ min last_time (max packet.came free + service rate packet.size) }
+fn departure(rates: &Schedule, free: u64, packet: QueuedPacket) -> u64
+    ensures { result ≡ end_of (value_at rates.now.first rates.now.changes.items)
+        (max packet.came free) packet.size }
 {
-    packet
-        .came
-        .max(free)
-        .saturating_add(service(rate, packet.size))
+    let begins = packet.came.max(free);
+    begins.saturating_add(service(rates.at(begins), packet.size))
 }
 
 impl Bottleneck {
-    /// Returns an empty queue with room for this many bytes, including the packet that is being sent, before a link of
-    /// this many bits per second, one or more.
-    pub fn new(alloc: Global, rate: u64, room: u64) -> Self
-        requires { 0 < rate }
+    /// Returns an empty queue with room for this many bytes, including the packet that is being sent, before a link with
+    /// these rates, in bits per second. A packet is sent at the rate that holds when its first bit is sent.
+    pub fn new(alloc: Global, rates: Schedule, room: u64) -> Self
         ensures begun { IsAfter [] [] result }
-        ensures rate { result.rate ≡ rate }
+        ensures rates { rate_of result ≡ value_at rates.first rates.changes.items }
         ensures room { result.room ≡ room }
     {
         Bottleneck {
-            rate,
+            rates,
             room,
             waiting: VecDeque::new(alloc),
             bytes: 0,
@@ -123,7 +120,7 @@ impl Bottleneck {
         ensures { IsNext self.now result }
     {
         match self.waiting.front() {
-            Some(first) => Some(departure(self.rate, self.free, *first)),
+            Some(first) => Some(departure(&self.rates, self.free, *first)),
             None => None,
         }
     }

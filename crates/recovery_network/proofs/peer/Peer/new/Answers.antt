@@ -1,0 +1,13 @@
+use Rattle.std.proofs.Common.{refl}
+use Rattle.recovery_network.proofs.PeerLaws.{none_in}
+use Rattle.recovery_network.proofs.peer.Peer.new.Goals as goal
+
+pub returns-clause-begun : goal.returns-clause-begun
+returns-clause-begun c = record {
+  largest = refl;
+  held = λ n held. absurd (none_in c.new.result c.new.ensures n held);
+  owes = refl;
+  due = refl;
+  marked = refl;
+  unmarked = refl;
+}

@@ -1,0 +1,116 @@
+-- What a peer received, and the ACKs that it sends (RFC 9000, 13.2). What it received is a list of new packets, each
+-- with its time, the newest first.
+use Rattle.std.specs.Prelude.{◌≡◌, ℕ, zero, suc, ◌+◌, ◌-◌, ◌≤◌, ◌⊎◌, ◌==◌, ◌||◌, ◌&&◌, not, min, max, nat_lt, Bool, true, false, if◌then◌else◌, List, [], ◌∷◌, Option, None, Some}
+use Rattle.std.specs.declared.ops.Range.{Range}
+use Rattle.recovery_base.specs.declared.below.frames.EcnCounts.{EcnCounts}
+use Rattle.recovery_base.specs.Ranges.{InRanges}
+use Rattle.recovery_base.specs.Units.{last_time, number_limit}
+use Rattle.recovery_network.specs.declared.peer.Arrival.{Arrival}
+use Rattle.recovery_network.specs.declared.peer.Frame.{Frame}
+use Rattle.recovery_network.specs.declared.peer.Peer.{Peer}
+
+abbrev pub Receipts : Type 0
+Receipts = List (ℕ × Arrival)
+
+-- one above the largest number received
+abbrev pub expected : Receipts → ℕ
+expected [] = 0
+expected (it ∷ earlier) = max (suc it.1.packet.number) (expected earlier)
+
+-- the packet was received at this time
+abbrev pub CameAt : ℕ → ℕ → Receipts → Type 0
+CameAt number time [] = ⊥
+CameAt number time (it ∷ earlier) =
+    ((it.1.packet.number ≡ number) × (it.0 ≡ time)) ⊎ CameAt number time earlier
+
+abbrev pub Came : ℕ → Receipts → Type 0
+Came number [] = ⊥
+Came number (it ∷ earlier) = (it.1.packet.number ≡ number) ⊎ Came number earlier
+
+-- the largest number received, and when
+abbrev pub IsLargest : Option (ℕ × ℕ) → Receipts → Type 0
+IsLargest None received = received ≡ []
+IsLargest (Some largest) received = (suc largest.0 ≡ expected received) × CameAt largest.0 largest.1 received
+
+-- ---- when an ACK is due
+
+-- At once for a second packet, for one that is not the next after the largest, and for one that is marked
+-- (RFC 9000, 13.2.1 and 13.2.2).
+abbrev pub is_urgent : ℕ → Arrival → Receipts → Bool
+is_urgent before arrival earlier =
+    nat_lt 0 before || (not (arrival.packet.number == expected earlier) || arrival.is_marked)
+
+-- when it is due, if so many packets were received since the last ACK
+abbrev pub due_after : ℕ → ℕ → Receipts → Option ℕ
+due_after delay zero received = None
+due_after delay (suc before) [] = None
+due_after delay (suc before) (it ∷ earlier) =
+    Some (if is_urgent before it.1 earlier then it.0 else min last_time (it.0 + delay))
+
+-- ---- marks
+
+-- how many packets came marked (RFC 3168), and how many could be marked and were not
+abbrev pub count_of : (Arrival → Bool) → Receipts → ℕ
+count_of test [] = 0
+count_of test (it ∷ earlier) = if test it.1 then suc (count_of test earlier) else count_of test earlier
+
+abbrev pub marked_in : Receipts → ℕ
+marked_in = count_of (λ arrival. arrival.is_marked)
+
+abbrev pub unmarked_in : Receipts → ℕ
+unmarked_in = count_of (λ arrival. arrival.packet.is_ect && not arrival.is_marked)
+
+-- ---- a peer after a history
+
+pub record IsAfter (received : Receipts) (since : ℕ) (peer : Peer) : Type 0 where
+  pub largest : IsLargest peer.largest received
+  -- it acknowledges only what it received
+  pub held : (n : ℕ) → InRanges peer.came n → Came n received
+  pub owes : peer.owes ≡ nat_lt 0 since
+  pub due : peer.due ≡ due_after peer.delay since received
+  pub marked : peer.marked ≡ min last_time (marked_in received)
+  pub unmarked : peer.unmarked ≡ min last_time (unmarked_in received)
+
+-- a number is added to the ranges, of which some may be forgotten; or it is in them
+abbrev pub Remembers : ℕ → List (Range ℕ) → List (Range ℕ) → Bool → Type 0
+Remembers number old new true = (n : ℕ) → InRanges new n → InRanges old n ⊎ (n ≡ number)
+Remembers number old new false = InRanges old number × ((n : ℕ) → InRanges new n → InRanges old n)
+
+-- nothing happened, whatever the history
+abbrev pub KeepsReceipts : Peer → Peer → Type 0
+KeepsReceipts old new = (received : Receipts) (since : ℕ) → IsAfter received since old → IsAfter received since new
+
+-- A packet is new, or it was received before, or its number is too large.
+abbrev pub Receives : ℕ → Arrival → Peer → Peer → Bool → Type 0
+Receives now arrival old new true = (received : Receipts) (since : ℕ)
+    → IsAfter received since old → IsAfter ((now, arrival) ∷ received) (suc since) new
+Receives now arrival old new false = (received : Receipts) (since : ℕ) → IsAfter received since old
+    → (Came arrival.packet.number received ⊎ (number_limit ≤ arrival.packet.number)) × IsAfter received since new
+
+-- ---- the ACK
+
+-- The delay is the time since the largest number was received (RFC 9000, 13.2.5).
+abbrev pub IsDelay : ℕ → Receipts → ℕ → Type 0
+IsDelay now received delay = (received ≡ [])
+    ⊎ ((largest : ℕ) × (time : ℕ) × (suc largest ≡ expected received) × CameAt largest time received
+    × (delay ≡ now - time))
+
+-- All numbers of its ranges were received.
+abbrev pub IsInAck : ℕ → List (ℕ × ℕ) → Type 0
+IsInAck n [] = ⊥
+IsInAck n (range ∷ ranges) = ((range.0 ≤ n) × (n ≤ range.1)) ⊎ IsInAck n ranges
+
+-- It has counts of marks if there were any packets that could be marked (RFC 9000, 19.3.2).
+abbrev pub AreCounts : Receipts → Option EcnCounts → Type 0
+AreCounts received None = (marked_in received ≡ 0) × (unmarked_in received ≡ 0)
+AreCounts received (Some counts) = (counts.ce ≡ min last_time (marked_in received))
+    × (counts.ect0 ≡ min last_time (unmarked_in received)) × (counts.ect1 ≡ 0)
+
+pub record IsAckOf (now : ℕ) (received : Receipts) (frame : Frame) : Type 0 where
+  pub delay : IsDelay now received frame.delay
+  pub numbers : (n : ℕ) → IsInAck n frame.ranges.items → Came n received
+  pub counts : AreCounts received frame.ecn
+
+abbrev pub SendsAck : ℕ → Peer → Peer → Frame → Type 0
+SendsAck now old new frame = (received : Receipts) (since : ℕ) → IsAfter received since old
+    → IsAckOf now received frame × IsAfter received 0 new
