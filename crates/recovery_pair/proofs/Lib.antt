@@ -1,6 +1,7 @@
 pub mod FrameLaws
 pub mod GoingLaws
 pub mod HonestLaws
+pub mod LogLaws
 pub mod NewLaws
 pub mod PacketLaws
 pub mod QuietLaws

@@ -1,14 +1,14 @@
 -- The calls by which a packet is sent or received.
-use Rattle.std.proofs.Common.{◌≡◌, ℕ, ◌==◌, ◌&&◌, Bool, true, [], ◌∷◌, Option, Result, Ok, Err, sym, subst, arith}
-use Rattle.std.specs.Prelude.{IfOk, OnErr}
+use Rattle.std.proofs.Common.{◌≡◌, ℕ, ◌==◌, ◌&&◌, Bool, true, false, [], ◌∷◌, Option, Result, Ok, Err, sym, subst, arith}
+use Rattle.std.specs.Prelude.{IfOk, MatchResult, OnErr, OnOk}
 use Rattle.std.proofs.lemmas.Bool.Decides.{nat_tests}
 use Rattle.rand_core.specs.Stream.{Stream}
 use Rattle.recovery_base.specs.declared.below.SpaceId.{SpaceId}
 use Rattle.recovery_base.specs.Spaces.{same_space}
 use Rattle.recovery_events.specs.declared.event.Answer.{Answer}
-use Rattle.recovery_events.specs.declared.event.Answer.TheVariants.{New, Sent}
+use Rattle.recovery_events.specs.declared.event.Answer.TheVariants.{Delayed, Done, New, Sent, Transmitted}
 use Rattle.recovery_events.specs.declared.event.Event.{Event}
-use Rattle.recovery_events.specs.declared.event.Event.TheVariants.{Received, Send}
+use Rattle.recovery_events.specs.declared.event.Event.TheVariants.{DatagramIn, DiscardSpace, Received, Send, Transmit, Validated}
 use Rattle.recovery_losses.specs.declared.variables.Variables.{Variables}
 use Rattle.recovery_history.specs.declared.config.RecoveryConfig.{RecoveryConfig}
 use Rattle.recovery_history.specs.History.{History, Reply, begins, queue_model}
@@ -21,9 +21,12 @@ use Rattle.recovery_sender.specs.declared.sender.Sender.{Sender}
 use Rattle.recovery_sender.specs.declared.sender.SenderError.{SenderError}
 use Rattle.recovery_sender.specs.declared.sender.SenderError.TheVariants as refused
 use Rattle.recovery_sender.specs.declared.sender.packets.Transmission.{Transmission}
-use Rattle.recovery_pair.specs.Pasts.{Continues, GoesOnQuietly, HearsNumber, HearsOrNot, SendsNumber, arm_told}
-use Rattle.recovery_pair.proofs.GoingLaws.{hears_event, hears_then_quiet, known_event, quiet_then, same_itself, sends_event, sends_then_quiet}
-use Rattle.recovery_pair.proofs.QuietLaws.{rearms_quietly, same_quietly, transmits_quietly}
+use Rattle.recovery_sender.specs.declared.sender.packets.Transmission.TheVariants as transmission
+use Rattle.recovery_paths.specs.declared.path_pair.PathName.TheVariants.{Current}
+use Rattle.recovery_pair.specs.Pasts.{Continues, GoesOn, GoesOnQuietly, HearsNumber, SendsNumber, arm_told, arriving, discarding, heard_of, leaving, quiet, validating}
+use Rattle.recovery_pair.specs.Turns.{DatagramTurn, TransmitTurn}
+use Rattle.recovery_pair.proofs.GoingLaws.{arrives_event, delayed_event, discards_event, dropped_event, hears_event, hears_then_quiet, known_event, leaves_event, same_itself, sends_event, sends_then_quiet, then_quiet, validates_event}
+use Rattle.recovery_pair.proofs.QuietLaws.{call_quietly, rearms_quietly, same_quietly}
 
 it_goes : (space : SpaceId) (n : ℕ) → (same_space space space && n == n) ≡ true
 it_goes space n = let same = same_itself space in grind (arith, nat_tests, same)
@@ -71,62 +74,89 @@ module _ {F Q R C K S M P : Type 0} {f : _} {c : _} {q : _} {m : _} {r : _} wher
   pub sends_by_call : (space : SpaceId) (now size : ℕ) (eliciting : Bool) (largest : Option ℕ) (queue : Q) (frames : M)
       (number : ℕ) (forgotten : Option ℕ) (kept : Variables) (old new : Sender F Q R C K S M P f c q m r)
       → CompletesCall (told (Send space now size eliciting largest queue frames) (Ok (Sent number forgotten)) ∷ []) kept
-      old new → Continues (SendsNumber space number) old new
+      old new → Continues (SendsNumber 0 space number) old new
   sends_by_call space now size eliciting largest queue frames number forgotten kept old new does =
       call_goes (Send space now size eliciting largest queue frames) (Ok (Sent number forgotten))
-      (SendsNumber space number) (sends_then_quiet space number) kept old new does
+      (SendsNumber 0 space number) (sends_then_quiet 0 space number) kept old new does
       (λ config start random past keeps. sends_event past (Send space now size eliciting largest queue frames)
       (Ok (Sent number forgotten)) space number keeps.numbers_increase (it_goes space number) tt)
 
-  pub hears_by_call : (space : SpaceId) (now n : ℕ) (eliciting arm : Bool) (kept : Variables)
+  -- ---- a packet is received
+
+  hears_by_call : (space : SpaceId) (now n : ℕ) (eliciting arm : Bool) (kept : Variables)
       (old new : Sender F Q R C K S M P f c q m r)
       → CompletesCall (told (Received space now n eliciting) (Ok (New arm)) ∷ []) kept old new
-      → Continues (HearsNumber space n) old new
+      → Continues (HearsNumber 0 space n (Ok true)) old new
   hears_by_call space now n eliciting arm kept old new does =
-      call_goes (Received space now n eliciting) (Ok (New arm)) (HearsNumber space n) (hears_then_quiet space n) kept
-      old
-      new does (λ config start random past keeps. hears_event past space now n eliciting arm keeps.new)
+      call_goes (Received space now n eliciting) (Ok (New arm)) (HearsNumber 0 space n (Ok true))
+      (hears_then_quiet 0 space n (Ok true)) kept old new does
+      (λ config start random past keeps. hears_event past space now n eliciting arm keeps.new)
 
-  pub known_by_call : (space : SpaceId) (now n : ℕ) (eliciting : Bool) (answer : Answer Q) (kept : Variables)
+  known_by_call : (space : SpaceId) (now n : ℕ) (eliciting : Bool) (answer : Answer Q) (kept : Variables)
       (old new : Sender F Q R C K S M P f c q m r) → ((arm : Bool) → answer ≡ New arm → ⊥)
       → CompletesCall (told (Received space now n eliciting) (Ok answer) ∷ []) kept old new
-      → Continues GoesOnQuietly old new
+      → Continues (HearsNumber 0 space n (Ok false)) old new
   known_by_call space now n eliciting answer kept old new other does =
-      call_goes (Received space now n eliciting) (Ok answer) GoesOnQuietly
-      (λ past between after first second. quiet_then past between after first second) kept old new does
-      (λ config start random past keeps. known_event past space now n eliciting (Ok answer)
-      (λ arm is. other arm (cc)))
+      call_goes (Received space now n eliciting) (Ok answer) (HearsNumber 0 space n (Ok false))
+      (hears_then_quiet 0 space n (Ok false)) kept old new does
+      (λ config start random past keeps. known_event past space now n eliciting answer other keeps.new)
 
-  pub refused_quietly : (space : SpaceId) (now n : ℕ) (eliciting : Bool) (reply : Reply Q)
-      (old new : Sender F Q R C K S M P f c q m r) → ((arm : Bool) → reply ≡ Ok (New arm) → ⊥)
-      → TakesSteps (told (Received space now n eliciting) reply ∷ []) old new → Continues GoesOnQuietly old new
-  refused_quietly space now n eliciting reply old new other takes =
-      steps_go (Received space now n eliciting) reply GoesOnQuietly
-      (λ past between after first second. quiet_then past between after first second) old new takes
-      (λ config start random past keeps. known_event past space now n eliciting reply other)
-
-  -- whether a datagram may be sent
-  pub may_quietly : (now bytes : ℕ) (checked : Bool) (kept : Variables) (old new : Sender F Q R C K S M P f c q m r)
-      (result : Result Transmission SenderError)
-      → IfOk result (λ sent. CompletesCall (transmit_steps now bytes checked sent) kept old new)
-      → OnErr result (new ≡ old) → Continues GoesOnQuietly old new
-  may_quietly now bytes checked kept old new (Ok sent) does same =
-      transmits_quietly now bytes checked sent kept old new does
-  may_quietly now bytes checked kept old new (Err refusal) does same = same_quietly old new same
-
-  -- an error is not the receipt of a new packet
-  pub unheard_quietly : (space : SpaceId) (now n : ℕ) (eliciting : Bool) (refusal : SenderError)
-      (old new : Sender F Q R C K S M P f c q m r) → EventResult (Received space now n eliciting) old new (Err refusal)
-      → Continues GoesOnQuietly old new
-  unheard_quietly space now n eliciting (refused.Event refusal) old new takes =
-      refused_quietly space now n eliciting (Err refusal) old new (λ arm is. absurd cc) takes
-  unheard_quietly space now n eliciting refused.Unsent old new never = absurd never
-
-  pub heard_or_not : (space : SpaceId) (now n : ℕ) (eliciting : Bool) (answer : Answer Q) (kept : Variables)
+  pub heard_by_call : (space : SpaceId) (now n : ℕ) (eliciting : Bool) (answer : Answer Q) (kept : Variables)
       (old new : Sender F Q R C K S M P f c q m r)
       → CompletesCall (told (Received space now n eliciting) (Ok answer) ∷ []) kept old new
-      → HearsOrNot space n old new (Ok (arm_told answer))
-  heard_or_not space now n eliciting (New arm) kept old new does =
+      → Continues (HearsNumber 0 space n (heard_of (Ok (arm_told answer)))) old new
+  heard_by_call space now n eliciting (New arm) kept old new does =
       hears_by_call space now n eliciting arm kept old new does
-  heard_or_not space now n eliciting answer kept old new does =
+  heard_by_call space now n eliciting answer kept old new does =
       known_by_call space now n eliciting answer kept old new (λ arm is. absurd cc) does
+
+  pub dropped_by_call : (space : SpaceId) (now n : ℕ) (eliciting : Bool) (refusal : SenderError)
+      (old new : Sender F Q R C K S M P f c q m r) → EventResult (Received space now n eliciting) old new (Err refusal)
+      → Continues (HearsNumber 0 space n (Err refusal)) old new
+  dropped_by_call space now n eliciting (refused.Event refusal) old new takes =
+      steps_go (Received space now n eliciting) (Err refusal) (HearsNumber 0 space n (Err (refused.Event refusal)))
+      (hears_then_quiet 0 space n (Err (refused.Event refusal))) old new takes
+      (λ config start random past keeps. dropped_event past space now n eliciting refusal keeps.new)
+  dropped_by_call space now n eliciting refused.Unsent old new never = absurd never
+
+  -- ---- datagrams, spaces and addresses
+
+  -- whether a datagram may be sent
+  pub may_transmit : (now bytes : ℕ) (checked : Bool) (kept : Variables) (old new : Sender F Q R C K S M P f c q m r)
+      (result : Result Transmission SenderError)
+      → IfOk result (λ sent. CompletesCall (transmit_steps now bytes checked sent) kept old new)
+      → OnErr result (new ≡ old) → TransmitTurn old new bytes result
+  may_transmit now bytes checked kept old new (Ok transmission.Transmitted) does same =
+      call_goes (Transmit now bytes checked) (Ok Transmitted) (GoesOn (leaving bytes)) (then_quiet (leaving bytes))
+      kept old new does (λ config start random past keeps. leaves_event past now bytes checked)
+  may_transmit now bytes checked kept old new (Ok (transmission.Delayed until)) does same =
+      call_goes (Transmit now bytes checked) (Ok (Delayed until)) GoesOnQuietly (then_quiet quiet)
+      kept old new does (λ config start random past keeps. delayed_event past now bytes until checked)
+  may_transmit now bytes checked kept old new (Ok other) does same = call_quietly [] kept old new does tt
+  may_transmit now bytes checked kept old new (Err refusal) does same = same_quietly old new same
+
+  pub receives : (bytes : ℕ) (kept : Variables) (old new : Sender F Q R C K S M P f c q m r)
+      (result : Result (Unit {0}) SenderError)
+      → OnOk result (CompletesCall (told (DatagramIn Current bytes) (Ok Done) ∷ []) kept old new)
+      → OnErr result (new ≡ old) → DatagramTurn old new bytes result
+  receives bytes kept old new (Ok done) does same =
+      call_goes (DatagramIn Current bytes) (Ok Done) (GoesOn (arriving bytes)) (then_quiet (arriving bytes)) kept old
+      new does (λ config start random past keeps. arrives_event past bytes Done)
+  receives bytes kept old new (Err refusal) does same = same_quietly old new same
+
+  pub discards : (space : SpaceId) (kept : Variables) (old new : Sender F Q R C K S M P f c q m r)
+      (result : Result (Unit {0}) SenderError)
+      → OnOk result (CompletesCall (told (DiscardSpace space) (Ok Done) ∷ []) kept old new)
+      → OnErr result (new ≡ old)
+      → MatchResult result (λ done. Continues (GoesOn (discarding space)) old new)
+      (λ refusal. Continues GoesOnQuietly old new)
+  discards space kept old new (Ok done) does same =
+      call_goes (DiscardSpace space) (Ok Done) (GoesOn (discarding space)) (then_quiet (discarding space)) kept old
+      new does (λ config start random past keeps. discards_event past space Done)
+  discards space kept old new (Err refusal) does same = same_quietly old new same
+
+  pub validates : (kept : Variables) (old new : Sender F Q R C K S M P f c q m r)
+      → CompletesCall (told (Validated Current) (Ok Done) ∷ []) kept old new → Continues (GoesOn validating) old new
+  validates kept old new does =
+      call_goes (Validated Current) (Ok Done) (GoesOn validating) (then_quiet validating) kept old new does
+      (λ config start random past keeps. validates_event past Done)

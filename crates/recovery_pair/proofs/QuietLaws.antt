@@ -1,13 +1,11 @@
 -- The calls of a sender by which no packet is received.
 use Rattle.std.proofs.Common.{◌≡◌, ℕ, inl, inr, Bool, true, false, List, [], ◌∷◌, ◌++◌, Option, None, Some, Result, Ok, Err, refl, sym, subst}
-use Rattle.std.specs.Prelude.{if◌then◌else◌, min, OnErr, OnOk}
+use Rattle.std.specs.Prelude.{if◌then◌else◌, min}
 use Rattle.rand_core.specs.Stream.{Stream}
 use Rattle.recovery_base.specs.declared.below.SpaceId.{SpaceId}
 use Rattle.recovery_base.specs.declared.below.frames.EcnCounts.{EcnCounts}
 use Rattle.recovery_congestion.specs.Controllers.{ControllerSemantics}
 use Rattle.recovery_events.specs.declared.event.Answer.{Answer}
-use Rattle.recovery_events.specs.declared.event.Answer.TheVariants as answers
-use Rattle.recovery_events.specs.declared.event.Event.{Event}
 use Rattle.recovery_events.specs.declared.event.Event.TheVariants as events
 use Rattle.recovery_events.specs.declared.event.Refusal.TheVariants.{NoMemory, SpaceDiscarded}
 use Rattle.recovery_spaces.specs.Discarded.{is_discarded}
@@ -26,7 +24,7 @@ use Rattle.recovery_history.proofs.LossTimeLaws.{reached_with_loss_time}
 use Rattle.recovery_sender.specs.Acking.{AckResult, Acknowledges, EcnCompared, EcnResult, SamplesRtt, acking, first_marked}
 use Rattle.recovery_losses.specs.declared.looks.LossPass.{LossPass}
 use Rattle.recovery_sender.specs.Attempts.{LossAttempt, probe_attempts, trying}
-use Rattle.recovery_sender.specs.Calls.{EventResult, ProbeResult, transmit_steps}
+use Rattle.recovery_sender.specs.Calls.{EventResult, ProbeResult}
 use Rattle.recovery_sender.specs.Detection.{DetectsLosses, congested, detecting, ended}
 use Rattle.recovery_base.specs.Units.{largest_u64}
 use Rattle.recovery_losses.specs.Losses.{bytes_counted, last_counted}
@@ -43,12 +41,10 @@ use Rattle.recovery_sender.specs.declared.sender.acks.Acknowledged.{Acknowledged
 use Rattle.recovery_sender.specs.declared.sender.acks.EcnOutcome.{EcnOutcome}
 use Rattle.recovery_sender.specs.declared.sender.acks.EcnOutcome.TheVariants.{Quiet, Marked, Failed}
 use Rattle.recovery_sender.specs.declared.sender.losses.Losses.{Losses}
-use Rattle.recovery_sender.specs.declared.sender.packets.Transmission.{Transmission}
-use Rattle.recovery_sender.specs.declared.sender.packets.Transmission.TheVariants as transmissions
 use Rattle.recovery_sender.specs.declared.sender.probes.Timeout.{Timeout}
 use Rattle.recovery_sender.specs.declared.sender.probes.Timeout.TheVariants.{Nothing, Lost, Probe}
-use Rattle.recovery_pair.specs.Pasts.{Continues, GoesOnQuietly, IsQuietEvent}
-use Rattle.recovery_pair.proofs.GoingLaws.{quiet_event, quiet_none, quiet_then}
+use Rattle.recovery_pair.specs.Pasts.{Continues, GoesOnQuietly, quiet}
+use Rattle.recovery_pair.proofs.GoingLaws.{IsQuietEvent, quiet_event, quiet_none, quiet_then}
 
 -- ---- what the caller sets leaves the past
 
@@ -103,24 +99,24 @@ module _ {F K Q S M P : Type 0} (built : F → ℕ → ℕ → K) (words : Contr
   leads_quietly : (steps : List (SenderStep Q S M P)) (old new : RecoveryState K P M) → AreQuiet steps
       → StepsLeadTo built words queue steps old new → (past : History Q S M P) → ReachedBy beginning past old
       → Reaches past new
-  leads_quietly [] old new quiet leads past came =
+  leads_quietly [] old new calm leads past came =
       (past, subst (λ (at : RecoveryState K P M). ReachedBy beginning past at) (sym leads) came, quiet_none past)
-  leads_quietly (told event reply ∷ steps) old new quiet leads past came =
+  leads_quietly (told event reply ∷ steps) old new calm leads past came =
       let one = leads.2 config start random past came in
-      let rest = leads_quietly steps leads.0 new quiet.1 leads.3 ((event, reply) ∷ past) one.came in
-      (rest.0, rest.1, quiet_then past ((event, reply) ∷ past) rest.0 (quiet_event past event reply quiet.0) rest.2)
-  leads_quietly (occurs event ∷ steps) old new quiet leads past came =
+      let rest = leads_quietly steps leads.0 new calm.1 leads.3 ((event, reply) ∷ past) one.came in
+      (rest.0, rest.1, quiet_then quiet past ((event, reply) ∷ past) rest.0 (quiet_event past event reply calm.0) rest.2)
+  leads_quietly (occurs event ∷ steps) old new calm leads past came =
       let one = leads.3 config start random past came in
-      let rest = leads_quietly steps leads.1 new quiet.1 leads.4 ((event, Ok leads.0) ∷ past) one.came in (
+      let rest = leads_quietly steps leads.1 new calm.1 leads.4 ((event, Ok leads.0) ∷ past) one.came in (
         rest.0,
         rest.1,
-        quiet_then past ((event, Ok leads.0) ∷ past) rest.0 (quiet_event past event (Ok leads.0) quiet.0) rest.2,
+        quiet_then quiet past ((event, Ok leads.0) ∷ past) rest.0 (quiet_event past event (Ok leads.0) calm.0) rest.2,
       )
-  leads_quietly (loss_time space time ∷ steps) old new quiet leads past came =
-      leads_quietly steps _ new quiet leads past
+  leads_quietly (loss_time space time ∷ steps) old new calm leads past came =
+      leads_quietly steps _ new calm leads past
       (loss_time_kept beginning past old came space time (is_discarded space old.discarded))
-  leads_quietly (marked marks ∷ steps) old new quiet leads past came =
-      leads_quietly steps _ new quiet leads past (marks_kept beginning past old came marks)
+  leads_quietly (marked marks ∷ steps) old new calm leads past came =
+      leads_quietly steps _ new calm leads past (marks_kept beginning past old came marks)
 
   timer_quiet : (due : Option (ℕ × Due)) → AreQuiet {Q = Q} {S = S} {M = M} {P = P} (timed due ∷ [])
   timer_quiet None = (tt, tt)
@@ -144,12 +140,6 @@ module _ {Q S M P : Type 0} where
   quiet_append (marked marks ∷ steps) more first second = quiet_append steps more first second
 
 module _ (Q S M P : Type 0) where
-  transmit_quiet : (now bytes : ℕ) (checked : Bool) (sent : Transmission)
-      → AreQuiet {Q = Q} {S = S} {M = M} {P = P} (transmit_steps now bytes checked sent)
-  transmit_quiet now bytes checked transmissions.Transmitted = (tt, tt)
-  transmit_quiet now bytes checked (transmissions.Delayed until) = (tt, tt)
-  transmit_quiet now bytes checked other = tt
-
   trying_quiet : (space : SpaceId) (attempts : List LossAttempt)
       → AreQuiet {Q = Q} {S = S} {M = M} {P = P} (trying space attempts)
   trying_quiet space [] = tt
@@ -207,43 +197,41 @@ module _ {F Q R C K S M P : Type 0} {f : _} {c : _} {q : _} {m : _} {r : _} wher
     );
   }
 
-  pub quietly_then : (old between new : Sender F Q R C K S M P f c q m r) → Continues GoesOnQuietly old between
-      → Continues GoesOnQuietly between new → Continues GoesOnQuietly old new
-  quietly_then old between new first second = record {
+  -- one call after another
+  pub joined : (First Next Both : History Q S M P → History Q S M P → Type 0)
+      → ((past between after : History Q S M P) → First past between → Next between after → Both past after)
+      → (old between new : Sender F Q R C K S M P f c q m r) → Continues First old between
+      → Continues Next between new → Continues Both old new
+  joined First Next Both joins old between new first second = record {
     from = λ config start random past came. (
         let one = first.from config start random past came in
         let two = second.from config start random one.0 one.1 in
-        (two.0, two.1, quiet_then past one.0 two.0 one.2 two.2));
+        (two.0, two.1, joins past one.0 two.0 one.2 two.2));
   }
+
+  pub quietly_then : (old between new : Sender F Q R C K S M P f c q m r) → Continues GoesOnQuietly old between
+      → Continues GoesOnQuietly between new → Continues GoesOnQuietly old new
+  quietly_then = joined GoesOnQuietly GoesOnQuietly GoesOnQuietly (quiet_then quiet)
 
   pub steps_quietly : (steps : List (SenderStep Q S M P)) (old new : Sender F Q R C K S M P f c q m r)
       → TakesSteps steps old new → AreQuiet steps → Continues GoesOnQuietly old new
-  steps_quietly steps old new goes quiet = record {
+  steps_quietly steps old new goes calm = record {
     from = λ config start random past came.
         leads_quietly f.built c.words (queue_model q.contents q.words q.blank) config start random steps (state_in old)
-        (state_in new) quiet goes.leads past came;
+        (state_in new) calm goes.leads past came;
   }
 
   pub call_quietly : (steps : List (SenderStep Q S M P)) (kept : Variables) (old new : Sender F Q R C K S M P f c q m r)
       → CompletesCall steps kept old new → AreQuiet steps → Continues GoesOnQuietly old new
-  call_quietly steps kept old new does quiet = record {
+  call_quietly steps kept old new does calm = record {
     from = λ config start random past came. (
         let queue = queue_model q.contents q.words q.blank in
-        let one = leads_quietly f.built c.words queue config start random steps (state_in old) does.between quiet
+        let one = leads_quietly f.built c.words queue config start random steps (state_in old) does.between calm
         does.leads past came in
         let two = rearms_quietly f.built c.words queue config start random kept does.between (state_in new) does.sets
         one.0 one.1 in
-        (two.0, two.1, quiet_then past one.0 two.0 one.2 two.2));
+        (two.0, two.1, quiet_then quiet past one.0 two.0 one.2 two.2));
   }
-
-  -- one event, or its error
-  pub event_quietly : (event : Event Q S M P) (kept : Variables) (old new : Sender F Q R C K S M P f c q m r)
-      (result : Result (Unit {0}) SenderError) → IsQuietEvent event
-      → OnOk result (CompletesCall (told event (Ok answers.Done) ∷ []) kept old new) → OnErr result (new ≡ old)
-      → Continues GoesOnQuietly old new
-  event_quietly event kept old new (Ok done) quiet does same =
-      call_quietly (told event (Ok answers.Done) ∷ []) kept old new does (quiet, tt)
-  event_quietly event kept old new (Err refusal) quiet does same = same_quietly old new same
 
   -- events that pass
   pub pending_quietly : (space : SpaceId) (old new : Sender F Q R C K S M P f c q m r)
@@ -274,15 +262,6 @@ module _ {F Q R C K S M P : Type 0} {f : _} {c : _} {q : _} {m : _} {r : _} wher
   unsent_quietly space now size eliciting largest queue frames old new (refused.Event refusal) takes =
       steps_quietly _ old new takes (tt, tt)
   unsent_quietly space now size eliciting largest queue frames old new refused.Unsent never = absurd never
-
-  -- ---- a datagram
-
-  pub transmits_quietly : (now bytes : ℕ) (checked : Bool) (sent : Transmission) (kept : Variables)
-      (old new : Sender F Q R C K S M P f c q m r)
-      → CompletesCall (transmit_steps now bytes checked sent) kept old new → Continues GoesOnQuietly old new
-  transmits_quietly now bytes checked sent kept old new does =
-      call_quietly (transmit_steps now bytes checked sent) kept old new does (transmit_quiet Q S M P now bytes
-      checked sent)
 
   -- ---- a probe
 

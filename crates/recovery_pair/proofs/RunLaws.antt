@@ -1,5 +1,5 @@
 -- What holds for each step holds for all that a source gives.
-use Rattle.std.proofs.Common.{◌≡◌, List, [], ◌∷◌, Result, ap}
+use Rattle.std.proofs.Common.{◌≡◌, Bool, List, [], ◌∷◌, Result, ap}
 use Rattle.recovery_events.specs.Feeding.{TakesAll}
 use Rattle.recovery_sender.specs.declared.sender.Sender.{Sender}
 use Rattle.recovery_sender.specs.declared.sender.SenderError.{SenderError}
@@ -17,12 +17,12 @@ module _ {F Q R C K S M P : Type 0} {f : _} {c : _} {q : _} {m : _} {r : _} {A T
     → PairStepIntoSink (client old) (server old) (wire old) takes (sink old) step (client new) (server new) (wire new)
     (sink new)) where
   abbrev Along : List PairStep → List (Result PairAnswer SenderError) → A → A → Type 0
-  Along steps answers old new = (log : PairLog) → IsTied log (client old) (server old) (wire old)
-      → HoldAlong log steps answers
-      × IsTied (log_after log steps answers) (client new) (server new) (wire new)
+  Along steps answers old new = (validated : Bool) (log : PairLog)
+      → IsTied validated log (client old) (server old) (wire old) → HoldAlong validated log steps answers
+      × IsTied validated (log_after log steps answers) (client new) (server new) (wire new)
 
   same_along : (old new : A) → new ≡ old → Along [] [] old new
-  same_along old new same log tied = rw same (tt, tied)
+  same_along old new same validated log tied = rw same (tt, tied)
 
   along : (steps : List PairStep) (old new : A) → TakesAll took old steps new
       → (answers : List (Result PairAnswer SenderError)) × TakesAll takes (sink old) answers (sink new)
@@ -33,9 +33,9 @@ module _ {F Q R C K S M P : Type 0} {f : _} {c : _} {q : _} {m : _} {r : _} {A T
       let rest = along steps is.0 new is.2 in (
         one.answer ∷ rest.0,
         (sink is.0, one.taken, rest.1),
-        λ log tied. (
-            let now = one.keeps log tied in
-            let later = rest.2 ((step, one.answer) ∷ log) now.1 in
+        λ validated log tied. (
+            let now = one.keeps validated log tied in
+            let later = rest.2 validated ((step, one.answer) ∷ log) now.1 in
             ((now.0, later.0), later.1)),
       )
 

@@ -1,13 +1,21 @@
--- Each step keeps the promises, and the tie of the log.
-use Rattle.std.proofs.Common.{◌≡◌, ℕ, ◌<◌, ◌⊎◌, inl, inr, List, [], ◌∷◌, ◌++◌, length, get_or, Result, Ok, refl, sym, ap, subst, ◌∙◌}
-use Rattle.std.specs.Prelude.{IfOk}
+-- Each step of an end keeps the promises, and the tie of the log. It is proved once, for the end that makes it.
+use Rattle.std.proofs.Common.{◌≡◌, ℕ, nat_le, ◌<◌, ◌≤◌, ◌⊎◌, inl, inr, Bool, true, false, List, [], ◌∷◌, ◌++◌, length, get_or, None, Result, Ok, refl, sym, ap, subst, ◌∙◌, arith}
+use Rattle.std.specs.Prelude.{IfOk, map}
 use Rattle.std.specs.Global.{Vec}
 use Rattle.std.specs.List.{AllByRecursion}
+use Rattle.std.proofs.lemmas.Bool.Decides.{nat_tests}
+use Rattle.std.proofs.lemmas.List.{get_or-map, length-map}
 use Rattle.recovery_base.specs.declared.below.SpaceId.{SpaceId}
+use Rattle.recovery_base.specs.Units.{number_limit}
+use Rattle.recovery_events.specs.declared.event.Refusal.TheVariants.{NoMemory, NumberTooLarge, SpaceDiscarded}
 use Rattle.recovery_losses.specs.Frames.{IsInAckRanges}
+use Rattle.recovery_paths.specs.declared.path_pair.PathName.TheVariants.{Current}
 use Rattle.recovery_history.specs.History.{History}
+use Rattle.recovery_history.specs.Promises.NewNumbers.{came_in, is_discarded, is_new}
 use Rattle.recovery_sender.specs.declared.sender.Sender.{Sender}
 use Rattle.recovery_sender.specs.declared.sender.SenderError.{SenderError}
+use Rattle.recovery_sender.specs.declared.sender.SenderError.TheVariants.{Event}
+use Rattle.recovery_sender.proofs.BoundLaws.{stays_threefold}
 use Rattle.recovery_pair.specs.declared.steps.AckOutcome.{AckOutcome}
 use Rattle.recovery_pair.specs.declared.steps.AckOutcome.TheVariants.{Taken}
 use Rattle.recovery_pair.specs.declared.steps.End.{End}
@@ -15,23 +23,117 @@ use Rattle.recovery_pair.specs.declared.steps.End.TheVariants.{Client, Server}
 use Rattle.recovery_pair.specs.declared.steps.Fate.{Fate}
 use Rattle.recovery_pair.specs.declared.steps.Fate.TheVariants.{New, Dropped, Duplicate}
 use Rattle.recovery_pair.specs.declared.steps.PairAnswer.{PairAnswer}
-use Rattle.recovery_pair.specs.declared.steps.PairAnswer.TheVariants.{Arrived, Sent}
+use Rattle.recovery_pair.specs.declared.steps.PairAnswer.TheVariants.{Arrived, Nothing, Sent}
+use Rattle.recovery_pair.specs.declared.steps.LocalStep.{LocalStep}
 use Rattle.recovery_pair.specs.declared.steps.PairStep.{PairStep}
-use Rattle.recovery_pair.specs.declared.steps.PairStep.TheVariants.{Arrive, Send}
+use Rattle.recovery_pair.specs.declared.steps.PairStep.TheVariants.{Arrive, Local, Send}
 use Rattle.recovery_pair.specs.declared.steps.WirePacket.{WirePacket}
 use Rattle.recovery_pair.specs.Frames.{IsSoundFrame}
-use Rattle.recovery_pair.specs.Logs.{PairEvent, PairLog, deliveries_of, other_end, sends_of}
-use Rattle.recovery_pair.specs.Pasts.{AcksWithin, Continues, GoesOnQuietly, HearsNumber, SendsWithAck, WereSentUnder}
+use Rattle.recovery_pair.specs.Logs.{IsAt, PairEvent, PairLog, SentPacket, deliveries_of, numbers_at, other_end, sends_of, was_discarded, wire_of}
+use Rattle.recovery_pair.specs.Pasts.{AcksWithin, Continues, GoesOn, GoesOnQuietly, HearsNumber, IsHeardBy, SendsWithAck, Turn, WereSentUnder, hearing, leaving, quiet}
+use Rattle.recovery_pair.specs.Promises.{KeepsPromises}
+use Rattle.recovery_pair.specs.Promises.Arrivals.{ArrivesAsSent, Delivers, IsArrival, IsFateBy, IsFirst}
 use Rattle.recovery_pair.specs.Promises.DeliveredOnce.{AcksDelivered}
 use Rattle.recovery_pair.specs.Promises.NeverAccused.{NeverAccuses}
+use Rattle.recovery_pair.specs.Promises.Threefold.{ServerSendsThreefold}
 use Rattle.recovery_pair.specs.Runs.{StepKeeps}
-use Rattle.recovery_pair.specs.Tied.{Flows, IsOnWire, IsTied}
-use Rattle.recovery_pair.specs.Turns.{HearTurn, HearsPacket, IsLocalAnswer, SendsPacket, TurnsAt}
+use Rattle.recovery_pair.specs.Tied.{Flows, HasPast, IsLogged, IsOnWire, IsTiedAt, Travels, sent_as}
+use Rattle.recovery_pair.specs.Turns.{HearTurn, HearsPacket, IsLocalAnswer, SendsPacket, TurnsAt, local_turn, reply_of}
 use Rattle.recovery_pair.proofs.GoingLaws.{quiet_none}
+use Rattle.recovery_pair.proofs.LogLaws.{Adds, IsNoPacket, IsNotLocal, arriving_adds, arriving_adds_not, idle_adds, local_adds, local_adds_not, local_moves, logged_on, sending_adds, sending_adds_not}
 use Rattle.recovery_pair.proofs.QuietLaws.{same_quietly}
-use Rattle.recovery_pair.proofs.TieLaws.{all_at, all_map, all_push, delivered_known, flows_kept, flows_sent, flows_taken, other_sends, other_takes, received_delivered, sending, sends_kept, sent_once, takes_kept, taking}
+use Rattle.recovery_pair.proofs.TieLaws.{all_at, all_map, all_push, before_it, delivered_known, flows_kept, flows_sent, flows_taken, other_sends, other_takes, received_delivered, sending, sends_kept, sent_once, takes_kept, taking}
 
--- ---- steps that report no packet
+-- ---- ends
+
+twice : (end : End) → other_end (other_end end) ≡ end
+twice Client = refl
+twice Server = refl
+
+which : (end from : End) → (from ≡ end) ⊎ (from ≡ other_end end)
+which Client Client = inl refl
+which Client Server = inr refl
+which Server Client = inr refl
+which Server Server = inl refl
+
+-- ---- one end makes a step, the other does nothing
+
+module _ {F Q R C K S M P : Type 0} {f : _} {c : _} {q : _} {m : _} {r : _} where
+  abbrev pub StepKeepsAt : End → Sender F Q R C K S M P f c q m r → Sender F Q R C K S M P f c q m r
+      → List WirePacket → PairStep → Result PairAnswer SenderError → Sender F Q R C K S M P f c q m r
+      → List WirePacket → Type 0
+  StepKeepsAt end here there wire step answer after wire_after = (validated : Bool) (log : PairLog)
+      → IsTiedAt validated end log here there wire → KeepsPromises validated log (step, answer)
+      × IsTiedAt validated end ((step, answer) ∷ log) after there wire_after
+
+  turned_server : (validated : Bool) (log : PairLog) (client server : Sender F Q R C K S M P f c q m r)
+      (wire : List WirePacket) → IsTiedAt validated Client log client server wire
+      → IsTiedAt validated Server log server client wire
+  turned_server validated log client server wire tied = record {
+    own = tied.peer;
+    peer = tied.own;
+    out = tied.back;
+    back = tied.out;
+    logged = tied.peer_logged;
+    peer_logged = tied.logged;
+    listed = tied.listed;
+    wired = tied.wired;
+  }
+
+  turned_client : (validated : Bool) (log : PairLog) (client server : Sender F Q R C K S M P f c q m r)
+      (wire : List WirePacket) → IsTiedAt validated Server log server client wire
+      → IsTiedAt validated Client log client server wire
+  turned_client validated log client server wire tied = record {
+    own = tied.peer;
+    peer = tied.own;
+    out = tied.back;
+    back = tied.out;
+    logged = tied.peer_logged;
+    peer_logged = tied.logged;
+    listed = tied.listed;
+    wired = tied.wired;
+  }
+
+  -- what holds for the end that makes a step holds for both
+  pub by_turn : (end : End) (Turns : Sender F Q R C K S M P f c q m r → Sender F Q R C K S M P f c q m r → Type 0)
+      (wire wire_after : List WirePacket) (step : PairStep) (answer : Result PairAnswer SenderError)
+      → ((here there after : Sender F Q R C K S M P f c q m r) → Turns here after
+      → StepKeepsAt end here there wire step answer after wire_after)
+      → (client server client_after server_after : Sender F Q R C K S M P f c q m r)
+      → TurnsAt end Turns client server client_after server_after
+      → StepKeeps client server wire step answer client_after server_after wire_after
+  by_turn Client Turns wire wire_after step answer each client server client_after server_after turns =
+      subst (λ (one : Sender F Q R C K S M P f c q m r).
+      StepKeeps client server wire step answer client_after one wire_after) (sym turns.1)
+      (each client server client_after turns.0)
+  by_turn Server Turns wire wire_after step answer each client server client_after server_after turns =
+      subst (λ (one : Sender F Q R C K S M P f c q m r).
+      StepKeeps client server wire step answer one server_after wire_after) (sym turns.1) by
+    where
+      by : StepKeeps client server wire step answer client server_after wire_after
+      by validated log tied =
+          let both = each server client server_after turns.0 validated log
+          (turned_server validated log client server wire tied) in
+          (both.0, turned_client validated ((step, answer) ∷ log) client server_after wire_after both.1)
+
+-- ---- amplification
+
+module _ {F Q R C K S M P : Type 0} {f : _} {c : _} {q : _} {m : _} {r : _} (validated : Bool) (log : PairLog) where
+  threefold_by : (sender : Sender F Q R C K S M P f c q m r) (has : HasPast sender)
+      → IsLogged validated log Server has.config.validated has.past → ServerSendsThreefold validated log
+  threefold_by sender has logged none =
+      let bound = stays_threefold sender has.config has.start has.random has.past has.came Current
+      (logged.address ∙ none) in
+      let arrived = logged.arrived in
+      let left = logged.left in
+      omega (arith, bound, arrived, left)
+
+  threefold_at : (end : End) (here there : Sender F Q R C K S M P f c q m r) (wire : List WirePacket)
+      → IsTiedAt validated end log here there wire → ServerSendsThreefold validated log
+  threefold_at Client here there wire tied = threefold_by there tied.peer tied.peer_logged
+  threefold_at Server here there wire tied = threefold_by here tied.own tied.logged
+
+-- ---- steps by which nothing is sent, and nothing new arrives
 
 abbrev pub IsSilent : PairEvent → Type 0
 IsSilent (step, Ok (Sent number items)) = ⊥
@@ -48,6 +150,10 @@ silent_takes : (event : PairEvent) → IsSilent event → (log : PairLog) (end :
 silent_takes (step, Ok (Arrived to there number size (New items acked))) silent log end space n = absurd silent
 silent_takes event silent log end space n = refl
 
+silent_wire : (event : PairEvent) → IsSilent event → (log : PairLog) → wire_of (event ∷ log) ≡ wire_of log
+silent_wire (Send from there now size, Ok (Sent number items)) silent log = absurd silent
+silent_wire event silent log = refl
+
 silent_honest : (event : PairEvent) → IsSilent event → NeverAccuses event
 silent_honest (step, Ok (Arrived to there number size (New items acked))) silent = absurd silent
 silent_honest event silent = tt
@@ -56,14 +162,27 @@ silent_delivers : (log : PairLog) (event : PairEvent) → IsSilent event → Ack
 silent_delivers log (step, Ok (Arrived to there number size (New items acked))) silent = absurd silent
 silent_delivers log event silent = tt
 
-module _ {F Q R C K S M P : Type 0} {f : _} {c : _} {q : _} {m : _} {r : _} where
-  pub tied_quietly : (log : PairLog) (event : PairEvent) (client server client_after server_after
-      : Sender F Q R C K S M P f c q m r) (wire : List WirePacket) → IsSilent event
-      → Continues GoesOnQuietly client client_after → Continues GoesOnQuietly server server_after
-      → IsTied log client server wire → IsTied (event ∷ log) client_after server_after wire
-  tied_quietly log event client server client_after server_after wire silent goes peer_goes tied =
+module _ {F Q R C K S M P : Type 0} {f : _} {c : _} {q : _} {m : _} {r : _} (end : End) (step : PairStep)
+    (answer : Result PairAnswer SenderError) (turn : Turn) (silent : IsSilent (step, answer))
+    (none : turn.heard ≡ None) (adds : (log : PairLog) → Adds turn end (step, answer) log)
+    (adds_not : (log : PairLog) → Adds quiet (other_end end) (step, answer) log) (wire : List WirePacket)
+    (here there after : Sender F Q R C K S M P f c q m r) (goes : Continues (GoesOn turn) here after)
+    (validated : Bool) (log : PairLog) (tied : IsTiedAt validated end log here there wire) where
+  own_after : HasPast after
+  own_after =
       let own = goes.from tied.own.config tied.own.start tied.own.random tied.own.past tied.own.came in
-      let peer = peer_goes.from tied.peer.config tied.peer.start tied.peer.random tied.peer.past tied.peer.came in
+      record {
+        config = tied.own.config;
+        start = tied.own.start;
+        random = tied.own.random;
+        past = own.0;
+        came = own.1;
+      }
+
+  tied_still : IsTiedAt validated end ((step, answer) ∷ log) after there wire
+  tied_still =
+      let own = goes.from tied.own.config tied.own.start tied.own.random tied.own.past tied.own.came in
+      let event : PairEvent = (step, answer) in
       record {
         own = record {
           config = tied.own.config;
@@ -72,17 +191,18 @@ module _ {F Q R C K S M P : Type 0} {f : _} {c : _} {q : _} {m : _} {r : _} wher
           past = own.0;
           came = own.1;
         };
-        peer = record {
-          config = tied.peer.config;
-          start = tied.peer.start;
-          random = tied.peer.random;
-          past = peer.0;
-          came = peer.1;
-        };
-        up = flows_kept log (event ∷ log) Client tied.own.past own.0 tied.peer.past peer.0
-            (silent_sends event silent log Client) (silent_takes event silent log Server) own.2.given peer.2 tied.up;
-        down = flows_kept log (event ∷ log) Server tied.peer.past peer.0 tied.own.past own.0
-            (silent_sends event silent log Server) (silent_takes event silent log Client) peer.2.given own.2 tied.down;
+        peer = tied.peer;
+        out = flows_kept log (event ∷ log) end quiet tied.own.past own.0 tied.peer.past tied.peer.past
+            (silent_sends event silent log end) (silent_takes event silent log (other_end end)) own.2.given refl
+            (quiet_none tied.peer.past) tied.out;
+        back = flows_kept log (event ∷ log) (other_end end) turn tied.peer.past tied.peer.past tied.own.past own.0
+            (silent_sends event silent log (other_end end))
+            (silent_takes event silent log (other_end (other_end end))) (λ space n given. given) none own.2 tied.back;
+        logged = logged_on validated log event end tied.own.config.validated turn tied.own.past own.0 (adds log) own.2
+            tied.logged;
+        peer_logged = logged_on validated log event (other_end end) tied.peer.config.validated quiet tied.peer.past
+            tied.peer.past (adds_not log) (quiet_none tied.peer.past) tied.peer_logged;
+        listed = silent_wire event silent log ∙ tied.listed;
         wired = all_map (IsOnWire log) (IsOnWire (event ∷ log)) (λ packet on. record {
           sent = silent_sends event silent log packet.from packet.space packet.number ∙ on.sent;
           sound = on.sound;
@@ -91,58 +211,50 @@ module _ {F Q R C K S M P : Type 0} {f : _} {c : _} {q : _} {m : _} {r : _} wher
         }) wire tied.wired;
       }
 
-  pub silent_step : (step : PairStep) (answer : Result PairAnswer SenderError)
-      (client server client_after server_after : Sender F Q R C K S M P f c q m r) (wire : List WirePacket)
-      → IsSilent (step, answer) → Continues GoesOnQuietly client client_after
-      → Continues GoesOnQuietly server server_after
-      → StepKeeps client server wire step answer client_after server_after wire
-  silent_step step answer client server client_after server_after wire silent goes peer_goes log tied = (
-    record { honest = silent_honest (step, answer) silent; delivered = silent_delivers log (step, answer) silent },
-    tied_quietly log (step, answer) client server client_after server_after wire silent goes peer_goes tied,
+  pub silent_step : ArrivesAsSent log (step, answer) → KeepsPromises validated log (step, answer)
+      × IsTiedAt validated end ((step, answer) ∷ log) after there wire
+  silent_step arrives = (
+    record {
+      honest = silent_honest (step, answer) silent;
+      delivered = silent_delivers log (step, answer) silent;
+      arrives = arrives;
+      limited = threefold_at validated ((step, answer) ∷ log) end after there wire tied_still;
+    },
+    tied_still,
   )
 
-  pub silent_turn : (end : End) (step : PairStep) (answer : Result PairAnswer SenderError)
-      (client server client_after server_after : Sender F Q R C K S M P f c q m r) (wire : List WirePacket)
-      → IsSilent (step, answer)
-      → TurnsAt end (λ (old new : Sender F Q R C K S M P f c q m r). Continues GoesOnQuietly old new) client server
-      client_after server_after
-      → StepKeeps client server wire step answer client_after server_after wire
-  silent_turn Client step answer client server client_after server_after wire silent turns =
-      silent_step step answer client server client_after server_after wire silent turns.0
-      (same_quietly server server_after turns.1)
-  silent_turn Server step answer client server client_after server_after wire silent turns =
-      silent_step step answer client server client_after server_after wire silent
-      (same_quietly client client_after turns.1) turns.0
-
--- ---- ends
-
-twice : (end : End) → other_end (other_end end) ≡ end
-twice Client = refl
-twice Server = refl
-
-which : (end from : End) → (from ≡ end) ⊎ (from ≡ other_end end)
-which Client Client = inl refl
-which Client Server = inr refl
-which Server Client = inr refl
-which Server Server = inl refl
-
 -- ---- a packet is sent
+
+map_push : (wire : List WirePacket) (packet : WirePacket)
+    → map sent_as (wire ++ packet ∷ []) ≡ map sent_as wire ++ sent_as packet ∷ []
+map_push [] packet = refl
+map_push (first ∷ wire) packet = ap (λ (more : List SentPacket). sent_as first ∷ more) (map_push wire packet)
+
+sent_same : (end : End) (size : ℕ) (items : Vec ℕ) (packet : WirePacket) → packet.from ≡ end → packet.size ≡ size
+    → items.items ≡ packet.items.items → (record {
+      from = end;
+      space = packet.space;
+      number = packet.number;
+      size = size;
+      items = items.items;
+    }) ≡ sent_as packet
+sent_same end size items packet sender sized told = rw (sender, sized, told) refl
 
 module _ {Q S M P : Type 0} (log : PairLog) (now size : ℕ) (end : End) (past after peer : History Q S M P)
     (packet : WirePacket) (items : Vec ℕ) (wire : List WirePacket) (sender : packet.from ≡ end)
     (told : items.items ≡ packet.items.items) (sound : IsSoundFrame packet.ranges.items)
-    (sends : SendsWithAck packet.space packet.number packet.ranges.items past after)
+    (sends : SendsWithAck size packet.space packet.number packet.ranges.items past after)
     (flows : Flows log end past peer) (back : Flows log (other_end end) peer past)
     (wired : AllByRecursion (IsOnWire log) wire) where
   abbrev sent_log : PairLog
   sent_log = sending log packet.space now size packet.number items end ∷ log
 
-  pub up_sent : Flows sent_log end after peer
-  up_sent = flows_sent log packet.space now size packet.number items end past after peer sends.sends flows
+  out_sent : Flows sent_log end after peer
+  out_sent = flows_sent log packet.space now size packet.number items end past after peer sends.sends flows
 
-  pub down_sent : Flows sent_log (other_end end) peer after
-  down_sent = flows_kept log sent_log (other_end end) peer peer past after
-      (other_sends log packet.space now size packet.number items end) (λ space n. refl) (λ space n given. given)
+  back_sent : Flows sent_log (other_end end) peer after
+  back_sent = flows_kept log sent_log (other_end end) (leaving size) peer peer past after
+      (other_sends log packet.space now size packet.number items end) (λ space n. refl) (λ space n given. given) refl
       sends.sends.goes back
 
   still_by : (from : End) (space : SpaceId) (n : ℕ) (before : List ℕ) → (from ≡ end) ⊎ (from ≡ other_end end)
@@ -178,18 +290,20 @@ module _ {Q S M P : Type 0} (log : PairLog) (now size : ℕ) (end : End) (past a
     acks = acks_sent;
   }
 
-  pub wired_sent : AllByRecursion (IsOnWire sent_log) (wire ++ packet ∷ [])
+  wired_sent : AllByRecursion (IsOnWire sent_log) (wire ++ packet ∷ [])
   wired_sent = all_push (IsOnWire sent_log) wire packet
       (all_map (IsOnWire log) (IsOnWire sent_log) on_still wire wired) last_on
 
-module _ {F Q R C K S M P : Type 0} {f : _} {c : _} {q : _} {m : _} {r : _} (log : PairLog) (now size : ℕ)
-    (packet : WirePacket) (items : Vec ℕ) (wire : List WirePacket) (client server after : Sender F Q R C K S M P f c
-    q m r)
-    (tied : IsTied log client server wire) where
-  tied_sent_up : SendsPacket client after Client packet.space packet items
-      → IsTied (sending log packet.space now size packet.number items Client ∷ log) after server (wire ++ packet ∷ [])
-  tied_sent_up is =
+module _ {F Q R C K S M P : Type 0} {f : _} {c : _} {q : _} {m : _} {r : _} (end : End) (now size : ℕ)
+    (packet : WirePacket) (items : Vec ℕ) (wire : List WirePacket)
+    (here there after : Sender F Q R C K S M P f c q m r)
+    (is : SendsPacket here after end packet.space size packet items) (validated : Bool) (log : PairLog)
+    (tied : IsTiedAt validated end log here there wire) where
+  tied_sent : IsTiedAt validated end (sending log packet.space now size packet.number items end ∷ log) after there
+      (wire ++ packet ∷ [])
+  tied_sent =
       let own = is.goes.from tied.own.config tied.own.start tied.own.random tied.own.past tied.own.came in
+      let event : PairEvent = sending log packet.space now size packet.number items end in
       record {
         own = record {
           config = tied.own.config;
@@ -199,93 +313,76 @@ module _ {F Q R C K S M P : Type 0} {f : _} {c : _} {q : _} {m : _} {r : _} (log
           came = own.1;
         };
         peer = tied.peer;
-        up = up_sent log now size Client tied.own.past own.0 tied.peer.past packet items wire is.sender is.told is.sound
-            own.2 tied.up tied.down tied.wired;
-        down = down_sent log now size Client tied.own.past own.0 tied.peer.past packet items wire is.sender is.told
-            is.sound own.2 tied.up tied.down tied.wired;
-        wired = wired_sent log now size Client tied.own.past own.0 tied.peer.past packet items wire is.sender is.told
-            is.sound own.2 tied.up tied.down tied.wired;
+        out = out_sent log now size end tied.own.past own.0 tied.peer.past packet items wire is.sender is.told is.sound
+            own.2 tied.out tied.back tied.wired;
+        back = back_sent log now size end tied.own.past own.0 tied.peer.past packet items wire is.sender is.told
+            is.sound own.2 tied.out tied.back tied.wired;
+        logged = logged_on validated log event end tied.own.config.validated (leaving size) tied.own.past own.0
+            (sending_adds log packet.space now size packet.number items end) own.2.sends.goes tied.logged;
+        peer_logged = logged_on validated log event (other_end end) tied.peer.config.validated quiet tied.peer.past
+            tied.peer.past (sending_adds_not log packet.space now size packet.number items end)
+            (quiet_none tied.peer.past) tied.peer_logged;
+        listed = ap (λ (sent : List SentPacket). sent ++ record {
+          from = end;
+          space = packet.space;
+          number = packet.number;
+          size = size;
+          items = items.items;
+        } ∷ []) tied.listed
+            ∙ ap (λ (last : SentPacket). map sent_as wire ++ last ∷ [])
+            (sent_same end size items packet is.sender is.sized is.told) ∙ sym (map_push wire packet);
+        wired = wired_sent log now size end tied.own.past own.0 tied.peer.past packet items wire is.sender is.told
+            is.sound own.2 tied.out tied.back tied.wired;
       }
 
-  tied_sent_down : SendsPacket server after Server packet.space packet items
-      → IsTied (sending log packet.space now size packet.number items Server ∷ log) client after (wire ++ packet ∷ [])
-  tied_sent_down is =
-      let own = is.goes.from tied.peer.config tied.peer.start tied.peer.random tied.peer.past tied.peer.came in
-      record {
-        own = tied.own;
-        peer = record {
-          config = tied.peer.config;
-          start = tied.peer.start;
-          random = tied.peer.random;
-          past = own.0;
-          came = own.1;
-        };
-        up = down_sent log now size Server tied.peer.past own.0 tied.own.past packet items wire is.sender is.told
-            is.sound own.2 tied.down tied.up tied.wired;
-        down = up_sent log now size Server tied.peer.past own.0 tied.own.past packet items wire is.sender is.told
-            is.sound own.2 tied.down tied.up tied.wired;
-        wired = wired_sent log now size Server tied.peer.past own.0 tied.own.past packet items wire is.sender is.told
-            is.sound own.2 tied.down tied.up tied.wired;
-      }
+  sent_step : KeepsPromises validated log (sending log packet.space now size packet.number items end)
+      × IsTiedAt validated end (sending log packet.space now size packet.number items end ∷ log) after there
+      (wire ++ packet ∷ [])
+  sent_step = (
+    record {
+      honest = tt;
+      delivered = tt;
+      arrives = tt;
+      limited = threefold_at validated (sending log packet.space now size packet.number items end ∷ log) end after
+          there (wire ++ packet ∷ []) tied_sent;
+    },
+    tied_sent,
+  )
 
 module _ {F Q R C K S M P : Type 0} {f : _} {c : _} {q : _} {m : _} {r : _} where
-  send_turn_here : (end : End) (now size : ℕ) (packet : WirePacket) (items : Vec ℕ)
-      (client server client_after server_after : Sender F Q R C K S M P f c q m r) (wire : List WirePacket)
-      → TurnsAt end (λ (old new : Sender F Q R C K S M P f c q m r). SendsPacket old new end packet.space packet items)
-      client server client_after server_after
-      → StepKeeps client server wire (Send end packet.space now size) (Ok (Sent packet.number items)) client_after
-      server_after (wire ++ packet ∷ [])
-  send_turn_here Client now size packet items client server client_after server_after wire turns log tied =
-      let up = tied_sent_up log now size packet items wire client server client_after tied turns.0 in (
-        record { honest = tt; delivered = tt },
-        subst (λ (at : Sender F Q R C K S M P f c q m r). IsTied ((
-          Send Client packet.space now size,
-          Ok (Sent packet.number items),
-        ) ∷ log) client_after at (wire ++ packet ∷ [])) (sym turns.1) up,
-      )
-  send_turn_here Server now size packet items client server client_after server_after wire turns log tied =
-      let down = tied_sent_down log now size packet items wire client server server_after tied turns.0 in (
-        record { honest = tt; delivered = tt },
-        subst (λ (at : Sender F Q R C K S M P f c q m r). IsTied ((
-          Send Server packet.space now size,
-          Ok (Sent packet.number items),
-        ) ∷ log) at server_after (wire ++ packet ∷ [])) (sym turns.1) down,
-      )
+  sends_at : (end : End) (space : SpaceId) (now size : ℕ) (packet : WirePacket) (items : Vec ℕ) (wire : List WirePacket)
+      (here there after : Sender F Q R C K S M P f c q m r) → packet.space ≡ space
+      → SendsPacket here after end space size packet items
+      → StepKeepsAt end here there wire (Send end space now size) (Ok (Sent packet.number items)) after
+      (wire ++ packet ∷ [])
+  sends_at end space now size packet items wire here there after same =
+      subst (λ (at : SpaceId). SendsPacket here after end at size packet items
+      → StepKeepsAt end here there wire (Send end at now size) (Ok (Sent packet.number items)) after
+      (wire ++ packet ∷ [])) same (λ is validated log tied.
+      sent_step end now size packet items wire here there after is validated log tied)
 
-  there_of : (end : End) (space : SpaceId) (packet : WirePacket) (items : Vec ℕ)
-      (client server client_after server_after : Sender F Q R C K S M P f c q m r)
-      → TurnsAt end (λ (old new : Sender F Q R C K S M P f c q m r). SendsPacket old new end space packet items) client
-      server client_after server_after → packet.space ≡ space
-  there_of Client space packet items client server client_after server_after turns = turns.0.there
-  there_of Server space packet items client server client_after server_after turns = turns.0.there
-
-  -- a packet goes out at one end
   pub send_turn : (end : End) (space : SpaceId) (now size : ℕ) (packet : WirePacket) (items : Vec ℕ)
-      (client server client_after server_after : Sender F Q R C K S M P f c q m r) (wire wire_after : List WirePacket)
-      → wire_after ≡ wire ++ packet ∷ []
-      → TurnsAt end (λ (old new : Sender F Q R C K S M P f c q m r). SendsPacket old new end space packet items) client
-      server client_after server_after
+      (client server client_after server_after : Sender F Q R C K S M P f c q m r) (wire all : List WirePacket)
+      → all ≡ wire ++ packet ∷ []
+      → TurnsAt end (λ (old new : Sender F Q R C K S M P f c q m r). SendsPacket old new end space size packet items)
+      client server client_after server_after
       → StepKeeps client server wire (Send end space now size) (Ok (Sent packet.number items)) client_after server_after
-      wire_after
-  send_turn end space now size packet items client server client_after server_after wire wire_after pushed turns =
+      all
+  send_turn end space now size packet items client server client_after server_after wire all pushed turns =
       subst (λ (all : List WirePacket). StepKeeps client server wire (Send end space now size)
       (Ok (Sent packet.number items)) client_after server_after all) (sym pushed)
-      (subst (λ (at : SpaceId).
-      TurnsAt end (λ (old new : Sender F Q R C K S M P f c q m r). SendsPacket old new end at packet items) client
-      server
-      client_after server_after
-      → StepKeeps client server wire (Send end at now size) (Ok (Sent packet.number items)) client_after server_after
-      (wire ++ packet ∷ []))
-      (there_of end space packet items client server client_after server_after turns)
-      (send_turn_here end now size packet items client server client_after server_after wire) turns)
+      (by_turn end (λ (old new : Sender F Q R C K S M P f c q m r). SendsPacket old new end space size packet items)
+      wire (wire ++ packet ∷ []) (Send end space now size) (Ok (Sent packet.number items))
+      (λ here there after is. sends_at end space now size packet items wire here there after is.there is)
+      client server client_after server_after turns)
 
 -- ---- a packet is new
 
 module _ {Q S M P : Type 0} (log : PairLog) (at now : ℕ) (from : End) (past peer after : History Q S M P)
     (packet : WirePacket) (items : Vec ℕ) (acked : AckOutcome) (wire : List WirePacket) (sender : packet.from ≡ from)
-    (told : items.items ≡ packet.items.items) (hears : HearsNumber packet.space packet.number peer after)
-    (flows : Flows log from past peer) (back : Flows log (other_end from) peer past)
-    (wired : AllByRecursion (IsOnWire log) wire) (on : IsOnWire log packet) where
+    (told : items.items ≡ packet.items.items)
+    (hears : HearsNumber packet.size packet.space packet.number (Ok true) peer after)
+    (flows : Flows log from past peer) (wired : AllByRecursion (IsOnWire log) wire) (on : IsOnWire log packet) where
   abbrev new_log : PairLog
   new_log = taking log at now packet.space packet.number packet.size items acked (other_end from) ∷ log
 
@@ -293,9 +390,13 @@ module _ {Q S M P : Type 0} (log : PairLog) (at now : ℕ) (from : End) (past pe
   was_sent = subst (λ (e : End). sends_of e packet.space packet.number log ≡ items.items ∷ []) sender
       (on.sent ∙ ap (λ (all : List ℕ). all ∷ []) (sym told))
 
-  pub up_new : Flows new_log from past after
-  up_new = flows_taken log at now packet.space packet.number packet.size items acked from past peer after hears was_sent
-      flows
+  flows_new : Flows new_log from past after
+  flows_new = flows_taken log at now packet.space packet.number packet.size items acked from past peer after hears
+      was_sent flows
+
+  once_new : deliveries_of (other_end from) packet.space packet.number log ≡ []
+  once_new = (before_it log at now packet.space packet.number packet.size items acked from past peer after hears
+      was_sent flows).away.undelivered
 
   still_taken_by : (one : End) (space : SpaceId) (n : ℕ) (before : List ℕ) → (one ≡ from) ⊎ (one ≡ other_end from)
       → deliveries_of one space n log ≡ before ∷ [] → deliveries_of one space n new_log ≡ before ∷ []
@@ -317,7 +418,7 @@ module _ {Q S M P : Type 0} (log : PairLog) (at now : ℕ) (from : End) (past pe
         (was.0, still_taken_by one.from one.space n was.0 (which from one.from) was.1));
   }
 
-  pub wired_new : AllByRecursion (IsOnWire new_log) wire
+  wired_new : AllByRecursion (IsOnWire new_log) wire
   wired_new = all_map (IsOnWire log) (IsOnWire new_log) on_taken wire wired
 
 -- what the ACK frame of a new packet says is known
@@ -335,63 +436,115 @@ module _ {Q S M P : Type 0} (log : PairLog) (to : End) (past peer : History Q S 
       (delivered_known log to past peer flows space n was.0 was.1).0)
   acks_delivered step number size items acked within = tt
 
-module _ {F Q R C K S M P : Type 0} {f : _} {c : _} {q : _} {m : _} {r : _} (at now : ℕ) (packet : WirePacket)
-    (items : Vec ℕ) (acked : AckOutcome) (wire : List WirePacket) (within : at < length wire) (found : packet ≡
-    get_or wire at packet) where
-  -- at the server
-  new_at_server : (client server after : Sender F Q R C K S M P f c q m r) → packet.from ≡ Client
-      → HearsPacket server after packet items acked
-      → StepKeeps client server wire (Arrive at now)
-      (Ok (Arrived Server packet.space packet.number packet.size (New items acked))) client after wire
-  new_at_server client server after sender is log tied =
-      let on = all_at (IsOnWire log) wire at packet within found tied.wired in
-      let peer = is.goes.from tied.peer.config tied.peer.start tied.peer.random tied.peer.past tied.peer.came in
-      let acks : (n : ℕ) → IsInAckRanges n packet.ranges.items → (items : List ℕ)
-      × (deliveries_of Client packet.space n log ≡ items ∷ []) = λ n there. (let was = on.acks n there in
-      (was.0, subst (λ (e : End). deliveries_of e packet.space n log ≡ was.0 ∷ []) sender was.1)) in (
-        record {
-          honest = is.honest on.sound tied.peer.config tied.peer.start tied.peer.random tied.peer.past tied.peer.came
-              (were_sent log Server tied.peer.past tied.own.past tied.down packet.space packet.ranges.items acks);
-          delivered = acks_delivered log Server tied.peer.past tied.own.past tied.down packet.space packet.ranges.items
-              acks (Arrive at now) packet.number packet.size items acked is.within;
-        },
-        record {
-          own = tied.own;
-          peer = record {
-            config = tied.peer.config;
-            start = tied.peer.start;
-            random = tied.peer.random;
-            past = peer.0;
-            came = peer.1;
-          };
-          up = up_new log at now Client tied.own.past tied.peer.past peer.0 packet items acked wire sender is.told
-              peer.2
-              tied.up tied.down tied.wired on;
-          down = flows_kept log _ Server tied.peer.past peer.0 tied.own.past tied.own.past (λ space n. refl)
-              (other_takes log at now packet.space packet.number packet.size items acked Server) peer.2.goes.given
-              (quiet_none tied.own.past) tied.down;
-          wired = wired_new log at now Client tied.own.past tied.peer.past peer.0 packet items acked wire sender is.told
-              peer.2 tied.up tied.down tied.wired on;
-        },
-      )
+-- ---- a packet that arrives was sent
 
-  -- at the client
-  new_at_client : (client server after : Sender F Q R C K S M P f c q m r) → packet.from ≡ Server
-      → HearsPacket client after packet items acked
-      → StepKeeps client server wire (Arrive at now)
-      (Ok (Arrived Client packet.space packet.number packet.size (New items acked))) after server wire
-  new_at_client client server after sender is log tied =
-      let on = all_at (IsOnWire log) wire at packet within found tied.wired in
-      let own = is.goes.from tied.own.config tied.own.start tied.own.random tied.own.past tied.own.came in
-      let acks : (n : ℕ) → IsInAckRanges n packet.ranges.items → (items : List ℕ)
-      × (deliveries_of Server packet.space n log ≡ items ∷ []) = λ n there. (let was = on.acks n there in
-      (was.0, subst (λ (e : End). deliveries_of e packet.space n log ≡ was.0 ∷ []) sender was.1)) in (
-        record {
-          honest = is.honest on.sound tied.own.config tied.own.start tied.own.random tied.own.past tied.own.came
-              (were_sent log Client tied.own.past tied.peer.past tied.up packet.space packet.ranges.items acks);
-          delivered = acks_delivered log Client tied.own.past tied.peer.past tied.up packet.space packet.ranges.items
-              acks (Arrive at now) packet.number packet.size items acked is.within;
-        },
+fate_by : (discarded large new : Bool) (fate : Fate) → large ≡ false
+    → IsHeardBy discarded large new (reply_of fate) → IsFateBy discarded new fate
+fate_by discarded large new (New items acked) small is = is
+fate_by discarded large new Duplicate small is = is
+fate_by discarded large new (Dropped (Event SpaceDiscarded)) small is = is
+fate_by discarded large new (Dropped (Event NumberTooLarge)) small is = let both = sym small ∙ is in absurd cc
+fate_by discarded large new (Dropped (Event NoMemory)) small is = is
+fate_by discarded large new (Dropped refusal) small is = absurd is
+
+module _ {F Q R C K S M P : Type 0} {f : _} {c : _} {q : _} {m : _} {r : _} (at now : ℕ) (from : End)
+    (packet : WirePacket) (wire : List WirePacket) (within : at < length wire) (found : packet ≡ get_or wire at packet)
+    (sender : packet.from ≡ from) (here there after : Sender F Q R C K S M P f c q m r) (validated : Bool)
+    (log : PairLog) (tied : IsTiedAt validated (other_end from) log here there wire) where
+  -- the flow of the packets that come to the end
+  toward : Flows log from tied.peer.past tied.own.past
+  toward = subst (λ (e : End). Flows log e tied.peer.past tied.own.past) (twice from) tied.back
+
+  on_wire : IsOnWire log packet
+  on_wire = all_at (IsOnWire log) wire at packet within found tied.wired
+
+  place : IsAt (wire_of log) at (sent_as packet)
+  place = rw (tied.listed) (
+    (let same = length-map wire sent_as in omega (arith, same, within)),
+    get_or-map sent_as wire at packet (sent_as packet) within ∙ ap sent_as (sym found),
+  )
+
+  -- the packet at the place, as it is told
+  as_told : sent_as packet ≡ (record {
+    from = other_end (other_end from);
+    space = packet.space;
+    number = packet.number;
+    size = packet.size;
+    items = packet.items.items;
+  })
+  as_told = rw (twice from, sender) refl
+
+  -- it was sent, so its number is small
+  small : nat_le number_limit packet.number ≡ false
+  small = by (toward.each packet.space packet.number)
+    where
+      by : Travels log from packet.space packet.number tied.peer.past tied.own.past
+          → nat_le number_limit packet.number ≡ false
+      by (inl unsent) =
+          let none = unsent.none in
+          let some = subst (λ (e : End). sends_of e packet.space packet.number log ≡ packet.items.items ∷ []) sender
+          on_wire.sent in absurd cc
+      by (inr (items, was)) = let below = was.small in grind (arith, nat_tests, below)
+
+  module _ (fate : Fate) (is : HearsPacket here after packet fate) where
+    own_went : (past : History Q S M P) × HearsNumber packet.size packet.space packet.number (reply_of fate)
+        tied.own.past past
+    own_went =
+        let own = is.goes.from tied.own.config tied.own.start tied.own.random tied.own.past tied.own.came in
+        (own.0, own.2)
+
+    fated : IsFateBy (was_discarded (other_end from) packet.space log)
+        (is_new (numbers_at (other_end from) packet.space log) packet.number) fate
+    fated = rw (tied.logged.came packet.space, tied.logged.discarded packet.space) at
+        (fate_by (is_discarded packet.space tied.own.past) (nat_le number_limit packet.number)
+        (is_new (came_in packet.space tied.own.past) packet.number) fate small own_went.1.by)
+
+    arrival : Delivers packet.items.items fate
+        → IsFirst (deliveries_of (other_end from) packet.space packet.number log) fate
+        → IsArrival log at (other_end from) packet.space packet.number packet.size fate
+    arrival delivers once = record {
+      contents = packet.items.items;
+      sent = subst (IsAt (wire_of log) at) as_told place;
+      fated = fated;
+      delivers = delivers;
+      once = once;
+    }
+
+    -- nothing new arrives
+    pub old_step : IsSilent (Arrive at now, Ok (Arrived (other_end from) packet.space packet.number packet.size fate))
+        → (hearing packet.size packet.space packet.number (reply_of fate)).heard ≡ None
+        → Delivers packet.items.items fate
+        → IsFirst (deliveries_of (other_end from) packet.space packet.number log) fate
+        → KeepsPromises validated log
+        (Arrive at now, Ok (Arrived (other_end from) packet.space packet.number packet.size fate))
+        × IsTiedAt validated (other_end from)
+        ((Arrive at now, Ok (Arrived (other_end from) packet.space packet.number packet.size fate)) ∷ log) after there
+        wire
+    old_step silent none delivers once = silent_step (other_end from) (Arrive at now)
+        (Ok (Arrived (other_end from) packet.space packet.number packet.size fate))
+        (hearing packet.size packet.space packet.number (reply_of fate)) silent none
+        (λ log. arriving_adds log at now packet.space packet.number packet.size (other_end from) fate)
+        (λ log. arriving_adds_not log at now packet.space packet.number packet.size (other_end from) fate) wire here
+        there after (record {
+          from = λ config start random past came. (
+              let own = is.goes.from config start random past came in (own.0, own.1, own.2.goes));
+        }) validated log tied (arrival delivers once)
+
+  -- it is new
+  module _ (items : Vec ℕ) (acked : AckOutcome) (is : HearsPacket here after packet (New items acked)) where
+    abbrev event : PairEvent
+    event = taking log at now packet.space packet.number packet.size items acked (other_end from)
+
+    acks_known : (n : ℕ) → IsInAckRanges n packet.ranges.items
+        → (items : List ℕ) × (deliveries_of (other_end (other_end from)) packet.space n log ≡ items ∷ [])
+    acks_known n there = (let was = on_wire.acks n there in (
+      was.0,
+      subst (λ (e : End). deliveries_of e packet.space n log ≡ was.0 ∷ []) (sender ∙ sym (twice from)) was.1,
+    ))
+
+    tied_new : IsTiedAt validated (other_end from) (event ∷ log) after there wire
+    tied_new =
+        let own = is.goes.from tied.own.config tied.own.start tied.own.random tied.own.past tied.own.came in
         record {
           own = record {
             config = tied.own.config;
@@ -401,53 +554,58 @@ module _ {F Q R C K S M P : Type 0} {f : _} {c : _} {q : _} {m : _} {r : _} (at 
             came = own.1;
           };
           peer = tied.peer;
-          up = flows_kept log _ Client tied.own.past own.0 tied.peer.past tied.peer.past (λ space n. refl)
-              (other_takes log at now packet.space packet.number packet.size items acked Client) own.2.goes.given
-              (quiet_none tied.peer.past) tied.up;
-          down = up_new log at now Server tied.peer.past tied.own.past own.0 packet items acked wire sender is.told
-              own.2
-              tied.down tied.up tied.wired on;
-          wired = wired_new log at now Server tied.peer.past tied.own.past own.0 packet items acked wire sender is.told
-              own.2 tied.down tied.up tied.wired on;
-        },
-      )
+          out = flows_kept log (event ∷ log) (other_end from) quiet tied.own.past own.0 tied.peer.past tied.peer.past
+              (λ space n. refl)
+              (other_takes log at now packet.space packet.number packet.size items acked (other_end from))
+              own.2.goes.given refl (quiet_none tied.peer.past) tied.out;
+          back = subst (λ (e : End). Flows (event ∷ log) e tied.peer.past own.0) (sym (twice from))
+              (flows_new log at now from tied.peer.past tied.own.past own.0 packet items acked wire sender
+              is.takes.told own.2 toward tied.wired on_wire);
+          logged = logged_on validated log event (other_end from) tied.own.config.validated
+              (hearing packet.size packet.space packet.number (Ok true)) tied.own.past own.0
+              (arriving_adds log at now packet.space packet.number packet.size (other_end from) (New items acked))
+              own.2.goes tied.logged;
+          peer_logged = logged_on validated log event (other_end (other_end from)) tied.peer.config.validated quiet
+              tied.peer.past tied.peer.past
+              (arriving_adds_not log at now packet.space packet.number packet.size (other_end from)
+              (New items acked)) (quiet_none tied.peer.past) tied.peer_logged;
+          listed = tied.listed;
+          wired = wired_new log at now from tied.peer.past tied.own.past own.0 packet items acked wire sender
+              is.takes.told own.2 toward tied.wired on_wire;
+        }
 
-  pub new_turn : (from : End) (client server client_after server_after : Sender F Q R C K S M P f c q m r)
-      → packet.from ≡ from
-      → TurnsAt (other_end from) (λ (old new : Sender F Q R C K S M P f c q m r). HearsPacket old new packet items
-      acked)
-      client server client_after server_after
-      → StepKeeps client server wire (Arrive at now)
-      (Ok (Arrived (other_end from) packet.space packet.number packet.size (New items acked))) client_after server_after
-      wire
-  new_turn Client client server client_after server_after sender turns =
-      subst (λ (one : Sender F Q R C K S M P f c q m r). StepKeeps client server wire (Arrive at now)
-      (Ok (Arrived Server packet.space packet.number packet.size (New items acked))) one server_after wire) (sym
-      turns.1)
-      (new_at_server client server server_after sender turns.0)
-  new_turn Server client server client_after server_after sender turns =
-      subst (λ (one : Sender F Q R C K S M P f c q m r). StepKeeps client server wire (Arrive at now)
-      (Ok (Arrived Client packet.space packet.number packet.size (New items acked))) client_after one wire) (sym
-      turns.1)
-      (new_at_client client server client_after sender turns.0)
+    pub new_step : KeepsPromises validated log event
+        × IsTiedAt validated (other_end from) (event ∷ log) after there wire
+    new_step =
+        let own = is.goes.from tied.own.config tied.own.start tied.own.random tied.own.past tied.own.came in
+        let ranges = packet.ranges.items in (
+          record {
+            honest = is.takes.honest on_wire.sound tied.own.config tied.own.start tied.own.random tied.own.past
+                tied.own.came (were_sent log (other_end from) tied.own.past tied.peer.past tied.out packet.space ranges
+                acks_known);
+            delivered = acks_delivered log (other_end from) tied.own.past tied.peer.past tied.out packet.space ranges
+                acks_known (Arrive at now) packet.number packet.size items acked is.takes.within;
+            arrives = arrival (New items acked) is is.takes.told (once_new log at now from tied.peer.past tied.own.past
+                own.0 packet items acked wire sender is.takes.told own.2 toward tied.wired on_wire);
+            limited = threefold_at validated (event ∷ log) (other_end from) after there wire tied_new;
+          },
+          tied_new,
+        )
 
 module _ {F Q R C K S M P : Type 0} {f : _} {c : _} {q : _} {m : _} {r : _} (at now : ℕ) (packet : WirePacket)
     (wire : List WirePacket) (within : at < length wire) (found : packet ≡ get_or wire at packet) where
-  arrive_turn : (fate : Fate) (client server client_after server_after : Sender F Q R C K S M P f c q m r)
-      → TurnsAt (other_end packet.from) (λ (old new : Sender F Q R C K S M P f c q m r). HearTurn old new packet (Ok
-      fate))
-      client server client_after server_after
-      → StepKeeps client server wire (Arrive at now)
-      (Ok (Arrived (other_end packet.from) packet.space packet.number packet.size fate)) client_after server_after wire
-  arrive_turn (New items acked) client server client_after server_after turns =
-      new_turn at now packet items acked wire within found packet.from client server client_after server_after refl
-      turns
-  arrive_turn (Dropped refusal) client server client_after server_after turns = silent_turn (other_end packet.from)
-      (Arrive at now) (Ok (Arrived (other_end packet.from) packet.space packet.number packet.size (Dropped refusal)))
-      client server client_after server_after wire tt turns
-  arrive_turn Duplicate client server client_after server_after turns = silent_turn (other_end packet.from)
-      (Arrive at now) (Ok (Arrived (other_end packet.from) packet.space packet.number packet.size Duplicate))
-      client server client_after server_after wire tt turns
+  arrive_step : (from : End) → packet.from ≡ from → (fate : Fate) (here there after : Sender F Q R C K S M P f c q m r)
+      → HearsPacket here after packet fate
+      → StepKeepsAt (other_end from) here there wire (Arrive at now)
+      (Ok (Arrived (other_end from) packet.space packet.number packet.size fate)) after wire
+  arrive_step from sender (New items acked) here there after is validated log tied =
+      new_step at now from packet wire within found sender here there after validated log tied items acked is
+  arrive_step from sender Duplicate here there after is validated log tied =
+      old_step at now from packet wire within found sender here there after validated log tied Duplicate is tt refl tt
+      tt
+  arrive_step from sender (Dropped refusal) here there after is validated log tied =
+      old_step at now from packet wire within found sender here there after validated log tied (Dropped refusal) is tt
+      refl tt tt
 
   -- a packet arrives at the end that did not send it
   pub arrives_at : (to : End) (fate : Fate) (client server client_after server_after : Sender F Q R C K S M P f c q m r)
@@ -462,41 +620,91 @@ module _ {F Q R C K S M P : Type 0} {f : _} {c : _} {q : _} {m : _} {r : _} (at 
       client_after server_after
       → StepKeeps client server wire (Arrive at now)
       (Ok (Arrived e packet.space packet.number packet.size fate)) client_after server_after wire) (sym is)
-      (arrive_turn fate client server client_after server_after)
+      (by_turn (other_end packet.from)
+      (λ (old new : Sender F Q R C K S M P f c q m r). HearTurn old new packet (Ok fate)) wire wire (Arrive at now)
+      (Ok (Arrived (other_end packet.from) packet.space packet.number packet.size fate))
+      (λ here there after turn. arrive_step packet.from refl fate here there after turn)
+      client server client_after server_after)
 
 -- ---- something happens at one end
 
-local_silent : (step : PairStep) (result : Result PairAnswer SenderError) → IfOk result IsLocalAnswer
-    → IsSilent (step, result)
-local_silent step (Ok (Sent number items)) never = absurd never
-local_silent step (Ok (Arrived to space number size (New items acked))) never = absurd never
-local_silent step result answer = tt
+local_answer : (step : PairStep) (result : Result PairAnswer SenderError) → IfOk result IsLocalAnswer
+    → IsNoPacket (step, result)
+local_answer step (Ok (Sent number items)) never = absurd never
+local_answer step (Ok (Arrived to space number size fate)) never = absurd never
+local_answer step result answer = tt
+
+none_silent : (event : PairEvent) → IsNoPacket event → IsSilent event
+none_silent (step, Ok (Sent number items)) none = absurd none
+none_silent (step, Ok (Arrived to space number size fate)) none = absurd none
+none_silent other none = tt
+
+local_arrives : (log : PairLog) (end : End) (step : LocalStep) (result : Result PairAnswer SenderError)
+    → IsNoPacket (Local end step, result) → ArrivesAsSent log (Local end step, result)
+local_arrives log end step (Ok (Arrived to space number size fate)) none = absurd none
+local_arrives log end step result none = tt
 
 module _ {F Q R C K S M P : Type 0} {f : _} {c : _} {q : _} {m : _} {r : _} where
-  pub local_turn : (end : End) (step : PairStep) (result : Result PairAnswer SenderError)
-      (client server client_after server_after : Sender F Q R C K S M P f c q m r) (wire : List WirePacket)
-      → TurnsAt end (λ (old new : Sender F Q R C K S M P f c q m r). Continues GoesOnQuietly old new) client server
-      client_after server_after → IfOk result IsLocalAnswer
-      → StepKeeps client server wire step result client_after server_after wire
-  local_turn end step result client server client_after server_after wire turns answer =
-      silent_turn end step result client server client_after server_after wire (local_silent step result answer) turns
+  local_step : (end : End) (step : LocalStep) (result : Result PairAnswer SenderError) (wire : List WirePacket)
+      → IfOk result IsLocalAnswer → (here there after : Sender F Q R C K S M P f c q m r)
+      → Continues (GoesOn (local_turn step result)) here after
+      → StepKeepsAt end here there wire (Local end step) result after wire
+  local_step end step result wire answer here there after goes validated log tied =
+      let none = local_answer (Local end step) result answer in
+      silent_step end (Local end step) result (local_turn step result) (none_silent (Local end step, result) none)
+      (local_moves log step result).heard (λ log. local_adds log end step result none)
+      (λ log. local_adds_not log end step result none) wire here there after goes validated log tied
+      (local_arrives log end step result none)
 
-  -- nothing happens
-  pub idle_step : (step : PairStep) (answer : Result PairAnswer SenderError)
-      (client server : Sender F Q R C K S M P f c q m r) (wire wire_after : List WirePacket) → wire_after ≡ wire
-      → IsSilent (step, answer) → StepKeeps client server wire step answer client server wire_after
-  idle_step step answer client server wire wire_after same silent =
-      subst (λ (all : List WirePacket). StepKeeps client server wire step answer client server all) (sym same)
-      (silent_step step answer client server client server wire silent (same_quietly client client refl)
-      (same_quietly server server refl))
+  pub local_step_at : (end : End) (step : LocalStep) (result : Result PairAnswer SenderError)
+      (client server client_after server_after : Sender F Q R C K S M P f c q m r) (wire : List WirePacket)
+      → TurnsAt end (λ (old new : Sender F Q R C K S M P f c q m r). Continues (GoesOn (local_turn step result)) old
+      new) client server client_after server_after → IfOk result IsLocalAnswer
+      → StepKeeps client server wire (Local end step) result client_after server_after wire
+  local_step_at end step result client server client_after server_after wire turns answer =
+      by_turn end
+      (λ (old new : Sender F Q R C K S M P f c q m r). Continues (GoesOn (local_turn step result)) old new) wire wire
+      (Local end step) result (local_step end step result wire answer) client server client_after server_after turns
+
+  -- ---- nothing is sent, and nothing arrives
+
+  quiet_step : (end : End) (step : PairStep) (answer : Result PairAnswer SenderError) (wire : List WirePacket)
+      → IsNoPacket (step, answer) → IsNotLocal step
+      → ((log : PairLog) → wire_of log ≡ map sent_as wire → ArrivesAsSent log (step, answer))
+      → (here there after : Sender F Q R C K S M P f c q m r) → Continues GoesOnQuietly here after
+      → StepKeepsAt end here there wire step answer after wire
+  quiet_step end step answer wire none other arrives here there after goes validated log tied =
+      silent_step end step answer quiet (none_silent (step, answer) none) refl
+      (λ log. idle_adds log end step answer none other) (λ log. idle_adds log (other_end end) step answer none other)
+      wire here there after goes validated log tied (arrives log tied.listed)
 
   -- an end sends nothing
   pub held_turn : (end : End) (step : PairStep) (answer : Result PairAnswer SenderError)
       (client server client_after server_after : Sender F Q R C K S M P f c q m r) (wire wire_after : List WirePacket)
-      → wire_after ≡ wire → IsSilent (step, answer)
+      → wire_after ≡ wire → IsNoPacket (step, answer) → IsNotLocal step
+      → ((log : PairLog) → wire_of log ≡ map sent_as wire → ArrivesAsSent log (step, answer))
       → TurnsAt end (λ (old new : Sender F Q R C K S M P f c q m r). Continues GoesOnQuietly old new) client server
       client_after server_after → StepKeeps client server wire step answer client_after server_after wire_after
-  held_turn end step answer client server client_after server_after wire wire_after same silent turns =
+  held_turn end step answer client server client_after server_after wire wire_after same none other arrives turns =
       subst (λ (all : List WirePacket). StepKeeps client server wire step answer client_after server_after all) (sym
       same)
-      (silent_turn end step answer client server client_after server_after wire silent turns)
+      (by_turn end (λ (old new : Sender F Q R C K S M P f c q m r). Continues GoesOnQuietly old new) wire wire step
+      answer (quiet_step end step answer wire none other arrives) client server client_after server_after turns)
+
+  -- nothing happens
+  pub idle_step : (step : PairStep) (answer : Result PairAnswer SenderError)
+      (client server : Sender F Q R C K S M P f c q m r) (wire wire_after : List WirePacket) → wire_after ≡ wire
+      → IsNoPacket (step, answer) → IsNotLocal step
+      → ((log : PairLog) → wire_of log ≡ map sent_as wire → ArrivesAsSent log (step, answer))
+      → StepKeeps client server wire step answer client server wire_after
+  idle_step step answer client server wire wire_after same none other arrives =
+      held_turn Client step answer client server client server wire wire_after same none other arrives
+      (same_quietly client client refl, refl)
+
+-- the wire has no packet at the position
+pub beyond : (wire : List WirePacket) (log : PairLog) (at now : ℕ) → length wire ≤ at
+    → wire_of log ≡ map sent_as wire → ArrivesAsSent log (Arrive at now, Ok Nothing)
+beyond wire log at now past listed =
+    let same = length-map wire sent_as in
+    let long : length (wire_of log) ≡ length wire = ap (λ (all : List SentPacket). length all) listed ∙ same in
+    omega (arith, long, past)

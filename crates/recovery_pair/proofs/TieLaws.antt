@@ -1,5 +1,5 @@
 -- The log of two ends stays tied to what their senders know.
-use Rattle.std.proofs.Common.{◌≡◌, ℕ, ◌<◌, ◌⊎◌, inl, inr, ◌==◌, ◌&&◌, Bool, true, false, true≢false, List, [], ◌∷◌, ◌++◌, length, get_or, Ok, zero, suc, refl, sym, ap, subst, ◌∙◌, arith}
+use Rattle.std.proofs.Common.{◌≡◌, ℕ, ◌<◌, ◌⊎◌, inl, inr, ◌==◌, ◌&&◌, Bool, true, false, true≢false, List, [], ◌∷◌, ◌++◌, length, get_or, Option, None, Some, Ok, zero, suc, refl, sym, ap, subst, ◌∙◌, arith}
 use Rattle.std.specs.Prelude.{if◌then◌else◌}
 use Rattle.std.proofs.lemmas.Bool.Decides.{nat_tests}
 use Rattle.std.specs.Global.{Vec}
@@ -9,6 +9,7 @@ use Rattle.recovery_base.specs.Spaces.{same_space}
 use Rattle.recovery_base.specs.Units.{number_limit}
 use Rattle.recovery_history.specs.History.{History}
 use Rattle.recovery_history.specs.Promises.Acknowledged.{WasReceived}
+use Rattle.recovery_history.specs.Promises.NewNumbers.{came_in}
 use Rattle.recovery_history.proofs.TrackedLaws.{one_space}
 use Rattle.recovery_pair.specs.declared.steps.AckOutcome.{AckOutcome}
 use Rattle.recovery_pair.specs.declared.steps.End.{End}
@@ -17,10 +18,10 @@ use Rattle.recovery_pair.specs.declared.steps.Fate.TheVariants.{New}
 use Rattle.recovery_pair.specs.declared.steps.PairAnswer.TheVariants.{Arrived, Sent}
 use Rattle.recovery_pair.specs.declared.steps.PairStep.TheVariants.{Arrive, Send}
 use Rattle.recovery_pair.specs.Logs.{PairEvent, PairLog, deliveries_of, other_end, sends_of}
-use Rattle.recovery_pair.specs.Pasts.{Came, GoesOnQuietly, HearsNumber, SendsNumber, WasSentUnder}
+use Rattle.recovery_pair.specs.Pasts.{Came, GoesOn, HearsNumber, SendsNumber, Turn, WasSentUnder, hearing}
 use Rattle.recovery_pair.specs.Promises.DeliveredOnce.{IsDeliveredOnce}
 use Rattle.recovery_pair.specs.Tied.{Flows, HasArrived, IsNotThere, IsUnsent, Travels}
-use Rattle.recovery_pair.proofs.GoingLaws.{same_itself}
+use Rattle.recovery_pair.proofs.GoingLaws.{came_on, itself, not_new, same_itself}
 
 -- ---- lists
 
@@ -59,7 +60,7 @@ module _ {Q S M P : Type 0} (log after : PairLog) (from : End) (space : SpaceId)
       → IsNotThere after from space n past_after peer_after ⊎ HasArrived after from space n past_after peer_after items
   arrival_kept taken came heard items (inl away) = inl (away_kept taken heard away)
   arrival_kept taken came heard items (inr there) =
-      inr (record { delivered = taken ∙ there.delivered; came = came there.came; small = there.small })
+      inr (record { delivered = taken ∙ there.delivered; came = came there.came })
 
   travels_kept : sends_of from space n after ≡ sends_of from space n log
       → deliveries_of (other_end from) space n after ≡ deliveries_of (other_end from) space n log
@@ -73,30 +74,33 @@ module _ {Q S M P : Type 0} (log after : PairLog) (from : End) (space : SpaceId)
     record {
       once = sends ∙ sent.once;
       given = given sent.given;
+      small = sent.small;
       arrival = arrival_kept taken came heard items sent.arrival;
     },
   )
 
-unheard_quietly : {Q S M P : Type 0} (peer after : History Q S M P) → GoesOnQuietly peer after
-    → (space : SpaceId) (n : ℕ)
-    → WasReceived space n after → WasReceived space n peer
-unheard_quietly peer after quiet space n was = by (quiet.heard space n was)
+-- a step by which nothing new is received
+unheard_by : {Q S M P : Type 0} (turn : Turn) (peer after : History Q S M P) → turn.heard ≡ None
+    → GoesOn turn peer after → (space : SpaceId) (n : ℕ) → WasReceived space n after → WasReceived space n peer
+unheard_by turn peer after none goes space n was = by (goes.heard space n was)
   where
-    by : WasReceived space n peer ⊎ ⊥ → WasReceived space n peer
+    by : WasReceived space n peer ⊎ (turn.heard ≡ Some (space, n)) → WasReceived space n peer
     by (inl before) = before
-    by (inr never) = absurd never
+    by (inr here) = let never = sym none ∙ here in absurd cc
 
 -- what is known of the packets of an end stays so if no step speaks of them
-pub flows_kept : {Q S M P : Type 0} (log after : PairLog) (from : End)
+pub flows_kept : {Q S M P : Type 0} (log after : PairLog) (from : End) (turn : Turn)
     (past past_after peer peer_after : History Q S M P)
     → ((space : SpaceId) (n : ℕ) → sends_of from space n after ≡ sends_of from space n log)
     → ((space : SpaceId) (n : ℕ)
     → deliveries_of (other_end from) space n after ≡ deliveries_of (other_end from) space n log)
     → ((space : SpaceId) (n : ℕ) → WasSentUnder space n past → WasSentUnder space n past_after)
-    → GoesOnQuietly peer peer_after → Flows log from past peer → Flows after from past_after peer_after
-flows_kept log after from past past_after peer peer_after sends taken given quiet flows = record {
+    → turn.heard ≡ None → GoesOn turn peer peer_after → Flows log from past peer
+    → Flows after from past_after peer_after
+flows_kept log after from turn past past_after peer peer_after sends taken given none goes flows = record {
   each = λ space n. travels_kept log after from space n past past_after peer peer_after (sends space n) (taken space n)
-      (given space n) (quiet.came space n) (unheard_quietly peer peer_after quiet space n) (flows.each space n);
+      (given space n) (came_on turn peer peer_after goes space n)
+      (unheard_by turn peer peer_after none goes space n) (flows.each space n);
 }
 
 -- ---- a number is the one of a step, or not
@@ -146,7 +150,7 @@ module _ (log : PairLog) (there : SpaceId) (now size m : ℕ) (items : Vec ℕ) 
   sending_delivers end at space n = refl
 
   module _ {Q S M P : Type 0} (end : End) (past past_after peer : History Q S M P)
-      (sends : SendsNumber there m past past_after) (flows : Flows log end past peer) where
+      (sends : SendsNumber size there m past past_after) (flows : Flows log end past peer) where
     -- nothing was sent under the number before
     unsent_by : Travels log end there m past peer → IsUnsent log end there m past peer
     unsent_by (inl unsent) = unsent
@@ -163,6 +167,7 @@ module _ (log : PairLog) (there : SpaceId) (now size m : ℕ) (items : Vec ℕ) 
             there m)
             ∙ ap (λ more. items.items ∷ more) unsent_before.none;
         given = sends.used;
+        small = sends.small;
         arrival = inl (record {
           undelivered = unsent_before.away.undelivered;
           unheard = unsent_before.away.unheard;
@@ -222,7 +227,7 @@ module _ (log : PairLog) (at now : ℕ) (there : SpaceId) (m size : ℕ) (items 
 
   -- `from` sent it, and the other end hears it
   module _ {Q S M P : Type 0} (from : End) (past peer peer_after : History Q S M P)
-      (hears : HearsNumber there m peer peer_after) (sent : sends_of from there m log ≡ items.items ∷ [])
+      (hears : HearsNumber size there m (Ok true) peer peer_after) (sent : sends_of from there m log ≡ items.items ∷ [])
       (flows : Flows log from past peer) where
     abbrev heard_now : PairLog
     heard_now = taking (other_end from) ∷ log
@@ -230,14 +235,20 @@ module _ (log : PairLog) (at now : ℕ) (there : SpaceId) (m size : ℕ) (items 
     away_by : (before : List ℕ) → IsNotThere log from there m past peer ⊎ HasArrived log from there m past peer before
         → IsNotThere log from there m past peer
     away_by before (inl away) = away
-    away_by before (inr arrived) = absurd (hears.unknown arrived.came)
+    away_by before (inr arrived) = absurd (not_new m (came_in there peer) hears.by.1 arrived.came)
 
-    sent_by : Travels log from there m past peer
-        → WasSentUnder there m past × IsNotThere log from there m past peer
+    -- it was sent, and did not arrive before
+    pub record IsUnderWay : Type 0 where
+      pub given : WasSentUnder there m past
+      pub small : m < number_limit
+      pub away : IsNotThere log from there m past peer
+
+    sent_by : Travels log from there m past peer → IsUnderWay
     sent_by (inl unsent) = let none = unsent.none in absurd cc
-    sent_by (inr (before, was)) = (was.given, away_by before was.arrival)
+    sent_by (inr (before, was)) =
+        record { given = was.given; small = was.small; away = away_by before was.arrival }
 
-    before_it : WasSentUnder there m past × IsNotThere log from there m past peer
+    pub before_it : IsUnderWay
     before_it = sent_by (flows.each there m)
 
     travels_taken : Travels heard_now from there m past peer_after
@@ -245,21 +256,25 @@ module _ (log : PairLog) (at now : ℕ) (there : SpaceId) (m size : ℕ) (items 
       items.items,
       record {
         once = sent;
-        given = before_it.0;
+        given = before_it.given;
+        small = before_it.small;
         arrival = inr (record {
           delivered = own_takes (other_end from) there m
               ∙ chosen (is_it there m there m) items.items (deliveries_of (other_end from) there m log) (it_is there m)
-              ∙ ap (λ more. items.items ∷ more) before_it.1.undelivered;
-          came = hears.known;
-          small = hears.small;
+              ∙ ap (λ more. items.items ∷ more) before_it.away.undelivered;
+          came = rw (hears.goes.came there, same_itself there) (itself m (came_in there peer));
         });
       },
     )
 
     heard_by : (space : SpaceId) (n : ℕ) → is_it there m space n ≡ false
-        → WasReceived space n peer ⊎ (space ≡ there) × (n ≡ m) → WasReceived space n peer
+        → WasReceived space n peer ⊎ ◌≡◌ {A = Option (SpaceId × ℕ)} (Some (there, m)) (Some (space, n))
+        → WasReceived space n peer
     heard_by space n other (inl was) = was
-    heard_by space n other (inr same) = absurd (is_other there space m n other same)
+    heard_by space n other (inr same) =
+        let pair : ◌≡◌ {A = SpaceId × ℕ} (there, m) (space, n) = cc in
+        absurd (is_other there space m n other
+        (sym (ap (λ (number : SpaceId × ℕ). number.0) pair), sym (ap (λ (number : SpaceId × ℕ). number.1) pair)))
 
     travels_on : (space : SpaceId) (n : ℕ) (test : Bool) → is_it there m space n ≡ test
         → Travels heard_now from space n past peer_after
@@ -267,7 +282,8 @@ module _ (log : PairLog) (at now : ℕ) (there : SpaceId) (m size : ℕ) (items 
     travels_on space n false is = travels_kept log heard_now from space n past past peer peer_after refl
         (own_takes (other_end from) space n
         ∙ left_out (is_it there m space n) items.items (deliveries_of (other_end from) space n log) is)
-        (λ given. given) (hears.goes.came space n) (λ was. heard_by space n is (hears.goes.heard space n was))
+        (λ given. given)
+        (came_on (hearing size there m (Ok true)) peer peer_after hears.goes space n) (λ was. heard_by space n is (hears.goes.heard space n was))
         (flows.each space n)
 
     pub flows_taken : Flows heard_now from past peer_after
@@ -279,7 +295,7 @@ module _ (log : PairLog) (at now : ℕ) (there : SpaceId) (m size : ℕ) (items 
         → deliveries_of (other_end from) space n heard_now ≡ before ∷ []
     takes_by space n before once true is =
         let same = is_same there space m n is in
-        let none : deliveries_of (other_end from) space n log ≡ [] = rw (same.0, same.1) before_it.1.undelivered in
+        let none : deliveries_of (other_end from) space n log ≡ [] = rw (same.0, same.1) before_it.away.undelivered in
         absurd cc
     takes_by space n before once false is = own_takes (other_end from) space n
         ∙ left_out (is_it there m space n) items.items (deliveries_of (other_end from) space n log) is ∙ once
@@ -297,16 +313,16 @@ module _ {Q S M P : Type 0} (log : PairLog) (from : End) (past peer : History Q 
   Known = IsDeliveredOnce log from space n × WasSentUnder space n past × (n < number_limit)
 
   known_arrived : (before items : List ℕ) → deliveries_of (other_end from) space n log ≡ items ∷ []
-      → sends_of from space n log ≡ before ∷ [] → WasSentUnder space n past
+      → sends_of from space n log ≡ before ∷ [] → WasSentUnder space n past → n < number_limit
       → IsNotThere log from space n past peer ⊎ HasArrived log from space n past peer before → Known
-  known_arrived before items once sent given (inl away) = let none = away.undelivered in absurd cc
-  known_arrived before items once sent given (inr there) =
-      (record { items = before; sent = sent; delivered = there.delivered }, given, there.small)
+  known_arrived before items once sent given small (inl away) = let none = away.undelivered in absurd cc
+  known_arrived before items once sent given small (inr there) =
+      (record { items = before; sent = sent; delivered = there.delivered }, given, small)
 
   known_by : (items : List ℕ) → deliveries_of (other_end from) space n log ≡ items ∷ []
       → Travels log from space n past peer → Known
   known_by items once (inl unsent) = let none = unsent.away.undelivered in absurd cc
-  known_by items once (inr (before, was)) = known_arrived before items once was.once was.given was.arrival
+  known_by items once (inr (before, was)) = known_arrived before items once was.once was.given was.small was.arrival
 
   -- what was delivered was sent
   pub delivered_known : (items : List ℕ) → deliveries_of (other_end from) space n log ≡ items ∷ [] → Known

@@ -1,15 +1,16 @@
 -- The log of two ends: the steps with their answers, the newest first.
-use Rattle.std.specs.Prelude.{ℕ, ◌==◌, ◌&&◌, Bool, true, false, List, [], ◌∷◌, Result, Ok, if◌then◌else◌}
+use Rattle.std.specs.Prelude.{◌≡◌, ℕ, ◌+◌, ◌<◌, ◌==◌, ◌&&◌, ◌||◌, Bool, true, false, List, [], ◌∷◌, ◌++◌, length, get_or, Result, Ok, if◌then◌else◌}
 use Rattle.recovery_base.specs.declared.below.SpaceId.{SpaceId}
 use Rattle.recovery_base.specs.Spaces.{same_space}
 use Rattle.recovery_sender.specs.declared.sender.SenderError.{SenderError}
 use Rattle.recovery_pair.specs.declared.steps.End.{End}
 use Rattle.recovery_pair.specs.declared.steps.End.TheVariants.{Client, Server}
-use Rattle.recovery_pair.specs.declared.steps.Fate.TheVariants.{New}
+use Rattle.recovery_pair.specs.declared.steps.Fate.TheVariants.{Dropped, New}
+use Rattle.recovery_pair.specs.declared.steps.LocalStep.TheVariants.{AddressValidated, Discard}
 use Rattle.recovery_pair.specs.declared.steps.PairAnswer.{PairAnswer}
-use Rattle.recovery_pair.specs.declared.steps.PairAnswer.TheVariants.{Arrived, Sent}
+use Rattle.recovery_pair.specs.declared.steps.PairAnswer.TheVariants.{Arrived, Done, Sent}
 use Rattle.recovery_pair.specs.declared.steps.PairStep.{PairStep}
-use Rattle.recovery_pair.specs.declared.steps.PairStep.TheVariants.{Send}
+use Rattle.recovery_pair.specs.declared.steps.PairStep.TheVariants.{Local, Send}
 
 abbrev pub other_end : End → End
 other_end Client = Server
@@ -46,3 +47,62 @@ deliveries_of end space n ((step, Ok (Arrived to there number size (New items ac
     if is_number end space n to there number then items.items ∷ deliveries_of end space n earlier
     else deliveries_of end space n earlier
 deliveries_of end space n (event ∷ earlier) = deliveries_of end space n earlier
+
+-- ---- the wire
+
+-- a packet that was sent, as the log tells it
+pub record SentPacket : Type 0 where
+  pub from : End
+  pub space : SpaceId
+  pub number : ℕ
+  pub size : ℕ
+  pub items : List ℕ
+
+-- all packets that were sent, in the order of sending
+abbrev pub wire_of : PairLog → List SentPacket
+wire_of [] = []
+wire_of ((Send end there now bytes, Ok (Sent n told)) ∷ earlier) =
+    wire_of earlier ++ record { from = end; space = there; number = n; size = bytes; items = told.items } ∷ []
+wire_of (event ∷ earlier) = wire_of earlier
+
+-- a packet has this position on it
+abbrev pub IsAt : List SentPacket → ℕ → SentPacket → Type 0
+IsAt wire at packet = (at < length wire) × (get_or wire at packet ≡ packet)
+
+-- ---- what an end knows
+
+module _ (end : End) where
+  -- the bytes of the packets that it sent
+  abbrev pub bytes_sent : PairLog → ℕ
+  bytes_sent [] = 0
+  bytes_sent ((Send from there now size, Ok (Sent number items)) ∷ earlier) =
+      if same_end from end then size + bytes_sent earlier else bytes_sent earlier
+  bytes_sent (event ∷ earlier) = bytes_sent earlier
+
+  -- the bytes of the packets that arrived at it, duplicates and dropped ones included
+  abbrev pub bytes_arrived : PairLog → ℕ
+  bytes_arrived [] = 0
+  bytes_arrived ((step, Ok (Arrived to there number size fate)) ∷ earlier) =
+      if same_end to end then size + bytes_arrived earlier else bytes_arrived earlier
+  bytes_arrived (event ∷ earlier) = bytes_arrived earlier
+
+  -- the address of its peer was validated: from the start, or by a step
+  abbrev pub has_validated : Bool → PairLog → Bool
+  has_validated first [] = first
+  has_validated first ((Local at AddressValidated, Ok Done) ∷ earlier) = same_end at end || has_validated first earlier
+  has_validated first (event ∷ earlier) = has_validated first earlier
+
+  -- a step dropped the keys of a space
+  abbrev pub was_discarded : SpaceId → PairLog → Bool
+  was_discarded space [] = false
+  was_discarded space ((Local at (Discard there now), Ok Done) ∷ earlier) =
+      (same_end at end && same_space there space) || was_discarded space earlier
+  was_discarded space (event ∷ earlier) = was_discarded space earlier
+
+  -- the numbers of the packets of a space that arrived and were not dropped, new or not
+  abbrev pub numbers_at : SpaceId → PairLog → List ℕ
+  numbers_at space [] = []
+  numbers_at space ((step, Ok (Arrived to there number size (Dropped refusal))) ∷ earlier) = numbers_at space earlier
+  numbers_at space ((step, Ok (Arrived to there number size fate)) ∷ earlier) =
+      if same_end to end && same_space there space then number ∷ numbers_at space earlier else numbers_at space earlier
+  numbers_at space (event ∷ earlier) = numbers_at space earlier

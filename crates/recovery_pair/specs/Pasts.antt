@@ -1,36 +1,92 @@
 -- How the past of an end goes on: what was sent stays sent, what was received stays received.
-use Rattle.std.specs.Prelude.{◌≡◌, ℕ, ◌<◌, ◌⊎◌, nat_eq, Bool, true, List, Option, None, Some, Result, Ok}
+use Rattle.std.specs.Prelude.{◌≡◌, ℕ, ◌+◌, ◌<◌, ◌≤◌, ◌⊎◌, ◌||◌, nat_eq, nat_le, Bool, true, false, List, ◌∷◌, sum_by, Option, None, Some, Result, Ok, Err, if◌then◌else◌}
 use Rattle.std.specs.Set.{is_member}
 use Rattle.rand_core.specs.Stream.{Stream}
 use Rattle.recovery_base.specs.declared.below.SpaceId.{SpaceId}
+use Rattle.recovery_base.specs.Spaces.{same_space}
 use Rattle.recovery_base.specs.Units.{number_limit}
 use Rattle.recovery_events.specs.declared.event.Answer.{Answer}
 use Rattle.recovery_events.specs.declared.event.Answer.TheVariants.{New}
-use Rattle.recovery_events.specs.declared.event.Event.{Event}
-use Rattle.recovery_events.specs.declared.event.Event.TheVariants.{Received}
+use Rattle.recovery_events.specs.declared.event.Refusal.TheVariants.{NoMemory, NumberTooLarge, SpaceDiscarded}
 use Rattle.recovery_losses.specs.Frames.{IsInAckRanges}
 use Rattle.recovery_losses.specs.Losses.{IsOneOf}
 use Rattle.recovery_history.specs.declared.config.RecoveryConfig.{RecoveryConfig}
 use Rattle.recovery_history.specs.History.{History, begins, queue_model}
 use Rattle.recovery_history.specs.Promises.Acknowledged.{WasReceived}
+use Rattle.recovery_history.specs.Promises.Datagrams.{bytes_in, bytes_out, datagrams_on, is_validated}
 use Rattle.recovery_history.specs.Promises.Fates.{is_given, times}
-use Rattle.recovery_history.specs.Promises.NewNumbers.{came_in}
+use Rattle.recovery_history.specs.Promises.NewNumbers.{came_in, is_discarded, is_new}
 use Rattle.recovery_history.specs.Reachability.{ReachedBy}
+use Rattle.recovery_paths.specs.declared.path_pair.PathName.TheVariants.{Current}
 use Rattle.recovery_sender.specs.Promises.Pasts.{ForEveryPast}
 use Rattle.recovery_sender.specs.Senders.{state_in}
 use Rattle.recovery_sender.specs.declared.sender.Sender.{Sender}
 use Rattle.recovery_sender.specs.declared.sender.SenderError.{SenderError}
+use Rattle.recovery_sender.specs.declared.sender.SenderError.TheVariants.{Event}
 use Rattle.recovery_pair.specs.declared.steps.AckOutcome.{AckOutcome}
 use Rattle.recovery_pair.specs.declared.steps.AckOutcome.TheVariants.{Taken}
 use Rattle.recovery_pair.specs.Frames.{IsSoundFrame}
 use Rattle.recovery_pair.specs.Promises.NeverAccused.{IsSpared}
 
--- ---- events
+-- ---- what one step adds to the past of an end
 
--- it is not the receipt of a packet
-abbrev pub IsQuietEvent : {Q S M P : Type 0} → Event Q S M P → Type 0
-IsQuietEvent (Received space now number eliciting) = ⊥
-IsQuietEvent event = Unit {0}
+pub record Turn : Type 0 where
+  -- a packet came with this number, new or not
+  pub came : Option (SpaceId × ℕ)
+  -- and it is new
+  pub heard : Option (SpaceId × ℕ)
+  -- so many bytes are received, and transmitted
+  pub arrives : ℕ
+  pub leaves : ℕ
+  -- the keys of a space are dropped
+  pub discards : Option SpaceId
+  -- the address of the peer is validated
+  pub validates : Bool
+
+abbrev pub quiet : Turn
+quiet = record { came = None; heard = None; arrives = 0; leaves = 0; discards = None; validates = false }
+
+abbrev pub arriving : ℕ → Turn
+arriving size = record quiet { arrives = size }
+
+abbrev pub leaving : ℕ → Turn
+leaving size = record quiet { leaves = size }
+
+abbrev pub discarding : SpaceId → Turn
+discarding space = record quiet { discards = Some space }
+
+abbrev pub validating : Turn
+validating = record quiet { validates = true }
+
+-- a packet is new (`Ok true`), a duplicate (`Ok false`), or dropped
+abbrev pub came_by : SpaceId × ℕ → Result Bool SenderError → Option (SpaceId × ℕ)
+came_by number (Ok new) = Some number
+came_by number (Err refusal) = None
+
+abbrev pub new_by : SpaceId × ℕ → Result Bool SenderError → Option (SpaceId × ℕ)
+new_by number (Ok true) = Some number
+new_by number reply = None
+
+abbrev pub hearing : ℕ → SpaceId → ℕ → Result Bool SenderError → Turn
+hearing size space n reply =
+    record quiet { came = came_by (space, n) reply; heard = new_by (space, n) reply; arrives = size }
+
+abbrev pub with_number : SpaceId → Option (SpaceId × ℕ) → List ℕ → List ℕ
+with_number space None before = before
+with_number space (Some number) before = if same_space number.0 space then number.1 ∷ before else before
+
+abbrev pub is_of : SpaceId → Option SpaceId → Bool
+is_of space None = false
+is_of space (Some there) = same_space there space
+
+-- whether it is new, by whether its space is discarded, its number is too large, and that is new
+abbrev pub IsHeardBy : Bool → Bool → Bool → Result Bool SenderError → Type 0
+IsHeardBy discarded large new (Ok true) = (discarded ≡ false) × (new ≡ true)
+IsHeardBy discarded large new (Ok false) = (discarded ≡ false) × (new ≡ false)
+IsHeardBy discarded large new (Err (Event SpaceDiscarded)) = discarded ≡ true
+IsHeardBy discarded large new (Err (Event NumberTooLarge)) = large ≡ true
+IsHeardBy discarded large new (Err (Event NoMemory)) = (discarded ≡ false) × (new ≡ true)
+IsHeardBy discarded large new (Err refusal) = ⊥
 
 -- ---- one past goes on to another
 
@@ -43,34 +99,47 @@ module _ {Q S M P : Type 0} where
   abbrev pub Came : SpaceId → ℕ → History Q S M P → Type 0
   Came space n past = is_member nat_eq (came_in space past) n ≡ true
 
-  -- only these numbers are newly received
-  pub record GoesOn (IsHeard : SpaceId → ℕ → Type 0) (past after : History Q S M P) : Type 0 where
+  -- the bytes received and transmitted on the path
+  abbrev pub bytes_received : History Q S M P → ℕ
+  bytes_received past = sum_by bytes_in (datagrams_on Current past)
+
+  abbrev pub bytes_transmitted : History Q S M P → ℕ
+  bytes_transmitted past = sum_by bytes_out (datagrams_on Current past)
+
+  -- only this is added
+  pub record GoesOn (turn : Turn) (past after : History Q S M P) : Type 0 where
     pub given : (space : SpaceId) (n : ℕ) → WasSentUnder space n past → WasSentUnder space n after
-    pub came : (space : SpaceId) (n : ℕ) → Came space n past → Came space n after
-    pub heard : (space : SpaceId) (n : ℕ) → WasReceived space n after → WasReceived space n past ⊎ IsHeard space n
+    pub came : (space : SpaceId) → came_in space after ≡ with_number space turn.came (came_in space past)
+    pub heard : (space : SpaceId) (n : ℕ) → WasReceived space n after
+        → WasReceived space n past ⊎ (turn.heard ≡ Some (space, n))
+    pub arrived : bytes_received after ≤ turn.arrives + bytes_received past
+    pub left : turn.leaves + bytes_transmitted past ≤ bytes_transmitted after
+    pub discarded : (space : SpaceId) → is_discarded space after
+        ≡ (is_of space turn.discards || is_discarded space past)
+    pub validated : (first : Bool) → is_validated first Current after
+        ≡ (turn.validates || is_validated first Current past)
 
-  -- none is
   abbrev pub GoesOnQuietly : History Q S M P → History Q S M P → Type 0
-  GoesOnQuietly = GoesOn (λ space n. ⊥)
+  GoesOnQuietly = GoesOn quiet
 
-  -- a packet is sent under a number that was not used before
-  pub record SendsNumber (space : SpaceId) (n : ℕ) (past after : History Q S M P) : Type 0 where
-    pub goes : GoesOnQuietly past after
+  -- a packet is sent under a number that was not used before, in a datagram of this size
+  pub record SendsNumber (size : ℕ) (space : SpaceId) (n : ℕ) (past after : History Q S M P) : Type 0 where
+    pub goes : GoesOn (leaving size) past after
     pub unused : WasSentUnder space n past → ⊥
     pub used : WasSentUnder space n after
+    pub small : n < number_limit
 
   -- and with an ACK of numbers that were received
-  pub record SendsWithAck (space : SpaceId) (n : ℕ) (ranges : List (ℕ × ℕ)) (past after : History Q S M P) : Type 0
-    where
-      pub sends : SendsNumber space n past after
-      pub acks : (k : ℕ) → IsInAckRanges k ranges → WasReceived space k past
+  pub record SendsWithAck (size : ℕ) (space : SpaceId) (n : ℕ) (ranges : List (ℕ × ℕ)) (past after : History Q S M P)
+      : Type 0 where
+    pub sends : SendsNumber size space n past after
+    pub acks : (k : ℕ) → IsInAckRanges k ranges → WasReceived space k past
 
-  -- a packet is received that did not come before
-  pub record HearsNumber (space : SpaceId) (n : ℕ) (past after : History Q S M P) : Type 0 where
-    pub goes : GoesOn (λ there m. (there ≡ space) × (m ≡ n)) past after
-    pub unknown : Came space n past → ⊥
-    pub known : Came space n after
-    pub small : n < number_limit
+  -- a packet comes: it is new, a duplicate, or dropped, by what came before
+  pub record HearsNumber (size : ℕ) (space : SpaceId) (n : ℕ) (reply : Result Bool SenderError)
+      (past after : History Q S M P) : Type 0 where
+    pub goes : GoesOn (hearing size space n reply) past after
+    pub by : IsHeardBy (is_discarded space past) (nat_le number_limit n) (is_new (came_in space past) n) reply
 
 -- ---- the same of a sender
 
@@ -88,11 +157,11 @@ abbrev pub arm_told : {Q : Type 0} → Answer Q → Option Bool
 arm_told (New arm) = Some arm
 arm_told answer = None
 
--- a packet that is recorded is new, or is not
-abbrev pub HearsOrNot : {F Q R C K S M P : Type 0} {f : _} {c : _} {q : _} {m : _} {r : _} → SpaceId → ℕ
-    → Sender F Q R C K S M P f c q m r → Sender F Q R C K S M P f c q m r → Result (Option Bool) SenderError → Type 0
-HearsOrNot space n old new (Ok (Some arm)) = Continues (HearsNumber space n) old new
-HearsOrNot space n old new other = Continues GoesOnQuietly old new
+-- whether it is new, or why it is dropped
+abbrev pub heard_of : Result (Option Bool) SenderError → Result Bool SenderError
+heard_of (Ok (Some arm)) = Ok true
+heard_of (Ok None) = Ok false
+heard_of (Err refusal) = Err refusal
 
 -- ---- ACK frames
 

@@ -1,13 +1,25 @@
 -- What is promised of each step of two ends, by the steps and answers before it. The network is whoever chooses the
--- steps: it drops, duplicates, reorders and delays as it likes, but forges nothing.
+-- steps: it drops, duplicates, reorders and delays as it likes, but forges nothing. `validated` says whether the server
+-- takes the client's address for validated from the start.
+use Rattle.std.specs.Prelude.{◌∷◌, Bool}
 use Rattle.recovery_pair.specs.Logs.{PairEvent, PairLog}
+use Rattle.recovery_pair.specs.Promises.Arrivals.{ArrivesAsSent}
 use Rattle.recovery_pair.specs.Promises.DeliveredOnce.{AcksDelivered}
 use Rattle.recovery_pair.specs.Promises.NeverAccused.{NeverAccuses}
+use Rattle.recovery_pair.specs.Promises.Threefold.{ServerSendsThreefold}
+pub mod Arrivals
 pub mod DeliveredOnce
 pub mod NeverAccused
+pub mod Threefold
 
-pub record KeepsPromises (log : PairLog) (event : PairEvent) : Type 0 where
+pub record KeepsPromises (validated : Bool) (log : PairLog) (event : PairEvent) : Type 0 where
   -- An end never accuses the other (RFC 9000, 13.1 and 21.4): it refuses no ACK frame for what the frame says.
   pub honest : NeverAccuses event
   -- What is acknowledged was sent once, came once, and all its items were delivered (RFC 9000, 12.3 and 13.2).
   pub delivered : AcksDelivered log event
+  -- What arrives is what was sent at its place, at the other end. It is new at most once, and dropped only with cause
+  -- (RFC 9000, 12.3 and 13.1; RFC 9001, 4.9).
+  pub arrives : ArrivesAsSent log event
+  -- Until it validates the client's address, the server sent at most three times the bytes that arrived (RFC 9000,
+  -- 8.1).
+  pub limited : ServerSendsThreefold validated (event ∷ log)

@@ -1,5 +1,5 @@
 -- A run of two ends over a source of steps: the promises hold at each.
-use Rattle.std.specs.Prelude.{List, [], ◌∷◌, Result}
+use Rattle.std.specs.Prelude.{Bool, List, [], ◌∷◌, Result}
 use Rattle.recovery_sender.specs.declared.sender.Sender.{Sender}
 use Rattle.recovery_sender.specs.declared.sender.SenderError.{SenderError}
 use Rattle.recovery_pair.specs.declared.steps.PairAnswer.{PairAnswer}
@@ -10,11 +10,11 @@ use Rattle.recovery_pair.specs.Promises.{KeepsPromises}
 use Rattle.recovery_pair.specs.Tied.{IsTied}
 
 -- the promises hold at each step, and each has one answer
-abbrev pub HoldAlong : PairLog → List PairStep → List (Result PairAnswer SenderError) → Type 0
-HoldAlong log [] [] = Unit {0}
-HoldAlong log (step ∷ steps) (answer ∷ answers) =
-    KeepsPromises log (step, answer) × HoldAlong ((step, answer) ∷ log) steps answers
-HoldAlong log steps answers = ⊥
+abbrev pub HoldAlong : Bool → PairLog → List PairStep → List (Result PairAnswer SenderError) → Type 0
+HoldAlong validated log [] [] = Unit {0}
+HoldAlong validated log (step ∷ steps) (answer ∷ answers) =
+    KeepsPromises validated log (step, answer) × HoldAlong validated ((step, answer) ∷ log) steps answers
+HoldAlong validated log steps answers = ⊥
 
 -- the log after these
 abbrev pub log_after : PairLog → List PairStep → List (Result PairAnswer SenderError) → PairLog
@@ -26,8 +26,9 @@ module _ {F Q R C K S M P : Type 0} {f : _} {c : _} {q : _} {m : _} {r : _}
   -- a step keeps the promises, and the tie of the log
   abbrev pub StepKeeps : PairStep → Result PairAnswer SenderError → Sender F Q R C K S M P f c q m r
       → Sender F Q R C K S M P f c q m r → List WirePacket → Type 0
-  StepKeeps step answer client_after server_after wire_after = (log : PairLog) → IsTied log client server wire
-      → KeepsPromises log (step, answer) × IsTied ((step, answer) ∷ log) client_after server_after wire_after
+  StepKeeps step answer client_after server_after wire_after = (validated : Bool) (log : PairLog)
+      → IsTied validated log client server wire → KeepsPromises validated log (step, answer)
+      × IsTied validated ((step, answer) ∷ log) client_after server_after wire_after
 
   -- its answer is put into a sink
   pub record PairStepIntoSink {T : Type 0} (takes : T → Result PairAnswer SenderError → T → Type 0) (before : T)
@@ -45,5 +46,6 @@ module _ {F Q R C K S M P : Type 0} {f : _} {c : _} {q : _} {m : _} {r : _}
     pub answers : List (Result PairAnswer SenderError)
     pub given : AreGiven steps
     pub taken : IsTaken answers
-    pub keeps : (log : PairLog) → IsTied log client server wire
-        → HoldAlong log steps answers × IsTied (log_after log steps answers) client_after server_after wire_after
+    pub keeps : (validated : Bool) (log : PairLog) → IsTied validated log client server wire
+        → HoldAlong validated log steps answers
+        × IsTied validated (log_after log steps answers) client_after server_after wire_after

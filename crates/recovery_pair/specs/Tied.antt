@@ -1,5 +1,5 @@
 -- The log of two ends is tied to what their senders know: what came is on the wire, and what is on the wire went out.
-use Rattle.std.specs.Prelude.{◌≡◌, ℕ, ◌<◌, ◌⊎◌, List, [], ◌∷◌}
+use Rattle.std.specs.Prelude.{◌≡◌, ℕ, ◌<◌, ◌≤◌, ◌⊎◌, Bool, true, List, [], ◌∷◌, map}
 use Rattle.std.specs.List.{AllByRecursion}
 use Rattle.rand_core.specs.Stream.{Stream}
 use Rattle.recovery_base.specs.declared.below.SpaceId.{SpaceId}
@@ -8,15 +8,18 @@ use Rattle.recovery_losses.specs.Frames.{IsInAckRanges}
 use Rattle.recovery_history.specs.declared.config.RecoveryConfig.{RecoveryConfig}
 use Rattle.recovery_history.specs.History.{History, begins, queue_model}
 use Rattle.recovery_history.specs.Promises.Acknowledged.{WasReceived}
+use Rattle.recovery_history.specs.Promises.Datagrams.{is_validated}
+use Rattle.recovery_history.specs.Promises.NewNumbers.{came_in, is_discarded}
 use Rattle.recovery_history.specs.Reachability.{ReachedBy}
+use Rattle.recovery_paths.specs.declared.path_pair.PathName.TheVariants.{Current}
 use Rattle.recovery_sender.specs.Senders.{state_in}
 use Rattle.recovery_sender.specs.declared.sender.Sender.{Sender}
 use Rattle.recovery_pair.specs.declared.steps.End.{End}
 use Rattle.recovery_pair.specs.declared.steps.End.TheVariants.{Client, Server}
 use Rattle.recovery_pair.specs.declared.steps.WirePacket.{WirePacket}
 use Rattle.recovery_pair.specs.Frames.{IsSoundFrame}
-use Rattle.recovery_pair.specs.Logs.{PairLog, deliveries_of, other_end, sends_of}
-use Rattle.recovery_pair.specs.Pasts.{Came, WasSentUnder}
+use Rattle.recovery_pair.specs.Logs.{PairLog, SentPacket, bytes_arrived, bytes_sent, deliveries_of, has_validated, numbers_at, other_end, sends_of, was_discarded, wire_of}
+use Rattle.recovery_pair.specs.Pasts.{Came, WasSentUnder, bytes_received, bytes_transmitted}
 
 -- ---- one number, from one end to the other
 
@@ -35,12 +38,12 @@ module _ {Q S M P : Type 0} (log : PairLog) (from : End) (space : SpaceId) (n : 
   pub record HasArrived (items : List ℕ) : Type 0 where
     pub delivered : deliveries_of (other_end from) space n log ≡ items ∷ []
     pub came : Came space n peer
-    pub small : n < number_limit
 
   -- one packet was sent under it, with these items
   pub record WasSentWith (items : List ℕ) : Type 0 where
     pub once : sends_of from space n log ≡ items ∷ []
     pub given : WasSentUnder space n past
+    pub small : n < number_limit
     pub arrival : IsNotThere ⊎ HasArrived items
 
   abbrev pub Travels : Type 0
@@ -59,7 +62,31 @@ pub record IsOnWire (log : PairLog) (packet : WirePacket) : Type 0 where
   pub acks : (n : ℕ) → IsInAckRanges n packet.ranges.items
       → (items : List ℕ) × (deliveries_of packet.from packet.space n log ≡ items ∷ [])
 
--- ---- both ends
+-- as the log tells it
+abbrev pub sent_as : WirePacket → SentPacket
+sent_as packet = record {
+  from = packet.from;
+  space = packet.space;
+  number = packet.number;
+  size = packet.size;
+  items = packet.items.items;
+}
+
+-- ---- one end
+
+-- the address of a client's peer is validated from the start (RFC 9000, 8.1)
+abbrev pub validated_first : End → Bool → Bool
+validated_first Client validated = true
+validated_first Server validated = validated
+
+-- what came to an end, what it discarded and validated, and no fewer bytes than it counts; it sent no more than it counts
+pub record IsLogged {Q S M P : Type 0} (validated : Bool) (log : PairLog) (end : End) (first : Bool)
+    (past : History Q S M P) : Type 0 where
+  pub came : (space : SpaceId) → came_in space past ≡ numbers_at end space log
+  pub discarded : (space : SpaceId) → is_discarded space past ≡ was_discarded end space log
+  pub address : is_validated first Current past ≡ has_validated end (validated_first end validated) log
+  pub arrived : bytes_received past ≤ bytes_arrived end log
+  pub left : bytes_sent end log ≤ bytes_transmitted past
 
 module _ {F Q R C K S M P : Type 0} {f : _} {c : _} {q : _} {m : _} {r : _} where
   pub record HasPast (sender : Sender F Q R C K S M P f c q m r) : Type 0 where
@@ -70,10 +97,19 @@ module _ {F Q R C K S M P : Type 0} {f : _} {c : _} {q : _} {m : _} {r : _} wher
     pub came : ReachedBy (begins f.built c.words (queue_model q.contents q.words q.blank) config start random) past
         (state_in sender)
 
-  pub record IsTied (log : PairLog) (client server : Sender F Q R C K S M P f c q m r) (wire : List WirePacket) : Type 0
-    where
-      pub own : HasPast client
-      pub peer : HasPast server
-      pub up : Flows log Client own.past peer.past
-      pub down : Flows log Server peer.past own.past
-      pub wired : AllByRecursion (IsOnWire log) wire
+  -- ---- both ends, as one of them sees it
+
+  pub record IsTiedAt (validated : Bool) (end : End) (log : PairLog) (here there : Sender F Q R C K S M P f c q m r)
+      (wire : List WirePacket) : Type 0 where
+    pub own : HasPast here
+    pub peer : HasPast there
+    pub out : Flows log end own.past peer.past
+    pub back : Flows log (other_end end) peer.past own.past
+    pub logged : IsLogged validated log end own.config.validated own.past
+    pub peer_logged : IsLogged validated log (other_end end) peer.config.validated peer.past
+    pub listed : wire_of log ≡ map sent_as wire
+    pub wired : AllByRecursion (IsOnWire log) wire
+
+  abbrev pub IsTied : Bool → PairLog → Sender F Q R C K S M P f c q m r → Sender F Q R C K S M P f c q m r
+      → List WirePacket → Type 0
+  IsTied validated log client server wire = IsTiedAt validated Client log client server wire

@@ -1,59 +1,100 @@
 -- What an end does with its sender at each step.
-use Rattle.std.specs.Prelude.{◌≡◌, ℕ, List, Result, Ok}
+use Rattle.std.specs.Prelude.{◌≡◌, ℕ, Bool, true, false, List, Result, Ok, Err}
 use Rattle.std.specs.Global.{Vec}
 use Rattle.recovery_base.specs.declared.below.SpaceId.{SpaceId}
 use Rattle.recovery_sender.specs.declared.sender.Sender.{Sender}
 use Rattle.recovery_sender.specs.declared.sender.SenderError.{SenderError}
+use Rattle.recovery_sender.specs.declared.sender.packets.Transmission.{Transmission}
+use Rattle.recovery_sender.specs.declared.sender.packets.Transmission.TheVariants.{Transmitted}
 use Rattle.recovery_pair.specs.declared.endpoint.Outgoing.{Outgoing}
 use Rattle.recovery_pair.specs.declared.endpoint.Outgoing.TheVariants as outgoing
 use Rattle.recovery_pair.specs.declared.steps.AckOutcome.{AckOutcome}
 use Rattle.recovery_pair.specs.declared.steps.End.{End}
 use Rattle.recovery_pair.specs.declared.steps.End.TheVariants.{Client, Server}
 use Rattle.recovery_pair.specs.declared.steps.Fate.{Fate}
-use Rattle.recovery_pair.specs.declared.steps.Fate.TheVariants.{New}
+use Rattle.recovery_pair.specs.declared.steps.Fate.TheVariants.{Dropped, Duplicate, New}
+use Rattle.recovery_pair.specs.declared.steps.LocalStep.{LocalStep}
+use Rattle.recovery_pair.specs.declared.steps.LocalStep.TheVariants as local
 use Rattle.recovery_pair.specs.declared.steps.PairAnswer.{PairAnswer}
 use Rattle.recovery_pair.specs.declared.steps.PairAnswer.TheVariants as answer
 use Rattle.recovery_pair.specs.declared.steps.WirePacket.{WirePacket}
 use Rattle.recovery_pair.specs.Frames.{IsSoundFrame}
-use Rattle.recovery_pair.specs.Pasts.{AcksWithin, Continues, GoesOnQuietly, HearsNumber, NoAccusation, SendsNumber, SendsWithAck}
+use Rattle.recovery_pair.specs.Pasts.{AcksWithin, Continues, GoesOn, GoesOnQuietly, HearsNumber, NoAccusation, SendsNumber, SendsWithAck, Turn, arriving, discarding, leaving, quiet, validating}
+
+-- what becomes of a packet that arrives: it is new (`Ok true`), a duplicate (`Ok false`), or dropped
+abbrev pub reply_of : Fate → Result Bool SenderError
+reply_of (New items acked) = Ok true
+reply_of Duplicate = Ok false
+reply_of (Dropped refusal) = Err refusal
+
+-- what a step without the network adds
+abbrev pub if_done : Turn → Result PairAnswer SenderError → Turn
+if_done turn (Ok answer.Done) = turn
+if_done turn other = quiet
+
+abbrev pub local_turn : LocalStep → Result PairAnswer SenderError → Turn
+local_turn (local.Discard space now) answer = if_done (discarding space) answer
+local_turn local.AddressValidated answer = if_done validating answer
+local_turn step answer = quiet
 
 module _ {F Q R C K S M P : Type 0} {f : _} {c : _} {q : _} {m : _} {r : _} (old new : Sender F Q R C K S M P f c q m r)
   where
+    -- a datagram is permitted, and counted
+    abbrev pub TransmitTurn : ℕ → Result Transmission SenderError → Type 0
+    TransmitTurn size (Ok Transmitted) = Continues (GoesOn (leaving size)) old new
+    TransmitTurn size other = Continues GoesOnQuietly old new
+
+    -- a datagram is received
+    abbrev pub DatagramTurn : ℕ → Result (Unit {0}) SenderError → Type 0
+    DatagramTurn size (Ok done) = Continues (GoesOn (arriving size)) old new
+    DatagramTurn size (Err refusal) = Continues GoesOnQuietly old new
+
     -- a packet goes out, with the items that are told, and an ACK of numbers that were received
-    pub record SendsPacket (from : End) (space : SpaceId) (packet : WirePacket) (items : Vec ℕ) : Type 0 where
-      pub sender : packet.from ≡ from
-      pub there : packet.space ≡ space
-      pub told : items.items ≡ packet.items.items
-      pub sound : IsSoundFrame packet.ranges.items
-      pub goes : Continues (SendsWithAck space packet.number packet.ranges.items) old new
+    pub record SendsPacket (from : End) (space : SpaceId) (size : ℕ) (packet : WirePacket) (items : Vec ℕ) : Type 0
+      where
+        pub sender : packet.from ≡ from
+        pub there : packet.space ≡ space
+        pub sized : packet.size ≡ size
+        pub told : items.items ≡ packet.items.items
+        pub sound : IsSoundFrame packet.ranges.items
+        pub goes : Continues (SendsWithAck size space packet.number packet.ranges.items) old new
 
     -- a packet is packed with these ranges
-    pub record PacksPacket (from : End) (space : SpaceId) (ranges : List (ℕ × ℕ)) (packet : WirePacket) (items : Vec ℕ)
-        : Type 0 where
+    pub record PacksPacket (from : End) (space : SpaceId) (size : ℕ) (ranges : List (ℕ × ℕ)) (packet : WirePacket)
+        (items : Vec ℕ) : Type 0 where
       pub sender : packet.from ≡ from
       pub there : packet.space ≡ space
+      pub sized : packet.size ≡ size
       pub told : items.items ≡ packet.items.items
       pub acks : packet.ranges.items ≡ ranges
-      pub goes : Continues (SendsNumber space packet.number) old new
+      pub goes : Continues (SendsNumber 0 space packet.number) old new
 
-    abbrev pub PackTurn : End → SpaceId → List (ℕ × ℕ) → Outgoing → Type 0
-    PackTurn from space ranges (outgoing.Sent packet items) = PacksPacket from space ranges packet items
-    PackTurn from space ranges other = Continues GoesOnQuietly old new
+    abbrev pub PackTurn : End → SpaceId → ℕ → List (ℕ × ℕ) → Outgoing → Type 0
+    PackTurn from space size ranges (outgoing.Sent packet items) = PacksPacket from space size ranges packet items
+    PackTurn from space size ranges other = Continues GoesOnQuietly old new
 
-    abbrev pub SendTurn : End → SpaceId → Result Outgoing SenderError → Type 0
-    SendTurn from space (Ok (outgoing.Sent packet items)) = SendsPacket from space packet items
-    SendTurn from space other = Continues GoesOnQuietly old new
+    abbrev pub SendTurn : End → SpaceId → ℕ → Result Outgoing SenderError → Type 0
+    SendTurn from space size (Ok (outgoing.Sent packet items)) = SendsPacket from space size packet items
+    SendTurn from space size other = Continues GoesOnQuietly old new
 
     -- a packet is new: its items are delivered, and its ACK frame is not refused for what it says
-    pub record HearsPacket (packet : WirePacket) (items : Vec ℕ) (acked : AckOutcome) : Type 0 where
+    pub record TakesPacket (packet : WirePacket) (items : Vec ℕ) (acked : AckOutcome) : Type 0 where
       pub told : items.items ≡ packet.items.items
-      pub goes : Continues (HearsNumber packet.space packet.number) old new
       pub honest : NoAccusation packet.space packet.ranges.items old acked
       pub within : AcksWithin packet.ranges.items acked
 
+    abbrev pub IfNew : WirePacket → Fate → Type 0
+    IfNew packet (New items acked) = TakesPacket packet items acked
+    IfNew packet other = Unit {0}
+
+    -- a packet arrives
+    pub record HearsPacket (packet : WirePacket) (fate : Fate) : Type 0 where
+      pub goes : Continues (HearsNumber packet.size packet.space packet.number (reply_of fate)) old new
+      pub takes : IfNew packet fate
+
     abbrev pub HearTurn : WirePacket → Result Fate SenderError → Type 0
-    HearTurn packet (Ok (New items acked)) = HearsPacket packet items acked
-    HearTurn packet other = Continues GoesOnQuietly old new
+    HearTurn packet (Ok fate) = HearsPacket packet fate
+    HearTurn packet (Err refusal) = Continues GoesOnQuietly old new
 
 -- the turn of one end, while the other does nothing
 module _ {F Q R C K S M P : Type 0} {f : _} {c : _} {q : _} {m : _} {r : _} where

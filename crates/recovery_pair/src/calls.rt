@@ -1,7 +1,8 @@
 //! The calls of a sender that an end makes, and how each continues the sender's past.
 ghost use Rattle.std.specs.Prelude.{◌≡◌, ◌≢◌, [], ◌∷◌, true, IfOk, MatchResult, Some};
 ghost use Rattle.recovery_pair.specs.Frames.{IsFrameFor};
-ghost use Rattle.recovery_pair.specs.Pasts.{Continues, GoesOnQuietly, HearsOrNot, NoAccusation, SendsNumber, AcksWithin, arm_told};
+ghost use Rattle.recovery_pair.specs.Pasts.{Continues, GoesOn, GoesOnQuietly, HearsNumber, NoAccusation, SendsNumber, AcksWithin, arm_told, discarding, heard_of, validating};
+ghost use Rattle.recovery_pair.specs.Turns.{DatagramTurn, TransmitTurn};
 
 use crate::steps::{AckOutcome, WirePacket};
 use rand_core::Rng;
@@ -85,7 +86,7 @@ pub(crate) fn transmit<F, R>(
 where
     F: ControllerFactory,
     R: Rng + Drop,
-    ensures { Continues GoesOnQuietly sender.old sender.new }
+    ensures { TransmitTurn sender.old sender.new size result }
 {
     sender.transmit(now, size, space, eliciting)
 }
@@ -124,7 +125,7 @@ where
     F: ControllerFactory,
     R: Rng + Drop,
     ensures { MatchResult result
-        (λ number. Continues (SendsNumber space number) sender.old sender.new)
+        (λ number. Continues (SendsNumber 0 space number) sender.old sender.new)
         (λ refused. Continues GoesOnQuietly sender.old sender.new) }
 {
     let counted = if eliciting { size } else { 0 };
@@ -163,7 +164,7 @@ pub(crate) fn datagram<F, R>(
 where
     F: ControllerFactory,
     R: Rng + Drop,
-    ensures { Continues GoesOnQuietly sender.old sender.new }
+    ensures { DatagramTurn sender.old sender.new size result }
 {
     sender.on_datagram(u64::from(size))
 }
@@ -189,7 +190,7 @@ pub(crate) fn hear<F, R>(
 where
     F: ControllerFactory,
     R: Rng + Drop,
-    ensures { HearsOrNot space number sender.old sender.new result }
+    ensures { Continues (HearsNumber 0 space number (heard_of result)) sender.old sender.new }
 {
     let received = Event::Received {
         space,
@@ -248,7 +249,7 @@ pub(crate) fn validate<F, R>(sender: &mut Sender<F, ItemQueue, R>)
 where
     F: ControllerFactory,
     R: Rng + Drop,
-    ensures { Continues GoesOnQuietly sender.old sender.new }
+    ensures { Continues (GoesOn validating) sender.old sender.new }
 {
     sender.on_address_validated();
 }
@@ -282,7 +283,9 @@ pub(crate) fn discard<F, R>(
 where
     F: ControllerFactory,
     R: Rng + Drop,
-    ensures { Continues GoesOnQuietly sender.old sender.new }
+    ensures { MatchResult result
+        (λ done. Continues (GoesOn (discarding space)) sender.old sender.new)
+        (λ refused. Continues GoesOnQuietly sender.old sender.new) }
 {
     sender.discard(space, now)
 }

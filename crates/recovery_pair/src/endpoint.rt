@@ -1,7 +1,7 @@
 //! One end of a connection: a sender with the layer above it.
 ghost use Rattle.std.specs.Prelude.{◌≡◌, IfOk};
-ghost use Rattle.recovery_pair.specs.Pasts.{Continues, GoesOnQuietly};
-ghost use Rattle.recovery_pair.specs.Turns.{HearTurn, IsLocalAnswer, PackTurn, SendTurn};
+ghost use Rattle.recovery_pair.specs.Pasts.{Continues, GoesOn, GoesOnQuietly};
+ghost use Rattle.recovery_pair.specs.Turns.{HearTurn, IsLocalAnswer, PackTurn, SendTurn, local_turn};
 
 use crate::calls::{
     AckToSend, NO_MEMORY, confirm, contents, copied, datagram, discard, end_acks, end_delay,
@@ -107,7 +107,7 @@ where
         now: Instant,
         size: u16,
     ) -> Result<Outgoing, SenderError>
-        ensures { SendTurn self.old.sender self.new.sender from space result }
+        ensures { SendTurn self.old.sender self.new.sender from space size result }
     {
         let eliciting = self.has_items(space);
         let ack = match frame(alloc, &self.sender, space, now) {
@@ -139,7 +139,8 @@ where
         eliciting: bool,
         ack: AckToSend,
     ) -> Outgoing
-        ensures { PackTurn self.old.sender self.new.sender from space ack.ranges.items result }
+        ensures { PackTurn self.old.sender self.new.sender from space size ack.ranges.items
+            result }
     {
         let repeated = match contents(&mut self.sender, space) {
             Ok(queue) => queue,
@@ -221,8 +222,9 @@ where
             Ok(items) => items,
             Err(refused) => return Err(refused),
         };
-        if let Err(refused) = datagram(&mut self.sender, packet.size) {
-            return Err(refused);
+        match datagram(&mut self.sender, packet.size) {
+            Ok(()) => {}
+            Err(refused) => return Err(refused),
         }
         match hear(
             &mut self.sender,
@@ -255,7 +257,8 @@ where
 
     /// Makes a step of one end.
     pub(crate) fn local(&mut self, step: LocalStep) -> Result<PairAnswer, SenderError>
-        ensures goes { Continues GoesOnQuietly self.old.sender self.new.sender }
+        ensures goes { Continues (GoesOn (local_turn step result)) self.old.sender
+            self.new.sender }
         ensures answer { IfOk result IsLocalAnswer }
     {
         match step {

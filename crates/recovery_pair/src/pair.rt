@@ -2,10 +2,10 @@
 ghost use Rattle.std.specs.Prelude.{◌≡◌, ◌≤◌, [], ◌∷◌, IfOk};
 ghost use Rattle.recovery_base.specs.Units.{number_limit};
 ghost use Rattle.recovery_packet_numbers.specs.Skips.{IsSkips};
-ghost use Rattle.recovery_pair.specs.Pasts.{Continues, GoesOnQuietly};
+ghost use Rattle.recovery_pair.specs.Pasts.{Continues, GoesOn};
 ghost use Rattle.recovery_pair.specs.Runs.{StepKeeps};
 ghost use Rattle.recovery_pair.specs.Tied.{IsTied};
-ghost use Rattle.recovery_pair.specs.Turns.{HearTurn, IsLocalAnswer, SendTurn, TurnsAt};
+ghost use Rattle.recovery_pair.specs.Turns.{HearTurn, IsLocalAnswer, SendTurn, TurnsAt, local_turn};
 
 use crate::calls::NO_MEMORY;
 use crate::endpoint::{Endpoint, Outgoing};
@@ -54,7 +54,7 @@ fn send_from<F, R>(
 where
     F: ControllerFactory,
     R: Rng + Drop,
-    ensures { TurnsAt end (λ old new. SendTurn old new end space result)
+    ensures { TurnsAt end (λ old new. SendTurn old new end space size result)
         client.old.sender server.old.sender client.new.sender server.new.sender }
 {
     match end {
@@ -94,7 +94,7 @@ fn local_at<F, R>(
 where
     F: ControllerFactory,
     R: Rng + Drop,
-    ensures goes { TurnsAt end (λ old new. Continues GoesOnQuietly old new)
+    ensures goes { TurnsAt end (λ old new. Continues (GoesOn (local_turn step result)) old new)
         client.old.sender server.old.sender client.new.sender server.new.sender }
     ensures answer { IfOk result IsLocalAnswer }
 {
@@ -121,7 +121,8 @@ where
         requires server_issued { server.config.issued ≤ number_limit }
         requires server_skips { IsSkips server.config.skips }
         ensures { IfOk result (λ pair.
-            IsTied [] pair.client.sender pair.server.sender pair.wire.items) }
+            IsTied server.config.validated [] pair.client.sender pair.server.sender
+            pair.wire.items) }
     {
         let client = Sender::new(alloc, Side::Client, client.config, client.rng, start)?;
         let server = Sender::new(alloc, Side::Server, server.config, server.rng, start)?;
@@ -219,9 +220,9 @@ where
 
     /// Something happens at one end.
     fn local(&mut self, end: End, step: LocalStep) -> Result<PairAnswer, SenderError>
-        ensures { (whole : LocalStep) → StepKeeps self.old.client.sender self.old.server.sender
-            self.old.wire.items (PairStep.Local end whole) result self.new.client.sender
-            self.new.server.sender self.new.wire.items }
+        ensures { StepKeeps self.old.client.sender self.old.server.sender self.old.wire.items
+            (PairStep.Local end step) result self.new.client.sender self.new.server.sender
+            self.new.wire.items }
     {
         local_at(&mut self.client, &mut self.server, end, step)
     }

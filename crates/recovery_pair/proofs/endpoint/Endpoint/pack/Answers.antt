@@ -10,6 +10,7 @@ returns-in-Ok-track g c =
     record {
       sender = refl;
       there = refl;
+      sized = refl;
       told = cc (first, second);
       acks = refl;
       goes = quietly_sends c.args.space c.in-Ok-track.number c.args.self.now.sender c.contents.new.sender

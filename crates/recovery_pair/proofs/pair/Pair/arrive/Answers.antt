@@ -1,12 +1,14 @@
 use Rattle.std.proofs.Common.{length, ltb-true, Ok, Err, refl, sym}
 use Rattle.recovery_pair.specs.declared.steps.PairAnswer.TheVariants.{Nothing}
 use Rattle.recovery_pair.specs.declared.steps.PairStep.TheVariants.{Arrive}
-use Rattle.recovery_pair.proofs.StepTies.{arrives_at, held_turn, idle_step}
+use Rattle.recovery_pair.proofs.StepTies.{arrives_at, beyond, held_turn, idle_step}
 use Rattle.recovery_pair.proofs.pair.Pair.arrive.Goals as goal
 
 pub returns-in_default : goal.returns-in_default
 returns-in_default g c = idle_step (Arrive c.args.at c.args.now) (Ok Nothing) c.args.self.now.client.sender
-    c.args.self.now.server.sender c.args.self.now.wire.items c.args.self.now.wire.items refl tt
+    c.args.self.now.server.sender c.args.self.now.wire.items c.args.self.now.wire.items refl tt tt
+    (λ log listed. beyond c.args.self.now.wire.items log c.args.at c.args.now
+    (rw (← c.deref.ensures.value) c.in_default.ensures.lookup.3) listed)
 
 pub returns-in-Ok : goal.returns-in-Ok
 returns-in-Ok g c = arrives_at c.args.at c.args.now c.in-Some.packet.now c.args.self.now.wire.items
@@ -18,4 +20,5 @@ returns-in-Ok g c = arrives_at c.args.at c.args.now c.in-Some.packet.now c.args.
 pub returns-in-Err : goal.returns-in-Err
 returns-in-Err g c = held_turn c.other-to.result (Arrive c.args.at c.args.now) (Err c.in-Err.refused)
     c.args.self.now.client.sender c.args.self.now.server.sender c.hear_at.new.client.sender
-    c.hear_at.new.server.sender c.args.self.now.wire.items c.args.self.now.wire.items refl tt c.in-Err.ensures
+    c.hear_at.new.server.sender c.args.self.now.wire.items c.args.self.now.wire.items refl tt tt
+    (λ log listed. tt) c.in-Err.ensures

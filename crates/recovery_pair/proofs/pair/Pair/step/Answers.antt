@@ -7,4 +7,4 @@ pub returns-in-Arrive : goal.returns-in-Arrive
 returns-in-Arrive g c = rw c.in-Arrive.is c.arrive.ensures
 
 pub returns-in-Local : goal.returns-in-Local
-returns-in-Local g c = rw c.in-Local.is (c.local.ensures c.in-Local.step)
+returns-in-Local g c = rw c.in-Local.is c.local.ensures

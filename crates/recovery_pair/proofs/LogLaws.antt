@@ -1,0 +1,259 @@
+-- What a step adds to the log, and what it adds to the past of an end, agree.
+use Rattle.std.proofs.Common.{◌≡◌, ℕ, ◌+◌, ◌≤◌, ◌||◌, Bool, List, ◌∷◌, Option, None, Result, Ok, refl, sym, ap, subst, ◌∙◌, arith}
+use Rattle.std.specs.Global.{Vec}
+use Rattle.recovery_base.specs.declared.below.SpaceId.{SpaceId}
+use Rattle.recovery_history.specs.History.{History}
+use Rattle.recovery_sender.specs.declared.sender.SenderError.{SenderError}
+use Rattle.recovery_pair.specs.declared.steps.End.{End}
+use Rattle.recovery_pair.specs.declared.steps.End.TheVariants.{Client, Server}
+use Rattle.recovery_pair.specs.declared.steps.Fate.{Fate}
+use Rattle.recovery_pair.specs.declared.steps.Fate.TheVariants.{Dropped, Duplicate, New}
+use Rattle.recovery_pair.specs.declared.steps.LocalStep.{LocalStep}
+use Rattle.recovery_pair.specs.declared.steps.LocalStep.TheVariants.{AddressValidated, Discard}
+use Rattle.recovery_pair.specs.declared.steps.PairAnswer.{PairAnswer}
+use Rattle.recovery_pair.specs.declared.steps.PairAnswer.TheVariants.{Arrived, Done, Sent}
+use Rattle.recovery_pair.specs.declared.steps.PairStep.{PairStep}
+use Rattle.recovery_pair.specs.declared.steps.PairStep.TheVariants.{Arrive, Local, Send}
+use Rattle.recovery_pair.specs.Logs.{PairEvent, PairLog, bytes_arrived, bytes_sent, has_validated, numbers_at, other_end, was_discarded}
+use Rattle.recovery_pair.specs.Pasts.{GoesOn, Turn, hearing, is_of, leaving, quiet, with_number}
+use Rattle.recovery_pair.specs.Tied.{IsLogged, validated_first}
+use Rattle.recovery_pair.specs.Turns.{local_turn, reply_of}
+use Rattle.recovery_pair.proofs.GoingLaws.{at_most, no_less, no_more}
+
+-- a step adds this to what the log tells of an end
+pub record Adds (turn : Turn) (end : End) (event : PairEvent) (log : PairLog) : Type 0 where
+  pub came : (space : SpaceId) → numbers_at end space (event ∷ log) ≡ with_number space turn.came (numbers_at end space
+      log)
+  pub discarded : (space : SpaceId) → was_discarded end space (event ∷ log)
+      ≡ (is_of space turn.discards || was_discarded end space log)
+  pub validated : (first : Bool) → has_validated end first (event ∷ log)
+      ≡ (turn.validates || has_validated end first log)
+  pub arrived : turn.arrives + bytes_arrived end log ≤ bytes_arrived end (event ∷ log)
+  pub left : bytes_sent end (event ∷ log) ≤ turn.leaves + bytes_sent end log
+
+pub logged_on : {Q S M P : Type 0} (validated : Bool) (log : PairLog) (event : PairEvent) (end : End) (first : Bool)
+    (turn : Turn) (past after : History Q S M P) → Adds turn end event log → GoesOn turn past after
+    → IsLogged validated log end first past → IsLogged validated (event ∷ log) end first after
+logged_on validated log event end first turn past after adds goes logged = record {
+  came = λ space. goes.came space ∙ ap (with_number space turn.came) (logged.came space) ∙ sym (adds.came space);
+  discarded = λ space. goes.discarded space
+      ∙ ap (λ (before : Bool). is_of space turn.discards || before) (logged.discarded space)
+      ∙ sym (adds.discarded space);
+  address = goes.validated first ∙ ap (λ (before : Bool). turn.validates || before) logged.address
+      ∙ sym (adds.validated (validated_first end validated));
+  arrived = let one = goes.arrived in let two = adds.arrived in let old = logged.arrived in
+      omega (arith, one, two, old);
+  left = let one = goes.left in let two = adds.left in let old = logged.left in omega (arith, one, two, old);
+}
+
+-- ---- a packet is sent
+
+module _ (log : PairLog) (there : SpaceId) (now size n : ℕ) (items : Vec ℕ) where
+  pub sending_adds : (end : End) → Adds (leaving size) end (Send end there now size, Ok (Sent n items)) log
+  sending_adds Client = record {
+    came = λ space. refl;
+    discarded = λ space. refl;
+    validated = λ first. refl;
+    arrived = no_less (bytes_arrived Client log) (bytes_arrived Client log) refl;
+    left = at_most (size + bytes_sent Client log) (size + bytes_sent Client log) refl;
+  }
+  sending_adds Server = record {
+    came = λ space. refl;
+    discarded = λ space. refl;
+    validated = λ first. refl;
+    arrived = no_less (bytes_arrived Server log) (bytes_arrived Server log) refl;
+    left = at_most (size + bytes_sent Server log) (size + bytes_sent Server log) refl;
+  }
+
+  pub sending_adds_not : (end : End) → Adds quiet (other_end end) (Send end there now size, Ok (Sent n items)) log
+  sending_adds_not Client = record {
+    came = λ space. refl;
+    discarded = λ space. refl;
+    validated = λ first. refl;
+    arrived = no_less (bytes_arrived Server log) (bytes_arrived Server log) refl;
+    left = no_more (bytes_sent Server log) (bytes_sent Server log) refl;
+  }
+  sending_adds_not Server = record {
+    came = λ space. refl;
+    discarded = λ space. refl;
+    validated = λ first. refl;
+    arrived = no_less (bytes_arrived Client log) (bytes_arrived Client log) refl;
+    left = no_more (bytes_sent Client log) (bytes_sent Client log) refl;
+  }
+
+-- ---- a packet arrives
+
+module _ (log : PairLog) (at now : ℕ) (there : SpaceId) (n size : ℕ) where
+  abbrev arrival : End → Fate → PairEvent
+  arrival to fate = (Arrive at now, Ok (Arrived to there n size fate))
+
+  came_here : (to : End) (fate : Fate) (space : SpaceId) → numbers_at to space (arrival to fate ∷ log)
+      ≡ with_number space (hearing size there n (reply_of fate)).came (numbers_at to space log)
+  came_here Client (New items acked) space = refl
+  came_here Client Duplicate space = refl
+  came_here Client (Dropped refusal) space = refl
+  came_here Server (New items acked) space = refl
+  came_here Server Duplicate space = refl
+  came_here Server (Dropped refusal) space = refl
+
+  came_there : (to : End) (fate : Fate) (space : SpaceId)
+      → numbers_at (other_end to) space (arrival to fate ∷ log) ≡ numbers_at (other_end to) space log
+  came_there Client (New items acked) space = refl
+  came_there Client Duplicate space = refl
+  came_there Client (Dropped refusal) space = refl
+  came_there Server (New items acked) space = refl
+  came_there Server Duplicate space = refl
+  came_there Server (Dropped refusal) space = refl
+
+  arrived_here : (to : End) (fate : Fate) → size + bytes_arrived to log ≤ bytes_arrived to (arrival to fate ∷ log)
+  arrived_here Client fate = at_most (size + bytes_arrived Client log) (size + bytes_arrived Client log) refl
+  arrived_here Server fate = at_most (size + bytes_arrived Server log) (size + bytes_arrived Server log) refl
+
+  arrived_there : (to : End) (fate : Fate)
+      → 0 + bytes_arrived (other_end to) log ≤ bytes_arrived (other_end to) (arrival to fate ∷ log)
+  arrived_there Client fate = no_less (bytes_arrived Server log) (bytes_arrived Server log) refl
+  arrived_there Server fate = no_less (bytes_arrived Client log) (bytes_arrived Client log) refl
+
+  pub arriving_adds : (to : End) (fate : Fate) → Adds (hearing size there n (reply_of fate)) to (arrival to fate) log
+  arriving_adds to fate = record {
+    came = came_here to fate;
+    discarded = λ space. refl;
+    validated = λ first. refl;
+    arrived = arrived_here to fate;
+    left = no_more (bytes_sent to log) (bytes_sent to log) refl;
+  }
+
+  pub arriving_adds_not : (to : End) (fate : Fate) → Adds quiet (other_end to) (arrival to fate) log
+  arriving_adds_not to fate = record {
+    came = came_there to fate;
+    discarded = λ space. refl;
+    validated = λ first. refl;
+    arrived = arrived_there to fate;
+    left = no_more (bytes_sent (other_end to) log) (bytes_sent (other_end to) log) refl;
+  }
+
+-- ---- steps that report no packet
+
+abbrev pub IsNoPacket : PairEvent → Type 0
+IsNoPacket (step, Ok (Sent number items)) = ⊥
+IsNoPacket (step, Ok (Arrived to space number size fate)) = ⊥
+IsNoPacket event = Unit {0}
+
+abbrev pub IsNotLocal : PairStep → Type 0
+IsNotLocal (Local end step) = ⊥
+IsNotLocal step = Unit {0}
+
+module _ (log : PairLog) (end : End) where
+  no_numbers : (event : PairEvent) → IsNoPacket event → (space : SpaceId)
+      → numbers_at end space (event ∷ log) ≡ numbers_at end space log
+  no_numbers (step, Ok (Arrived to there number size fate)) none space = absurd none
+  no_numbers event none space = refl
+
+  none_arrived : (event : PairEvent) → IsNoPacket event → bytes_arrived end log ≡ bytes_arrived end (event ∷ log)
+  none_arrived (step, Ok (Arrived to there number size fate)) none = absurd none
+  none_arrived event none = refl
+
+  none_left : (event : PairEvent) → IsNoPacket event → bytes_sent end (event ∷ log) ≡ bytes_sent end log
+  none_left (Send from there now size, Ok (Sent number items)) none = absurd none
+  none_left event none = refl
+
+  no_discard : (step : PairStep) (answer : Result PairAnswer SenderError) → IsNotLocal step → (space : SpaceId)
+      → was_discarded end space ((step, answer) ∷ log) ≡ was_discarded end space log
+  no_discard (Local at step) answer none space = absurd none
+  no_discard step answer none space = refl
+
+  no_validation : (step : PairStep) (answer : Result PairAnswer SenderError) → IsNotLocal step → (first : Bool)
+      → has_validated end first ((step, answer) ∷ log) ≡ has_validated end first log
+  no_validation (Local at step) answer none first = absurd none
+  no_validation step answer none first = refl
+
+  pub idle_adds : (step : PairStep) (answer : Result PairAnswer SenderError) → IsNoPacket (step, answer)
+      → IsNotLocal step → Adds quiet end (step, answer) log
+  idle_adds step answer none other = record {
+    came = no_numbers (step, answer) none;
+    discarded = no_discard step answer other;
+    validated = no_validation step answer other;
+    arrived = no_less _ _ (none_arrived (step, answer) none);
+    left = no_more _ _ (none_left (step, answer) none);
+  }
+
+-- ---- something happens at one end
+
+module _ (log : PairLog) where
+  discards_here : (end : End) (step : LocalStep) (answer : Result PairAnswer SenderError) (space : SpaceId)
+      → was_discarded end space ((Local end step, answer) ∷ log)
+      ≡ (is_of space (local_turn step answer).discards || was_discarded end space log)
+  discards_here Client (Discard there now) (Ok Done) space = refl
+  discards_here Server (Discard there now) (Ok Done) space = refl
+  discards_here end (Discard there now) answer space = refl
+  discards_here end AddressValidated (Ok Done) space = refl
+  discards_here end AddressValidated answer space = refl
+  discards_here end step answer space = refl
+
+  discards_there : (end : End) (step : LocalStep) (answer : Result PairAnswer SenderError) (space : SpaceId)
+      → was_discarded (other_end end) space ((Local end step, answer) ∷ log) ≡ was_discarded (other_end end) space log
+  discards_there Client (Discard there now) (Ok Done) space = refl
+  discards_there Server (Discard there now) (Ok Done) space = refl
+  discards_there end (Discard there now) answer space = refl
+  discards_there end step answer space = refl
+
+  validates_here : (end : End) (step : LocalStep) (answer : Result PairAnswer SenderError) (first : Bool)
+      → has_validated end first ((Local end step, answer) ∷ log)
+      ≡ ((local_turn step answer).validates || has_validated end first log)
+  validates_here Client AddressValidated (Ok Done) first = refl
+  validates_here Server AddressValidated (Ok Done) first = refl
+  validates_here end AddressValidated answer first = refl
+  validates_here end (Discard there now) (Ok Done) first = refl
+  validates_here end (Discard there now) answer first = refl
+  validates_here end step answer first = refl
+
+  validates_there : (end : End) (step : LocalStep) (answer : Result PairAnswer SenderError) (first : Bool)
+      → has_validated (other_end end) first ((Local end step, answer) ∷ log) ≡ has_validated (other_end end) first log
+  validates_there Client AddressValidated (Ok Done) first = refl
+  validates_there Server AddressValidated (Ok Done) first = refl
+  validates_there end AddressValidated answer first = refl
+  validates_there end step answer first = refl
+
+  -- it moves no packet
+  pub record MovesNone (turn : Turn) : Type 0 where
+    pub came : turn.came ≡ None
+    pub heard : turn.heard ≡ None
+    pub arrives : turn.arrives ≡ 0
+    pub leaves : turn.leaves ≡ 0
+
+  pub local_moves : (step : LocalStep) (answer : Result PairAnswer SenderError) → MovesNone (local_turn step answer)
+  local_moves (Discard there now) (Ok Done) = record { came = refl; heard = refl; arrives = refl; leaves = refl }
+  local_moves (Discard there now) answer = record { came = refl; heard = refl; arrives = refl; leaves = refl }
+  local_moves AddressValidated (Ok Done) = record { came = refl; heard = refl; arrives = refl; leaves = refl }
+  local_moves AddressValidated answer = record { came = refl; heard = refl; arrives = refl; leaves = refl }
+  local_moves step answer = record { came = refl; heard = refl; arrives = refl; leaves = refl }
+
+  with_none : (space : SpaceId) (number : Option (SpaceId × ℕ)) (before : List ℕ) → number ≡ None
+      → with_number space number before ≡ before
+  with_none space number before none =
+      subst (λ (one : Option (SpaceId × ℕ)). with_number space one before ≡ before) (sym none) refl
+
+  pub local_adds : (end : End) (step : LocalStep) (answer : Result PairAnswer SenderError)
+      → IsNoPacket (Local end step, answer) → Adds (local_turn step answer) end (Local end step, answer) log
+  local_adds end step answer none =
+      let moves = local_moves step answer in
+      record {
+        came = λ space. no_numbers log end (Local end step, answer) none space
+            ∙ sym (with_none space (local_turn step answer).came (numbers_at end space log) moves.came);
+        discarded = discards_here end step answer;
+        validated = validates_here end step answer;
+        arrived = let is = moves.arrives in let same = none_arrived log end (Local end step, answer) none in
+            omega (arith, is, same);
+        left = let is = moves.leaves in let same = none_left log end (Local end step, answer) none in
+            omega (arith, is, same);
+      }
+
+  pub local_adds_not : (end : End) (step : LocalStep) (answer : Result PairAnswer SenderError)
+      → IsNoPacket (Local end step, answer) → Adds quiet (other_end end) (Local end step, answer) log
+  local_adds_not end step answer none = record {
+    came = no_numbers log (other_end end) (Local end step, answer) none;
+    discarded = discards_there end step answer;
+    validated = validates_there end step answer;
+    arrived = no_less _ _ (none_arrived log (other_end end) (Local end step, answer) none);
+    left = no_more _ _ (none_left log (other_end end) (Local end step, answer) none);
+  }
