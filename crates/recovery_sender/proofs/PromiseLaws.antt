@@ -133,6 +133,17 @@ module _ {F Q R C K S M P : Type 0} {f : _} {c : _} {q : _} {m : _} {r : _} (spa
             ((tries.each number).1 (tracked.1 is)),
       )
 
+  -- what the state says is lost is so by each past
+  pub lost_by_past : (look : LossPass) → look.space ≡ space → ForEveryPast sender (λ past.
+      (number : ℕ) → IsLostBelow look (packets_in (state_in sender) space) number → IsLostBy look past number)
+  lost_by_past look here config start random past came number lost = rw here (
+    (tracked_by sender config start random past came space kept number).0
+        (λ none. none-some lost.0 (sym none ∙ lost.1.0)),
+    lost.1.1,
+    subst (λ sent. IsLost look number sent)
+        (sent_by_past sender config start random past came space kept number lost.0 lost.1.0) lost.2,
+  )
+
   -- the packets that a pass finds lost
   pub loses_tracked : (look : LossPass) (attempts : List LossAttempt) (losses : Losses) (time : Option ℕ)
       → look.space ≡ space → PassResult look (packets_in (state_in sender) space) attempts losses time
@@ -145,13 +156,7 @@ module _ {F Q R C K S M P : Type 0} {f : _} {c : _} {q : _} {m : _} {r : _} (spa
   }
     where
       lost_by : (number : ℕ) → IsLostBelow look (packets_in (state_in sender) space) number → IsLostBy look past number
-      lost_by number lost = rw here (
-        (tracked_by sender config start random past came space kept number).0
-            (λ none. none-some lost.0 (sym none ∙ lost.1.0)),
-        lost.1.1,
-        subst (λ sent. IsLost look number sent)
-            (sent_by_past sender config start random past came space kept number lost.0 lost.1.0) lost.2,
-      )
+      lost_by = lost_by_past look here config start random past came
 
       told : (number : ℕ) → IsDeclaredLost losses.numbers.items losses.probe number → IsLostBy look past number
       told number (inl there) = lost_by number (are.lost.lost number there).0
