@@ -1,9 +1,10 @@
 -- Worked rows: a loss at a window of 120,000 bytes with datagrams of 1,200, and what is acknowledged after it. Nothing
 -- rests on them.
 use Rattle.std.proofs.Common.{◌≡◌, true, false, [], ◌∷◌, None, Some, refl, lit<, lit≤, arith}
-use Rattle.recovery_congestion.specs.Calls.{ControllerCall, acks, congests, ends_acks, sends}
+use Rattle.recovery_congestion.specs.Calls.{ControllerCall, acks, congests, ends_acks, sends, takes_mtu}
 use Rattle.recovery_congestion.specs.Rtt.{Rtt}
 use Rattle.recovery_cubic.specs.Curve.{micros, IsGreatestK}
+use Rattle.recovery_cubic.specs.Growth.{ContinuesEpochThrough, floor_by}
 use Rattle.recovery_cubic.specs.History.{window_by}
 use Rattle.recovery_cubic.specs.RealCurve.{IsNearReal}
 use Rattle.recovery_cubic.specs.Epochs.{BeginsEpoch, time_by, curve_of, curve_then}
@@ -83,3 +84,16 @@ goes_there =
 -- within a datagram of the real one, for every number of fractions of a nanosecond
 near : IsNearReal (curve_of 120_000 0 1_200 loss [] 4_217_163) 84_000 1_000_000_000
 near = real_curve 120_000 0 1_200 loss [] 4_217_163 begins (acked ∷ []) (lit< tt) (lit≤ tt)
+
+-- the MTU becomes 45,000 bytes in congestion avoidance, which continues: what grows counts from two datagrams
+abbrev resized : ControllerCall
+resized = takes_mtu 45_000
+
+continues : ContinuesEpochThrough 120_000 0 1_200 (acked ∷ resized ∷ []) (loss ∷ [])
+continues = (tt, (tt, tt))
+
+counts_from : floor_by 120_000 0 1_200 (acked ∷ resized ∷ []) (loss ∷ []) ≡ 90_000
+counts_from = refl
+
+smaller_is_no_floor : floor_by 120_000 0 1_200 (takes_mtu 1_500 ∷ []) (loss ∷ []) ≡ 84_000
+smaller_is_no_floor = refl

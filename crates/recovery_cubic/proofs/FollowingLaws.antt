@@ -12,7 +12,7 @@ use Rattle.recovery_cubic.specs.Curve.{micros, rise, curve_from, curve_at, k_of,
 use Rattle.recovery_cubic.specs.Stage.{parts, quotient_up, past_idle, curve_window}
 use Rattle.recovery_cubic.specs.Cubic.{idle_found, avoided, cubic_after, cubic_recovering, datagram_of, reduced_window, next_w_max}
 use Rattle.recovery_cubic.specs.History.{CubicEntry, resumes, finds, grows, reduces, turn_of, turn_at, cubic_by, window_by}
-use Rattle.recovery_cubic.specs.Growth.{ContinuesEpoch, ContinuesEpochThrough, bytes_of}
+use Rattle.recovery_cubic.specs.Growth.{ContinuesEpoch, ContinuesEpochThrough, bytes_of, floor_by, least_of}
 use Rattle.recovery_cubic.specs.Reno.{mtu_by}
 use Rattle.recovery_cubic.specs.Epochs.{idle_next, last_next, time_next, plateau_next, idle_by, last_by, time_by, plateau_by, BeginsEpoch, curve_of, curve_then, IsBelowCurve, IsReal, MovesTowardCurve, halves_in, HasReturnedToWmax, IsReachedAtK}
 use Rattle.recovery_cubic.proofs.CurveLaws.{cube-le, greatest_k, one_k}
@@ -198,34 +198,35 @@ module _ (window now mtu : ℕ) where
 
   -- ---- after it, while congestion avoidance continues
 
-  record Below (curve : Curve) (reduced : ℕ) (cubic : Cubic) : Type 0 where
+  record Below (curve : Curve) (reduced floor : ℕ) (cubic : Cubic) : Type 0 where
     curve_is : cubic.stage.curve ≡ curve
     window_is : cubic.window
-        ≤ max (max reduced (curve_at curve (cubic.stage.elapsed / 1000))) (quotient_up cubic.stage.estimate parts)
+        ≤ max (max floor (curve_at curve (cubic.stage.elapsed / 1000))) (quotient_up cubic.stage.estimate parts)
     kept : reduced ≤ cubic.window
     time : cubic.stage.elapsed ≤ largest_u64
     estimate : cubic.stage.estimate ≤ parts * largest_u64
 
   -- one acknowledgement, over plain numbers
-  below-more : (window reduced before curve half estimate more : ℕ)
-      → window ≤ max (max reduced before) (quotient_up estimate parts) → before ≤ curve → estimate ≤ more
+  below-more : (window floor before curve half estimate more : ℕ)
+      → window ≤ max (max floor before) (quotient_up estimate parts) → before ≤ curve → estimate ≤ more
       → max (max window (min curve half)) (quotient_up more parts)
-      ≤ max (max reduced curve) (quotient_up more parts)
-  below-more window reduced before curve half estimate more is up rises = omega arith
+      ≤ max (max (max floor 0) curve) (quotient_up more parts)
+  below-more window floor before curve half estimate more is up rises = omega arith
 
-  below_next : (curve : Curve) (reduced : ℕ) → curve.w_max ≤ largest_u64 → (cubic : Cubic) → Below curve reduced cubic
-      → Turns cubic (λ turn new. ContinuesEpoch turn → Below curve reduced new)
-  below_next curve reduced fits cubic h = record {
+  below_next : (curve : Curve) (reduced floor : ℕ) → curve.w_max ≤ largest_u64 → (cubic : Cubic)
+      → Below curve reduced floor cubic
+      → Turns cubic (λ turn new. ContinuesEpoch turn → Below curve reduced (max floor (least_of turn)) new)
+  below_next curve reduced floor fits cubic h = record {
     resuming = λ at goes. record {
       curve_is = h.curve_is;
-      window_is = h.window_is;
+      window_is = omega (arith, h.window_is);
       kept = h.kept;
       time = h.time;
       estimate = h.estimate;
     };
     finding = λ at bytes goes. record {
       curve_is = h.curve_is;
-      window_is = h.window_is;
+      window_is = omega (arith, h.window_is);
       kept = h.kept;
       time = h.time;
       estimate = h.estimate;
@@ -241,8 +242,9 @@ module _ (window now mtu : ℕ) where
           curve_is = h.curve_is;
           window_is = subst (λ (n : ℕ). max (max cubic.window (min n (sum_to_most cubic.window (bytes / 2))))
               (quotient_up new.stage.estimate parts)
-              ≤ max (max reduced (curve_at curve (new.stage.elapsed / 1000))) (quotient_up new.stage.estimate parts))
-              (sym there) (below-more cubic.window reduced (curve_at curve (cubic.stage.elapsed / 1000))
+              ≤ max (max (max floor 0) (curve_at curve (new.stage.elapsed / 1000)))
+              (quotient_up new.stage.estimate parts))
+              (sym there) (below-more cubic.window floor (curve_at curve (cubic.stage.elapsed / 1000))
               (curve_at curve (new.stage.elapsed / 1000)) (sum_to_most cubic.window (bytes / 2)) cubic.stage.estimate
               new.stage.estimate h.window_is up rises);
           kept = omega (arith, h.kept);
@@ -251,7 +253,7 @@ module _ (window now mtu : ℕ) where
         };
     waiting = λ at goes. record {
       curve_is = h.curve_is;
-      window_is = h.window_is;
+      window_is = omega (arith, h.window_is);
       kept = h.kept;
       time = h.time;
       estimate = h.estimate;
@@ -259,14 +261,27 @@ module _ (window now mtu : ℕ) where
     reducing = λ at goes. absurd goes;
     starting = λ at bytes goes. absurd goes;
     persisting = λ at goes. absurd goes;
-    resizing = λ to goes. absurd goes;
-    passing = λ goes. h;
+    resizing = λ to goes. record {
+      curve_is = h.curve_is;
+      window_is = omega (arith, h.window_is);
+      kept = omega (arith, h.kept);
+      time = h.time;
+      estimate = h.estimate;
+    };
+    passing = λ goes. record {
+      curve_is = h.curve_is;
+      window_is = omega (arith, h.window_is);
+      kept = h.kept;
+      time = h.time;
+      estimate = h.estimate;
+    };
   }
 
   module _ (reduction : ControllerCall) (earlier : List ControllerCall) (k : ℕ)
       (b : BeginsEpoch window now mtu reduction earlier k) where
     below_by : (later : List ControllerCall) → ContinuesEpochThrough window now mtu later (reduction ∷ earlier)
         → Below (curve_of window now mtu reduction earlier k) (window_by window now mtu (reduction ∷ earlier))
+        (floor_by window now mtu later (reduction ∷ earlier))
         (cubic_by window now mtu (later ++ reduction ∷ earlier))
     below_by [] goes =
         let is = left reduction earlier k b in
@@ -285,9 +300,10 @@ module _ (window now mtu : ℕ) where
     below_by (call ∷ later) goes =
         let curve = curve_of window now mtu reduction earlier k in
         let reduced = window_by window now mtu (reduction ∷ earlier) in
+        let floor = floor_by window now mtu later (reduction ∷ earlier) in
         let cubic = cubic_by window now mtu (later ++ reduction ∷ earlier) in
-        by_turn cubic (λ turn new. ContinuesEpoch turn → Below curve reduced new)
-        (below_next curve reduced (plateau_fits reduction earlier k b) cubic (below_by later goes.1)) call goes.0
+        by_turn cubic (λ turn new. ContinuesEpoch turn → Below curve reduced (max floor (least_of turn)) new)
+        (below_next curve reduced floor (plateau_fits reduction earlier k b) cubic (below_by later goes.1)) call goes.0
 
     pub below_curve : (later : List ControllerCall) → ContinuesEpochThrough window now mtu later (reduction ∷ earlier)
         → IsBelowCurve window now mtu later reduction earlier k
@@ -347,8 +363,9 @@ module _ (window now mtu : ℕ) where
         (sum_to_most (window_by window now mtu (later ++ reduction ∷ earlier)) (bytes / 2))
         ≤ window_by window now mtu (call ∷ later ++ reduction ∷ earlier) =
         rw (← there) (makes (cubic_by window now mtu (later ++ reduction ∷ earlier)) call at bytes is) in
+        let none : least_of (turn_at window now mtu call (later ++ reduction ∷ earlier)) ≡ 0 = ap least_of is in
         let down = below_curve (call ∷ later) (on, goes) in
-        record { up = up; on = λ half reduced reno. omega (arith, up, down, half, reduced, reno) }
+        record { up = up; on = λ half floor reno. omega (arith, up, down, none, half, floor, reno) }
 
   -- ---- from K on
 
@@ -400,7 +417,12 @@ module _ (window now mtu : ℕ) where
     reducing = λ at goes. absurd goes;
     starting = λ at bytes goes. absurd goes;
     persisting = λ at goes. absurd goes;
-    resizing = λ to goes. absurd goes;
+    resizing = λ to goes. record {
+      curve_is = h.curve_is;
+      window_is = omega (arith, h.window_is);
+      time = h.time;
+      past = h.past;
+    };
     passing = λ goes. record {
       curve_is = h.curve_is;
       window_is = omega (arith, h.window_is);

@@ -9,7 +9,7 @@ use Rattle.recovery_cubic.specs.declared.cubic.Cubic.{Cubic}
 use Rattle.recovery_cubic.specs.Stage.{parts, quotient_up}
 use Rattle.recovery_cubic.specs.Cubic.{datagram_of}
 use Rattle.recovery_cubic.specs.History.{CubicEntry, cubic_by, window_by}
-use Rattle.recovery_cubic.specs.Growth.{ContinuesEpoch, ContinuesEpochThrough, bytes_of, acked_in, GrowsByHalf}
+use Rattle.recovery_cubic.specs.Growth.{ContinuesEpoch, ContinuesEpochThrough, bytes_of, least_of, acked_in, floor_by, GrowsByHalf}
 use Rattle.recovery_cubic.specs.Reno.{reno_growth, prior_next, mtu_next, reno_next, prior_by, mtu_by, reno_by, NeverBelowReno}
 use Rattle.recovery_cubic.proofs.TurnLaws.{Turns, by_turn}
 
@@ -97,7 +97,7 @@ module _ (window now mtu : ℕ) where
     estimate : 2 * cubic.stage.estimate ≤ parts * (2 * before + bytes)
 
   within : (cubic : Cubic) (acked before : ℕ) → Within acked before cubic
-      → Turns cubic (λ turn new. ContinuesEpoch turn → Within (bytes_of turn + acked) before new)
+      → Turns cubic (λ turn new. ContinuesEpoch turn → Within (bytes_of turn + acked) (max before (least_of turn)) new)
   within cubic acked before w = record {
     resuming = λ at goes. record { window_is = omega (arith, w.window_is); estimate = omega (arith, w.estimate) };
     finding = λ at bytes goes. record { window_is = omega (arith, w.window_is); estimate = omega (arith, w.estimate) };
@@ -109,20 +109,20 @@ module _ (window now mtu : ℕ) where
     reducing = λ at goes. absurd goes;
     starting = λ at bytes goes. absurd goes;
     persisting = λ at goes. absurd goes;
-    resizing = λ to goes. absurd goes;
+    resizing = λ to goes. record { window_is = omega (arith, w.window_is); estimate = omega (arith, w.estimate) };
     passing = λ goes. record { window_is = omega (arith, w.window_is); estimate = omega (arith, w.estimate) };
   }
 
   within_by : (later earlier : List ControllerCall) → ContinuesEpochThrough window now mtu later earlier
-      → Within (acked_in window now mtu later earlier) (window_by window now mtu earlier)
+      → Within (acked_in window now mtu later earlier) (floor_by window now mtu later earlier)
       (cubic_by window now mtu (later ++ earlier))
   within_by [] earlier goes =
       let h = holds earlier in record { window_is = omega arith; estimate = omega (arith, h.below) }
   within_by (call ∷ later) earlier goes =
-      let before = window_by window now mtu earlier in
+      let before = floor_by window now mtu later earlier in
       let acked = acked_in window now mtu later earlier in
       let cubic = cubic_by window now mtu (later ++ earlier) in
-      by_turn cubic (λ turn new. ContinuesEpoch turn → Within (bytes_of turn + acked) before new)
+      by_turn cubic (λ turn new. ContinuesEpoch turn → Within (bytes_of turn + acked) (max before (least_of turn)) new)
       (within cubic acked before (within_by later earlier goes.1)) call goes.0
 
   pub grows_by_half : (later earlier : List ControllerCall) → ContinuesEpochThrough window now mtu later earlier

@@ -8,7 +8,7 @@ use Rattle.recovery_cubic.specs.Stage.{parts, quotient_up}
 use Rattle.recovery_cubic.specs.Curve.{curve_at, micros, IsGreatestK}
 use Rattle.recovery_cubic.specs.Cubic.{datagram_of}
 use Rattle.recovery_cubic.specs.History.{CubicEntry, resumes, finds, grows, waits, reduces, persists, starts, turn_at, window_by}
-use Rattle.recovery_cubic.specs.Growth.{bytes_of}
+use Rattle.recovery_cubic.specs.Growth.{bytes_of, floor_by}
 use Rattle.recovery_cubic.specs.RealCurve.{IsSteady, IsNearReal}
 use Rattle.recovery_cubic.specs.Reno.{mtu_by, reno_by}
 use Rattle.recovery_cubic.specs.Fractions.{beta_denominator, beta_numerator, convergence_denominator, convergence_numerator}
@@ -90,11 +90,12 @@ module _ (window now mtu : ℕ) where
   curve_then later reduction earlier k =
       curve_at (curve_of reduction earlier k) (time_by (later ++ reduction ∷ earlier) / microseconds)
 
-  -- the window is at most the maximum of the curve, of Reno's window, and of the window that the reduction left
+  -- the window is at most the maximum of the curve, of Reno's window, of the window that the reduction left, and of the
+  -- minimum windows of MTUs set since
   abbrev pub IsBelowCurve : List ControllerCall → ControllerCall → List ControllerCall → ℕ → Type 0
   IsBelowCurve later reduction earlier k =
       window_by window now mtu (later ++ reduction ∷ earlier)
-      ≤ max (max (window_by window now mtu (reduction ∷ earlier)) (curve_then later reduction earlier k))
+      ≤ max (max (floor_by window now mtu later (reduction ∷ earlier)) (curve_then later reduction earlier k))
       (quotient_up (reno_by window now mtu (later ++ reduction ∷ earlier)) parts)
 
   -- while the curve moves by less than a datagram in a microsecond, it is within one datagram of the real one
@@ -112,11 +113,11 @@ module _ (window now mtu : ℕ) where
     pub up : min (curve_then (call ∷ later) reduction earlier k)
         (sum_to_most (window_by window now mtu (later ++ reduction ∷ earlier)) (bytes / 2))
         ≤ window_by window now mtu (call ∷ later ++ reduction ∷ earlier)
-    -- exactly to the curve's value, if half of the bytes reach the curve, and neither Reno's window nor what the
-    -- reduction left is above it
+    -- exactly to the curve's value, if half of the bytes reach the curve, and above it is neither Reno's window, nor what
+    -- the reduction left, nor the minimum window of an MTU set since
     pub on : curve_then (call ∷ later) reduction earlier k
         ≤ sum_to_most (window_by window now mtu (later ++ reduction ∷ earlier)) (bytes / 2)
-        → window_by window now mtu (reduction ∷ earlier) ≤ curve_then (call ∷ later) reduction earlier k
+        → floor_by window now mtu later (reduction ∷ earlier) ≤ curve_then (call ∷ later) reduction earlier k
         → reno_by window now mtu (call ∷ later ++ reduction ∷ earlier)
         ≤ parts * curve_then (call ∷ later) reduction earlier k
         → window_by window now mtu (call ∷ later ++ reduction ∷ earlier)

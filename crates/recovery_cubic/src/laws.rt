@@ -18,7 +18,8 @@ pub fn cubic_falls_once()
 {}
 
 /// Proves that while congestion avoidance continues, the window grows by at most half of the bytes acknowledged, so by
-/// at most half a window in a round trip (RFC 9438, 4.2).
+/// at most half a window in a round trip (RFC 9438, 4.2). If an MTU that was set since has a larger minimum window, the
+/// growth counts from that.
 #[tactic(auto, using(crate::proofs::GrowthLaws::grows_by_half))]
 pub fn cubic_grows_by_half()
     ensures { (window made mtu : ℕ) (later earlier : List ControllerCall)
@@ -34,8 +35,9 @@ pub fn cubic_is_never_below_reno()
 {}
 
 /// Proves an upper bound after a reduction, while congestion avoidance continues: the maximum of the curve, of Reno's
-/// window and of what the reduction left. While the curve moves by less than a datagram in a microsecond, it is within
-/// one datagram of the real curve. At 1200 bytes that is 15 minutes to both sides of K (RFC 9438, 4.2).
+/// window, of what the reduction left, and of the minimum windows of MTUs set since. While the curve moves by less than
+/// a datagram in a microsecond, it is within one datagram of the real curve. At 1200 bytes that is 15 minutes to both
+/// sides of K (RFC 9438, 4.2).
 #[tactic(auto, using(crate::proofs::FollowingLaws::below_curve, crate::proofs::FollowingLaws::real_curve))]
 pub fn cubic_stays_below_the_curve()
     ensures below { (window made mtu : ℕ) (later : List ControllerCall) (reduction : ControllerCall)
@@ -50,8 +52,8 @@ pub fn cubic_stays_below_the_curve()
 {}
 
 /// Proves that an acknowledgement that counts raises the window to the curve's value at that time or higher, or by half
-/// of its bytes if that is less. It becomes exactly the curve's value if half of the bytes reach that far and neither
-/// Reno's window nor what the reduction left is above it.
+/// of its bytes if that is less. It becomes exactly the curve's value if half of the bytes reach that far, and above it
+/// is neither Reno's window, nor what the reduction left, nor the minimum window of an MTU set since.
 pub fn cubic_goes_to_the_curve()
     ensures { (window made mtu : ℕ) (call : ControllerCall) (later : List ControllerCall)
         (reduction : ControllerCall) (earlier : List ControllerCall) (k at bytes : ℕ)

@@ -22,11 +22,13 @@ use Rattle.recovery_sender.specs.declared.sender.Sender.{Sender}
 use Rattle.recovery_sender.specs.Detection.{DetectsLosses, HasScanned, HasNoGap, PassResult, congested, detecting, ended}
 use Rattle.recovery_sender.specs.Losses.{largest_in, look_of, IsEmptyLosses}
 use Rattle.recovery_sender.specs.Promises.Lost.{LosesTracked}
-use Rattle.recovery_sender.specs.Promises.Pasts.{ForEveryPast}
+use Rattle.recovery_sender.specs.Promises.Pasts.{ForEveryExplainedPast, ForEveryPast}
+use Rattle.recovery_sender.specs.Promises.Persistent.{PersistsByEvents}
 use Rattle.recovery_sender.specs.Senders.{state_in}
 use Rattle.recovery_sender.specs.Spaces.{packets_in}
 use Rattle.recovery_sender.specs.Steps.{SenderStep, TakesSteps, StepsLeadTo, loss_time}
 use Rattle.recovery_sender.proofs.LeadLaws.{leads_on}
+use Rattle.recovery_sender.proofs.PersistentLaws.{persists_by_events}
 use Rattle.recovery_sender.proofs.PromiseLaws.{loses_tracked}
 
 -- the outcome of the MTU probe
@@ -135,6 +137,12 @@ module _ {F Q R C K S M P : Type 0} {f : _} {c : _} {q : _} {m : _} {r : _} (spa
   promised largest is attempts time are = loses_tracked space old (kept_where (state_in old) space largest is)
       (look_for largest) attempts losses time refl are
 
+  persists_then : (largest : ℕ) → largest_in (state_in old) space ≡ Some largest → (attempts : List LossAttempt)
+      (time : Option ℕ) → PassResult (look_for largest) (packets_in (state_in old) space) attempts losses time
+      → ForEveryExplainedPast old (PersistsByEvents (look_for largest) losses old.variables.sampled)
+  persists_then largest is attempts time =
+      persists_by_events space now due old (kept_where (state_in old) space largest is) largest attempts losses time
+
   -- nothing is tracked below the largest acknowledged
   pub detects_none : HasNoGap (state_in old) space → IsEmptyLosses losses
       → TakesSteps (loss_time space None ∷ []) old new → DetectsLosses space now due old losses new
@@ -147,6 +155,7 @@ module _ {F Q R C K S M P : Type 0} {f : _} {c : _} {q : _} {m : _} {r : _} (spa
       rw nothing.numbers goes,
     );
     none = λ is. (nothing, goes);
+    persists = λ largest is. persists_then largest is [] None (nothing_found largest is);
   }
     where
       nothing_found : (largest : ℕ) → largest_in (state_in old) space ≡ Some largest
@@ -180,6 +189,8 @@ module _ {F Q R C K S M P : Type 0} {f : _} {c : _} {q : _} {m : _} {r : _} (spa
     looks = λ other is. (let found = subst IsLook (same_Some largest other (sym known ∙ is)) look in
         (found.0, found.1, found.2, promised other is found.0 found.1 found.2, found.3));
     none = λ is. absurd (none-some largest (sym is ∙ known));
+    persists = λ other is. (let found = subst IsLook (same_Some largest other (sym known ∙ is)) look in
+        persists_then other is found.0 found.1 found.2);
   }
 
   pub found_all : (largest : ℕ) (tally : Tally) (found told shown probed : Sender F Q R C K S M P f c q m r)

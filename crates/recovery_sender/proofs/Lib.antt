@@ -18,8 +18,10 @@ pub mod TimerUnchangedLaws
 pub mod TimerKeptLaws
 pub mod PastLaws
 pub mod PersistenceLaws
+pub mod PersistentLaws
 pub mod PromiseLaws
 pub mod RunningLaws
+pub mod SampleLaws
 pub mod StepLaws
 pub mod TimerLaws
 pub mod WindowLaws

@@ -68,7 +68,7 @@ module _ {F Q R C K S M P : Type 0} {f : _} {c : _} {q : _} {m : _} {r : _} (sen
   abbrev beginning : Beginning F K Q S M P
   beginning = begins f.built c.words (queue_model q.contents q.words q.blank) config start random
 
-  packets_by : packets_in (state_in sender) space ≡ (sent_in beginning past space).tracked
+  pub packets_by : packets_in (state_in sender) space ≡ (sent_in beginning past space).tracked
   packets_by = rw kept (ap (λ (sent : SentState P M). sent.tracked) (came.state_after.spaces space).sent)
 
   pub tracked_by : (n : ℕ) → (packet_at (packets_in (state_in sender) space) n ≢ None)

@@ -1,13 +1,14 @@
 -- The promises of a sender by the events before a call.
-use Rattle.std.proofs.Common.{◌≡◌, ◌≢◌, ◌⊎◌, ◌≤◌, ℕ, true, false, Bool, true≢false, ◌==◌, List, [], ◌∷◌, length, Option, None, Some, inl, inr, refl, sym, ap, subst, ◌∙◌}
+use Rattle.std.proofs.Common.{◌≡◌, ◌≢◌, ◌⊎◌, ◌<◌, ◌≤◌, ℕ, true, false, Bool, true≢false, ◌==◌, List, [], ◌∷◌, length, Option, None, Some, inl, inr, refl, sym, ap, subst, ◌∙◌}
 use Rattle.std.proofs.lemmas.Bool.Decides.{eqb_tells}
 use Rattle.std.proofs.lemmas.Option.{none-some, same_Some}
 use Rattle.std.specs.Global.{Vec}
+use Rattle.std.specs.Option.{ForSome}
 use Rattle.recovery_base.specs.declared.below.SpaceId.{SpaceId}
 use Rattle.recovery_spaces.specs.Discarded.{is_discarded}
 use Rattle.recovery_spaces.specs.Packets.{Packet, Packets, packet_at}
 use Rattle.recovery_losses.specs.declared.looks.LossPass.{LossPass}
-use Rattle.recovery_losses.specs.Losses.{IsLost, IsLostBelow, IsOneOf, IsDeclaredLost}
+use Rattle.recovery_losses.specs.Losses.{IsBelow, IsDueAt, IsLost, IsLostBelow, IsOneOf, IsDeclaredLost, lost_at}
 use Rattle.recovery_losses.specs.declared.frames.Ack.{Ack}
 use Rattle.recovery_sender.specs.declared.sender.acks.Acknowledged.{Acknowledged}
 use Rattle.recovery_sender.specs.declared.sender.acks.NewlyAcked.{NewlyAcked}
@@ -21,7 +22,7 @@ use Rattle.recovery_sender.specs.RetransmitAll.{TriesAllTracked}
 use Rattle.recovery_sender.proofs.AttemptLaws.{all_declared, cut_first, declared_or_cut, declared_tried, probe_cut}
 use Rattle.recovery_sender.specs.Detection.{PassResult}
 use Rattle.recovery_sender.specs.Promises.Acked.{AcksTracked, LosesWholeSpace}
-use Rattle.recovery_sender.specs.Promises.Lost.{IsLostBy, LosesTracked}
+use Rattle.recovery_sender.specs.Promises.Lost.{IsLostBy, IsWaitingBy, LosesTracked, sent_at}
 use Rattle.recovery_sender.specs.Promises.Pasts.{ForEveryPast}
 use Rattle.recovery_sender.specs.Senders.{state_in}
 use Rattle.recovery_sender.specs.Spaces.{packets_in}
@@ -132,20 +133,30 @@ module _ {F Q R C K S M P : Type 0} {f : _} {c : _} {q : _} {m : _} {r : _} (spa
             ((tries.each number).1 (tracked.1 is)),
       )
 
+  -- what the state says is lost is so by each past
+  pub lost_by_past : (look : LossPass) → look.space ≡ space → ForEveryPast sender (λ past.
+      (number : ℕ) → IsLostBelow look (packets_in (state_in sender) space) number → IsLostBy look past number)
+  lost_by_past look here config start random past came number lost = rw here (
+    (tracked_by sender config start random past came space kept number).0
+        (λ none. none-some lost.0 (sym none ∙ lost.1.0)),
+    lost.1.1,
+    subst (λ sent. IsLost look number sent)
+        (sent_by_past sender config start random past came space kept number lost.0 lost.1.0) lost.2,
+  )
+
   -- the packets that a pass finds lost
   pub loses_tracked : (look : LossPass) (attempts : List LossAttempt) (losses : Losses) (time : Option ℕ)
       → look.space ≡ space → PassResult look (packets_in (state_in sender) space) attempts losses time
       → ForEveryPast sender (LosesTracked look losses time)
-  loses_tracked look attempts losses time here are config start random past came = record { told = told; all = all }
+  loses_tracked look attempts losses time here are config start random past came = record {
+    told = told;
+    all = all;
+    next = next;
+    earliest = earliest;
+  }
     where
       lost_by : (number : ℕ) → IsLostBelow look (packets_in (state_in sender) space) number → IsLostBy look past number
-      lost_by number lost = rw here (
-        (tracked_by sender config start random past came space kept number).0
-            (λ none. none-some lost.0 (sym none ∙ lost.1.0)),
-        lost.1.1,
-        subst (λ sent. IsLost look number sent)
-            (sent_by_past sender config start random past came space kept number lost.0 lost.1.0) lost.2,
-      )
+      lost_by = lost_by_past look here config start random past came
 
       told : (number : ℕ) → IsDeclaredLost losses.numbers.items losses.probe number → IsLostBy look past number
       told number (inl there) = lost_by number (are.lost.lost number there).0
@@ -174,3 +185,36 @@ module _ {F Q R C K S M P : Type 0} {f : _} {c : _} {q : _} {m : _} {r : _} (spa
             inr (cut_by number (found.0, (found.1, below), is_lost) untold, due.0, due.1, due.2)
             )
       ]
+
+      -- when a tracked packet was sent
+      sent_so : (number : ℕ) (packet : Packet P M)
+          → packet_at (packets_in (state_in sender) space) number ≡ Some packet
+          → packet.time_sent ≡ sent_at look.space past number
+      sent_so number packet is =
+          rw here (sent_by_past sender config start random past came space kept number packet is)
+
+      next : ForSome time (λ due. (losses.is_cut ≡ true) × (due ≡ look.at)
+          ⊎ (number : ℕ) × IsWaitingBy look past number × (due ≡ lost_at look (sent_at look.space past number)))
+      next due is = by (are.earliest.one due is)
+        where
+          by : ((number : ℕ) × (packet : Packet P M) × IsBelow look (packets_in (state_in sender) space) number packet
+              × (number < look.largest) × (IsDeclaredLost losses.numbers.items losses.probe number → ⊥)
+              × IsDueAt look number packet.time_sent due)
+              → (losses.is_cut ≡ true) × (due ≡ look.at) ⊎ (number : ℕ) × IsWaitingBy look past number
+              × (due ≡ lost_at look (sent_at look.space past number))
+          by (number, packet, below, small, untold, inl (kept_now, at)) =
+              let sent = sent_so number packet below.0 in
+              let tracked = (tracked_by sender config start random past came space kept number).0
+              (λ none. none-some packet (sym none ∙ below.0)) in
+              inr (number, (rw here tracked, below.1, rw sent at kept_now), rw sent at at)
+          by (number, packet, below, small, untold, inr (lost, at)) =
+              inl (cut_by number (packet, below, lost) untold, at)
+
+      earliest : (number : ℕ) → IsWaitingBy look past number
+          → (due : ℕ) × (time ≡ Some due) × (due ≤ lost_at look (sent_at look.space past number))
+      earliest number (tracked, below, waits) =
+          let found = found_or_not (packets_in (state_in sender) space) number
+          ((tracked_by sender config start random past came space kept number).1 (rw here at tracked)) in
+          let sent = sent_so number found.0 found.1 in
+          are.earliest.least number found.0 (lost_at look (sent_at look.space past number)) (found.1, below) below
+          (λ named. waits (told number named).2) (inl (rw sent waits, rw sent refl))

@@ -20,7 +20,8 @@ use Rattle.recovery_sender.specs.Bounds.{latest_start}
 use Rattle.recovery_sender.specs.Attempts.{LossAttempt, declared_in, is_cut_in, probe_attempts, tried_in, trying}
 use Rattle.recovery_sender.specs.Losses.{largest_in, look_of, IsEmptyLosses}
 use Rattle.recovery_sender.specs.Promises.Lost.{LosesTracked}
-use Rattle.recovery_sender.specs.Promises.Pasts.{ForEveryPast}
+use Rattle.recovery_sender.specs.Promises.Pasts.{ForEveryExplainedPast, ForEveryPast}
+use Rattle.recovery_sender.specs.Promises.Persistent.{PersistsByEvents}
 use Rattle.recovery_sender.specs.Senders.{state_in}
 use Rattle.recovery_sender.specs.Spaces.{packets_in}
 use Rattle.recovery_sender.specs.Steps.{SenderStep, loss_time, occurs, told, TakesSteps}
@@ -142,3 +143,7 @@ pub record DetectsLosses {F Q R C K S M P : Type 0} {f : _} {c : _} {q : _} {m :
       (last_counted look packets losses.numbers.items) time) old new)
   pub none : largest_in (state_in old) space ≡ None
       → IsEmptyLosses losses × TakesSteps (loss_time space None ∷ []) old new
+  -- persistent congestion is reported only with cause, by the events so far (RFC 9002, 7.6)
+  pub persists : (largest : ℕ) → largest_in (state_in old) space ≡ Some largest
+      → ForEveryExplainedPast old (PersistsByEvents (look_of (state_in old) old.variables space now due_to_ack largest)
+      losses old.variables.sampled)

@@ -2,6 +2,7 @@
 ghost use Rattle.std.specs.Prelude.{◌≡◌, true};
 ghost use Rattle.quic_recovery.specs.State.{state_of};
 ghost use Rattle.recovery_sender.specs.Bounds.{ArePathsBounded};
+ghost use Rattle.recovery_sender.specs.Promises.Samples.{IsExplained};
 ghost use Rattle.recovery_sender.specs.Timer.{TimerIsSet};
 
 use quic_recovery::{LiveRecovery, Recovery};
@@ -84,6 +85,7 @@ pub struct Sender<F: ControllerFactory, Q: RetransmitQueue, R: Rng> {
     /// Whether the loss detection timer is known to be set correctly. Then it is not set again if no input changes.
     is_timer_current: bool,
     ghost bounded: { ArePathsBounded F.Controller.words (state_of recovery.recovery) },
+    ghost explained: { ∥ IsExplained recovery.recovery ∥₁ },
     ghost timed: { is_timer_current ≡ true → TimerIsSet (state_of recovery.recovery) variables },
 }
 

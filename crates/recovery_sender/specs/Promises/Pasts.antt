@@ -5,6 +5,7 @@ use Rattle.recovery_history.specs.declared.config.RecoveryConfig.{RecoveryConfig
 use Rattle.recovery_history.specs.History.{Beginning, History, begins, queue_model}
 use Rattle.recovery_history.specs.Reachability.{ReachedBy}
 use Rattle.recovery_sender.specs.declared.sender.Sender.{Sender}
+use Rattle.recovery_sender.specs.Promises.Samples.{ExplainsMarks}
 use Rattle.recovery_sender.specs.Senders.{state_in}
 
 module _ {F Q R C K S M P : Type 0} {f : _} {c : _} {q : _} {m : _} {r : _} (sender : Sender F Q R C K S M P f c q m r)
@@ -19,3 +20,7 @@ module _ {F Q R C K S M P : Type 0} {f : _} {c : _} {q : _} {m : _} {r : _} (sen
     -- for every beginning
     abbrev pub ForEveryPast : (History Q S M P → Type 0) → Type 0
     ForEveryPast Holds = ForEveryRun (λ beginning past. Holds past)
+
+    -- for every such past that explains the sender's marks; one exists, and the events of each call extend it
+    abbrev pub ForEveryExplainedPast : (History Q S M P → Type 0) → Type 0
+    ForEveryExplainedPast Holds = ForEveryPast (λ past. ExplainsMarks (state_in sender).paths past → Holds past)

@@ -10,6 +10,7 @@ ghost use Rattle.recovery_sender.specs.Acks.{AckChecked, AreNotSkipped, AreNewly
 ghost use Rattle.recovery_sender.specs.Losses.{largest_in};
 ghost use Rattle.recovery_sender.specs.Promises.Acked.{AcksTracked};
 ghost use Rattle.recovery_sender.specs.Promises.Pasts.{ForEveryPast};
+ghost use Rattle.recovery_sender.specs.Promises.Samples.{IsMarkable};
 ghost use Rattle.recovery_sender.specs.Senders.{state_in};
 ghost use Rattle.recovery_sender.specs.Spaces.{packets_in, space_in};
 ghost use Rattle.recovery_sender.specs.Acking.{IsNewly, AckResult, AreAcked, HasRoomForLosses, ProcessesNewlyAcked, acking, first_marked, is_first_sample, is_limited, is_marked, is_raised, largest_sent, loss_end, marks_now, rtt_of, sent_on, unmarked, with_marks_now, Acknowledges, EcnCompared, EcnResult, SamplesRtt};
@@ -365,8 +366,10 @@ where
         self.mark_first_packet(space);
     }
 
-    /// Marks the next packet of a space as the first one after an RTT sample, if none is marked (RFC 9002, 7.6.2).
+    /// Marks the next packet of a space as the first one after an RTT sample, if none is marked (RFC 9002, 7.6.2). The
+    /// path in use has a sample.
     fn mark_first_packet(&mut self, space: SpaceId)
+        requires { (state_in self.old).paths.current.state.rtt.smoothed ≢ None }
         ensures { let old = state_in self.old in TakesSteps (first_marked old space
             (marks_now old).first_after_sample (space_in old space)) self.old self.new }
     {
@@ -392,6 +395,7 @@ where
 
     /// Sets whether packets are marked on the path in use, and which of them is the first one after an RTT sample.
     fn set_marks(&mut self, sending_ecn: bool, first: Option<(SpaceId, u64)>)
+        requires { IsMarkable (state_in self.old) first }
         ensures { TakesSteps (marked (with_marks_now (state_in self.old) sending_ecn first) ∷ [])
             self.old self.new }
     {
@@ -409,6 +413,7 @@ where
         challenge_pending: bool,
         first_packet_after_rtt_sample: Option<(SpaceId, u64)>,
     )
+        requires { IsMarkable (state_in self.old) first_packet_after_rtt_sample }
         ensures { TakesSteps (marked (record (marks_now (state_in self.old)) {
           sending_ecn = sending_ecn;
           challenge = challenge;

@@ -1,4 +1,7 @@
+use Rattle.quic_recovery.specs.State.{state_of}
 use Rattle.recovery_sender.proofs.BoundLaws.{recovery_keeps_bounds}
+use Rattle.recovery_sender.proofs.SampleLaws.{event_explained}
+use Rattle.recovery_sender.specs.Senders.{state_in}
 use Rattle.recovery_sender.proofs.sender.Sender.apply.Goals as goal
 
 pub invariant_of-self-clause-bounded : goal.invariant_of-self-clause-bounded
@@ -6,3 +9,7 @@ invariant_of-self-clause-bounded g c = recovery_keeps_bounds c.args.event c.appl
     c.args.self.now.recovery.recovery c.apply.new.self.recovery
     g.met.F.Controller.Controller.laws g.met.F.ControllerFactory.starts_by_now c.requires.stays c.apply.ensures.changes
     c.args.self.now.bounded
+
+pub invariant_of-self-clause-explained : goal.invariant_of-self-clause-explained
+invariant_of-self-clause-explained g c = event_explained (state_in c.args.self.now) (state_of c.apply.new.self.recovery)
+    c.args.event c.apply.result c.apply.ensures.extends c.apply.ensures.changes.marks c.args.self.now.explained

@@ -1,5 +1,6 @@
 use Rattle.std.proofs.Common.{false, refl}
 use Rattle.recovery_sender.proofs.BoundLaws.{made_in_bounds}
+use Rattle.recovery_sender.proofs.SampleLaws.{made_explained}
 use Rattle.recovery_sender.proofs.StepLaws.{does_as}
 use Rattle.recovery_sender.proofs.sender.Sender.new.Goals as goal
 
@@ -13,6 +14,8 @@ returns-clause-begins g c = record {
     bounded = made_in_bounds c.in_ok-recovery.recovery.recovery _ _ _
         g.met.F.Controller.Controller.laws g.met.F.ControllerFactory.starts_by_now
         c.nanosecond_before.ensures.early c.in_ok-recovery.ensures.came;
+    explained = made_explained c.in_ok-recovery.recovery.recovery _ _ _ c.in_ok-recovery.ensures.came
+        c.in_ok-recovery.ensures.marks;
     timed = λ is. absurd cc;
   };
   came = rw (c.config_of.ensures, c.nanosecond_before.ensures.value) at c.in_ok-recovery.ensures.came;
@@ -26,3 +29,7 @@ pub invariant_of-sender-clause-bounded : goal.invariant_of-sender-clause-bounded
 invariant_of-sender-clause-bounded g c = made_in_bounds c.in_ok-recovery.recovery.recovery _ _ _
     g.met.F.Controller.Controller.laws g.met.F.ControllerFactory.starts_by_now
     c.nanosecond_before.ensures.early c.in_ok-recovery.ensures.came
+
+pub invariant_of-sender-clause-explained : goal.invariant_of-sender-clause-explained
+invariant_of-sender-clause-explained g c = made_explained c.in_ok-recovery.recovery.recovery _ _ _
+    c.in_ok-recovery.ensures.came c.in_ok-recovery.ensures.marks

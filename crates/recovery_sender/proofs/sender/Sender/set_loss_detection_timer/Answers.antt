@@ -11,6 +11,7 @@ use Rattle.recovery_sender.proofs.sender.Sender.set_loss_detection_timer.Goals a
 pub invariant_of-self : goal.invariant_of-self
 invariant_of-self g c = record {
   bounded = c.args.self.now.bounded;
+  explained = c.args.self.now.explained;
   timed = λ is. rw c.due-due.ensures at c.is_set_to.ensures.0 c.if-is_set_to.true;
 }
 
@@ -35,7 +36,11 @@ invariant_of-self-2 g c =
     (queue_model g.Q.RetransmitQueue.contents g.Q.RetransmitQueue.words g.Q.RetransmitQueue.blank)
     c.args.self.now.variables (state_in c.args.self.now) c.tell_timer.result (state_in c.tell_timer.new.self)
     (rw c.due-due.ensures at c.tell_timer.ensures.leads) in
-    record { bounded = c.tell_timer.new.self.bounded; timed = λ is. rw c.tell_timer.ensures.variables sets.1 }
+    record {
+      bounded = c.tell_timer.new.self.bounded;
+      explained = c.tell_timer.new.self.explained;
+      timed = λ is. rw c.tell_timer.ensures.variables sets.1;
+    }
 
 pub returns : goal.returns
 returns g c =
