@@ -327,6 +327,7 @@ def all_events():
         yield f"congestion {moment(i)} {moment(i)} 0 1200"
         yield f"end-acks {moment(i)} 0 -"
         yield f"poll-mtu {moment(i)}"
+        yield "mtu-found 1400"
         yield "in-flight current"
         yield f"reset-path {moment(i)}"
         yield "drop-previous"

@@ -170,6 +170,7 @@ EVENTS = {
     "end-acks": lambda it: f"end-acks {it.moment()} {it.flag()} {it.largest()}",
     "poll-mtu": lambda it: f"poll-mtu {it.moment()}",
     "peer-limit": lambda it: f"peer-limit {it.size()}",
+    "mtu-found": lambda it: f"mtu-found {it.size()}",
     "losses-done": lambda it: f"losses-done {it.moment()}",
     "queue-probe": lambda it: f"queue-probe {it.space()} {it.flag()}",
     "take-pending": lambda it: f"take-pending {it.space()}",

@@ -34,6 +34,8 @@ static void arguments(struct recovery_handle *recovery) {
     refused("a number of 2^63 in a frame", recovery_ffi_ack_frequency(recovery, 1ull << 63, 1, 5000, 1), bad);
     refused("a span of 10^9 nanoseconds", recovery_ffi_sample(recovery, 0, 0, 0, 1000000000), bad);
     refused("an id of 21 bytes", recovery_ffi_initial_id(recovery, id, 21), bad);
+    refused("an MTU of zero", recovery_ffi_mtu_found(recovery, 0), RECOVERY_REFUSAL_ZERO_MTU);
+    refused("an MTU, with discovery", recovery_ffi_mtu_found(recovery, 1400), RECOVERY_REFUSAL_SEARCHING);
     struct recovery_id issued = {.sequence = 1, .len = 21};
     refused("an id of 21 bytes is issued", recovery_ffi_issue_ids(recovery, 0, &issued, 1), bad);
     expect("timer 200 is not set", !recovery_ffi_timer(recovery, 200).some);

@@ -85,7 +85,7 @@ enum recovery_refusal {
     RECOVERY_REFUSAL_SPACE_DISCARDED = 5,
     // There is no such path.
     RECOVERY_REFUSAL_NO_SUCH_PATH = 6,
-    // An MTU search runs on the current path (RFC 8899, 5).
+    // An MTU search runs on the current path (RFC 8899, 5), or, for an MTU found elsewhere, discovery is enabled.
     RECOVERY_REFUSAL_SEARCHING = 7,
     // A size is zero bytes.
     RECOVERY_REFUSAL_ZERO_MTU = 8,
@@ -661,6 +661,10 @@ struct recovery_encoded_reply recovery_ffi_poll_mtu(struct recovery_handle *hand
 //
 //     recovery_ffi_peer_limit(server, 1400);
 struct recovery_encoded_reply recovery_ffi_peer_limit(struct recovery_handle *handle, uint16_t size);
+
+// Uses an MTU that was found elsewhere, by a search of the caller's or the configuration of a tunnel, on the path in
+// use (RFC 8899, 5; RFC 9000, 14.3): the event `MtuFound`. MTU discovery must be disabled in the settings.
+struct recovery_encoded_reply recovery_ffi_mtu_found(struct recovery_handle *handle, uint16_t mtu);
 
 // Ends the losses of packets that were lost together: the event `LossesDone`.
 struct recovery_encoded_reply recovery_ffi_losses_done(struct recovery_handle *handle, uint64_t now);
@@ -1352,7 +1356,7 @@ static inline uint64_t recovery_needs_room_lost(struct recovery_encoded_reply re
 static inline uint64_t recovery_refused_fault(struct recovery_encoded_reply reply) { return reply.first; }
 
 // Does nothing. A library of another layout does not have it, so a program with this header does not link with it.
-void recovery_ffi_layout(void) __asm__("recovery_ffi_layout_ffc8140e");
+void recovery_ffi_layout(void) __asm__("recovery_ffi_layout_4f25d9e8");
 __attribute__((used)) static void (*const recovery_ffi_has_this_layout)(void) = recovery_ffi_layout;
 
 #ifdef __cplusplus

@@ -1302,6 +1302,11 @@ impl Recovery {
         Ok(())
     }
 
+    /// Each path searches here, so that no MTU found elsewhere is taken.
+    pub fn mtu_found(&mut self, mtu: u16) -> Result<(), Refusal> {
+        Err(if mtu == 0 { ZERO_MTU } else { SEARCHING })
+    }
+
     pub fn losses_done(&mut self, now: Moment) -> bool {
         let found = self.current.mtud.black_hole(now);
         if found {

@@ -114,6 +114,7 @@ pub enum Event {
     EndAcks,
     PollMtu { now: Moment },
     PeerLimit { size: u16 },
+    MtuFound { mtu: u16 },
     LossesDone { now: Moment },
     Ecn { space: Space, newly: u64, counts: EcnCounts },
     CheckAck { space: Space, low: u64, high: u64 },
@@ -214,6 +215,7 @@ pub fn read(name: &[u8], words: &mut impl Words) -> Option<Event> {
         }
         b"poll-mtu" => Event::PollMtu { now: words.number()? },
         b"peer-limit" => Event::PeerLimit { size: words.below(65_536)? as u16 },
+        b"mtu-found" => Event::MtuFound { mtu: words.below(65_536)? as u16 },
         b"losses-done" => Event::LossesDone { now: words.number()? },
         b"ecn" => {
             let (space, newly) = (words.space()?, words.number()?);
@@ -298,6 +300,7 @@ pub fn apply(recovery: &mut Recovery, event: Event) -> Reply {
             None => Answer::NoProbe,
         },
         Event::PeerLimit { size } => done(recovery.peer_limit(size)?),
+        Event::MtuFound { mtu } => done(recovery.mtu_found(mtu)?),
         Event::LossesDone { now } => Answer::BlackHole(recovery.losses_done(now)),
         Event::Ecn { space, newly, counts } => Answer::Flag(recovery.ecn(space, newly, counts)?),
         Event::CheckAck { space, low, high } => done(recovery.check_ack(space, low, high)?),

@@ -89,6 +89,22 @@ module _ (Q S M P : Type 0) where
   did_not : lost_probes ended ≡ 1389 ∷ []
   did_not = refl
 
+  -- the MTU that was found elsewhere last, unless the peer's limit or a black hole set it since
+  abbrev found : History Q S M P
+  found = (event.MtuFound 1400, Ok answer.Done) ∷ (event.MtuFound 1300, Ok answer.Done) ∷ []
+
+  found_last : mtu false 1200 1200 found ≡ 1400
+  found_last = refl
+
+  found_is_limited : mtu false 1200 1200 ((event.PeerLimit 1350, Ok answer.Done) ∷ found) ≡ 1350
+  found_is_limited = refl
+
+  found_is_dropped : mtu false 1500 1200 ((event.LossesDone 9, Ok (answer.BlackHole true)) ∷ found) ≡ 1200
+  found_is_dropped = refl
+
+  rejected_is_not_found : mtu false 1200 1200 ((event.MtuFound 0, Err refusal.ZeroMtu) ∷ found) ≡ 1400
+  rejected_is_not_found = refl
+
   -- 1350 is near enough
   near_enough : IsNear 1200 1200 by 1350 ended
   near_enough = λ starts acks losses. (omega arith, omega arith)
@@ -280,6 +296,18 @@ module _ {F K Q S M P : Type 0} (beginning : Beginning F K Q S M P) where
 
   not_for_nothing : ¬ OneProbeAtATime beginning [] (event.PeerLimit 1300) (Err refusal.ZeroMtu)
   not_for_nothing = λ told. cc
+
+  -- an MTU found elsewhere is taken exactly if discovery is disabled
+  found_zero : OneProbeAtATime beginning one_out (event.MtuFound 0) (Err refusal.ZeroMtu)
+  found_zero = refl
+
+  found_unsearched : discovery_settings beginning ≡ None
+      → OneProbeAtATime beginning [] (event.MtuFound 1400) (Ok answer.Done)
+  found_unsearched is = rw is refl
+
+  not_found_searched : (by : MtuDiscoveryConfig) → discovery_settings beginning ≡ Some by
+      → ¬ OneProbeAtATime beginning [] (event.MtuFound 1400) (Ok answer.Done)
+  not_found_searched by is = λ told. grind (arith, is, told)
 
 module _ (Q S M P : Type 0) (queue : Q) (frames : M) where
   -- ---- searches: 1326 got through, and 1389 is in flight

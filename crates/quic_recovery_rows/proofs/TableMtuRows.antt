@@ -1,5 +1,5 @@
 -- Worked rows of the table of replies, computed: MTU searches, and black holes. Nothing rests on them.
-use Rattle.std.proofs.Common.{◌-◌, ◌^◌, inl, true, false, [], ◌∷◌, drop, None, Ok, Err, refl, arith}
+use Rattle.std.proofs.Common.{◌≡◌, ◌-◌, ◌^◌, inl, true, false, [], ◌∷◌, drop, None, Ok, Err, refl, arith}
 use Rattle.std.specs.declared.net.socket_addr.SocketAddr.{SocketAddr}
 use Rattle.rand_core.specs.Stream.{Stream}
 use Rattle.recovery_base.specs.declared.below.SpaceId.TheVariants.{Initial, Data}
@@ -7,8 +7,10 @@ use Rattle.recovery_packet_numbers.specs.declared.filter.Skips.TheVariants.{Disa
 use Rattle.recovery_events.specs.declared.event.Event.TheVariants as event
 use Rattle.recovery_events.specs.declared.event.Answer.TheVariants as answer
 use Rattle.recovery_events.specs.declared.event.Refusal.TheVariants as refusal
-use Rattle.recovery_history.specs.RepliesAfter.{RepliesAfter}
-use Rattle.quic_recovery_rows.proofs.RowStart.{RowEvent, RowReply, RowHistory, row_start, AllTold, ◌⊳◌}
+use Rattle.recovery_congestion.specs.NewReno.{reno_made, reno_words}
+use Rattle.recovery_history.specs.History.{begins}
+use Rattle.recovery_history.specs.RepliesAfter.{RepliesAfter, inputs_after}
+use Rattle.quic_recovery_rows.proofs.RowStart.{RowEvent, RowReply, RowHistory, RowStart, row_config, row_start, items, AllTold, ◌⊳◌}
 use Rattle.quic_recovery_rows.proofs.RowLaws.{unrefused, small, fits, unlike, uneven, some_is_none}
 
 module _ (remote : SocketAddr) (random : Stream) where
@@ -269,3 +271,44 @@ module _ (remote : SocketAddr) (random : Stream) where
       ⊳ (unrefused, (small refl, refl))
       ⊳ (unrefused, (some_is_none, refl))
       ⊳ (unrefused, (small refl, (fits refl refl, refl)))
+
+  -- ---- an MTU found elsewhere is rejected if discovery is enabled, also before a search
+
+  found_in_discovery : RowTold [] (event.MtuFound 1400) (Err refusal.Searching)
+  found_in_discovery = (λ h. omega (arith, h), refl)
+
+  found_in_discovery_is_wrong : ¬ RowTold [] (event.MtuFound 1400) (Ok answer.Done)
+  found_in_discovery_is_wrong = λ told. told.1.0 refl
+
+  -- and accepted if it is disabled
+
+  abbrev unsearched : RowStart
+  unsearched = begins reno_made reno_words items (record (row_config remote 8 Disabled) { allow_mtud = false }) 0 random
+
+  abbrev found : RowHistory
+  found =
+      (event.PollMtu 0, Ok answer.NoProbe)
+      ∷ (event.MtuFound 0, Err refusal.ZeroMtu)
+      ∷ (event.MtuFound 1400, Ok answer.Done)
+      ∷ []
+
+  found_told : AllTold unsearched found
+  found_told =
+      tt
+      ⊳ (λ h. omega (arith, h), (unrefused, refl))
+      ⊳ refl
+      ⊳ (unrefused, (small refl, refl))
+
+  found_searching_is_wrong : ¬ RepliesAfter unsearched [] (event.MtuFound 1400) (Err refusal.Searching)
+  found_searching_is_wrong = λ told. unrefused told.1
+
+  found_zero_is_wrong : ¬ RepliesAfter unsearched [] (event.MtuFound 0) (Ok answer.Done)
+  found_zero_is_wrong = λ told. told.0 refl
+
+  in_use_then : (inputs_after unsearched (drop 1 found)).paths.current.state.discovery.mtu ≡ 1400
+  in_use_then = refl
+
+  -- its minimum window is two datagrams (RFC 9002, 7.2)
+  window_then : reno_words.window
+      (inputs_after unsearched ((event.MtuFound 9000, Ok answer.Done) ∷ [])).paths.current.state.controller ≡ 18000
+  window_then = refl

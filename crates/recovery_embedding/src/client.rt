@@ -61,8 +61,12 @@ fn say_hello(report: &mut Report, client: &mut Connection) -> Result<u64, Sender
     Ok(hello)
 }
 
-/// Another connection: the first packet is sent, and a Retry is received (RFC 9000, 8.1.2).
+/// Another connection, through a tunnel whose MTU is known: the first packet is sent, and a Retry is received (RFC 9000,
+/// 8.1.2).
 pub fn try_again(report: &mut Report, client: &mut Connection) -> Result<(), SenderError> {
+    client.use_tunnel(1400)?;
+    let mtu = client.state().current().current_mtu();
+    report.value("through a tunnel, bytes of a datagram", &mtu);
     say_hello(report, client)?;
     let packets = client.sent_in_vain(SpaceId::Initial, at(40))?.numbers.len();
     let items = client.pending(SpaceId::Initial)?;

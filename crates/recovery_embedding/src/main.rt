@@ -37,9 +37,10 @@ fn address(host: u8, port: u16) -> SocketAddr {
     SocketAddr::new(IpAddr::V4(Ipv4Addr::new(192, 0, 2, host)), port)
 }
 
-/// Returns one endpoint of a connection without any event.
-fn begin(alloc: Global, side: Side) -> Result<Connection, SenderError> {
-    let config = connection::config(address(1, 4433));
+/// Returns one endpoint of a connection without any event, which may search for a larger MTU.
+fn begin(alloc: Global, side: Side, searches: bool) -> Result<Connection, SenderError> {
+    let mut config = connection::config(address(1, 4433));
+    config.allow_mtud(searches);
     // A program that prints the same each time: a stack seeds a generator that its peers cannot guess.
     let rng = Pcg32::seed_from_u64(0);
     match Sender::new(alloc, side, config, rng, at(0)) {
@@ -49,22 +50,22 @@ fn begin(alloc: Global, side: Side) -> Result<Connection, SenderError> {
 }
 
 fn live_as_client(report: &mut Report) -> Result<(), SenderError> {
-    let mut client = begin(report.alloc(), Side::Client)?;
+    let mut client = begin(report.alloc(), Side::Client, true)?;
     let lived = client::live(report, &mut client);
     drop(client);
     lived
 }
 
 fn live_as_server(report: &mut Report) -> Result<(), SenderError> {
-    let mut server = begin(report.alloc(), Side::Server)?;
+    let mut server = begin(report.alloc(), Side::Server, true)?;
     let lived = server::live(report, &mut server);
     drop(server);
     lived
 }
 
-/// A client whose server first validates its address.
+/// A client in a tunnel, whose server first validates its address.
 fn live_behind_retry(report: &mut Report) -> Result<(), SenderError> {
-    let mut client = begin(report.alloc(), Side::Client)?;
+    let mut client = begin(report.alloc(), Side::Client, false)?;
     let lived = client::try_again(report, &mut client);
     drop(client);
     lived

@@ -16,6 +16,11 @@ impl Connection {
         self.tell(Event::PeerLimit { size })
     }
 
+    /// Uses the MTU of the tunnel that the connection runs through, in place of a search (RFC 9000, 14.3).
+    pub fn use_tunnel(&mut self, mtu: u16) -> Result<(), SenderError> {
+        self.tell(Event::MtuFound { mtu })
+    }
+
     /// Returns number and size of an MTU probe to send now, if any; the packet fills its datagram. It is tracked
     /// already, and acknowledged or lost as any other. Window and pacer do not apply (RFC 9000, 14.4).
     pub fn probe_mtu(&mut self, now: Instant) -> Result<Option<(u64, u16)>, SenderError> {

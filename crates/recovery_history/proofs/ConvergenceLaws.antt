@@ -12,7 +12,7 @@ use Rattle.recovery_mtud.specs.MtuEntries.{MtuEntry, unprobed, probe_in_flight, 
 use Rattle.recovery_mtud.specs.SearchRuns.{AreLimitsOutside, EndsNearBest, start_upper, acked_sizes, before_search, lost_sizes, next_activation, probed_sizes, search_of, search_runs}
 use Rattle.recovery_paths.specs.declared.path_pair.PathName.TheVariants.{Previous}
 use Rattle.recovery_events.specs.declared.event.Event.{Event}
-use Rattle.recovery_events.specs.declared.event.Event.TheVariants.{PollMtu, Acked, Lost, LossesDone, PeerLimit, ResetPath, NewPath, RevertPath}
+use Rattle.recovery_events.specs.declared.event.Event.TheVariants.{PollMtu, Acked, Lost, LossesDone, MtuFound, PeerLimit, ResetPath, NewPath, RevertPath}
 use Rattle.recovery_events.specs.declared.event.Answer.TheVariants as answer
 use Rattle.recovery_history.specs.Table.{limit}
 use Rattle.recovery_history.specs.History.{Beginning, History, Reply}
@@ -72,6 +72,11 @@ made_then fresh back made (NewPath now remote true) (Ok given) = fresh
 made_then fresh back made RevertPath (Ok given) = back
 made_then fresh back made event reply = made
 
+-- no MTU found elsewhere is accepted
+abbrev FindsNone : {Q S M P : Type 0} → Event Q S M P → Reply Q → Type 0
+FindsNone (MtuFound mtu) (Ok given) = ⊥
+FindsNone event reply = Unit {0}
+
 module _ {Q S M P : Type 0} (first least : ℕ) (settings : MtuDiscoveryConfig) where
   abbrev pub TiedTo : Discovery → History Q S M P → List MtuEntry → Type 0
   TiedTo made history entries =
@@ -85,7 +90,7 @@ module _ {Q S M P : Type 0} (first least : ℕ) (settings : MtuDiscoveryConfig) 
   module _ (fresh back made : Discovery) (history : History Q S M P) (entries : List MtuEntry) where
     abbrev pub After : Event Q S M P → Reply Q → List MtuEntry → Type 0
     After event reply after =
-        let now = made_then fresh back made event reply in
+        FindsNone event reply → let now = made_then fresh back made event reply in
         TiedTo now ((event, reply) ∷ history) after × Carries now made after entries
 
   module _ (fresh back made : Discovery) (history : History Q S M P) (entries : List MtuEntry)
@@ -110,12 +115,15 @@ module _ {Q S M P : Type 0} (first least : ℕ) (settings : MtuDiscoveryConfig) 
     step_tied (LossesDone now) (Ok given) = grind (arith, seen entries)
     step_tied (ResetPath now) (Ok given) = grind arith
     step_tied (NewPath now remote true) (Ok given) =
-        ((fresh_is.0, fresh_is.1, refl, refl, refl, tt), λ runs. absurd (cc))
+        λ none. ((fresh_is.0, fresh_is.1, refl, refl, refl, tt), λ runs. absurd (cc))
     step_tied (NewPath now remote true) (Err refusal) = grind (arith, seen entries)
     step_tied RevertPath (Ok given) =
-        ((back_is.0, back_is.1, refl, refl, refl, tt), λ runs. absurd (cc))
-    step_tied event (Ok given) = ((tied.0, tied.1, tied.2, stays.0, stays.1, tied.5), λ runs. (refl, refl))
-    step_tied event (Err refusal) = ((tied.0, tied.1, tied.2, stays.0, stays.1, tied.5), λ runs. (refl, refl))
+        λ none. ((back_is.0, back_is.1, refl, refl, refl, tt), λ runs. absurd (cc))
+    step_tied (MtuFound mtu) (Ok given) = λ none. absurd none
+    step_tied event (Ok given) =
+        λ none. ((tied.0, tied.1, tied.2, stays.0, stays.1, tied.5), λ runs. (refl, refl))
+    step_tied event (Err refusal) =
+        λ none. ((tied.0, tied.1, tied.2, stays.0, stays.1, tied.5), λ runs. (refl, refl))
 
 -- ---- a path that is fresh
 
@@ -145,6 +153,11 @@ module _ {F K Q S M P : Type 0} (beginning : Beginning F K Q S M P) (settings : 
     now : IsNow beginning true history
     left : IsLeft beginning true history
 
+  finds_none : (history : History Q S M P) (event : Event Q S M P) (reply : Reply Q)
+      → Facts beginning history event reply → FindsNone event reply
+  finds_none history (MtuFound mtu) (Ok given) known = grind (arith, is, known.elsewhere)
+  finds_none history event reply known = tt
+
   -- the MTU before a search is unchanged while it runs
   start_after : (now before : Discovery) (history : History Q S M P) (happened : Event Q S M P × Reply Q)
       (after entries : List MtuEntry) → few.TiedTo (happened ∷ history) after
@@ -172,7 +185,7 @@ module _ {F K Q S M P : Type 0} (beginning : Beginning F K Q S M P) (settings : 
         (left_is beginning true history event reply known.told searched.left)))
         (stepped beginning history (After first least settings fresh back made history so_far event) event reply known
         (step_tied first least settings fresh back made history so_far before searched.tied least_is
-        (fresh_searched (limit history)) (back_searched history) event reply)) in
+        (fresh_searched (limit history)) (back_searched history) event reply) (finds_none history event reply known)) in
         record {
           tied = both.0;
           start = start_after _ made history (event, reply) entries so_far after both.0.1 both.1 searched.start;

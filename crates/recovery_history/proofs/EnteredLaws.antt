@@ -9,7 +9,7 @@ use Rattle.recovery_mtud.specs.MtuEntries.{MtuEntry}
 use Rattle.recovery_paths.specs.PathMaking.{PathSettings}
 use Rattle.recovery_paths.specs.PathLog.{PerPath, PathHistory, PathsEntry, known_of, on, past_following, pasts_by, returns, reverted, searches}
 use Rattle.recovery_events.specs.declared.event.Event.{Event}
-use Rattle.recovery_events.specs.declared.event.Event.TheVariants.{PollMtu, Acked, Lost, LossesDone, PeerLimit, ResetPath, NewPath, RevertPath}
+use Rattle.recovery_events.specs.declared.event.Event.TheVariants.{PollMtu, Acked, Lost, LossesDone, MtuFound, PeerLimit, ResetPath, NewPath, RevertPath}
 use Rattle.recovery_events.specs.declared.event.Answer.{Answer}
 use Rattle.recovery_paths.specs.declared.path_pair.PathName.TheVariants.{Current, Previous}
 use Rattle.recovery_paths.specs.PathStates.{PathState}
@@ -64,6 +64,7 @@ module _ {F K Q S M P : Type 0} (beginning : Beginning F K Q S M P) (past : Hist
   entered_one (PollMtu now) (Ok given) told =
       polled now given (poll_of now known.paths.current.state.discovery) refl told.1.1
   entered_one (PeerLimit size) (Ok given) told = refl
+  entered_one (MtuFound mtu) (Ok given) told = refl
   entered_one (Acked space.Data now number app_limited) (Ok given) told = grind arith
   entered_one (Acked there now number app_limited) (Ok given) told = grind arith
   entered_one (Lost space.Data number) (Ok given) told = rw told.1.1 (grind arith)

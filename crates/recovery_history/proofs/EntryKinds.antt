@@ -9,12 +9,12 @@ use Rattle.recovery_spaces.specs.Packets.{Packet, packet_at}
 use Rattle.recovery_spaces.specs.SpaceLog.{SpaceEntry, heard, heard_again, sends, acknowledged, loses, probes, takes_pending, feeds_back, emptied, ack_goes, ack_is_late, asked}
 use Rattle.recovery_congestion.specs.Calls.{ControllerCall, congests}
 use Rattle.recovery_mtud.specs.Discovery.{reports}
-use Rattle.recovery_mtud.specs.DiscoveryLog.{MtuCall, is_limited, losses_end, acks as acks_packet, loses as loses_packet, loses_probe}
+use Rattle.recovery_mtud.specs.DiscoveryLog.{MtuCall, is_found, is_limited, losses_end, acks as acks_packet, loses as loses_packet, loses_probe}
 use Rattle.recovery_paths.specs.declared.path_pair.PathName.TheVariants.{Current, Previous}
 use Rattle.recovery_paths.specs.PathLog.{PathsEntry, on, moves, drops_previous, on_current, receives, is_validated, samples, tells, searches, asks, transmits, passes, is_reset, reverts}
 use Rattle.recovery_paths.specs.PathStates.{is_path_probe}
 use Rattle.recovery_events.specs.declared.event.Event.{Event}
-use Rattle.recovery_events.specs.declared.event.Event.TheVariants.{Received, Send, Acked, Lost, AckFrequencyIn, AcksSent, AckDelayTimeout, DiscardSpace, DatagramIn, Validated, Sample, Transmit, PacerCheck, Congestion, EndAcks, PollMtu, PeerLimit, LossesDone, Ecn, QueueProbe, TakePending, NewPath, ResetPath, DropPrevious, RevertPath}
+use Rattle.recovery_events.specs.declared.event.Event.TheVariants.{Received, Send, Acked, Lost, AckFrequencyIn, AcksSent, AckDelayTimeout, DiscardSpace, DatagramIn, Validated, Sample, Transmit, PacerCheck, Congestion, EndAcks, PollMtu, PeerLimit, MtuFound, LossesDone, Ecn, QueueProbe, TakePending, NewPath, ResetPath, DropPrevious, RevertPath}
 use Rattle.recovery_events.specs.declared.event.Answer.TheVariants.{New, Flag, Transmitted, Delayed, Probe}
 use Rattle.recovery_history.specs.Table.{entries_of}
 use Rattle.recovery_history.specs.Entries.{acked_entry, acked_search, lost_search, searched}
@@ -119,6 +119,7 @@ module _ {Q S M P : Type 0} where
   is_by is (EndAcks now app_limited largest) = is telling
   is_by is (PollMtu now) = is telling && is searching
   is_by is (PeerLimit size) = is limiting
+  is_by is (MtuFound mtu) = is telling && is searching
   is_by is (LossesDone now) = is telling && is searching
   is_by is (NewPath now remote is_fresh) = is moving
   is_by is (ResetPath now) = is resetting
@@ -208,6 +209,8 @@ module _ {K Q S M P : Type 0} (q : QueueModel Q S M P) (known : ReplyInputs K P 
   paths_kept (PollMtu now) (Ok (Probe number size)) quiet =
       let both = and_parts (is telling) (is searching) quiet in each _ _ both.1 (one _ both.0)
   paths_kept (PollMtu now) (Ok answer) quiet = one _ (and_parts (is telling) (is searching) quiet).1
+  paths_kept (MtuFound mtu) (Ok answer) quiet =
+      let both = and_parts (is telling) (is searching) quiet in changed true (is_found mtu) both.0 both.1
   paths_kept (LossesDone now) (Ok answer) quiet =
       let both = and_parts (is telling) (is searching) quiet in
       changed (reports known.paths.current.state.discovery) (losses_end now) both.0 both.1

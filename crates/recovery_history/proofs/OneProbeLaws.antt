@@ -8,7 +8,7 @@ use Rattle.recovery_mtud.specs.declared.config.MtuDiscoveryConfig.{MtuDiscoveryC
 use Rattle.recovery_mtud.specs.MtuEntries.{MtuEntry, probed}
 use Rattle.recovery_mtud.specs.SearchRuns.{ProbesInSearch}
 use Rattle.recovery_events.specs.declared.event.Event.{Event}
-use Rattle.recovery_events.specs.declared.event.Event.TheVariants.{PollMtu, Acked, Lost, PeerLimit}
+use Rattle.recovery_events.specs.declared.event.Event.TheVariants.{PollMtu, Acked, Lost, PeerLimit, MtuFound}
 use Rattle.recovery_events.specs.declared.event.Answer.TheVariants as answer
 use Rattle.recovery_events.specs.declared.event.Refusal.TheVariants.{Searching}
 use Rattle.recovery_history.specs.History.{Beginning, History, Reply}
@@ -54,6 +54,8 @@ module _ {F K Q S M P : Type 0} (beginning : Beginning F K Q S M P) where
         grind (arith, nat_tests, runs_same history entries kept.few, known.outside, known.told.0)
     turns_one (PeerLimit size) reply known =
         grind (arith, nat_tests, runs_same history entries kept.few, known.outside, known.told)
+    turns_one (MtuFound mtu) (Err Searching) known = grind (arith, nat_tests, known.elsewhere, known.told.0)
+    turns_one (MtuFound mtu) reply known = grind (arith, nat_tests, known.elsewhere, known.told)
     turns_one event reply known = tt
 
   -- throughout a run

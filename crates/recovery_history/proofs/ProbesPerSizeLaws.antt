@@ -15,6 +15,7 @@ use Rattle.recovery_mtud.specs.MtuEntries.{IsFreshDiscovery, MtuEntry, entries_b
 use Rattle.recovery_mtud.specs.SearchRuns.{probed_sizes, search_of, search_runs}
 use Rattle.recovery_mtud.proofs.MtuEntryLaws.{Holds, holds_by}
 use Rattle.recovery_mtud.proofs.SearchRunLaws.{idle_search}
+use Rattle.recovery_mtud.proofs.UnsearchedLaws.{settings_stay}
 use Rattle.recovery_history.specs.RepliesAfter.{pasts_of}
 use Rattle.recovery_history.specs.History.{Beginning}
 use Rattle.recovery_history.specs.Promises.ProbesPerSize.{tries, ProbesSizeAtMostThrice}
@@ -134,9 +135,6 @@ module _ (made : Discovery) (settings : MtuDiscoveryConfig) (wide : 3 ≤ settin
   leaves call None holds here = grind (arith, nat_tests)
 
 -- ---- all calls
-
-settings_stay : (call : MtuCall) (old : Discovery) → search_settings (discovery_after call old) ≡ search_settings old
-settings_stay call old = grind (arith, nat_tests)
 
 module _ (made : Discovery) (settings : MtuDiscoveryConfig) (new : IsFreshDiscovery made)
     (is : search_settings made ≡ Some settings) (wide : 3 ≤ settings.minimum_change) where

@@ -1,22 +1,23 @@
 -- MTU searches send few probes and end near the best size, throughout a run. The promises on searches by events alone
 -- (`ProbeCountLaws`, `ConvergenceLaws`, `MtuLaws`, `ProbeSizesLaws`, by `SearchSteps` the others) rest on it.
 use Rattle.std.proofs.Common.{arith, ℕ, ◌≡◌, Bool, true, false, ◌&&◌, if◌then◌else◌, List, [], ◌∷◌, Option, None, Some, Ok, Err, refl, sym, ap, ◌∙◌}
-use Rattle.std.specs.Prelude.{IsSomeAnd}
+use Rattle.std.specs.Prelude.{IsSomeAnd, is_some}
 use Rattle.std.specs.Option.{ForSome}
 use Rattle.recovery_base.specs.declared.below.SpaceId.{SpaceId}
 use Rattle.recovery_base.specs.declared.below.SpaceId.TheVariants.{Data}
 use Rattle.recovery_base.specs.Spaces.{same_space}
 use Rattle.recovery_mtud.specs.declared.config.MtuDiscoveryConfig.{MtuDiscoveryConfig}
+use Rattle.recovery_mtud.specs.Discovery.{is_enabled_of}
 use Rattle.recovery_mtud.specs.DiscoveryLog.{polls}
 use Rattle.recovery_mtud.specs.MtuEntries.{MtuEntry, poll_entry, probed, unprobed, mtu_in_use}
 use Rattle.recovery_mtud.specs.SearchRuns.{EndsNearBest, ProbesInSearch, UsesFewProbes}
 use Rattle.recovery_mtud.proofs.MtuEntryLaws.{is_probe_by}
 use Rattle.recovery_mtud.proofs.SearchRunLaws.{search_takes_few, search_ends_near, probes_in_search, mtu_by, search_runs_by, limits_outside_after}
-use Rattle.recovery_mtud.proofs.UnsearchedLaws.{unsearched}
+use Rattle.recovery_mtud.proofs.UnsearchedLaws.{settings_by, unsearched}
 use Rattle.recovery_paths.specs.PathLog.{OnEachPath, PathHistory, pasts_by, path_state_of}
 use Rattle.recovery_paths.specs.PathStates.{is_path_probe}
 use Rattle.recovery_paths.proofs.SearchedLaws.{IsSearchedBy, IsPathSearchedBy, first_searched, searched_over, searched_at_first}
-use Rattle.recovery_events.specs.declared.event.Event.TheVariants.{Acked, Lost, PeerLimit, PollMtu}
+use Rattle.recovery_events.specs.declared.event.Event.TheVariants.{Acked, Lost, MtuFound, PeerLimit, PollMtu}
 use Rattle.recovery_events.specs.declared.event.Answer.TheVariants.{Probe, NoProbe}
 use Rattle.recovery_events.specs.declared.event.Answer.TheVariants as answer
 use Rattle.recovery_events.specs.declared.event.Refusal.TheVariants.{Searching}
@@ -25,7 +26,7 @@ use Rattle.recovery_history.specs.History.{Beginning, History, QueueModel}
 use Rattle.recovery_history.specs.ReplyInputs.{ReplyInputs}
 use Rattle.recovery_history.specs.Search.{WhereSearched, discovery_settings}
 use Rattle.recovery_history.specs.PartReplies.{MtuProbeReply}
-use Rattle.recovery_history.proofs.SearchSaid.{EndsNear, LimitsOutside, ProbesInTurn, TellsProbes, entered_so_far, entries_on, is_in_flight, Follows, Keeps, IsSmall}
+use Rattle.recovery_history.proofs.SearchSaid.{EndsNear, FoundElsewhere, LimitsOutside, ProbesInTurn, TellsProbes, entered_so_far, entries_on, is_in_flight, Follows, Keeps, IsSmall}
 use Rattle.recovery_history.proofs.AllowedEntryLaws.{is_allowed}
 
 -- what holds for the settings holds if they are used
@@ -131,6 +132,18 @@ module _ {F K Q S M P : Type 0} (beginning : Beginning F K Q S M P) where
   limits_one before (PeerLimit size) (Ok given) told searched =
       grind (arith, told.1.0, search_runs_by _ searched.0.untold (past_in before).searched)
   limits_one before event reply told searched = tt
+
+  -- MTU discovery is enabled on the path in use exactly if the settings enable it
+  enabled_same : (before : History Q S M P) → AreSearched before
+      → is_enabled_of (path_state_of (past_in before)).discovery ≡ is_some (discovery_settings beginning)
+  enabled_same before searched =
+      let past = past_in before in
+      grind (arith, settings_by past.kept.discovery past.searched, searched.0.settings_are)
+
+  pub elsewhere_one : Follows (RepliesAfter beginning) AreSearched (FoundElsewhere beginning)
+  elsewhere_one before (MtuFound mtu) (Err Searching) told searched = sym (enabled_same before searched) ∙ told.1
+  elsewhere_one before (MtuFound mtu) (Ok given) told searched = grind (arith, told.1.0, enabled_same before searched)
+  elsewhere_one before event reply told searched = tt
 
   -- the packet that is a probe by the state is the one in flight by the entries
   probe_same : (before : History Q S M P) → AreSearched before → (space : SpaceId) (number : ℕ)

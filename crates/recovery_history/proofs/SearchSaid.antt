@@ -6,11 +6,11 @@ use Rattle.recovery_base.specs.Spaces.{same_space}
 use Rattle.recovery_base.specs.declared.below.SpaceId.TheVariants.{Data}
 use Rattle.recovery_spaces.specs.Packets.{Packet, packet_at}
 use Rattle.recovery_mtud.specs.BurstRuns.{AreFourStanding, AreFourUnanswered}
-use Rattle.recovery_mtud.specs.MtuEntries.{MtuEntry, probed, unprobed, limited, acked, probe_lost, lost, losses_over, reported, reset, entries_by, probe_in_flight, size_at}
+use Rattle.recovery_mtud.specs.MtuEntries.{MtuEntry, probed, unprobed, limited, found, acked, probe_lost, lost, losses_over, reported, reset, entries_by, probe_in_flight, size_at}
 use Rattle.recovery_mtud.specs.SearchRuns.{EndsNearBest, ProbesInSearch, search_runs}
 use Rattle.recovery_paths.specs.PathLog.{PathHistory}
 use Rattle.recovery_events.specs.declared.event.Event.{Event}
-use Rattle.recovery_events.specs.declared.event.Event.TheVariants.{Acked, Lost, PollMtu, PeerLimit, LossesDone, NewPath, ResetPath, RevertPath}
+use Rattle.recovery_events.specs.declared.event.Event.TheVariants.{Acked, Lost, PollMtu, PeerLimit, MtuFound, LossesDone, NewPath, ResetPath, RevertPath}
 use Rattle.recovery_events.specs.declared.event.Answer.TheVariants as answer
 use Rattle.recovery_events.specs.declared.event.Answer.TheVariants.{Probe, NoProbe, BlackHole}
 use Rattle.recovery_events.specs.declared.event.Refusal.TheVariants.{Searching}
@@ -54,6 +54,7 @@ module _ {F K Q S M P : Type 0} (beginning : Beginning F K Q S M P) where
   entered history (PollMtu now) (Ok (Probe number size)) = probed now number size ∷ entered_so_far history
   entered history (PollMtu now) (Ok NoProbe) = unprobed now ∷ entered_so_far history
   entered history (PeerLimit size) (Ok given) = limited size ∷ entered_so_far history
+  entered history (MtuFound mtu) (Ok given) = found mtu ∷ entered_so_far history
   entered history (Acked Data now number app_limited) (Ok given) =
       of_packet (acked number) (data_packet history number) ++ entered_so_far history
   entered history (Lost Data number) (Ok (answer.Lost is_probe)) =
@@ -80,6 +81,12 @@ module _ {F K Q S M P : Type 0} (beginning : Beginning F K Q S M P) where
   LimitsOutside history (PeerLimit size) (Err Searching) = search_runs (entered_so_far history) ≡ true
   LimitsOutside history (PeerLimit size) (Ok given) = search_runs (entered_so_far history) ≡ false
   LimitsOutside history event reply = Unit {0}
+
+  -- an MTU found elsewhere fails with `Searching` if MTU discovery is enabled, and is accepted if it is disabled
+  abbrev pub FoundElsewhere : History Q S M P → Event Q S M P → Reply Q → Type 0
+  FoundElsewhere history (MtuFound mtu) (Err Searching) = is_some (discovery_settings beginning) ≡ true
+  FoundElsewhere history (MtuFound mtu) (Ok given) = is_some (discovery_settings beginning) ≡ false
+  FoundElsewhere history event reply = Unit {0}
 
   -- the 1-RTT packet of this number is the probe in flight: one from the poll that returned it until it is acknowledged
   -- or lost, or until a report or a reset

@@ -4,18 +4,18 @@ use Rattle.std.proofs.Common.{arith, ℕ, ◌≡◌, Bool, true, false, if◌the
 use Rattle.recovery_base.specs.declared.below.SpaceId.TheVariants.{Data}
 use Rattle.recovery_spaces.specs.Packets.{Packet}
 use Rattle.recovery_mtud.specs.Discovery.{reports}
-use Rattle.recovery_mtud.specs.MtuEntries.{MtuEntry, probed, unprobed, limited, acked, lost, losses_over, probe_in_flight, probe_lost, reported, reset, size_at}
+use Rattle.recovery_mtud.specs.MtuEntries.{MtuEntry, probed, unprobed, limited, found as finds, acked, lost, losses_over, probe_in_flight, probe_lost, reported, reset, size_at}
 use Rattle.recovery_mtud.specs.SearchRuns.{search_runs}
 use Rattle.recovery_events.specs.declared.event.Event.{Event}
-use Rattle.recovery_events.specs.declared.event.Event.TheVariants.{PollMtu, Acked, Lost, LossesDone, PeerLimit, ResetPath, NewPath, RevertPath}
+use Rattle.recovery_events.specs.declared.event.Event.TheVariants.{PollMtu, Acked, Lost, LossesDone, MtuFound, PeerLimit, ResetPath, NewPath, RevertPath}
 use Rattle.recovery_events.specs.declared.event.Answer.TheVariants as answer
 use Rattle.recovery_history.specs.RepliesAfter.{inputs_after, settings_of, RepliesAfter, logs_of}
 use Rattle.recovery_history.specs.History.{Beginning, History, Reply}
 use Rattle.recovery_history.proofs.AnswerLaws.{is_there}
 use Rattle.recovery_history.proofs.Runs.{AllAlong, throughout_by, throughout_kept}
-use Rattle.recovery_history.proofs.SearchSaid.{EntersAsTold, LimitsOutside, TellsProbes, data_packet, entered_so_far, Follows, Keeps, ProbesInTurn}
+use Rattle.recovery_history.proofs.SearchSaid.{EntersAsTold, FoundElsewhere, LimitsOutside, TellsProbes, data_packet, entered_so_far, Follows, Keeps, ProbesInTurn}
 use Rattle.recovery_history.proofs.EnteredLaws.{entered_one}
-use Rattle.recovery_history.proofs.SearchLaws.{AreSearched, first_is, limits_one, searched_one, tells_one, probes_one}
+use Rattle.recovery_history.proofs.SearchLaws.{AreSearched, elsewhere_one, first_is, limits_one, searched_one, tells_one, probes_one}
 use Rattle.recovery_history.proofs.PacketSizeLaws.{Sized, sized_after, size_in}
 use Rattle.recovery_history.proofs.FieldLaws.{said_found}
 use Rattle.recovery_history.specs.Promises.Bursts.{size_of}
@@ -31,6 +31,7 @@ pub record Facts {F K Q S M P : Type 0} (beginning : Beginning F K Q S M P) (his
   pub searched : AreSearched beginning history
   pub tells : TellsProbes beginning history event reply
   pub outside : LimitsOutside beginning history event reply
+  pub elsewhere : FoundElsewhere beginning history event reply
   pub turn : ProbesInTurn beginning history event reply
   pub sized : Sized beginning history
 
@@ -52,6 +53,7 @@ module _ {F K Q S M P : Type 0} (beginning : Beginning F K Q S M P) where
         searched = kept.0;
         tells = tells_one beginning before event reply told kept.0;
         outside = limits_one beginning before event reply told kept.0;
+        elsewhere = elsewhere_one beginning before event reply told kept.0;
         turn = probes_one beginning before event reply told kept.0;
         sized = kept.1;
       }) (first_is beginning, tt) history told)
@@ -71,6 +73,7 @@ module _ {Q S M P : Type 0} (first least : ℕ) (history : History Q S M P) (ent
       G (Ok (answer.Probe number size)) (probed now number size ∷ entries)
   Step (PollMtu now) (Ok answer.NoProbe) = G (Ok answer.NoProbe) (unprobed now ∷ entries)
   Step (PeerLimit size) (Ok given) = search_runs entries ≡ false → G (Ok given) (limited size ∷ entries)
+  Step (MtuFound mtu) (Ok given) = G (Ok given) (finds mtu ∷ entries)
   Step (Acked Data now number app_limited) (Ok given) =
       G (Ok (answer.Acked (is_probed entries number))) (acked number (size_of history number) ∷ entries)
   Step (Acked there now number app_limited) (Ok given) = G (Ok (answer.Acked false)) entries

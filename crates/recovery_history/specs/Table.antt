@@ -8,11 +8,11 @@ use Rattle.recovery_congestion.specs.Controllers.{ControllerSemantics}
 use Rattle.recovery_ids.specs.LocalIds.{holds_unretired, timed_out, LocalIds, with_issued, without_number}
 use Rattle.recovery_spaces.specs.Acks.{AckState}
 use Rattle.recovery_spaces.specs.Packets.{packet_at}
-use Rattle.recovery_mtud.specs.Discovery.{poll_of, is_searching_of, reports}
+use Rattle.recovery_mtud.specs.Discovery.{poll_of, is_enabled_of, is_searching_of, reports}
 use Rattle.recovery_paths.specs.PathLog.{path_of, on, moves, drops_previous, reverts, on_current, receives, is_validated, samples, tells, asks, transmits, passes, is_reset, PerPath, moved_to, reverted}
 use Rattle.recovery_paths.specs.PathStates.{is_path_probe, path_delay, PathMarks}
 use Rattle.recovery_events.specs.declared.event.Event.{Event}
-use Rattle.recovery_events.specs.declared.event.Event.TheVariants.{Received, Send, Acked, Lost, NewId, NextId, InitialId, IssueIds, IdTimeout, PeerRetired, AckFrequencyIn, AcksSent, AckDelayTimeout, SetTimer, StopTimer, NextTimeout, DiscardSpace, InFlight, DatagramIn, Validated, Sample, Transmit, PacerCheck, Congestion, EndAcks, PollMtu, PeerLimit, LossesDone, Ecn, CheckAck, QueueProbe, TakePending, NewPath, ResetPath, DropPrevious, RevertPath}
+use Rattle.recovery_events.specs.declared.event.Event.TheVariants.{Received, Send, Acked, Lost, NewId, NextId, InitialId, IssueIds, IdTimeout, PeerRetired, AckFrequencyIn, AcksSent, AckDelayTimeout, SetTimer, StopTimer, NextTimeout, DiscardSpace, InFlight, DatagramIn, Validated, Sample, Transmit, PacerCheck, Congestion, EndAcks, PollMtu, PeerLimit, MtuFound, LossesDone, Ecn, CheckAck, QueueProbe, TakePending, NewPath, ResetPath, DropPrevious, RevertPath}
 use Rattle.recovery_events.specs.declared.event.Answer.{Answer}
 use Rattle.recovery_events.specs.declared.event.Answer.TheVariants as answers
 use Rattle.recovery_events.specs.declared.event.Refusal.TheVariants as refusals
@@ -24,7 +24,7 @@ use Rattle.recovery_history.specs.Promises.Timeouts.{every_timer, least}
 use Rattle.recovery_history.specs.Replies.{IsFlag, RejectsWhen, AnswersOrNoMemory, AlwaysAnswers}
 use Rattle.recovery_events.specs.declared.event.Answer.TheVariants.{New, Flag, Transmitted, Delayed, Probe}
 use Rattle.recovery_congestion.specs.Calls.{sends as sends_bytes, ends_acks, congests}
-use Rattle.recovery_mtud.specs.DiscoveryLog.{polls, is_limited, losses_end}
+use Rattle.recovery_mtud.specs.DiscoveryLog.{polls, is_found, is_limited, losses_end}
 use Rattle.recovery_spaces.specs.SpaceLog.{heard as hears, heard_again, acknowledged, loses, probes, takes_pending, feeds_back, emptied, ack_goes, ack_is_late, asked}
 use Rattle.recovery_base.specs.Timers.{TimerStep}
 use Rattle.recovery_base.specs.Units.{number_limit, timer_granularity, u64_limit}
@@ -139,6 +139,9 @@ module _ {K Q S M P : Type 0} (q : QueueModel Q S M P) (words : ControllerSemant
   -- a limit is accepted while no search runs
   ReplyTable (PeerLimit size) = RejectsWhen refusals.ZeroMtu (size ≡ 0)
       (RejectsWhen refusals.Searching (IsTrue (is_searching_of known.paths.current.state.discovery)) AnswersDone)
+  -- an MTU found elsewhere is accepted if MTU discovery is disabled
+  ReplyTable (MtuFound mtu) = RejectsWhen refusals.ZeroMtu (mtu ≡ 0)
+      (RejectsWhen refusals.Searching (IsTrue (is_enabled_of known.paths.current.state.discovery)) AnswersDone)
   ReplyTable (LossesDone now) = AlwaysAnswers (EqualsAnswer (answers.BlackHole
       (reports known.paths.current.state.discovery)))
   ReplyTable (Ecn space newly counts) = UnlessSpaceDiscarded (known.spaces space)
@@ -199,6 +202,7 @@ module _ {K Q S M P : Type 0} (q : QueueModel Q S M P) (known : ReplyInputs K P 
       }
   answered (PollMtu now) answer = record nothing { paths = searched known false (polls now known.next_number) }
   answered (PeerLimit size) answer = record nothing { paths = searched known false (is_limited size) }
+  answered (MtuFound mtu) answer = record nothing { paths = searched known true (is_found mtu) }
   answered (LossesDone now) answer =
       record nothing { paths = searched known (reports known.paths.current.state.discovery) (losses_end now) }
   answered (Ecn space newly counts) answer = in_space space (feeds_back counts)

@@ -35,6 +35,10 @@ discovery_made mtu min_mtu limit searched = record {
 
 -- ---- its answers
 
+-- discovery is enabled
+abbrev pub is_enabled_of : Discovery → Bool
+is_enabled_of discovery = is_some discovery.search
+
 -- a search runs
 abbrev pub is_searching_of : Discovery → Bool
 is_searching_of discovery = is_some (option_and_then (λ search. search.probing) discovery.search)

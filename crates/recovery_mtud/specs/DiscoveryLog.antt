@@ -18,11 +18,14 @@ pub data MtuCall : Type 0 where
   loses : (number bytes : ℕ) → MtuCall
   -- a loss detection pass ends
   losses_end : (now : ℕ) → MtuCall
+  -- an MTU was found elsewhere: by a search of the caller's, or a configured tunnel (RFC 8899, 5; RFC 9000, 14.3)
+  is_found : (mtu : ℕ) → MtuCall
   -- all starts again
   resets : (mtu min_mtu : ℕ) → MtuCall
 
 -- the discovery after a call. The size of an acknowledged probe is the MTU in use, and refutes all losses before it. A
--- report leaves the minimum MTU, and no search before the cooldown is over. A reset does not change the peer's limit
+-- report leaves the minimum MTU, and no search before the cooldown is over. An MTU found elsewhere is in use if
+-- discovery is disabled. A reset does not change the peer's limit
 abbrev pub discovery_after : MtuCall → Discovery → Discovery
 discovery_after (polls now next) old = record old { search = option_map (search_polled old.mtu now next) old.search }
 discovery_after (is_limited limit) old = record old {
@@ -45,6 +48,7 @@ discovery_after (losses_end now) old =
           (λ own. record own { probing = None; activation = later now own.settings.black_hole_cooldown }) old.search;
       bursts = record closed { kept = [] };
     } else record old { bursts = closed }
+discovery_after (is_found mtu) old = record old { mtu = option_map_or (λ own. old.mtu) old.search mtu }
 discovery_after (resets mtu min_mtu) old =
     discovery_made mtu min_mtu (option_map (λ own. own.limit) old.search) (option_map (λ own. own.settings) old.search)
 
@@ -56,6 +60,7 @@ discovery_by made (call ∷ earlier) = discovery_after call (discovery_by made e
 -- sizes that are reported are above zero
 abbrev pub IsPositiveMtuCall : MtuCall → Type 0
 IsPositiveMtuCall (is_limited limit) = 0 < limit
+IsPositiveMtuCall (is_found mtu) = 0 < mtu
 IsPositiveMtuCall (resets mtu min_mtu) = (0 < mtu) × (0 < min_mtu)
 IsPositiveMtuCall call = ⊤
 
@@ -68,10 +73,11 @@ abbrev pub kept_limit : Discovery → Option ℕ
 kept_limit discovery = option_map (λ search. search.limit) discovery.search
 
 -- the MTU in use after a call. It is the size of an acknowledged probe, at most a reported limit, the minimum MTU after
--- a report, or that of a reset, at most the limit. Otherwise it is unchanged
+-- a report, one found elsewhere, or that of a reset, at most the limit. Otherwise it is unchanged
 abbrev pub mtu_after : MtuCall → Discovery → ℕ
 mtu_after (is_limited limit) old = min old.mtu limit
 mtu_after (acks number bytes) old = unwrap_or (size_of_probe number old) old.mtu
 mtu_after (losses_end now) old = if reports old then old.bursts.min_mtu else old.mtu
+mtu_after (is_found mtu) old = option_map_or (λ own. old.mtu) old.search mtu
 mtu_after (resets mtu min_mtu) old = within mtu (kept_limit old)
 mtu_after call old = old.mtu

@@ -1,11 +1,11 @@
 -- The calls of a discovery with their answers (RFC 8899, 4.3 and 5; RFC 9000, 14.3). Every list here has the newest
 -- entry first.
 use Rattle.std.specs.Prelude.{◌≡◌, ℕ, ◌==◌, IfSome, min, if◌then◌else◌, Option, Some, None, List, [], ◌∷◌, unwrap_or}
-use Rattle.std.specs.Option.{option_map}
+use Rattle.std.specs.Option.{option_map, option_map_or}
 use Rattle.recovery_mtud.specs.declared.config.MtuDiscoveryConfig.{MtuDiscoveryConfig}
 use Rattle.recovery_mtud.specs.Bursts.{bursts_made}
 use Rattle.recovery_mtud.specs.Discovery.{Discovery, poll_of, reports, within}
-use Rattle.recovery_mtud.specs.DiscoveryLog.{MtuCall, polls, is_limited, acks, loses_probe, loses, losses_end, resets, discovery_by, kept_limit}
+use Rattle.recovery_mtud.specs.DiscoveryLog.{MtuCall, polls, is_limited, acks, loses_probe, loses, losses_end, is_found, resets, discovery_by, kept_limit}
 
 -- a discovery without any call yet
 pub record IsFreshDiscovery (made : Discovery) : Type 0 where
@@ -33,6 +33,8 @@ pub data MtuEntry : Type 0 where
   losses_over : MtuEntry
   -- a loss detection pass ends, and a black hole is reported
   reported : (now : ℕ) → MtuEntry
+  -- an MTU was found elsewhere
+  found : (mtu : ℕ) → MtuEntry
   -- all starts again
   reset : (mtu min_mtu : ℕ) → MtuEntry
 
@@ -48,6 +50,7 @@ entry_of (acks number bytes) old = acked number bytes
 entry_of loses_probe old = probe_lost
 entry_of (loses number bytes) old = lost number bytes
 entry_of (losses_end now) old = if reports old then reported now else losses_over
+entry_of (is_found mtu) old = found mtu
 entry_of (resets mtu min_mtu) old = reset mtu min_mtu
 
 -- the entries of all calls to the discovery that was made
@@ -95,11 +98,13 @@ module _ (made : Discovery) where
   min_mtu_in_use (reset mtu min_mtu ∷ earlier) = min_mtu
   min_mtu_in_use (entry ∷ earlier) = min_mtu_in_use earlier
 
-  -- the MTU: the size of the probe acknowledged last, unless a limit, a report or a reset set it since
+  -- the MTU: the size of the probe acknowledged last, unless a limit, a report or a reset set it since; if discovery is
+  -- disabled, the one found elsewhere last
   abbrev pub mtu_in_use : List MtuEntry → ℕ
   mtu_in_use [] = made.mtu
   mtu_in_use (acked number bytes ∷ earlier) = unwrap_or (size_at number (probe_in_flight earlier)) (mtu_in_use earlier)
   mtu_in_use (limited limit ∷ earlier) = min (mtu_in_use earlier) limit
   mtu_in_use (reported now ∷ earlier) = min_mtu_in_use earlier
+  mtu_in_use (found mtu ∷ earlier) = option_map_or (λ limit. mtu_in_use earlier) (limit_in_use earlier) mtu
   mtu_in_use (reset mtu min_mtu ∷ earlier) = within mtu (limit_in_use earlier)
   mtu_in_use (entry ∷ earlier) = mtu_in_use earlier

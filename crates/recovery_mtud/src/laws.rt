@@ -17,8 +17,8 @@ pub fn discovery_stays_sound()
         → ArePositiveMtuCalls calls → IsDiscoverySound (discovery_by made calls) }
 {}
 
-/// Proves what changes the MTU in use: an acknowledged probe, the peer's limit, the report of a black hole, or a reset,
-/// and nothing else.
+/// Proves what changes the MTU in use: an acknowledged probe, the peer's limit, the report of a black hole, an MTU that
+/// was found elsewhere, or a reset, and nothing else.
 #[tactic(auto, using(crate::proofs::DiscoveryLaws::discovery_after_mtu))]
 pub fn mtu_changes()
     ensures { (call : MtuCall) (old : Discovery)

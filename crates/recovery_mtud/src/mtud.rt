@@ -3,8 +3,8 @@ ghost use Rattle.std.specs.Prelude.{◌≡◌, ◌<◌, ◌≤◌, false, ◌&&�
 ghost use Rattle.std.specs.Option.{IfSome};
 ghost use Rattle.recovery_base.specs.declared.below.SpaceId.TheVariants.{Data};
 ghost use Rattle.recovery_base.specs.Spaces.{same_space};
-ghost use Rattle.recovery_mtud.specs.Discovery.{discovery_made, poll_of, probe_of, is_probe, is_searching_of, reports};
-ghost use Rattle.recovery_mtud.specs.DiscoveryLog.{discovery_after, polls, is_limited, acks, loses_probe, loses, losses_end, resets};
+ghost use Rattle.recovery_mtud.specs.Discovery.{discovery_made, poll_of, probe_of, is_probe, is_enabled_of, is_searching_of, reports};
+ghost use Rattle.recovery_mtud.specs.DiscoveryLog.{discovery_after, polls, is_limited, acks, loses_probe, loses, losses_end, is_found, resets};
 
 use crate::config::{MAX_UDP_PAYLOAD, MtuDiscoveryConfig};
 use crate::detector::Detector;
@@ -230,6 +230,23 @@ impl MtuDiscovery {
             search.on_black_hole(now);
         }
         true
+    }
+
+    /// Sets the MTU that was found elsewhere, above zero: by a search of the caller's, or by the configuration of a
+    /// tunnel (RFC 8899, 5; RFC 9000, 14.3). Discovery must be disabled: its own search would replace this MTU.
+    pub fn on_mtu_found(&mut self, mtu: u16)
+        requires size { 0 < mtu }
+        requires disabled { is_enabled_of self.old ≡ false }
+        ensures { self.new ≡ discovery_after (is_found mtu) self.old }
+    {
+        self.current_mtu = mtu;
+    }
+
+    /// Returns whether discovery is enabled: whether a search runs, or a poll begins one once it is due.
+    pub fn is_enabled(&self) -> bool
+        ensures { result ≡ is_enabled_of self.now }
+    {
+        self.search.is_some()
     }
 
     /// Returns whether a search runs.

@@ -14,6 +14,7 @@ enum Call {
     /// At this time, with the next packet number.
     Polls(u64, u64),
     Limit(u16),
+    Found(u16),
     /// The number and size of a packet.
     Acked(u64, u16),
     /// The same in another space.
@@ -25,7 +26,7 @@ enum Call {
     Reset(u16, u16),
 }
 
-use Call::{Acked, AckedIn, Limit, LossesEnd, Lost, Polls, ProbeLost, Reset};
+use Call::{Acked, AckedIn, Found, Limit, LossesEnd, Lost, Polls, ProbeLost, Reset};
 
 #[derive(Clone, Copy, PartialEq)]
 enum Answer {
@@ -34,7 +35,7 @@ enum Answer {
     Yes,
     No,
     Done,
-    /// A search runs.
+    /// A search runs, or may run.
     Refused,
 }
 
@@ -55,6 +56,15 @@ fn limit(rt: &impl Abort, discovery: &mut MtuDiscovery, size: u16) -> Answer {
     Done
 }
 
+fn found(rt: &impl Abort, discovery: &mut MtuDiscovery, mtu: u16) -> Answer {
+    assert!(rt; mtu > 0);
+    if discovery.is_enabled() {
+        return Refused;
+    }
+    discovery.on_mtu_found(mtu);
+    Done
+}
+
 fn apply(rt: &impl Abort, discovery: &mut MtuDiscovery, call: Call) -> Answer {
     match call {
         Polls(now, number) => match discovery.poll_transmit(Instant::from_nanos(now), number) {
@@ -62,6 +72,7 @@ fn apply(rt: &impl Abort, discovery: &mut MtuDiscovery, call: Call) -> Answer {
             None => NoProbe,
         },
         Limit(size) => limit(rt, discovery, size),
+        Found(mtu) => found(rt, discovery, mtu),
         Acked(number, size) => flag(discovery.on_acked(SpaceId::Data, number, size)),
         AckedIn(space, number, size) => flag(discovery.on_acked(space, number, size)),
         ProbeLost => {
@@ -482,6 +493,32 @@ fn a_disabled_discovery_detects_black_holes(rt: HostRuntime) {
     play(&rt, &mut discovery, &ROWS);
     let is_idle = discovery.in_flight_mtu_probe().is_none() && !discovery.is_searching();
     holds(&rt, is_idle, 17);
+}
+
+/// An MTU that was found elsewhere is in use only if discovery is disabled. It changes neither bursts nor the minimum.
+#[test]
+fn an_mtu_found_elsewhere(rt: HostRuntime) {
+    static ENABLED_ROWS: [Row; 4] = [
+        (Found(1400), Refused, 1200),
+        (Polls(0, 0), Probe(1326), 1200),
+        (Found(1400), Refused, 1200),
+        (Acked(0, 1326), Yes, 1326),
+    ];
+    static ROWS: [Row; 10] = [
+        (Found(9000), Done, 9000),
+        (Lost(1, 9000), Done, 9000),
+        (Lost(3, 9000), Done, 9000),
+        (Lost(5, 9000), Done, 9000),
+        (Found(1400), Done, 1400),
+        (Lost(7, 1400), Done, 1400),
+        (LossesEnd(0), Yes, 1200),
+        (Found(1300), Done, 1300),
+        (Limit(1250), Done, 1250),
+        (Found(1400), Done, 1400),
+    ];
+    play_default(&rt, &ENABLED_ROWS);
+    let mut discovery = MtuDiscovery::disabled(1500, 1200);
+    play(&rt, &mut discovery, &ROWS);
 }
 
 #[test]

@@ -1,6 +1,6 @@
 //! The state of each network path: its RTT, controller and pacer, the bytes sent and received, and what is in flight on
 //! it (RFC 9000, 8 and 9; RFC 9002).
-ghost use Rattle.std.specs.Prelude.{◌≡◌, Decides, ◌↔◌, ◌<◌, ◌+◌, ◌^◌, ◌≤◌, Bool, None, false, OnOk, OnErr, IfOk, IsErrOf};
+ghost use Rattle.std.specs.Prelude.{◌≡◌, Decides, ◌↔◌, ◌<◌, ◌+◌, ◌^◌, ◌≤◌, Bool, None, true, false, OnOk, OnErr, IfOk, IsErrOf};
 ghost use Rattle.std.specs.Option.{IfSome};
 ghost use Rattle.recovery_base.specs.Units.{u64_limit};
 ghost use Rattle.recovery_congestion.specs.Calls.{sends, ends_acks, congests};
@@ -8,8 +8,8 @@ ghost use Rattle.recovery_spaces.specs.InFlight.{Overflows};
 ghost use Rattle.recovery_spaces.specs.Packets.{forgotten_entry, after_sending};
 ghost use Rattle.recovery_spaces.specs.Paths.{generation_of, counters_of, fresh_ledger, after_leaving, path_after_sending, IsCountedOn, CanTrack};
 ghost use Rattle.recovery_spaces.specs.Spaces.{tracking_of, with_tracking};
-ghost use Rattle.recovery_mtud.specs.Discovery.{is_probe, is_searching_of, reports};
-ghost use Rattle.recovery_mtud.specs.DiscoveryLog.{losses_end, is_limited};
+ghost use Rattle.recovery_mtud.specs.Discovery.{is_probe, is_enabled_of, is_searching_of, reports};
+ghost use Rattle.recovery_mtud.specs.DiscoveryLog.{losses_end, is_found, is_limited};
 ghost use Rattle.recovery_paths.specs.PathMaking.{marks_made, path_settings, state_fresh, state_going_on, state_reset, state_resumed, first_discovery};
 ghost use Rattle.recovery_paths.specs.PathStates.{Path, on_state, with_discovery, with_marks, is_blocked, after_receiving, after_validation, after_sample, after_searching, after_transmitting, loss_call};
 ghost use Rattle.recovery_paths.specs.PathStates.{after_telling, after_search, path_acked, is_path_probe, path_lost, after_asking, path_delay, IsRoomInPacer};
@@ -519,6 +519,18 @@ impl<C: Controller + Drop> PathData<C> {
         ensures { self.new ≡ on_state (after_searching (is_limited size)) self.old }
     {
         self.mtud.on_peer_max_udp_payload_size_received(size);
+    }
+
+    /// Sets the MTU that was found elsewhere, in bytes, above zero (RFC 8899, 5; RFC 9000, 14.3). MTU discovery must be
+    /// disabled. The controller is notified, so that its minimum window follows (RFC 9002, 7.2).
+    pub fn on_mtu_found(&mut self, mtu: u16)
+        requires size { 0 < mtu }
+        requires disabled { is_enabled_of self.old.state.discovery ≡ false }
+        ensures { self.new ≡ on_state (after_search C.words true (is_found mtu)) self.old }
+    {
+        self.mtud.on_mtu_found(mtu);
+        let current = self.mtud.current_mtu();
+        self.congestion.on_mtu_update(current);
     }
 
     /// Stores the caller's marks of the path and returns the previous ones. Nothing else changes.

@@ -20,7 +20,7 @@ use Rattle.recovery_events.specs.declared.event.Event.TheVariants.{DiscardSpace,
 use Rattle.recovery_events.specs.declared.event.Event.TheVariants.{Sample, DatagramIn, Validated}
 use Rattle.recovery_events.specs.declared.event.Event.TheVariants.{Transmit, PacerCheck}
 use Rattle.recovery_events.specs.declared.event.Event.TheVariants.{Congestion, EndAcks}
-use Rattle.recovery_events.specs.declared.event.Event.TheVariants.{PollMtu, PeerLimit, LossesDone}
+use Rattle.recovery_events.specs.declared.event.Event.TheVariants.{PollMtu, PeerLimit, MtuFound, LossesDone}
 use Rattle.recovery_events.specs.declared.event.Event.TheVariants.{Ecn, CheckAck}
 use Rattle.recovery_events.specs.declared.event.Event.TheVariants.{QueueProbe, TakePending}
 use Rattle.recovery_events.specs.declared.event.Event.TheVariants.{NewPath, ResetPath, DropPrevious, RevertPath}
@@ -212,6 +212,9 @@ poll_mtu = form_of (codes "poll-mtu") (a_u64 ∷ []) (λ x. PollMtu x.0)
 abbrev pub peer_limit : Form
 peer_limit = form_of (codes "peer-limit") (a_u16 ∷ []) (λ x. PeerLimit x.0)
 
+abbrev pub mtu_found : Form
+mtu_found = form_of (codes "mtu-found") (a_u16 ∷ []) (λ x. MtuFound x.0)
+
 abbrev pub losses_done : Form
 losses_done = form_of (codes "losses-done") (a_u64 ∷ []) (λ x. LossesDone x.0)
 
@@ -254,7 +257,7 @@ forms_without_items = received ∷ acked ∷ lost
     ∷ set_timer ∷ stop_timer ∷ next_timeout
     ∷ discard ∷ in_flight
     ∷ sample ∷ datagram_in ∷ validated ∷ transmit ∷ pacer_check ∷ congestion ∷ end_acks
-    ∷ poll_mtu ∷ peer_limit ∷ losses_done
+    ∷ poll_mtu ∷ peer_limit ∷ mtu_found ∷ losses_done
     ∷ ecn ∷ check_ack ∷ queue_probe ∷ take_pending ∷ new_path ∷ reset_path ∷ drop_previous
     ∷ revert_path ∷ []
 
@@ -302,6 +305,7 @@ saying unkept (EndAcks now app_limited largest) =
     (end_acks, (now, (app_limited, (largest, tt))))
 saying unkept (PollMtu now) = (poll_mtu, (now, tt))
 saying unkept (PeerLimit size) = (peer_limit, (size, tt))
+saying unkept (MtuFound mtu) = (mtu_found, (mtu, tt))
 saying unkept (LossesDone now) = (losses_done, (now, tt))
 saying unkept (Ecn space newly_acked counts) =
     (ecn, (space, (newly_acked, (counts.ect0, (counts.ect1, (counts.ce, tt))))))

@@ -7,7 +7,7 @@ ghost use Rattle.recovery_script_syntax.specs.Lines.{new_id, initial_id, issue_i
 ghost use Rattle.recovery_script_syntax.specs.Lines.{ack_frequency, acks_sent, ack_delay_timeout};
 ghost use Rattle.recovery_script_syntax.specs.Lines.{set_timer, stop_timer, discard, in_flight, sample};
 ghost use Rattle.recovery_script_syntax.specs.Lines.{datagram_in, validated, transmit, pacer_check};
-ghost use Rattle.recovery_script_syntax.specs.Lines.{congestion, end_acks, poll_mtu, peer_limit, losses_done};
+ghost use Rattle.recovery_script_syntax.specs.Lines.{congestion, end_acks, poll_mtu, peer_limit, mtu_found, losses_done};
 ghost use Rattle.recovery_script_syntax.specs.Lines.{ecn, check_ack, queue_probe, take_pending};
 ghost use Rattle.recovery_script_syntax.specs.Lines.{new_path, reset_path};
 ghost use Rattle.recovery_script_syntax.specs.Reading.{ReadsBy, reading, words_left, TookAll};
@@ -440,6 +440,20 @@ impl LineForm for PeerLimitLine {
     fn read(words: &mut Words<'_>) -> Option<Line> {
         Some(Line::Said(Event::PeerLimit {
             size: words.short()?,
+        }))
+    }
+}
+
+pub(crate) struct MtuFoundLine;
+
+impl LineForm for MtuFoundLine {
+    ghost form = { mtu_found };
+
+    #[inline(always)]
+    #[tactic(auto, unfolding(crate::specs::Reading::fields_read))]
+    fn read(words: &mut Words<'_>) -> Option<Line> {
+        Some(Line::Said(Event::MtuFound {
+            mtu: words.short()?,
         }))
     }
 }

@@ -8,11 +8,11 @@ ghost use Rattle.recovery_script_syntax.specs.Reading.{ConstructsEvent, PushesTo
 use crate::forms::{
     AckDelayTimeoutLine, AckFrequencyLine, AckedLine, AcksSentLine, CheckAckLine, CongestionLine,
     DatagramInLine, DiscardLine, DropPreviousLine, EcnLine, EndAcksLine, IdTimeoutLine,
-    InFlightLine, InitialIdLine, IssueIdsLine, Line, LineForm, LossesDoneLine, LostLine, NewIdLine,
-    NewPathLine, NextIdLine, NextTimeoutLine, PacerCheckLine, PeerLimitLine, PeerRetiredLine,
-    PollMtuLine, QueueProbeLine, ReceivedLine, ResetPathLine, RevertPathLine, SampleLine,
-    SetTimerLine, StopTimerLine, TakePendingLine, TransmitLine, ValidatedLine, id_of, send,
-    token_of,
+    InFlightLine, InitialIdLine, IssueIdsLine, Line, LineForm, LossesDoneLine, LostLine,
+    MtuFoundLine, NewIdLine, NewPathLine, NextIdLine, NextTimeoutLine, PacerCheckLine,
+    PeerLimitLine, PeerRetiredLine, PollMtuLine, QueueProbeLine, ReceivedLine, ResetPathLine,
+    RevertPathLine, SampleLine, SetTimerLine, StopTimerLine, TakePendingLine, TransmitLine,
+    ValidatedLine, id_of, send, token_of,
 };
 use crate::words::{Words, is_name};
 use recovery_base::below::{IssuedCid, NoMemory};
@@ -161,6 +161,7 @@ fn put_behind<S: Sink<Event<ItemQueue>>>(
         9 if is_name(name, "acks-sent") => put_form::<AcksSentLine, S>(alloc, words, sink),
         9 if is_name(name, "set-timer") => put_form::<SetTimerLine, S>(alloc, words, sink),
         9 if is_name(name, "in-flight") => put_form::<InFlightLine, S>(alloc, words, sink),
+        9 if is_name(name, "mtu-found") => put_form::<MtuFoundLine, S>(alloc, words, sink),
         9 if is_name(name, "validated") => put_form::<ValidatedLine, S>(alloc, words, sink),
         9 if is_name(name, "check-ack") => put_form::<CheckAckLine, S>(alloc, words, sink),
         10 if is_name(name, "initial-id") => put_form::<InitialIdLine, S>(alloc, words, sink),

@@ -12,7 +12,7 @@ use std::str;
 const SHOWN: usize = 64;
 
 /// A line for each call, with words that fit.
-const EXAMPLES: [&str; 36] = [
+const EXAMPLES: [&str; 37] = [
     "transmit data 0 0 1",
     "ack data 0 0 0 0 0",
     "timeout 0",
@@ -43,6 +43,7 @@ const EXAMPLES: [&str; 36] = [
     "pacer-check 0 0",
     "poll-mtu 0",
     "peer-limit 0",
+    "mtu-found 0",
     "check-ack data 0 0",
     "take-pending data",
     "new-path 0 0 0",

@@ -8,7 +8,7 @@ use recovery_script_syntax::lines::{LINE_LIMIT, push_event};
 use std::alloc::Global;
 
 /// A line for each event, with words that fit.
-const EXAMPLES: [&str; 36] = [
+const EXAMPLES: [&str; 37] = [
     "received data 0 0 1",
     "send data 0 0 1 -",
     "acked data 0 0 0",
@@ -36,6 +36,7 @@ const EXAMPLES: [&str; 36] = [
     "end-acks 0 0 -",
     "poll-mtu 0",
     "peer-limit 0",
+    "mtu-found 0",
     "losses-done 0",
     "ecn data 0 0 0 0",
     "check-ack data 0 0",

@@ -228,6 +228,13 @@ pub enum Event<'a> {
         /// The largest size in bytes, above zero.
         size: u16,
     },
+    /// An MTU was found elsewhere and is in use on the current path from now on: by a search of the caller's, or by the
+    /// configuration of a tunnel (RFC 8899, 5; RFC 9000, 14.3). The controller of the path is notified, so that its
+    /// minimum window follows. Rejected with `ZeroMtu`, then with `Searching` if MTU discovery is enabled.
+    MtuFound {
+        /// The largest datagram that the path carries, in bytes, above zero.
+        mtu: u16,
+    },
     /// All packets of one loss detection pass were reported. Was there a black hole for large datagrams (RFC 8899,
     /// 4.3)? Never rejected.
     LossesDone {
@@ -469,7 +476,7 @@ pub enum Refusal {
     SpaceDiscarded,
     /// There is no such path.
     NoSuchPath,
-    /// An MTU search runs on the current path (RFC 8899, 5).
+    /// An MTU search runs on the current path (RFC 8899, 5), or, for an MTU found elsewhere, discovery is enabled.
     Searching,
     /// A size is zero bytes.
     ZeroMtu,

@@ -67,7 +67,7 @@ pub const REFUSAL_NOT_TRACKED: u8 = 4;
 pub const REFUSAL_SPACE_DISCARDED: u8 = 5;
 /// There is no such path.
 pub const REFUSAL_NO_SUCH_PATH: u8 = 6;
-/// An MTU search runs on the current path (RFC 8899, 5).
+/// An MTU search runs on the current path (RFC 8899, 5), or, for an MTU found elsewhere, discovery is enabled.
 pub const REFUSAL_SEARCHING: u8 = 7;
 /// A size is zero bytes.
 pub const REFUSAL_ZERO_MTU: u8 = 8;
@@ -617,7 +617,7 @@ pub struct IdsView {
 
 unsafe extern "C" {
     /// Does nothing. A library of another layout does not have it.
-    #[link_name = "recovery_ffi_layout_ffc8140e"]
+    #[link_name = "recovery_ffi_layout_4f25d9e8"]
     pub fn recovery_ffi_layout();
 
     /// Makes a recovery, whose peer is at this address and has this connection ID of at most 20 bytes. Returns
@@ -654,6 +654,10 @@ unsafe extern "C" {
 
     /// Sets the largest datagram that the peer accepts (RFC 9000, 18.2): the event `PeerLimit`.
     pub fn recovery_ffi_peer_limit(handle: *mut Handle, size: u16) -> EncodedReply;
+
+    /// Uses an MTU that was found elsewhere, by a search of the caller's or the configuration of a tunnel, on the path in
+    /// use (RFC 8899, 5; RFC 9000, 14.3): the event `MtuFound`. MTU discovery must be disabled in the settings.
+    pub fn recovery_ffi_mtu_found(handle: *mut Handle, mtu: u16) -> EncodedReply;
 
     /// Ends the losses of packets that were lost together: the event `LossesDone`.
     pub fn recovery_ffi_losses_done(handle: *mut Handle, now: u64) -> EncodedReply;

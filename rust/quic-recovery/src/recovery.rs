@@ -268,6 +268,7 @@ unsafe fn hand_in(handle: *mut ffi::Handle, event: Event<'_>) -> ffi::EncodedRep
             ),
             Event::PollMtu { now } => recovery_ffi_poll_mtu(handle, now.as_nanos()),
             Event::PeerLimit { size } => recovery_ffi_peer_limit(handle, size),
+            Event::MtuFound { mtu } => recovery_ffi_mtu_found(handle, mtu),
             Event::LossesDone { now } => recovery_ffi_losses_done(handle, now.as_nanos()),
             Event::Ecn {
                 space,

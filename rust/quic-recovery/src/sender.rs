@@ -734,6 +734,34 @@ impl Sender {
         }
     }
 
+    /// Uses an MTU that was found elsewhere on the path in use: by a search of the caller's, or by the configuration of a
+    /// tunnel (RFC 8899, 5; RFC 9000, 14.3). In bytes, above zero, and within the peer's limit. The controller's minimum
+    /// window follows. A fresh path begins with the initial MTU of the settings.
+    ///
+    /// ```
+    /// # use quic_recovery::*;
+    /// # let at = |millis: u64| Instant::from_nanos(millis * 1_000_000);
+    /// let mut config = RecoveryConfig::default();
+    /// config.transport.mtu_discovery_config = None;
+    /// let mut sender = Sender::established(Side::Client, &config, at(0))?;
+    /// sender.mtu_found(9000)?;
+    /// let path = sender.recovery().path(PathName::Current);
+    /// assert_eq!(path.map(|it| it.current_mtu), Some(9000));
+    /// // the minimum window is two datagrams (RFC 9002, 7.2)
+    /// assert_eq!(sender.recovery().window_and_flight(), (18_000, 0));
+    /// # Ok::<(), Box<dyn std::error::Error>>(())
+    /// ```
+    ///
+    /// # Errors
+    /// `ZeroMtu` if it is zero, else `Searching` if MTU discovery is enabled in the settings. Then nothing has changed.
+    pub fn mtu_found(&mut self, mtu: u16) -> Result<(), SenderError> {
+        of_kind(
+            ffi::ANSWER_DONE,
+            self.recovery.reply_to(Event::MtuFound { mtu }),
+        )?;
+        Ok(())
+    }
+
     /// Processes a received ACK frame (RFC 9002, A.7). `ranges` has the first and last number of each range, the
     /// highest range first, as on the wire. The sender acknowledges the packets, takes an RTT sample, and declares
     /// packets lost. Cost: logarithmic for each range, each newly acknowledged packet, and each packet tracked below

@@ -15,7 +15,7 @@ where
     Q: RetransmitQueue,
     R: Rng + Drop,
 {
-    ghost use Rattle.recovery_events.specs.declared.event.Event.TheVariants.{PollMtu, PeerLimit, LossesDone};
+    ghost use Rattle.recovery_events.specs.declared.event.Event.TheVariants.{PollMtu, PeerLimit, MtuFound, LossesDone};
     ghost use Rattle.quic_recovery.specs.State.{Transition};
 
     /// Is a probe of the MTU due? The new state of the search is stored once the probe is tracked, so that an error
@@ -60,6 +60,21 @@ where
         }
         self.paths.current.limit_by_peer(size);
         self.peer_limit = Some(size);
+        Ok(Answer::Done)
+    }
+
+    /// An MTU was found elsewhere.
+    #[inline(always)]
+    pub(super) fn mtu_found(&mut self, mtu: u16) -> Result<Answer<Q>, Refusal>
+        ensures { Transition (MtuFound mtu) self.old result self.new }
+    {
+        if mtu == 0 {
+            return Err(Refusal::ZeroMtu);
+        }
+        if self.paths.current.mtud.is_enabled() {
+            return Err(Refusal::Searching);
+        }
+        self.paths.current.on_mtu_found(mtu);
         Ok(Answer::Done)
     }
 

@@ -2,6 +2,7 @@
 use super::*;
 use rand_core::SeedableRng;
 use rand_pcg::Pcg64;
+use recovery_congestion::congestion::Controller;
 use recovery_parts_tests::halving::HalvingConfig;
 
 fn poll(nanos: u64) -> Event {
@@ -10,6 +11,10 @@ fn poll(nanos: u64) -> Event {
 
 fn limit(size: u16) -> Event {
     Event::PeerLimit { size }
+}
+
+fn found(mtu: u16) -> Event {
+    Event::MtuFound { mtu }
 }
 
 fn pacer_check() -> Event {
@@ -53,6 +58,28 @@ fn no_search(rt: HostRuntime) {
     play(&rt, &mut recovery, rows);
     let mtu = recovery.current().current_mtu();
     holds(&rt, mtu == 1000 && recovery.peer_limit() == Some(1000), 7);
+    drop(recovery);
+}
+
+/// If the MTU is not to be searched, the one found elsewhere last is in use. The minimum window, of two datagrams,
+/// follows (RFC 9002, 7.2).
+#[test]
+fn an_mtu_found_elsewhere(rt: HostRuntime) {
+    let mut config = settings(8);
+    config.allow_mtud = false;
+    let mut recovery = made(&rt, rt.alloc(), config, words());
+    let rows = [
+        (found(0), Err(Refusal::ZeroMtu)),
+        (found(9000), DONE),
+        (found(0), Err(Refusal::ZeroMtu)),
+        (poll(u64::MAX), Ok(Answer::NoProbe)),
+    ];
+    play(&rt, &mut recovery, rows);
+    let path = recovery.current();
+    let is_left = path.current_mtu() == 9000 && path.congestion.window() == 18_000;
+    holds(&rt, is_left, 1);
+    play(&rt, &mut recovery, [(found(1400), DONE)]);
+    holds(&rt, recovery.current().current_mtu() == 1400, 2);
     drop(recovery);
 }
 

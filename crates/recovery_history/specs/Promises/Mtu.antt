@@ -1,4 +1,4 @@
--- The MTU in use (RFC 8899, 5; RFC 9000, 14.3): the size of the last probe acknowledged, unless it was set since.
+-- The MTU in use (RFC 8899, 5; RFC 9000, 14.3): the last one acknowledged or found elsewhere, unless it was set since.
 use Rattle.std.specs.Prelude.{◌≡◌, ℕ, min, Bool, true, None, Some, [], ◌∷◌, Ok, is_some, if◌then◌else◌}
 use Rattle.std.specs.Option.{ForSome}
 use Rattle.recovery_config.specs.Settings.{initial_mtu_of}
@@ -6,7 +6,7 @@ use Rattle.recovery_mtud.specs.Discovery.{limit_or_greatest, within}
 use Rattle.recovery_paths.specs.declared.path_pair.PathName.{PathName}
 use Rattle.recovery_paths.specs.declared.path_pair.PathName.TheVariants.{Current, Previous}
 use Rattle.recovery_events.specs.declared.event.Event.{Event}
-use Rattle.recovery_events.specs.declared.event.Event.TheVariants.{Acked, LossesDone, PeerLimit, ResetPath, NewPath, RevertPath}
+use Rattle.recovery_events.specs.declared.event.Event.TheVariants.{Acked, LossesDone, MtuFound, PeerLimit, ResetPath, NewPath, RevertPath}
 use Rattle.recovery_events.specs.declared.event.Answer.TheVariants as answer
 use Rattle.recovery_history.specs.History.{Beginning, History, Reply}
 use Rattle.recovery_history.specs.RepliesAfter.{inputs_after}
@@ -21,6 +21,7 @@ module _ {Q S M P : Type 0} (searched : Bool) (first least : ℕ) where
   mtu_on name [] = first
   mtu_on Previous ((NewPath now remote is_fresh, Ok given) ∷ earlier) = mtu_on Current earlier
   mtu_on Current ((Acked space now number app_limited, Ok (answer.Acked true)) ∷ earlier) = (last_probe earlier).1
+  mtu_on Current ((MtuFound size, Ok given) ∷ earlier) = size
   mtu_on Current ((PeerLimit size, Ok given) ∷ earlier) = min (mtu_on Current earlier) size
   mtu_on Current ((LossesDone now, Ok (answer.BlackHole true)) ∷ earlier) = least
   mtu_on Current ((ResetPath now, Ok given) ∷ earlier) =

@@ -316,6 +316,14 @@ where
         self.on_event(Event::PollMtu { now })
     }
 
+    /// Uses an MTU that was found elsewhere on the path in use, as [`Event::MtuFound`] and with its errors. Datagrams
+    /// may be that large from now on, and the minimum window follows (RFC 9000, 14.3; RFC 9002, 7.2).
+    pub fn mtu_found(&mut self, mtu: u16) -> Result<Answer<Q>, SenderError>
+        ensures { EventResult (Event.MtuFound mtu) self.old self.new result }
+    {
+        self.on_event(Event::MtuFound { mtu })
+    }
+
     /// Records a received datagram of this many bytes on the path in use. If its address is not validated, more may be
     /// sent, so that the timer may be due at once (RFC 9000, 8.1; RFC 9002, A.6). Fails with `Overflow`, without a
     /// change, if the bytes received on the path would exceed `u64::MAX`.

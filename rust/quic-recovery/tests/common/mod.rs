@@ -207,6 +207,7 @@ impl Line {
             "peer-limit" => Event::PeerLimit {
                 size: self.short(1),
             },
+            "mtu-found" => Event::MtuFound { mtu: self.short(1) },
             "losses-done" => Event::LossesDone {
                 now: self.moment(1),
             },
@@ -500,7 +501,8 @@ impl Events {
             67..=73 => format!("end-acks {now} {} {}", self.below(2), self.sent[2]),
             74..=83 => format!("poll-mtu {now}"),
             84..=86 => format!("peer-limit {}", self.below(1600)),
-            87..=93 => format!("losses-done {now}"),
+            87 => format!("mtu-found {}", self.below(1600)),
+            88..=93 => format!("losses-done {now}"),
             94..=96 => format!("new-path {now} {} {}", 4433 + self.below(9), self.below(2)),
             97 => format!("reset-path {now}"),
             98 => "revert-path".into(),
