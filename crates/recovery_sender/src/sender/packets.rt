@@ -119,8 +119,8 @@ where
         Ok(sent)
     }
 
-    /// Records a sent packet, as [`Event::Send`] and with its errors. The probe timeout of its space is measured from the
-    /// last ack-eliciting packet (RFC 9002, 6.2.1 and A.5).
+    /// Records a sent packet, as [`Event::Send`] and with its errors. The probe timeout of its space is measured from
+    /// the last ack-eliciting packet (RFC 9002, 6.2.1 and A.5).
     pub fn send(
         &mut self,
         space: SpaceId,
