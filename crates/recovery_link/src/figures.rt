@@ -57,7 +57,10 @@ impl Figures {
 
     /// Returns how many bits per second of the payload were acknowledged, rounded down.
     fn goodput(&self) -> u128 {
-        let bytes = self.acked.saturating_mul(u64::from(self.size)).min(self.bytes);
+        let bytes = self
+            .acked
+            .saturating_mul(u64::from(self.size))
+            .min(self.bytes);
         let time = u128::from(self.time).max(1);
         u128::from(bytes) * 8 * SECOND / time
     }

@@ -1,7 +1,7 @@
 //! A flow: an application, a sender, its peer, and the way back.
+use crate::changes::Changes;
 use crate::ending::Ending;
 use crate::figures::Figures;
-use crate::changes::Changes;
 use crate::link::{Link, sooner};
 use crate::sending::Sending;
 use crate::settings::{Form, Settings, Window};
@@ -118,7 +118,9 @@ impl Flow {
 
     /// Returns whether all items are acknowledged.
     pub fn is_done(&self) -> bool {
-        self.begun >= self.application.items() && self.again.is_empty() && !self.sending.is_carrying()
+        self.begun >= self.application.items()
+            && self.again.is_empty()
+            && !self.sending.is_carrying()
     }
 
     /// Returns when something happens next, unless all is done.

@@ -106,7 +106,8 @@ fn ran<W: Write>(
     Ok(all)
 }
 
-/// Runs a transfer over a link with these changes. Returns the figures of each flow, and writes the records of the first one to an output.
+/// Runs a transfer over a link with these changes. Returns the figures of each flow, and writes the records of the
+/// first one to an output.
 pub fn transferred<W: Write>(
     alloc: Global,
     settings: &Settings,

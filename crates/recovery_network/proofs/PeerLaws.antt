@@ -6,7 +6,7 @@ use Rattle.recovery_base.specs.declared.below.frames.EcnCounts.{EcnCounts}
 use Rattle.recovery_base.specs.Units.{last_time}
 use Rattle.recovery_base.specs.Ranges.{InRanges, InsertsOne}
 use Rattle.recovery_network.specs.declared.peer.Arrival.{Arrival}
-use Rattle.recovery_network.specs.Receipts.{Came, AreCounts, IsInAck, IsLargest, Receipts, Remembers, expected, marked_in, unmarked_in}
+use Rattle.recovery_network.specs.Receipts.{HasCome, AreCounts, IsInAck, IsLargest, Receipts, Remembers, expected, marked_in, unmarked_in}
 
 -- ---- ranges
 
@@ -83,7 +83,7 @@ grows_largest largest received now arrival is le = (omega (arith, le), inl (refl
 
 pub held_after : (number : ℕ) (old new : List (Range ℕ)) (is_new : Bool) (received : Receipts) (now : ℕ)
     (arrival : Arrival) → arrival.packet.number ≡ number → is_new ≡ true → Remembers number old new is_new
-    → ((n : ℕ) → InRanges old n → Came n received) → (n : ℕ) → InRanges new n → Came n ((now, arrival) ∷ received)
+    → ((n : ℕ) → InRanges old n → HasCome n received) → (n : ℕ) → InRanges new n → HasCome n ((now, arrival) ∷ received)
 held_after number old new true received now arrival is so remembers held n has = elim (remembers n has) [
   | inl was ↦ inr (held n was)
   | inr same ↦ inl (is ∙ sym same)

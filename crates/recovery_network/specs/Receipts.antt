@@ -18,19 +18,19 @@ expected [] = 0
 expected (it ∷ earlier) = max (suc it.1.packet.number) (expected earlier)
 
 -- the packet was received at this time
-abbrev pub CameAt : ℕ → ℕ → Receipts → Type 0
-CameAt number time [] = ⊥
-CameAt number time (it ∷ earlier) =
-    ((it.1.packet.number ≡ number) × (it.0 ≡ time)) ⊎ CameAt number time earlier
+abbrev pub HasComeAt : ℕ → ℕ → Receipts → Type 0
+HasComeAt number time [] = ⊥
+HasComeAt number time (it ∷ earlier) =
+    ((it.1.packet.number ≡ number) × (it.0 ≡ time)) ⊎ HasComeAt number time earlier
 
-abbrev pub Came : ℕ → Receipts → Type 0
-Came number [] = ⊥
-Came number (it ∷ earlier) = (it.1.packet.number ≡ number) ⊎ Came number earlier
+abbrev pub HasCome : ℕ → Receipts → Type 0
+HasCome number [] = ⊥
+HasCome number (it ∷ earlier) = (it.1.packet.number ≡ number) ⊎ HasCome number earlier
 
 -- the largest number received, and when
 abbrev pub IsLargest : Option (ℕ × ℕ) → Receipts → Type 0
 IsLargest None received = received ≡ []
-IsLargest (Some largest) received = (suc largest.0 ≡ expected received) × CameAt largest.0 largest.1 received
+IsLargest (Some largest) received = (suc largest.0 ≡ expected received) × HasComeAt largest.0 largest.1 received
 
 -- ---- when an ACK is due
 
@@ -62,10 +62,10 @@ unmarked_in = count_of (λ arrival. arrival.packet.is_ect && not arrival.is_mark
 
 -- ---- a peer after a history
 
-pub record IsAfter (received : Receipts) (since : ℕ) (peer : Peer) : Type 0 where
+pub record IsPeerAfter (received : Receipts) (since : ℕ) (peer : Peer) : Type 0 where
   pub largest : IsLargest peer.largest received
   -- it acknowledges only what it received
-  pub held : (n : ℕ) → InRanges peer.came n → Came n received
+  pub held : (n : ℕ) → InRanges peer.came n → HasCome n received
   pub owes : peer.owes ≡ nat_lt 0 since
   pub due : peer.due ≡ due_after peer.delay since received
   pub marked : peer.marked ≡ min last_time (marked_in received)
@@ -78,21 +78,22 @@ Remembers number old new false = InRanges old number × ((n : ℕ) → InRanges 
 
 -- nothing happened, whatever the history
 abbrev pub KeepsReceipts : Peer → Peer → Type 0
-KeepsReceipts old new = (received : Receipts) (since : ℕ) → IsAfter received since old → IsAfter received since new
+KeepsReceipts old new =
+    (received : Receipts) (since : ℕ) → IsPeerAfter received since old → IsPeerAfter received since new
 
 -- A packet is new, or it was received before, or its number is too large.
 abbrev pub Receives : ℕ → Arrival → Peer → Peer → Bool → Type 0
 Receives now arrival old new true = (received : Receipts) (since : ℕ)
-    → IsAfter received since old → IsAfter ((now, arrival) ∷ received) (suc since) new
-Receives now arrival old new false = (received : Receipts) (since : ℕ) → IsAfter received since old
-    → (Came arrival.packet.number received ⊎ (number_limit ≤ arrival.packet.number)) × IsAfter received since new
+    → IsPeerAfter received since old → IsPeerAfter ((now, arrival) ∷ received) (suc since) new
+Receives now arrival old new false = (received : Receipts) (since : ℕ) → IsPeerAfter received since old
+    → (HasCome arrival.packet.number received ⊎ (number_limit ≤ arrival.packet.number)) × IsPeerAfter received since new
 
 -- ---- the ACK
 
 -- The delay is the time since the largest number was received (RFC 9000, 13.2.5).
 abbrev pub IsDelay : ℕ → Receipts → ℕ → Type 0
 IsDelay now received delay = (received ≡ [])
-    ⊎ ((largest : ℕ) × (time : ℕ) × (suc largest ≡ expected received) × CameAt largest time received
+    ⊎ ((largest : ℕ) × (time : ℕ) × (suc largest ≡ expected received) × HasComeAt largest time received
     × (delay ≡ now - time))
 
 -- All numbers of its ranges were received.
@@ -108,9 +109,9 @@ AreCounts received (Some counts) = (counts.ce ≡ min last_time (marked_in recei
 
 pub record IsAckOf (now : ℕ) (received : Receipts) (frame : Frame) : Type 0 where
   pub delay : IsDelay now received frame.delay
-  pub numbers : (n : ℕ) → IsInAck n frame.ranges.items → Came n received
+  pub numbers : (n : ℕ) → IsInAck n frame.ranges.items → HasCome n received
   pub counts : AreCounts received frame.ecn
 
 abbrev pub SendsAck : ℕ → Peer → Peer → Frame → Type 0
-SendsAck now old new frame = (received : Receipts) (since : ℕ) → IsAfter received since old
-    → IsAckOf now received frame × IsAfter received 0 new
+SendsAck now old new frame = (received : Receipts) (since : ℕ) → IsPeerAfter received since old
+    → IsAckOf now received frame × IsPeerAfter received 0 new

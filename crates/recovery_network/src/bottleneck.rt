@@ -68,8 +68,8 @@ fn departure(rates: &Schedule, free: u64, packet: QueuedPacket) -> u64
 }
 
 impl Bottleneck {
-    /// Returns an empty queue with room for this many bytes, including the packet that is being sent, before a link with
-    /// these rates, in bits per second. A packet is sent at the rate that holds when its first bit is sent.
+    /// Returns an empty queue with room for this many bytes, including the packet that is being sent, before a link
+    /// with these rates, in bits per second. A packet is sent at the rate that holds when its first bit is sent.
     pub fn new(alloc: Global, rates: Schedule, room: u64) -> Self
         ensures begun { IsAfter [] [] result }
         ensures rates { rate_of result ≡ value_at rates.first rates.changes.items }

@@ -2,7 +2,7 @@
 ghost use Rattle.std.specs.Prelude.{◌≡◌, ◌==◌, ◌<◌, ◌+◌, ◌∷◌, ℕ, [], Some, IfOk, MatchOption, OnErr, if◌then◌else◌, min, nat_lt};
 ghost use Rattle.recovery_base.specs.Ranges.{InRanges};
 ghost use Rattle.recovery_base.specs.Units.{last_time, number_limit};
-ghost use Rattle.recovery_network.specs.Receipts.{IsAfter, IsDelay, IsInAck, IsLargest, KeepsReceipts, Receipts, Receives, Remembers, SendsAck, expected, is_urgent};
+ghost use Rattle.recovery_network.specs.Receipts.{IsPeerAfter, IsDelay, IsInAck, IsLargest, KeepsReceipts, Receipts, Receives, Remembers, SendsAck, expected, is_urgent};
 ghost use Rattle.recovery_network.specs.declared.peer.Arrival.{Arrival};
 
 use crate::bottleneck::QueuedPacket;
@@ -71,7 +71,7 @@ impl Peer {
     /// Returns a peer that received nothing.
     pub fn new(alloc: Global, delay: u64) -> Self
         ensures delay { result.delay ≡ delay }
-        ensures begun { IsAfter [] 0 result }
+        ensures begun { IsPeerAfter [] 0 result }
     {
         Peer {
             alloc,
@@ -92,9 +92,9 @@ impl Peer {
         self.due
     }
 
-    /// Records a received packet. Returns whether it is new. An ACK is due at once for every second packet, for one that
-    /// is not the next after the largest, and for one that is marked (RFC 9000, 13.2.1 and 13.2.2); else after the
-    /// longest ACK delay. `NoMemory` changes nothing.
+    /// Records a received packet. Returns whether it is new. An ACK is due at once for every second packet, for one
+    /// that is not the next after the largest, and for one that is marked (RFC 9000, 13.2.1 and 13.2.2). Else it is due
+    /// after the longest ACK delay. `NoMemory` changes nothing.
     pub fn receive(&mut self, now: u64, arrival: Arrival) -> Result<bool, NoMemory>
         ensures delay { self.new.delay ≡ self.old.delay }
         ensures receives { IfOk result (Receives now arrival self.old self.new) }

@@ -23,8 +23,8 @@ pub struct Way<T> {
 }
 
 impl<T: Drop> Way<T> {
-    /// Returns a direction without anything in transit, in which each item has the minimum delay of the time at which it
-    /// is sent.
+    /// Returns a direction without anything in transit, in which each item has the minimum delay of the time at which
+    /// it is sent.
     pub fn new(alloc: Global, delays: Schedule) -> Self
         ensures delays { result.delays ≡ delays }
         ensures empty { AreDelayed (delay_by delays) [] result.carried.items }
@@ -38,7 +38,8 @@ impl<T: Drop> Way<T> {
     /// Sends an item at time `now`, which is late by this much.
     pub fn send(&mut self, now: u64, late: u64, what: T) -> Result<(), AllocError>
         ensures delays { self.new.delays ≡ self.old.delays }
-        ensures carried { (sent : List ℕ) → AreDelayed (delay_by self.old.delays) sent self.old.carried.items
+        ensures carried { (sent : List ℕ)
+            → AreDelayed (delay_by self.old.delays) sent self.old.carried.items
             → AreDelayed (delay_by self.old.delays) (now ∷ sent) self.new.carried.items }
     {
         let arrives = now.saturating_add(self.delays.at(now)).saturating_add(late);
