@@ -116,8 +116,8 @@ where
     /// # Errors
     /// The first that applies; nothing changes. `SpaceDiscarded`. `BadRange` if there is no range, a range ends before
     /// it begins, or two have no number between them (RFC 9000, 19.3.1). `Unsent` if a number is above all that were
-    /// sent (RFC 9000, 13.1). `SkippedAcked` if a range holds the number that was skipped last (RFC 9000, 21.4). `NoMemory` if there is
-    /// no room for the numbers that are acknowledged or may be lost.
+    /// sent (RFC 9000, 13.1). `SkippedAcked` if a range holds the number that was skipped last (RFC 9000, 21.4).
+    /// `NoMemory` if there is no room for the numbers that are acknowledged or may be lost.
     pub fn on_ack(
         &mut self,
         space: SpaceId,
