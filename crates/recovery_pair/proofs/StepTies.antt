@@ -31,12 +31,10 @@ use Rattle.recovery_pair.specs.declared.steps.WirePacket.{WirePacket}
 use Rattle.recovery_pair.specs.Frames.{IsSoundFrame}
 use Rattle.recovery_pair.specs.Logs.{IsAt, PairEvent, PairLog, SentPacket, deliveries_of, numbers_at, other_end, sends_of, was_discarded, wire_of}
 use Rattle.recovery_pair.specs.Pasts.{AcksWithin, Continues, GoesOn, GoesOnQuietly, HearsNumber, IsHeardBy, SendsWithAck, Turn, WereSentUnder, hearing, leaving, quiet}
-use Rattle.recovery_pair.specs.Promises.{KeepsPromises}
 use Rattle.recovery_pair.specs.Promises.Arrivals.{ArrivesAsSent, Delivers, IsArrival, IsFateBy, IsFirst}
 use Rattle.recovery_pair.specs.Promises.DeliveredOnce.{AcksDelivered}
 use Rattle.recovery_pair.specs.Promises.NeverAccused.{NeverAccuses}
 use Rattle.recovery_pair.specs.Promises.Threefold.{ServerSendsThreefold}
-use Rattle.recovery_pair.specs.Runs.{StepKeeps}
 use Rattle.recovery_pair.specs.Tied.{Flows, HasPast, IsLogged, IsOnWire, IsTiedAt, Travels, sent_as}
 use Rattle.recovery_pair.specs.Turns.{HearTurn, HearsPacket, IsLocalAnswer, SendsPacket, TurnsAt, local_turn, reply_of}
 use Rattle.recovery_pair.proofs.GoingLaws.{quiet_none}
@@ -56,6 +54,13 @@ which Client Server = inr refl
 which Server Client = inr refl
 which Server Server = inl refl
 
+-- what is promised of packets
+pub record KeepsExchange (validated : Bool) (log : PairLog) (event : PairEvent) : Type 0 where
+  pub honest : NeverAccuses event
+  pub delivered : AcksDelivered log event
+  pub arrives : ArrivesAsSent log event
+  pub limited : ServerSendsThreefold validated (event ∷ log)
+
 -- ---- one end makes a step, the other does nothing
 
 module _ {F Q R C K S M P : Type 0} {f : _} {c : _} {q : _} {m : _} {r : _} where
@@ -63,8 +68,16 @@ module _ {F Q R C K S M P : Type 0} {f : _} {c : _} {q : _} {m : _} {r : _} wher
       → List WirePacket → PairStep → Result PairAnswer SenderError → Sender F Q R C K S M P f c q m r
       → List WirePacket → Type 0
   StepKeepsAt end here there wire step answer after wire_after = (validated : Bool) (log : PairLog)
-      → IsTiedAt validated end log here there wire → KeepsPromises validated log (step, answer)
+      → IsTiedAt validated end log here there wire → KeepsExchange validated log (step, answer)
       × IsTiedAt validated end ((step, answer) ∷ log) after there wire_after
+
+  -- of both
+  abbrev pub ExchangeKept : Sender F Q R C K S M P f c q m r → Sender F Q R C K S M P f c q m r → List WirePacket
+      → PairStep → Result PairAnswer SenderError → Sender F Q R C K S M P f c q m r
+      → Sender F Q R C K S M P f c q m r → List WirePacket → Type 0
+  ExchangeKept client server wire step answer client_after server_after wire_after = (validated : Bool) (log : PairLog)
+      → IsTiedAt validated Client log client server wire → KeepsExchange validated log (step, answer)
+      × IsTiedAt validated Client ((step, answer) ∷ log) client_after server_after wire_after
 
   turned_server : (validated : Bool) (log : PairLog) (client server : Sender F Q R C K S M P f c q m r)
       (wire : List WirePacket) → IsTiedAt validated Client log client server wire
@@ -101,16 +114,16 @@ module _ {F Q R C K S M P : Type 0} {f : _} {c : _} {q : _} {m : _} {r : _} wher
       → StepKeepsAt end here there wire step answer after wire_after)
       → (client server client_after server_after : Sender F Q R C K S M P f c q m r)
       → TurnsAt end Turns client server client_after server_after
-      → StepKeeps client server wire step answer client_after server_after wire_after
+      → ExchangeKept client server wire step answer client_after server_after wire_after
   by_turn Client Turns wire wire_after step answer each client server client_after server_after turns =
       subst (λ (one : Sender F Q R C K S M P f c q m r).
-      StepKeeps client server wire step answer client_after one wire_after) (sym turns.1)
+      ExchangeKept client server wire step answer client_after one wire_after) (sym turns.1)
       (each client server client_after turns.0)
   by_turn Server Turns wire wire_after step answer each client server client_after server_after turns =
       subst (λ (one : Sender F Q R C K S M P f c q m r).
-      StepKeeps client server wire step answer one server_after wire_after) (sym turns.1) by
+      ExchangeKept client server wire step answer one server_after wire_after) (sym turns.1) by
     where
-      by : StepKeeps client server wire step answer client server_after wire_after
+      by : ExchangeKept client server wire step answer client server_after wire_after
       by validated log tied =
           let both = each server client server_after turns.0 validated log
           (turned_server validated log client server wire tied) in
@@ -211,7 +224,7 @@ module _ {F Q R C K S M P : Type 0} {f : _} {c : _} {q : _} {m : _} {r : _} (end
         }) wire tied.wired;
       }
 
-  pub silent_step : ArrivesAsSent log (step, answer) → KeepsPromises validated log (step, answer)
+  pub silent_step : ArrivesAsSent log (step, answer) → KeepsExchange validated log (step, answer)
       × IsTiedAt validated end ((step, answer) ∷ log) after there wire
   silent_step arrives = (
     record {
@@ -335,7 +348,7 @@ module _ {F Q R C K S M P : Type 0} {f : _} {c : _} {q : _} {m : _} {r : _} (end
             is.sound own.2 tied.out tied.back tied.wired;
       }
 
-  sent_step : KeepsPromises validated log (sending log packet.space now size packet.number items end)
+  sent_step : KeepsExchange validated log (sending log packet.space now size packet.number items end)
       × IsTiedAt validated end (sending log packet.space now size packet.number items end ∷ log) after there
       (wire ++ packet ∷ [])
   sent_step = (
@@ -366,10 +379,10 @@ module _ {F Q R C K S M P : Type 0} {f : _} {c : _} {q : _} {m : _} {r : _} wher
       → all ≡ wire ++ packet ∷ []
       → TurnsAt end (λ (old new : Sender F Q R C K S M P f c q m r). SendsPacket old new end space size packet items)
       client server client_after server_after
-      → StepKeeps client server wire (Send end space now size) (Ok (Sent packet.number items)) client_after server_after
+      → ExchangeKept client server wire (Send end space now size) (Ok (Sent packet.number items)) client_after server_after
       all
   send_turn end space now size packet items client server client_after server_after wire all pushed turns =
-      subst (λ (all : List WirePacket). StepKeeps client server wire (Send end space now size)
+      subst (λ (all : List WirePacket). ExchangeKept client server wire (Send end space now size)
       (Ok (Sent packet.number items)) client_after server_after all) (sym pushed)
       (by_turn end (λ (old new : Sender F Q R C K S M P f c q m r). SendsPacket old new end space size packet items)
       wire (wire ++ packet ∷ []) (Send end space now size) (Ok (Sent packet.number items))
@@ -515,7 +528,7 @@ module _ {F Q R C K S M P : Type 0} {f : _} {c : _} {q : _} {m : _} {r : _} (at 
         → (hearing packet.size packet.space packet.number (reply_of fate)).heard ≡ None
         → Delivers packet.items.items fate
         → IsFirst (deliveries_of (other_end from) packet.space packet.number log) fate
-        → KeepsPromises validated log
+        → KeepsExchange validated log
         (Arrive at now, Ok (Arrived (other_end from) packet.space packet.number packet.size fate))
         × IsTiedAt validated (other_end from)
         ((Arrive at now, Ok (Arrived (other_end from) packet.space packet.number packet.size fate)) ∷ log) after there
@@ -574,7 +587,7 @@ module _ {F Q R C K S M P : Type 0} {f : _} {c : _} {q : _} {m : _} {r : _} (at 
               is.takes.told own.2 toward tied.wired on_wire;
         }
 
-    pub new_step : KeepsPromises validated log event
+    pub new_step : KeepsExchange validated log event
         × IsTiedAt validated (other_end from) (event ∷ log) after there wire
     new_step =
         let own = is.goes.from tied.own.config tied.own.start tied.own.random tied.own.past tied.own.came in
@@ -612,13 +625,13 @@ module _ {F Q R C K S M P : Type 0} {f : _} {c : _} {q : _} {m : _} {r : _} (at 
       → to ≡ other_end packet.from
       → TurnsAt to (λ (old new : Sender F Q R C K S M P f c q m r). HearTurn old new packet (Ok fate)) client server
       client_after server_after
-      → StepKeeps client server wire (Arrive at now)
+      → ExchangeKept client server wire (Arrive at now)
       (Ok (Arrived to packet.space packet.number packet.size fate)) client_after server_after wire
   arrives_at to fate client server client_after server_after is =
       subst (λ (e : End).
       TurnsAt e (λ (old new : Sender F Q R C K S M P f c q m r). HearTurn old new packet (Ok fate)) client server
       client_after server_after
-      → StepKeeps client server wire (Arrive at now)
+      → ExchangeKept client server wire (Arrive at now)
       (Ok (Arrived e packet.space packet.number packet.size fate)) client_after server_after wire) (sym is)
       (by_turn (other_end packet.from)
       (λ (old new : Sender F Q R C K S M P f c q m r). HearTurn old new packet (Ok fate)) wire wire (Arrive at now)
@@ -628,7 +641,7 @@ module _ {F Q R C K S M P : Type 0} {f : _} {c : _} {q : _} {m : _} {r : _} (at 
 
 -- ---- something happens at one end
 
-local_answer : (step : PairStep) (result : Result PairAnswer SenderError) → IfOk result IsLocalAnswer
+pub local_answer : (step : PairStep) (result : Result PairAnswer SenderError) → IfOk result IsLocalAnswer
     → IsNoPacket (step, result)
 local_answer step (Ok (Sent number items)) never = absurd never
 local_answer step (Ok (Arrived to space number size fate)) never = absurd never
@@ -660,7 +673,7 @@ module _ {F Q R C K S M P : Type 0} {f : _} {c : _} {q : _} {m : _} {r : _} wher
       (client server client_after server_after : Sender F Q R C K S M P f c q m r) (wire : List WirePacket)
       → TurnsAt end (λ (old new : Sender F Q R C K S M P f c q m r). Continues (GoesOn (local_turn step result)) old
       new) client server client_after server_after → IfOk result IsLocalAnswer
-      → StepKeeps client server wire (Local end step) result client_after server_after wire
+      → ExchangeKept client server wire (Local end step) result client_after server_after wire
   local_step_at end step result client server client_after server_after wire turns answer =
       by_turn end
       (λ (old new : Sender F Q R C K S M P f c q m r). Continues (GoesOn (local_turn step result)) old new) wire wire
@@ -684,9 +697,9 @@ module _ {F Q R C K S M P : Type 0} {f : _} {c : _} {q : _} {m : _} {r : _} wher
       → wire_after ≡ wire → IsNoPacket (step, answer) → IsNotLocal step
       → ((log : PairLog) → wire_of log ≡ map sent_as wire → ArrivesAsSent log (step, answer))
       → TurnsAt end (λ (old new : Sender F Q R C K S M P f c q m r). Continues GoesOnQuietly old new) client server
-      client_after server_after → StepKeeps client server wire step answer client_after server_after wire_after
+      client_after server_after → ExchangeKept client server wire step answer client_after server_after wire_after
   held_turn end step answer client server client_after server_after wire wire_after same none other arrives turns =
-      subst (λ (all : List WirePacket). StepKeeps client server wire step answer client_after server_after all) (sym
+      subst (λ (all : List WirePacket). ExchangeKept client server wire step answer client_after server_after all) (sym
       same)
       (by_turn end (λ (old new : Sender F Q R C K S M P f c q m r). Continues GoesOnQuietly old new) wire wire step
       answer (quiet_step end step answer wire none other arrives) client server client_after server_after turns)
@@ -696,7 +709,7 @@ module _ {F Q R C K S M P : Type 0} {f : _} {c : _} {q : _} {m : _} {r : _} wher
       (client server : Sender F Q R C K S M P f c q m r) (wire wire_after : List WirePacket) → wire_after ≡ wire
       → IsNoPacket (step, answer) → IsNotLocal step
       → ((log : PairLog) → wire_of log ≡ map sent_as wire → ArrivesAsSent log (step, answer))
-      → StepKeeps client server wire step answer client server wire_after
+      → ExchangeKept client server wire step answer client server wire_after
   idle_step step answer client server wire wire_after same none other arrives =
       held_turn Client step answer client server client server wire wire_after same none other arrives
       (same_quietly client client refl, refl)

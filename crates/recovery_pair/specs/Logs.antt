@@ -2,11 +2,12 @@
 use Rattle.std.specs.Prelude.{◌≡◌, ℕ, ◌+◌, ◌<◌, ◌==◌, ◌&&◌, ◌||◌, Bool, true, false, List, [], ◌∷◌, ◌++◌, length, get_or, Result, Ok, if◌then◌else◌}
 use Rattle.recovery_base.specs.declared.below.SpaceId.{SpaceId}
 use Rattle.recovery_base.specs.Spaces.{same_space}
+use Rattle.recovery_history.specs.Promises.Fates.{more_if}
 use Rattle.recovery_sender.specs.declared.sender.SenderError.{SenderError}
 use Rattle.recovery_pair.specs.declared.steps.End.{End}
 use Rattle.recovery_pair.specs.declared.steps.End.TheVariants.{Client, Server}
 use Rattle.recovery_pair.specs.declared.steps.Fate.TheVariants.{Dropped, New}
-use Rattle.recovery_pair.specs.declared.steps.LocalStep.TheVariants.{AddressValidated, Discard}
+use Rattle.recovery_pair.specs.declared.steps.LocalStep.TheVariants.{AddressValidated, Discard, Hand}
 use Rattle.recovery_pair.specs.declared.steps.PairAnswer.{PairAnswer}
 use Rattle.recovery_pair.specs.declared.steps.PairAnswer.TheVariants.{Arrived, Done, Sent}
 use Rattle.recovery_pair.specs.declared.steps.PairStep.{PairStep}
@@ -106,3 +107,17 @@ module _ (end : End) where
   numbers_at space ((step, Ok (Arrived to there number size fate)) ∷ earlier) =
       if same_end to end && same_space there space then number ∷ numbers_at space earlier else numbers_at space earlier
   numbers_at space (event ∷ earlier) = numbers_at space earlier
+
+  -- how many packets of a space it was handed
+  abbrev pub handed : SpaceId → PairLog → ℕ
+  handed space [] = 0
+  handed space ((Local at (Hand there items), Ok Done) ∷ earlier) =
+      more_if (same_end at end && same_space there space) (handed space earlier)
+  handed space (event ∷ earlier) = handed space earlier
+
+  -- how many packets of a space it sent
+  abbrev pub sent_in : SpaceId → PairLog → ℕ
+  sent_in space [] = 0
+  sent_in space ((Send from there now size, Ok (Sent number items)) ∷ earlier) =
+      more_if (same_end from end && same_space there space) (sent_in space earlier)
+  sent_in space (event ∷ earlier) = sent_in space earlier

@@ -6,10 +6,12 @@ use Rattle.recovery_pair.specs.Logs.{PairEvent, PairLog}
 use Rattle.recovery_pair.specs.Promises.Arrivals.{ArrivesAsSent}
 use Rattle.recovery_pair.specs.Promises.DeliveredOnce.{AcksDelivered}
 use Rattle.recovery_pair.specs.Promises.NeverAccused.{NeverAccuses}
+use Rattle.recovery_pair.specs.Promises.Sends.{SendsWhatWaits}
 use Rattle.recovery_pair.specs.Promises.Threefold.{ServerSendsThreefold}
 pub mod Arrivals
 pub mod DeliveredOnce
 pub mod NeverAccused
+pub mod Sends
 pub mod Threefold
 
 pub record KeepsPromises (validated : Bool) (log : PairLog) (event : PairEvent) : Type 0 where
@@ -23,3 +25,5 @@ pub record KeepsPromises (validated : Bool) (log : PairLog) (event : PairEvent) 
   -- Until it validates the client's address, the server sent at most three times the bytes that arrived (RFC 9000,
   -- 8.1).
   pub limited : ServerSendsThreefold validated (event ∷ log)
+  -- An end has nothing to send in a space only once it sent as many packets there as it was handed (RFC 9000, 13).
+  pub sends : SendsWhatWaits log event

@@ -14,11 +14,13 @@ use Rattle.recovery_history.specs.Reachability.{ReachedBy}
 use Rattle.recovery_paths.specs.declared.path_pair.PathName.TheVariants.{Current}
 use Rattle.recovery_sender.specs.Senders.{state_in}
 use Rattle.recovery_sender.specs.declared.sender.Sender.{Sender}
+use Rattle.recovery_pair.specs.declared.endpoint.Waiting.{Waiting}
 use Rattle.recovery_pair.specs.declared.steps.End.{End}
 use Rattle.recovery_pair.specs.declared.steps.End.TheVariants.{Client, Server}
 use Rattle.recovery_pair.specs.declared.steps.WirePacket.{WirePacket}
 use Rattle.recovery_pair.specs.Frames.{IsSoundFrame}
 use Rattle.recovery_pair.specs.Logs.{PairLog, SentPacket, bytes_arrived, bytes_sent, deliveries_of, has_validated, numbers_at, other_end, sends_of, was_discarded, wire_of}
+use Rattle.recovery_pair.specs.Waits.{AreQueued}
 use Rattle.recovery_pair.specs.Pasts.{Came, WasSentUnder, bytes_received, bytes_transmitted}
 
 -- ---- one number, from one end to the other
@@ -110,6 +112,9 @@ module _ {F Q R C K S M P : Type 0} {f : _} {c : _} {q : _} {m : _} {r : _} wher
     pub listed : wire_of log ≡ map sent_as wire
     pub wired : AllByRecursion (IsOnWire log) wire
 
-  abbrev pub IsTied : Bool → PairLog → Sender F Q R C K S M P f c q m r → Sender F Q R C K S M P f c q m r
-      → List WirePacket → Type 0
-  IsTied validated log client server wire = IsTiedAt validated Client log client server wire
+  -- and what waits at each
+  pub record IsTied (validated : Bool) (log : PairLog) (client server : Sender F Q R C K S M P f c q m r)
+      (wire : List WirePacket) (client_waits server_waits : List Waiting) : Type 0 where
+    pub ends : IsTiedAt validated Client log client server wire
+    pub own_waits : AreQueued log Client client_waits
+    pub peer_waits : AreQueued log Server server_waits

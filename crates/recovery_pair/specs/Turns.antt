@@ -97,12 +97,9 @@ module _ {F Q R C K S M P : Type 0} {f : _} {c : _} {q : _} {m : _} {r : _} (old
     HearTurn packet (Err refusal) = Continues GoesOnQuietly old new
 
 -- the turn of one end, while the other does nothing
-module _ {F Q R C K S M P : Type 0} {f : _} {c : _} {q : _} {m : _} {r : _} where
-  abbrev pub TurnsAt : End → (Sender F Q R C K S M P f c q m r → Sender F Q R C K S M P f c q m r → Type 0)
-      → Sender F Q R C K S M P f c q m r → Sender F Q R C K S M P f c q m r → Sender F Q R C K S M P f c q m r
-      → Sender F Q R C K S M P f c q m r → Type 0
-  TurnsAt Client Turns client server client_after server_after = Turns client client_after × (server_after ≡ server)
-  TurnsAt Server Turns client server client_after server_after = Turns server server_after × (client_after ≡ client)
+abbrev pub TurnsAt : {A : Type 0} → End → (A → A → Type 0) → A → A → A → A → Type 0
+TurnsAt Client Turns client server client_after server_after = Turns client client_after × (server_after ≡ server)
+TurnsAt Server Turns client server client_after server_after = Turns server server_after × (client_after ≡ client)
 
 -- it reports no packet
 abbrev pub IsLocalAnswer : PairAnswer → Type 0
