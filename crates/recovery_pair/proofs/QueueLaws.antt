@@ -65,7 +65,8 @@ pub queue_turn : (end : End) (Turns : List Waiting → List Waiting → Type 0) 
     (answer : Result PairAnswer SenderError)
     → ((old new : List Waiting) → Turns old new → QueueKeptAt end step answer old new)
     → ((log : PairLog) → LeavesQueue (step, answer) log (other_end end))
-    → (client server client_after server_after : List Waiting) → TurnsAt end Turns client server client_after server_after
+    → (client server client_after server_after : List Waiting) → TurnsAt end Turns client server client_after
+    server_after
     → QueueKept client server step answer client_after server_after
 queue_turn Client Turns step answer each leaves client server client_after server_after turns log own peer =
     let both = each client client_after turns.0 log own in (
@@ -140,7 +141,8 @@ sent_queue end space now size n items =
 
 pub nothing_queue : (end : End) (space : SpaceId) (now size : ℕ)
     (client server client_after server_after : List Waiting)
-    → TurnsAt end (λ (old new : List Waiting). LosesNone old new × (waiting_in space old ≡ 0)) client server client_after
+    → TurnsAt end (λ (old new : List Waiting). LosesNone old new × (waiting_in space old ≡ 0)) client server
+    client_after
     server_after → QueueKept client server (Send end space now size) (Ok Nothing) client_after server_after
 nothing_queue end space now size =
     queue_turn end (λ (old new : List Waiting). LosesNone old new × (waiting_in space old ≡ 0))

@@ -29,9 +29,9 @@ use Rattle.recovery_pair.specs.declared.steps.PairStep.{PairStep}
 use Rattle.recovery_pair.specs.declared.steps.PairStep.TheVariants.{Arrive, Local, Send}
 use Rattle.recovery_pair.specs.declared.steps.WirePacket.{WirePacket}
 use Rattle.recovery_pair.specs.Frames.{IsSoundFrame}
-use Rattle.recovery_pair.specs.Logs.{IsAt, PairEvent, PairLog, SentPacket, deliveries_of, numbers_at, other_end, sends_of, was_discarded, wire_of}
-use Rattle.recovery_pair.specs.Pasts.{AcksWithin, Continues, GoesOn, GoesOnQuietly, HearsNumber, IsHeardBy, SendsWithAck, Turn, WereSentUnder, hearing, leaving, quiet}
-use Rattle.recovery_pair.specs.Promises.Arrivals.{ArrivesAsSent, Delivers, IsArrival, IsFateBy, IsFirst}
+use Rattle.recovery_pair.specs.Logs.{IsAt, PairEvent, PairLog, LoggedPacket, deliveries_of, numbers_at, other_end, sends_of, was_discarded, wire_of}
+use Rattle.recovery_pair.specs.Pasts.{AcksWithin, Continues, GoesOn, GoesOnQuietly, HearsNumber, IsHeardBy, SendsWithAck, EndTurn, WereSentUnder, hearing, leaving, quiet}
+use Rattle.recovery_pair.specs.Promises.Arrivals.{ArrivesAsSent, Delivers, IsArrival, IsFateBy, IsFirstDelivery}
 use Rattle.recovery_pair.specs.Promises.DeliveredOnce.{AcksDelivered}
 use Rattle.recovery_pair.specs.Promises.NeverAccused.{NeverAccuses}
 use Rattle.recovery_pair.specs.Promises.Threefold.{ServerSendsThreefold}
@@ -176,7 +176,7 @@ silent_delivers log (step, Ok (Arrived to there number size (New items acked))) 
 silent_delivers log event silent = tt
 
 module _ {F Q R C K S M P : Type 0} {f : _} {c : _} {q : _} {m : _} {r : _} (end : End) (step : PairStep)
-    (answer : Result PairAnswer SenderError) (turn : Turn) (silent : IsSilent (step, answer))
+    (answer : Result PairAnswer SenderError) (turn : EndTurn) (silent : IsSilent (step, answer))
     (none : turn.heard ≡ None) (adds : (log : PairLog) → Adds turn end (step, answer) log)
     (adds_not : (log : PairLog) → Adds quiet (other_end end) (step, answer) log) (wire : List WirePacket)
     (here there after : Sender F Q R C K S M P f c q m r) (goes : Continues (GoesOn turn) here after)
@@ -241,7 +241,7 @@ module _ {F Q R C K S M P : Type 0} {f : _} {c : _} {q : _} {m : _} {r : _} (end
 map_push : (wire : List WirePacket) (packet : WirePacket)
     → map sent_as (wire ++ packet ∷ []) ≡ map sent_as wire ++ sent_as packet ∷ []
 map_push [] packet = refl
-map_push (first ∷ wire) packet = ap (λ (more : List SentPacket). sent_as first ∷ more) (map_push wire packet)
+map_push (first ∷ wire) packet = ap (λ (more : List LoggedPacket). sent_as first ∷ more) (map_push wire packet)
 
 sent_same : (end : End) (size : ℕ) (items : Vec ℕ) (packet : WirePacket) → packet.from ≡ end → packet.size ≡ size
     → items.items ≡ packet.items.items → (record {
@@ -335,14 +335,14 @@ module _ {F Q R C K S M P : Type 0} {f : _} {c : _} {q : _} {m : _} {r : _} (end
         peer_logged = logged_on validated log event (other_end end) tied.peer.config.validated quiet tied.peer.past
             tied.peer.past (sending_adds_not log packet.space now size packet.number items end)
             (quiet_none tied.peer.past) tied.peer_logged;
-        listed = ap (λ (sent : List SentPacket). sent ++ record {
+        listed = ap (λ (sent : List LoggedPacket). sent ++ record {
           from = end;
           space = packet.space;
           number = packet.number;
           size = size;
           items = items.items;
         } ∷ []) tied.listed
-            ∙ ap (λ (last : SentPacket). map sent_as wire ++ last ∷ [])
+            ∙ ap (λ (last : LoggedPacket). map sent_as wire ++ last ∷ [])
             (sent_same end size items packet is.sender is.sized is.told) ∙ sym (map_push wire packet);
         wired = wired_sent log now size end tied.own.past own.0 tied.peer.past packet items wire is.sender is.told
             is.sound own.2 tied.out tied.back tied.wired;
@@ -379,7 +379,8 @@ module _ {F Q R C K S M P : Type 0} {f : _} {c : _} {q : _} {m : _} {r : _} wher
       → all ≡ wire ++ packet ∷ []
       → TurnsAt end (λ (old new : Sender F Q R C K S M P f c q m r). SendsPacket old new end space size packet items)
       client server client_after server_after
-      → ExchangeKept client server wire (Send end space now size) (Ok (Sent packet.number items)) client_after server_after
+      → ExchangeKept client server wire (Send end space now size) (Ok (Sent packet.number items)) client_after
+      server_after
       all
   send_turn end space now size packet items client server client_after server_after wire all pushed turns =
       subst (λ (all : List WirePacket). ExchangeKept client server wire (Send end space now size)
@@ -513,7 +514,7 @@ module _ {F Q R C K S M P : Type 0} {f : _} {c : _} {q : _} {m : _} {r : _} (at 
         (is_new (came_in packet.space tied.own.past) packet.number) fate small own_went.1.by)
 
     arrival : Delivers packet.items.items fate
-        → IsFirst (deliveries_of (other_end from) packet.space packet.number log) fate
+        → IsFirstDelivery (deliveries_of (other_end from) packet.space packet.number log) fate
         → IsArrival log at (other_end from) packet.space packet.number packet.size fate
     arrival delivers once = record {
       contents = packet.items.items;
@@ -527,7 +528,7 @@ module _ {F Q R C K S M P : Type 0} {f : _} {c : _} {q : _} {m : _} {r : _} (at 
     pub old_step : IsSilent (Arrive at now, Ok (Arrived (other_end from) packet.space packet.number packet.size fate))
         → (hearing packet.size packet.space packet.number (reply_of fate)).heard ≡ None
         → Delivers packet.items.items fate
-        → IsFirst (deliveries_of (other_end from) packet.space packet.number log) fate
+        → IsFirstDelivery (deliveries_of (other_end from) packet.space packet.number log) fate
         → KeepsExchange validated log
         (Arrive at now, Ok (Arrived (other_end from) packet.space packet.number packet.size fate))
         × IsTiedAt validated (other_end from)
@@ -719,5 +720,5 @@ pub beyond : (wire : List WirePacket) (log : PairLog) (at now : ℕ) → length 
     → wire_of log ≡ map sent_as wire → ArrivesAsSent log (Arrive at now, Ok Nothing)
 beyond wire log at now past listed =
     let same = length-map wire sent_as in
-    let long : length (wire_of log) ≡ length wire = ap (λ (all : List SentPacket). length all) listed ∙ same in
+    let long : length (wire_of log) ≡ length wire = ap (λ (all : List LoggedPacket). length all) listed ∙ same in
     omega (arith, long, past)

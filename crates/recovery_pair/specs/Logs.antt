@@ -52,7 +52,7 @@ deliveries_of end space n (event ∷ earlier) = deliveries_of end space n earlie
 -- ---- the wire
 
 -- a packet that was sent, as the log tells it
-pub record SentPacket : Type 0 where
+pub record LoggedPacket : Type 0 where
   pub from : End
   pub space : SpaceId
   pub number : ℕ
@@ -60,14 +60,14 @@ pub record SentPacket : Type 0 where
   pub items : List ℕ
 
 -- all packets that were sent, in the order of sending
-abbrev pub wire_of : PairLog → List SentPacket
+abbrev pub wire_of : PairLog → List LoggedPacket
 wire_of [] = []
 wire_of ((Send end there now bytes, Ok (Sent n told)) ∷ earlier) =
     wire_of earlier ++ record { from = end; space = there; number = n; size = bytes; items = told.items } ∷ []
 wire_of (event ∷ earlier) = wire_of earlier
 
 -- a packet has this position on it
-abbrev pub IsAt : List SentPacket → ℕ → SentPacket → Type 0
+abbrev pub IsAt : List LoggedPacket → ℕ → LoggedPacket → Type 0
 IsAt wire at packet = (at < length wire) × (get_or wire at packet ≡ packet)
 
 -- ---- what an end knows

@@ -19,7 +19,7 @@ use Rattle.recovery_pair.specs.declared.steps.End.{End}
 use Rattle.recovery_pair.specs.declared.steps.End.TheVariants.{Client, Server}
 use Rattle.recovery_pair.specs.declared.steps.WirePacket.{WirePacket}
 use Rattle.recovery_pair.specs.Frames.{IsSoundFrame}
-use Rattle.recovery_pair.specs.Logs.{PairLog, SentPacket, bytes_arrived, bytes_sent, deliveries_of, has_validated, numbers_at, other_end, sends_of, was_discarded, wire_of}
+use Rattle.recovery_pair.specs.Logs.{PairLog, LoggedPacket, bytes_arrived, bytes_sent, deliveries_of, has_validated, numbers_at, other_end, sends_of, was_discarded, wire_of}
 use Rattle.recovery_pair.specs.Waits.{AreQueued}
 use Rattle.recovery_pair.specs.Pasts.{Came, WasSentUnder, bytes_received, bytes_transmitted}
 
@@ -65,7 +65,7 @@ pub record IsOnWire (log : PairLog) (packet : WirePacket) : Type 0 where
       → (items : List ℕ) × (deliveries_of packet.from packet.space n log ≡ items ∷ [])
 
 -- as the log tells it
-abbrev pub sent_as : WirePacket → SentPacket
+abbrev pub sent_as : WirePacket → LoggedPacket
 sent_as packet = record {
   from = packet.from;
   space = packet.space;
@@ -81,7 +81,8 @@ abbrev pub validated_first : End → Bool → Bool
 validated_first Client validated = true
 validated_first Server validated = validated
 
--- what came to an end, what it discarded and validated, and no fewer bytes than it counts; it sent no more than it counts
+-- what came to an end, what it discarded and validated; at least the bytes that it counts as received, and at most
+-- those that it counts as transmitted
 pub record IsLogged {Q S M P : Type 0} (validated : Bool) (log : PairLog) (end : End) (first : Bool)
     (past : History Q S M P) : Type 0 where
   pub came : (space : SpaceId) → came_in space past ≡ numbers_at end space log

@@ -20,9 +20,9 @@ waiting_in space [] = 0
 waiting_in space (one ∷ all) = more_if (same_space one.space space) (waiting_in space all)
 
 -- a packet of the space has this place, or none waits
-abbrev pub IsPlaceOf : SpaceId → List Waiting → Option ℕ → Type 0
-IsPlaceOf space all None = waiting_in space all ≡ 0
-IsPlaceOf space all (Some at) =
+abbrev pub IsPlaceInQueue : SpaceId → List Waiting → Option ℕ → Type 0
+IsPlaceInQueue space all None = waiting_in space all ≡ 0
+IsPlaceInQueue space all (Some at) =
     (at < length all) × ((default : Waiting) → same_space (get_or all at default).space space ≡ true)
 
 module _ (old new : List Waiting) where

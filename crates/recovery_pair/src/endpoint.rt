@@ -3,7 +3,7 @@ ghost use Rattle.std.specs.Prelude.{◌≡◌, ◌+◌, ◌<◌, ◌≤◌, IfOk
 ghost use Rattle.std.specs.Vec.{vec_len, vec_capacity};
 ghost use Rattle.recovery_pair.specs.Pasts.{Continues, GoesOn, GoesOnQuietly};
 ghost use Rattle.recovery_pair.specs.Turns.{HearTurn, IsLocalAnswer, PackTurn, SendTurn, local_turn};
-ghost use Rattle.recovery_pair.specs.Waits.{GainsOne, HandWaits, IsPlaceOf, LocalWaits, LosesNone, LosesOne, PackWaits, SendWaits, waiting_in};
+ghost use Rattle.recovery_pair.specs.Waits.{GainsOne, HandWaits, IsPlaceInQueue, LocalWaits, LosesNone, LosesOne, PackWaits, SendWaits, waiting_in};
 
 use crate::calls::{
     AckToSend, NO_MEMORY, confirm, contents, copied, datagram, discard, end_acks, end_delay,
@@ -52,7 +52,7 @@ pub enum Outgoing {
 
 /// Returns the place of the items that wait longest to be sent in a space, if any.
 fn place_of(waiting: &[Waiting], space: SpaceId) -> Option<usize>
-    ensures { IsPlaceOf space waiting.now result }
+    ensures { IsPlaceInQueue space waiting.now result }
 {
     let mut at = 0;
     while at < waiting.len() {

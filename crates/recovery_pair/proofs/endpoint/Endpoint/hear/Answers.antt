@@ -3,7 +3,8 @@ use Rattle.recovery_pair.proofs.TurnLaws.{came_turn, heard_turn}
 use Rattle.recovery_pair.proofs.endpoint.Endpoint.hear.Goals as goal
 
 pub returns-in-Ok-Some-clause-goes : goal.returns-in-Ok-Some-clause-goes
-returns-in-Ok-Some-clause-goes g c = heard_turn c.args.packet.now c.in-Ok.items c.hear_ack-acked.result c.args.self.now.sender
+returns-in-Ok-Some-clause-goes g c = heard_turn c.args.packet.now c.in-Ok.items c.hear_ack-acked.result
+    c.args.self.now.sender
     c.datagram.new.sender c.hear.new.sender c.hear_ack-acked.new.sender c.plan_ack.new.self.sender
     (c.in-Ok.ensures ∙ c.deref.ensures.value) c.in-Ok-datagram.ensures
     (rw c.in-Ok-Some.field-0-is at c.in-Ok-Some.ensures) c.hear_ack-acked.ensures.goes c.hear_ack-acked.ensures.honest

@@ -15,9 +15,11 @@ returns-in-Ok-track-clause-goes g c =
       acks = refl;
       goes = quietly_sends c.args.space c.in-Ok-track.number c.args.self.now.sender c.contents.new.sender
           c.end_acks.new.self.sender c.contents.ensures (sends_quietly c.args.space c.in-Ok-track.number
-          c.contents.new.sender c.track.new.sender c.end_acks.new.self.sender c.in-Ok-track.ensures c.end_acks.ensures.goes);
+          c.contents.new.sender c.track.new.sender c.end_acks.new.self.sender c.in-Ok-track.ensures
+          c.end_acks.ensures.goes);
     }
 
 pub returns-in-Err-track-clause-goes : goal.returns-in-Err-track-clause-goes
-returns-in-Err-track-clause-goes g c = quietly_then c.args.self.now.sender c.contents.new.sender c.keep-in-Err-track.new.self.sender
+returns-in-Err-track-clause-goes g c = quietly_then c.args.self.now.sender c.contents.new.sender
+    c.keep-in-Err-track.new.self.sender
     c.contents.ensures (rw c.keep-in-Err-track.ensures.goes c.in-Err-track.ensures)

@@ -5,11 +5,15 @@ use Rattle.recovery_pair.proofs.pair.Pair.local.Goals as goal
 
 pub returns : goal.returns
 returns g c = step_keeps c.args.self.now.client.sender c.args.self.now.server.sender c.local_at.new.client.sender
-    c.local_at.new.server.sender c.args.self.now.wire.items c.args.self.now.wire.items c.args.self.now.client.waiting.items
-    c.args.self.now.server.waiting.items c.local_at.new.client.waiting.items c.local_at.new.server.waiting.items (Local c.args.end c.args.step) c.local_at.result
+    c.local_at.new.server.sender c.args.self.now.wire.items c.args.self.now.wire.items
+    c.args.self.now.client.waiting.items
+    c.args.self.now.server.waiting.items c.local_at.new.client.waiting.items c.local_at.new.server.waiting.items
+    (Local c.args.end c.args.step) c.local_at.result
     (local_step_at c.args.end c.args.step c.local_at.result
     c.args.self.now.client.sender c.args.self.now.server.sender c.local_at.new.client.sender
     c.local_at.new.server.sender c.args.self.now.wire.items c.local_at.ensures.goes c.local_at.ensures.answer)
     (local_queue c.args.end c.args.step c.local_at.result
-    (local_answer (Local c.args.end c.args.step) c.local_at.result c.local_at.ensures.answer) c.args.self.now.client.waiting.items
-    c.args.self.now.server.waiting.items c.local_at.new.client.waiting.items c.local_at.new.server.waiting.items c.local_at.ensures.waits)
+    (local_answer (Local c.args.end c.args.step) c.local_at.result c.local_at.ensures.answer)
+    c.args.self.now.client.waiting.items
+    c.args.self.now.server.waiting.items c.local_at.new.client.waiting.items c.local_at.new.server.waiting.items
+    c.local_at.ensures.waits)
