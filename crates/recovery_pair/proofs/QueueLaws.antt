@@ -1,5 +1,6 @@
 -- What was handed over was sent, or waits: step by step.
-use Rattle.std.proofs.Common.{◌≡◌, ℕ, ◌+◌, ◌≤◌, Bool, true, false, List, ◌∷◌, Result, Ok, refl, sym, subst, arith}
+use Rattle.std.proofs.Common.{◌≡◌, ℕ, ◌+◌, ◌≤◌, Bool, true, false, List, ◌∷◌, Result, Ok, Err, refl, sym, subst, arith}
+use Rattle.std.specs.Prelude.{IfOk}
 use Rattle.std.specs.Global.{Vec}
 use Rattle.recovery_base.specs.declared.below.SpaceId.{SpaceId}
 use Rattle.recovery_base.specs.Spaces.{same_space}
@@ -17,6 +18,7 @@ use Rattle.recovery_pair.specs.declared.steps.PairStep.{PairStep}
 use Rattle.recovery_pair.specs.declared.steps.PairStep.TheVariants.{Local, Send}
 use Rattle.recovery_pair.specs.declared.steps.WirePacket.{WirePacket}
 use Rattle.recovery_pair.specs.Logs.{PairEvent, PairLog, handed, other_end, sent_in}
+use Rattle.recovery_pair.specs.Promises.Locals.{AnswersLocally, IsLocalAnswer}
 use Rattle.recovery_pair.specs.Promises.Sends.{SendsWhatWaits}
 use Rattle.recovery_pair.specs.Runs.{StepKeeps}
 use Rattle.recovery_pair.specs.Turns.{TurnsAt}
@@ -88,12 +90,12 @@ pub step_keeps : {F Q R C K S M P : Type 0} {f : _} {c : _} {q : _} {m : _} {r :
     (client server client_after server_after : Sender F Q R C K S M P f c q m r) (wire wire_after : List WirePacket)
     (client_waits server_waits client_waits_after server_waits_after : List Waiting) (step : PairStep)
     (answer : Result PairAnswer SenderError)
-    → ExchangeKept client server wire step answer client_after server_after wire_after
+    → ExchangeKept client server wire step answer client_after server_after wire_after → AnswersLocally (step, answer)
     → QueueKept client_waits server_waits step answer client_waits_after server_waits_after
     → StepKeeps client server wire client_waits server_waits step answer client_after server_after wire_after
     client_waits_after server_waits_after
 step_keeps client server client_after server_after wire wire_after client_waits server_waits client_waits_after
-    server_waits_after step answer exchange queue validated log tied =
+    server_waits_after step answer exchange local queue validated log tied =
     let one = exchange validated log tied.ends in
     let two = queue log tied.own_waits tied.peer_waits in (
       record {
@@ -102,6 +104,7 @@ step_keeps client server client_after server_after wire wire_after client_waits 
         arrives = one.0.arrives;
         limited = one.0.limited;
         sends = two.0;
+        local = local;
       },
       record { ends = one.1; own_waits = two.1; peer_waits = two.2 },
     )
@@ -223,3 +226,8 @@ local_queue end step answer none =
       local_sends log end step answer none,
       local_here log end step answer old new waits queued,
     )) (λ log. handed_not log end step answer)
+
+pub local_known : (end : End) (step : LocalStep) (result : Result PairAnswer SenderError)
+    → IfOk result (IsLocalAnswer step) → AnswersLocally (Local end step, result)
+local_known end step (Ok answer) is = is
+local_known end step (Err refusal) is = tt

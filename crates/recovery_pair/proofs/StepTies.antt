@@ -25,6 +25,7 @@ use Rattle.recovery_pair.specs.declared.steps.Fate.TheVariants.{New, Dropped, Du
 use Rattle.recovery_pair.specs.declared.steps.PairAnswer.{PairAnswer}
 use Rattle.recovery_pair.specs.declared.steps.PairAnswer.TheVariants.{Arrived, Nothing, Sent}
 use Rattle.recovery_pair.specs.declared.steps.LocalStep.{LocalStep}
+use Rattle.recovery_pair.specs.declared.steps.LocalStep.TheVariants.{Expire, Late}
 use Rattle.recovery_pair.specs.declared.steps.PairStep.{PairStep}
 use Rattle.recovery_pair.specs.declared.steps.PairStep.TheVariants.{Arrive, Local, Send}
 use Rattle.recovery_pair.specs.declared.steps.WirePacket.{WirePacket}
@@ -33,10 +34,11 @@ use Rattle.recovery_pair.specs.Logs.{IsAt, PairEvent, PairLog, LoggedPacket, del
 use Rattle.recovery_pair.specs.Pasts.{AcksWithin, Continues, GoesOn, GoesOnQuietly, HearsNumber, IsHeardBy, SendsWithAck, EndTurn, WereSentUnder, hearing, leaving, quiet}
 use Rattle.recovery_pair.specs.Promises.Arrivals.{ArrivesAsSent, Delivers, IsArrival, IsFateBy, IsFirstDelivery}
 use Rattle.recovery_pair.specs.Promises.DeliveredOnce.{AcksDelivered}
+use Rattle.recovery_pair.specs.Promises.Locals.{IsLocalAnswer}
 use Rattle.recovery_pair.specs.Promises.NeverAccused.{NeverAccuses}
 use Rattle.recovery_pair.specs.Promises.Threefold.{ServerSendsThreefold}
 use Rattle.recovery_pair.specs.Tied.{Flows, HasPast, IsLogged, IsOnWire, IsTiedAt, Travels, sent_as}
-use Rattle.recovery_pair.specs.Turns.{HearTurn, HearsPacket, IsLocalAnswer, SendsPacket, TurnsAt, local_turn, reply_of}
+use Rattle.recovery_pair.specs.Turns.{HearTurn, HearsPacket, SendsPacket, TurnsAt, local_turn, reply_of}
 use Rattle.recovery_pair.proofs.GoingLaws.{quiet_none}
 use Rattle.recovery_pair.proofs.LogLaws.{Adds, IsNoPacket, IsNotLocal, arriving_adds, arriving_adds_not, idle_adds, local_adds, local_adds_not, local_moves, logged_on, sending_adds, sending_adds_not}
 use Rattle.recovery_pair.proofs.QuietLaws.{same_quietly}
@@ -642,11 +644,15 @@ module _ {F Q R C K S M P : Type 0} {f : _} {c : _} {q : _} {m : _} {r : _} (at 
 
 -- ---- something happens at one end
 
-pub local_answer : (step : PairStep) (result : Result PairAnswer SenderError) → IfOk result IsLocalAnswer
-    → IsNoPacket (step, result)
-local_answer step (Ok (Sent number items)) never = absurd never
-local_answer step (Ok (Arrived to space number size fate)) never = absurd never
-local_answer step result answer = tt
+pub local_answer : (end : End) (step : LocalStep) (result : Result PairAnswer SenderError)
+    → IfOk result (IsLocalAnswer step) → IsNoPacket (Local end step, result)
+local_answer end (Expire now) (Ok (Sent number items)) never = absurd never
+local_answer end (Expire now) (Ok (Arrived to space number size fate)) never = absurd never
+local_answer end (Late now) (Ok (Sent number items)) never = absurd never
+local_answer end (Late now) (Ok (Arrived to space number size fate)) never = absurd never
+local_answer end step (Ok (Sent number items)) never = absurd never
+local_answer end step (Ok (Arrived to space number size fate)) never = absurd never
+local_answer end step result answer = tt
 
 none_silent : (event : PairEvent) → IsNoPacket event → IsSilent event
 none_silent (step, Ok (Sent number items)) none = absurd none
@@ -660,11 +666,11 @@ local_arrives log end step result none = tt
 
 module _ {F Q R C K S M P : Type 0} {f : _} {c : _} {q : _} {m : _} {r : _} where
   local_step : (end : End) (step : LocalStep) (result : Result PairAnswer SenderError) (wire : List WirePacket)
-      → IfOk result IsLocalAnswer → (here there after : Sender F Q R C K S M P f c q m r)
+      → IfOk result (IsLocalAnswer step) → (here there after : Sender F Q R C K S M P f c q m r)
       → Continues (GoesOn (local_turn step result)) here after
       → StepKeepsAt end here there wire (Local end step) result after wire
   local_step end step result wire answer here there after goes validated log tied =
-      let none = local_answer (Local end step) result answer in
+      let none = local_answer end step result answer in
       silent_step end (Local end step) result (local_turn step result) (none_silent (Local end step, result) none)
       (local_moves log step result).heard (λ log. local_adds log end step result none)
       (λ log. local_adds_not log end step result none) wire here there after goes validated log tied
@@ -673,7 +679,7 @@ module _ {F Q R C K S M P : Type 0} {f : _} {c : _} {q : _} {m : _} {r : _} wher
   pub local_step_at : (end : End) (step : LocalStep) (result : Result PairAnswer SenderError)
       (client server client_after server_after : Sender F Q R C K S M P f c q m r) (wire : List WirePacket)
       → TurnsAt end (λ (old new : Sender F Q R C K S M P f c q m r). Continues (GoesOn (local_turn step result)) old
-      new) client server client_after server_after → IfOk result IsLocalAnswer
+      new) client server client_after server_after → IfOk result (IsLocalAnswer step)
       → ExchangeKept client server wire (Local end step) result client_after server_after wire
   local_step_at end step result client server client_after server_after wire turns answer =
       by_turn end

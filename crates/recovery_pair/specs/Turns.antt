@@ -101,9 +101,3 @@ module _ {F Q R C K S M P : Type 0} {f : _} {c : _} {q : _} {m : _} {r : _} (old
 abbrev pub TurnsAt : {A : Type 0} → End → (A → A → Type 0) → A → A → A → A → Type 0
 TurnsAt Client Turns client server client_after server_after = Turns client client_after × (server_after ≡ server)
 TurnsAt Server Turns client server client_after server_after = Turns server server_after × (client_after ≡ client)
-
--- it reports no packet
-abbrev pub IsLocalAnswer : PairAnswer → Type 0
-IsLocalAnswer (answer.Sent number items) = ⊥
-IsLocalAnswer (answer.Arrived to space number size fate) = ⊥
-IsLocalAnswer other = Unit {0}

@@ -2,7 +2,8 @@
 ghost use Rattle.std.specs.Prelude.{◌≡◌, ◌+◌, ◌<◌, ◌≤◌, IfOk, false, length, [], ◌∷◌, ◌++◌};
 ghost use Rattle.std.specs.Vec.{vec_len, vec_capacity};
 ghost use Rattle.recovery_pair.specs.Pasts.{Continues, GoesOn, GoesOnQuietly};
-ghost use Rattle.recovery_pair.specs.Turns.{HearTurn, IsLocalAnswer, PackTurn, SendTurn, local_turn};
+ghost use Rattle.recovery_pair.specs.Turns.{HearTurn, PackTurn, SendTurn, local_turn};
+ghost use Rattle.recovery_pair.specs.Promises.Locals.{IsDone, IsDoneOrNothing, IsLocalAnswer};
 ghost use Rattle.recovery_pair.specs.Waits.{GainsOne, HandWaits, IsPlaceInQueue, LocalWaits, LosesNone, LosesOne, PackWaits, SendWaits, waiting_in};
 
 use crate::calls::{
@@ -278,7 +279,7 @@ where
     /// Takes items that are to be delivered in one packet.
     fn hand(&mut self, space: SpaceId, items: Vec<u64>) -> Result<PairAnswer, SenderError>
         ensures goes { self.new.sender ≡ self.old.sender }
-        ensures answer { IfOk result IsLocalAnswer }
+        ensures answer { IfOk result IsDone }
         ensures waits { HandWaits self.old.waiting.items self.new.waiting.items space result }
     {
         match self.waiting.reserve(1) {
@@ -294,7 +295,7 @@ where
     pub(crate) fn local(&mut self, step: LocalStep) -> Result<PairAnswer, SenderError>
         ensures goes { Continues (GoesOn (local_turn step result)) self.old.sender
             self.new.sender }
-        ensures answer { IfOk result IsLocalAnswer }
+        ensures answer { IfOk result (IsLocalAnswer step) }
         ensures waits { LocalWaits self.old.waiting.items self.new.waiting.items step result }
     {
         match step {
@@ -326,7 +327,7 @@ where
     /// Requires an ACK at once if the ACK delay timer is due.
     fn end_delay(&mut self, now: Instant) -> PairAnswer
         ensures goes { Continues GoesOnQuietly self.old.sender self.new.sender }
-        ensures answer { IsLocalAnswer result }
+        ensures answer { IsDoneOrNothing result }
         ensures waits { self.new.waiting.items ≡ self.old.waiting.items }
     {
         let is_due = match self.late {

@@ -3,10 +3,11 @@ ghost use Rattle.std.specs.Prelude.{◌≡◌, ◌≤◌, [], ◌∷◌, IfOk};
 ghost use Rattle.recovery_base.specs.Units.{number_limit};
 ghost use Rattle.recovery_packet_numbers.specs.Skips.{IsSkips};
 ghost use Rattle.recovery_pair.specs.Pasts.{Continues, GoesOn};
+ghost use Rattle.recovery_pair.specs.Promises.Locals.{IsLocalAnswer};
 ghost use Rattle.recovery_pair.specs.Runs.{StepKeeps};
 ghost use Rattle.recovery_pair.specs.Tied.{IsTied};
 ghost use Rattle.recovery_pair.specs.Waits.{LocalWaits, LosesNone, SendWaits};
-ghost use Rattle.recovery_pair.specs.Turns.{HearTurn, IsLocalAnswer, SendTurn, TurnsAt, local_turn};
+ghost use Rattle.recovery_pair.specs.Turns.{HearTurn, SendTurn, TurnsAt, local_turn};
 
 use crate::calls::NO_MEMORY;
 use crate::endpoint::{Endpoint, Outgoing};
@@ -103,7 +104,7 @@ where
     R: Rng + Drop,
     ensures goes { TurnsAt end (λ old new. Continues (GoesOn (local_turn step result)) old new)
         client.old.sender server.old.sender client.new.sender server.new.sender }
-    ensures answer { IfOk result IsLocalAnswer }
+    ensures answer { IfOk result (IsLocalAnswer step) }
     ensures waits { TurnsAt end (λ old new. LocalWaits old new step result)
         client.old.waiting.items server.old.waiting.items client.new.waiting.items
         server.new.waiting.items }

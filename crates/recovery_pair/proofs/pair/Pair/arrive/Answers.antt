@@ -14,7 +14,7 @@ returns-in_default g c = step_keeps c.args.self.now.client.sender c.args.self.no
     c.args.self.now.server.sender c.args.self.now.wire.items c.args.self.now.wire.items refl tt tt
     (λ log listed. beyond c.args.self.now.wire.items log c.args.at c.args.now
     (rw (← c.deref.ensures.value) c.in_default.ensures.lookup.3) listed))
-    (same_queue (Arrive c.args.at c.args.now) (Ok Nothing) (λ log end. record {
+    tt (same_queue (Arrive c.args.at c.args.now) (Ok Nothing) (λ log end. record {
       handed_same = λ there. refl;
       sent_same = λ there. refl;
     }) (λ log. tt) c.args.self.now.client.waiting.items
@@ -33,7 +33,7 @@ returns-in-Ok g c = step_keeps c.args.self.now.client.sender c.args.self.now.ser
     (rw (← c.deref.ensures.value) c.in-Some.ensures.lookup.1) c.other-to.result c.in-Ok.fate
     c.args.self.now.client.sender c.args.self.now.server.sender c.hear_at.new.client.sender
     c.hear_at.new.server.sender c.other-to.ensures c.in-Ok.ensures.goes)
-    (still_queue c.other-to.result (Arrive c.args.at c.args.now) (Ok (Arrived c.other-to.result
+    tt (still_queue c.other-to.result (Arrive c.args.at c.args.now) (Ok (Arrived c.other-to.result
     c.in-Some.packet.now.space c.in-Some.packet.now.number c.in-Some.packet.now.size c.in-Ok.fate))
     (λ log end. record { handed_same = λ there. refl; sent_same = λ there. refl }) (λ log. tt)
     c.args.self.now.client.waiting.items
@@ -51,7 +51,7 @@ returns-in-Err g c = step_keeps c.args.self.now.client.sender c.args.self.now.se
     c.args.self.now.client.sender c.args.self.now.server.sender c.hear_at.new.client.sender
     c.hear_at.new.server.sender c.args.self.now.wire.items c.args.self.now.wire.items refl tt tt
     (λ log listed. tt) c.in-Err.ensures.goes)
-    (still_queue c.other-to.result (Arrive c.args.at c.args.now) (Err c.in-Err.refused) (λ log end. record {
+    tt (still_queue c.other-to.result (Arrive c.args.at c.args.now) (Err c.in-Err.refused) (λ log end. record {
       handed_same = λ there. refl;
       sent_same = λ there. refl;
     }) (λ log. tt) c.args.self.now.client.waiting.items

@@ -19,7 +19,7 @@ returns-in-Ok-Sent g c = step_keeps c.args.self.now.client.sender c.args.self.no
     c.send_from.new.server.sender c.args.self.now.wire.items c.push_reserved.new.self.items
     (rw c.in-Ok.ensures.items at c.push_reserved.ensures.items)
     (rw c.in-Ok-Sent.field-0-is at c.in-Ok-Sent.ensures.goes))
-    (sent_queue c.args.end c.args.space c.args.now c.args.size c.in-Ok-Sent.packet.number c.in-Ok-Sent.items
+    tt (sent_queue c.args.end c.args.space c.args.now c.args.size c.in-Ok-Sent.packet.number c.in-Ok-Sent.items
     c.args.self.now.client.waiting.items
     c.args.self.now.server.waiting.items c.send_from.new.client.waiting.items c.send_from.new.server.waiting.items
     (rw c.in-Ok-Sent.field-0-is at c.in-Ok-Sent.ensures.waits))
@@ -35,7 +35,7 @@ returns-in-Ok-Nothing g c = step_keeps c.args.self.now.client.sender c.args.self
     c.args.self.now.client.sender c.args.self.now.server.sender
     c.send_from.new.client.sender c.send_from.new.server.sender c.args.self.now.wire.items c.reserve.new.self.items
     c.in-Ok.ensures.items tt tt (λ log listed. tt) (rw c.in-Ok-Nothing.field-0-is at c.in-Ok-Nothing.ensures.goes))
-    (nothing_queue c.args.end c.args.space c.args.now c.args.size c.args.self.now.client.waiting.items
+    tt (nothing_queue c.args.end c.args.space c.args.now c.args.size c.args.self.now.client.waiting.items
     c.args.self.now.server.waiting.items c.send_from.new.client.waiting.items c.send_from.new.server.waiting.items
     (rw c.in-Ok-Nothing.field-0-is at c.in-Ok-Nothing.ensures.waits))
 
@@ -50,7 +50,7 @@ returns-in-Ok-Held g c = step_keeps c.args.self.now.client.sender c.args.self.no
     c.args.self.now.client.sender c.args.self.now.server.sender
     c.send_from.new.client.sender c.send_from.new.server.sender c.args.self.now.wire.items c.reserve.new.self.items
     c.in-Ok.ensures.items tt tt (λ log listed. tt) (rw c.in-Ok-Held.field-0-is at c.in-Ok-Held.ensures.goes))
-    (still_queue c.args.end (Send c.args.end c.args.space c.args.now c.args.size) (Ok (Held c.in-Ok-Held.held))
+    tt (still_queue c.args.end (Send c.args.end c.args.space c.args.now c.args.size) (Ok (Held c.in-Ok-Held.held))
     (λ log end. record { handed_same = λ there. refl; sent_same = λ there. refl }) (λ log. tt)
     c.args.self.now.client.waiting.items
     c.args.self.now.server.waiting.items c.send_from.new.client.waiting.items c.send_from.new.server.waiting.items
@@ -67,7 +67,7 @@ returns-in-Ok-Failed g c = step_keeps c.args.self.now.client.sender c.args.self.
     c.args.self.now.client.sender c.args.self.now.server.sender
     c.send_from.new.client.sender c.send_from.new.server.sender c.args.self.now.wire.items c.reserve.new.self.items
     c.in-Ok.ensures.items tt tt (λ log listed. tt) (rw c.in-Ok-Failed.field-0-is at c.in-Ok-Failed.ensures.goes))
-    (still_queue c.args.end (Send c.args.end c.args.space c.args.now c.args.size) (Ok (Failed c.in-Ok-Failed.refused))
+    tt (still_queue c.args.end (Send c.args.end c.args.space c.args.now c.args.size) (Ok (Failed c.in-Ok-Failed.refused))
     (λ log end. record { handed_same = λ there. refl; sent_same = λ there. refl }) (λ log. tt)
     c.args.self.now.client.waiting.items
     c.args.self.now.server.waiting.items c.send_from.new.client.waiting.items c.send_from.new.server.waiting.items
@@ -84,7 +84,7 @@ returns-in-Err-send_from g c = step_keeps c.args.self.now.client.sender c.args.s
     c.args.self.now.client.sender c.args.self.now.server.sender
     c.send_from.new.client.sender c.send_from.new.server.sender c.args.self.now.wire.items c.reserve.new.self.items
     c.in-Ok.ensures.items tt tt (λ log listed. tt) c.in-Err-send_from.ensures.goes)
-    (still_queue c.args.end (Send c.args.end c.args.space c.args.now c.args.size) (Err c.in-Err-send_from.refused)
+    tt (still_queue c.args.end (Send c.args.end c.args.space c.args.now c.args.size) (Err c.in-Err-send_from.refused)
     (λ log end. record { handed_same = λ there. refl; sent_same = λ there. refl }) (λ log. tt)
     c.args.self.now.client.waiting.items
     c.args.self.now.server.waiting.items c.send_from.new.client.waiting.items c.send_from.new.server.waiting.items
@@ -99,7 +99,7 @@ returns-in-Err g c = step_keeps c.args.self.now.client.sender c.args.self.now.se
     c.args.self.now.client.sender
     c.args.self.now.server.sender c.args.self.now.wire.items c.reserve.new.self.items c.in-Err.ensures.items tt tt
     (λ log listed. tt))
-    (same_queue (Send c.args.end c.args.space c.args.now c.args.size) (Err (Event NoMemory)) (λ log end. record {
+    tt (same_queue (Send c.args.end c.args.space c.args.now c.args.size) (Err (Event NoMemory)) (λ log end. record {
       handed_same = λ there. refl;
       sent_same = λ there. refl;
     }) (λ log. tt) c.args.self.now.client.waiting.items
