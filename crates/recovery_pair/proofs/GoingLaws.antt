@@ -25,7 +25,7 @@ use Rattle.recovery_history.specs.Promises.Tracked.{goes_out}
 use Rattle.recovery_history.proofs.TrackedLaws.{one_space}
 use Rattle.recovery_sender.specs.declared.sender.SenderError.{SenderError}
 use Rattle.recovery_sender.specs.declared.sender.SenderError.TheVariants as refused
-use Rattle.recovery_pair.specs.Pasts.{Came, GoesOn, GoesOnQuietly, HearsNumber, IsHeardBy, SendsNumber, Turn, WasSentUnder, arriving, bytes_received, bytes_transmitted, came_by, discarding, hearing, is_of, leaving, quiet, validating, with_number}
+use Rattle.recovery_pair.specs.Pasts.{Came, GoesOn, GoesOnQuietly, HearsNumber, IsHeardBy, SendsNumber, EndTurn, WasSentUnder, arriving, bytes_received, bytes_transmitted, came_by, discarding, hearing, is_of, leaving, quiet, validating, with_number}
 
 -- it is no receipt, no datagram, and changes neither spaces nor paths
 abbrev pub IsQuietEvent : {Q S M P : Type 0} → Event Q S M P → Type 0
@@ -124,7 +124,7 @@ pub no_less : (a b : ℕ) → a ≡ b → 0 + a ≤ b
 no_less a b same = omega (arith, same)
 
 module _ {Q S M P : Type 0} where
-  pub came_on : (turn : Turn) (past after : History Q S M P) → GoesOn turn past after → (space : SpaceId) (n : ℕ)
+  pub came_on : (turn : EndTurn) (past after : History Q S M P) → GoesOn turn past after → (space : SpaceId) (n : ℕ)
       → Came space n past → Came space n after
   came_on turn past after goes space n is =
       rw (goes.came space) (member_with space n turn.came (came_in space past) is)
@@ -156,7 +156,7 @@ module _ {Q S M P : Type 0} where
 
   -- ---- one event after another
 
-  module _ (turn : Turn) (past between after : History Q S M P) where
+  module _ (turn : EndTurn) (past between after : History Q S M P) where
     pub quiet_then : GoesOnQuietly past between → GoesOn turn between after → GoesOn turn past after
     quiet_then first second = record {
       given = λ space n is. second.given space n (first.given space n is);

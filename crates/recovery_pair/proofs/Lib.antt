@@ -4,8 +4,10 @@ pub mod HonestLaws
 pub mod LogLaws
 pub mod NewLaws
 pub mod PacketLaws
+pub mod QueueLaws
 pub mod QuietLaws
 pub mod RunLaws
 pub mod StepTies
 pub mod TieLaws
 pub mod TurnLaws
+pub mod WaitLaws

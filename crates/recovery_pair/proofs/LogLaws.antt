@@ -15,13 +15,13 @@ use Rattle.recovery_pair.specs.declared.steps.PairAnswer.TheVariants.{Arrived, D
 use Rattle.recovery_pair.specs.declared.steps.PairStep.{PairStep}
 use Rattle.recovery_pair.specs.declared.steps.PairStep.TheVariants.{Arrive, Local, Send}
 use Rattle.recovery_pair.specs.Logs.{PairEvent, PairLog, bytes_arrived, bytes_sent, has_validated, numbers_at, other_end, was_discarded}
-use Rattle.recovery_pair.specs.Pasts.{GoesOn, Turn, hearing, is_of, leaving, quiet, with_number}
+use Rattle.recovery_pair.specs.Pasts.{GoesOn, EndTurn, hearing, is_of, leaving, quiet, with_number}
 use Rattle.recovery_pair.specs.Tied.{IsLogged, validated_first}
 use Rattle.recovery_pair.specs.Turns.{local_turn, reply_of}
 use Rattle.recovery_pair.proofs.GoingLaws.{at_most, no_less, no_more}
 
 -- a step adds this to what the log tells of an end
-pub record Adds (turn : Turn) (end : End) (event : PairEvent) (log : PairLog) : Type 0 where
+pub record Adds (turn : EndTurn) (end : End) (event : PairEvent) (log : PairLog) : Type 0 where
   pub came : (space : SpaceId) → numbers_at end space (event ∷ log) ≡ with_number space turn.came (numbers_at end space
       log)
   pub discarded : (space : SpaceId) → was_discarded end space (event ∷ log)
@@ -32,7 +32,7 @@ pub record Adds (turn : Turn) (end : End) (event : PairEvent) (log : PairLog) : 
   pub left : bytes_sent end (event ∷ log) ≤ turn.leaves + bytes_sent end log
 
 pub logged_on : {Q S M P : Type 0} (validated : Bool) (log : PairLog) (event : PairEvent) (end : End) (first : Bool)
-    (turn : Turn) (past after : History Q S M P) → Adds turn end event log → GoesOn turn past after
+    (turn : EndTurn) (past after : History Q S M P) → Adds turn end event log → GoesOn turn past after
     → IsLogged validated log end first past → IsLogged validated (event ∷ log) end first after
 logged_on validated log event end first turn past after adds goes logged = record {
   came = λ space. goes.came space ∙ ap (with_number space turn.came) (logged.came space) ∙ sym (adds.came space);
@@ -215,7 +215,7 @@ module _ (log : PairLog) where
   validates_there end step answer first = refl
 
   -- it moves no packet
-  pub record MovesNone (turn : Turn) : Type 0 where
+  pub record MovesNone (turn : EndTurn) : Type 0 where
     pub came : turn.came ≡ None
     pub heard : turn.heard ≡ None
     pub arrives : turn.arrives ≡ 0

@@ -1,5 +1,5 @@
 -- New ends: nothing was sent or received.
-use Rattle.std.proofs.Common.{◌≡◌, ℕ, ◌-◌, ◌⊎◌, ◌||◌, inl, inr, Bool, true, false, [], Some, refl, ◌∙◌}
+use Rattle.std.proofs.Common.{◌≡◌, ℕ, ◌-◌, ◌⊎◌, ◌||◌, inl, inr, Bool, true, false, List, [], Some, arith, refl, ◌∙◌}
 use Rattle.rand_core.specs.Stream.{Stream}
 use Rattle.recovery_base.specs.declared.below.SpaceId.{SpaceId}
 use Rattle.recovery_history.specs.History.{History, begins, queue_model}
@@ -11,6 +11,7 @@ use Rattle.recovery_losses.specs.declared.variables.Side.TheVariants as side
 use Rattle.recovery_sender.specs.Senders.{state_in}
 use Rattle.recovery_sender.specs.Calls.{IsNewSender, config_of}
 use Rattle.recovery_sender.specs.declared.sender.Sender.{Sender}
+use Rattle.recovery_pair.specs.declared.endpoint.Waiting.{Waiting}
 use Rattle.recovery_pair.specs.declared.steps.End.{End}
 use Rattle.recovery_pair.specs.declared.steps.End.TheVariants.{Client, Server}
 use Rattle.recovery_pair.specs.Pasts.{GoesOnQuietly, quiet}
@@ -73,31 +74,38 @@ module _ {F Q R C K S M P : Type 0} {f : _} {c : _} {q : _} {m : _} {r : _} wher
 
   pub new_tied : (config others : RecoveryConfig F) (start : ℕ) (random words : Stream)
       (client server : Sender F Q R C K S M P f c q m r) → IsNewSender side.Client config start random client
-      → IsNewSender side.Server others start words server → IsTied others.validated [] client server []
-  new_tied config others start random words client server one two =
+      → IsNewSender side.Server others start words server → (client_waits server_waits : List Waiting)
+      → client_waits ≡ [] → server_waits ≡ []
+      → IsTied others.validated [] client server [] client_waits server_waits
+  new_tied config others start random words client server one two client_waits server_waits none no_more =
       let own = starts_empty side.Client config start random client one in
       let peer = starts_empty side.Server others start words server two in
       record {
-        own = record {
-          config = config_of side.Client config;
-          start = own.start;
-          random = own.random;
-          past = own.past;
-          came = own.came;
-        };
-        peer = record {
-          config = config_of side.Server others;
-          start = peer.start;
-          random = peer.random;
-          past = peer.past;
-          came = peer.came;
-        };
-        out = new_flows Client own.past peer.past peer.goes;
-        back = new_flows Server peer.past own.past own.goes;
-        logged = new_logged others.validated Client (config.validated || true) own.past
-            (client_first config.validated others.validated) own.goes;
-        peer_logged = new_logged others.validated Server (others.validated || false) peer.past
-            (server_first others.validated) peer.goes;
-        listed = refl;
-        wired = tt;
+        ends =
+            record {
+              own = record {
+                config = config_of side.Client config;
+                start = own.start;
+                random = own.random;
+                past = own.past;
+                came = own.came;
+              };
+              peer = record {
+                config = config_of side.Server others;
+                start = peer.start;
+                random = peer.random;
+                past = peer.past;
+                came = peer.came;
+              };
+              out = new_flows Client own.past peer.past peer.goes;
+              back = new_flows Server peer.past own.past own.goes;
+              logged = new_logged others.validated Client (config.validated || true) own.past
+                  (client_first config.validated others.validated) own.goes;
+              peer_logged = new_logged others.validated Server (others.validated || false) peer.past
+                  (server_first others.validated) peer.goes;
+              listed = refl;
+              wired = tt;
+            };
+        own_waits = λ space. omega arith;
+        peer_waits = λ space. omega arith;
       }

@@ -1,14 +1,14 @@
 -- The calls by which a packet is sent or received.
 use Rattle.std.proofs.Common.{◌≡◌, ℕ, ◌==◌, ◌&&◌, Bool, true, false, [], ◌∷◌, Option, Result, Ok, Err, sym, subst, arith}
-use Rattle.std.specs.Prelude.{IfOk, MatchResult, OnErr, OnOk}
+use Rattle.std.specs.Prelude.{IfOk, OnErr, OnOk}
 use Rattle.std.proofs.lemmas.Bool.Decides.{nat_tests}
 use Rattle.rand_core.specs.Stream.{Stream}
 use Rattle.recovery_base.specs.declared.below.SpaceId.{SpaceId}
 use Rattle.recovery_base.specs.Spaces.{same_space}
 use Rattle.recovery_events.specs.declared.event.Answer.{Answer}
-use Rattle.recovery_events.specs.declared.event.Answer.TheVariants.{Delayed, Done, New, Sent, Transmitted}
+use Rattle.recovery_events.specs.declared.event.Answer.TheVariants.{Done, New, Sent}
 use Rattle.recovery_events.specs.declared.event.Event.{Event}
-use Rattle.recovery_events.specs.declared.event.Event.TheVariants.{DatagramIn, DiscardSpace, Received, Send, Transmit, Validated}
+use Rattle.recovery_events.specs.declared.event.Event.TheVariants.{Received, Send}
 use Rattle.recovery_losses.specs.declared.variables.Variables.{Variables}
 use Rattle.recovery_history.specs.declared.config.RecoveryConfig.{RecoveryConfig}
 use Rattle.recovery_history.specs.History.{History, Reply, begins, queue_model}
@@ -22,10 +22,9 @@ use Rattle.recovery_sender.specs.declared.sender.SenderError.{SenderError}
 use Rattle.recovery_sender.specs.declared.sender.SenderError.TheVariants as refused
 use Rattle.recovery_sender.specs.declared.sender.packets.Transmission.{Transmission}
 use Rattle.recovery_sender.specs.declared.sender.packets.Transmission.TheVariants as transmission
-use Rattle.recovery_paths.specs.declared.path_pair.PathName.TheVariants.{Current}
-use Rattle.recovery_pair.specs.Pasts.{Continues, GoesOn, GoesOnQuietly, HearsNumber, SendsNumber, arm_told, arriving, discarding, heard_of, leaving, quiet, validating}
-use Rattle.recovery_pair.specs.Turns.{DatagramTurn, TransmitTurn}
-use Rattle.recovery_pair.proofs.GoingLaws.{arrives_event, delayed_event, discards_event, dropped_event, hears_event, hears_then_quiet, known_event, leaves_event, same_itself, sends_event, sends_then_quiet, then_quiet, validates_event}
+use Rattle.recovery_pair.specs.Pasts.{Continues, EndTurn, GoesOn, GoesOnQuietly, HearsNumber, SendsNumber, arm_told, heard_of, leaving, quiet}
+use Rattle.recovery_pair.specs.Turns.{TransmitTurn, TriesTurn}
+use Rattle.recovery_pair.proofs.GoingLaws.{delayed_event, dropped_event, hears_event, hears_then_quiet, known_event, leaves_event, same_itself, sends_event, sends_then_quiet, then_quiet}
 use Rattle.recovery_pair.proofs.QuietLaws.{call_quietly, rearms_quietly, same_quietly}
 
 it_goes : (space : SpaceId) (n : ℕ) → (same_space space space && n == n) ≡ true
@@ -127,36 +126,28 @@ module _ {F Q R C K S M P : Type 0} {f : _} {c : _} {q : _} {m : _} {r : _} wher
       → IfOk result (λ sent. CompletesCall (transmit_steps now bytes checked sent) kept old new)
       → OnErr result (new ≡ old) → TransmitTurn old new bytes result
   may_transmit now bytes checked kept old new (Ok transmission.Transmitted) does same =
-      call_goes (Transmit now bytes checked) (Ok Transmitted) (GoesOn (leaving bytes)) (then_quiet (leaving bytes))
-      kept old new does (λ config start random past keeps. leaves_event past now bytes checked)
+      call_goes _ _ (GoesOn (leaving bytes)) (then_quiet (leaving bytes)) kept old new does
+      (λ config start random past keeps. leaves_event past now bytes checked)
   may_transmit now bytes checked kept old new (Ok (transmission.Delayed until)) does same =
-      call_goes (Transmit now bytes checked) (Ok (Delayed until)) GoesOnQuietly (then_quiet quiet)
-      kept old new does (λ config start random past keeps. delayed_event past now bytes until checked)
+      call_goes _ _ GoesOnQuietly (then_quiet quiet) kept old new does
+      (λ config start random past keeps. delayed_event past now bytes until checked)
   may_transmit now bytes checked kept old new (Ok other) does same = call_quietly [] kept old new does tt
   may_transmit now bytes checked kept old new (Err refusal) does same = same_quietly old new same
 
-  pub receives : (bytes : ℕ) (kept : Variables) (old new : Sender F Q R C K S M P f c q m r)
-      (result : Result (Unit {0}) SenderError)
-      → OnOk result (CompletesCall (told (DatagramIn Current bytes) (Ok Done) ∷ []) kept old new)
-      → OnErr result (new ≡ old) → DatagramTurn old new bytes result
-  receives bytes kept old new (Ok done) does same =
-      call_goes (DatagramIn Current bytes) (Ok Done) (GoesOn (arriving bytes)) (then_quiet (arriving bytes)) kept old
-      new does (λ config start random past keeps. arrives_event past bytes Done)
-  receives bytes kept old new (Err refusal) does same = same_quietly old new same
+  -- a call that is one event
+  pub makes_event : (event : Event Q S M P) (turn : EndTurn) (kept : Variables)
+      (old new : Sender F Q R C K S M P f c q m r)
+      → ((past : History Q S M P) → GoesOn turn past ((event, Ok Done) ∷ past))
+      → CompletesCall (told event (Ok Done) ∷ []) kept old new → Continues (GoesOn turn) old new
+  makes_event event turn kept old new each does =
+      call_goes event (Ok Done) (GoesOn turn) (then_quiet turn) kept old new does
+      (λ config start random past keeps. each past)
 
-  pub discards : (space : SpaceId) (kept : Variables) (old new : Sender F Q R C K S M P f c q m r)
-      (result : Result (Unit {0}) SenderError)
-      → OnOk result (CompletesCall (told (DiscardSpace space) (Ok Done) ∷ []) kept old new)
-      → OnErr result (new ≡ old)
-      → MatchResult result (λ done. Continues (GoesOn (discarding space)) old new)
-      (λ refusal. Continues GoesOnQuietly old new)
-  discards space kept old new (Ok done) does same =
-      call_goes (DiscardSpace space) (Ok Done) (GoesOn (discarding space)) (then_quiet (discarding space)) kept old
-      new does (λ config start random past keeps. discards_event past space Done)
-  discards space kept old new (Err refusal) does same = same_quietly old new same
-
-  pub validates : (kept : Variables) (old new : Sender F Q R C K S M P f c q m r)
-      → CompletesCall (told (Validated Current) (Ok Done) ∷ []) kept old new → Continues (GoesOn validating) old new
-  validates kept old new does =
-      call_goes (Validated Current) (Ok Done) (GoesOn validating) (then_quiet validating) kept old new does
-      (λ config start random past keeps. validates_event past Done)
+  -- or fails, and changes nothing
+  pub tries_event : (event : Event Q S M P) (turn : EndTurn) (kept : Variables)
+      (old new : Sender F Q R C K S M P f c q m r) (result : Result (Unit {0}) SenderError)
+      → ((past : History Q S M P) → GoesOn turn past ((event, Ok Done) ∷ past))
+      → OnOk result (CompletesCall (told event (Ok Done) ∷ []) kept old new) → OnErr result (new ≡ old)
+      → TriesTurn turn old new result
+  tries_event event turn kept old new (Ok done) each does same = makes_event event turn kept old new each does
+  tries_event event turn kept old new (Err refusal) each does same = same_quietly old new same

@@ -103,8 +103,12 @@ module _ {F K Q S M P : Type 0} (built : F → ℕ → ℕ → K) (words : Contr
       (past, subst (λ (at : RecoveryState K P M). ReachedBy beginning past at) (sym leads) came, quiet_none past)
   leads_quietly (told event reply ∷ steps) old new calm leads past came =
       let one = leads.2 config start random past came in
-      let rest = leads_quietly steps leads.0 new calm.1 leads.3 ((event, reply) ∷ past) one.came in
-      (rest.0, rest.1, quiet_then quiet past ((event, reply) ∷ past) rest.0 (quiet_event past event reply calm.0) rest.2)
+      let rest = leads_quietly steps leads.0 new calm.1 leads.3 ((event, reply) ∷ past) one.came in (
+        rest.0,
+        rest.1,
+        quiet_then quiet past ((event, reply) ∷ past) rest.0 (quiet_event past event reply calm.0)
+            rest.2,
+      )
   leads_quietly (occurs event ∷ steps) old new calm leads past came =
       let one = leads.3 config start random past came in
       let rest = leads_quietly steps leads.1 new calm.1 leads.4 ((event, Ok leads.0) ∷ past) one.came in (

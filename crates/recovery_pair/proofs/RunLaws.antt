@@ -3,6 +3,7 @@ use Rattle.std.proofs.Common.{◌≡◌, Bool, List, [], ◌∷◌, Result, ap}
 use Rattle.recovery_events.specs.Feeding.{TakesAll}
 use Rattle.recovery_sender.specs.declared.sender.Sender.{Sender}
 use Rattle.recovery_sender.specs.declared.sender.SenderError.{SenderError}
+use Rattle.recovery_pair.specs.declared.endpoint.Waiting.{Waiting}
 use Rattle.recovery_pair.specs.declared.steps.PairAnswer.{PairAnswer}
 use Rattle.recovery_pair.specs.declared.steps.PairStep.{PairStep}
 use Rattle.recovery_pair.specs.declared.steps.WirePacket.{WirePacket}
@@ -12,14 +13,17 @@ use Rattle.recovery_pair.specs.Tied.{IsTied}
 
 module _ {F Q R C K S M P : Type 0} {f : _} {c : _} {q : _} {m : _} {r : _} {A T : Type 0}
     (takes : T → Result PairAnswer SenderError → T → Type 0) (took : A → PairStep → A → Type 0)
-    (client server : A → Sender F Q R C K S M P f c q m r) (wire : A → List WirePacket) (sink : A → T)
+    (client server : A → Sender F Q R C K S M P f c q m r) (wire : A → List WirePacket)
+    (client_waits server_waits : A → List Waiting) (sink : A → T)
     (each : (old : A) (step : PairStep) (new : A) → took old step new
-    → PairStepIntoSink (client old) (server old) (wire old) takes (sink old) step (client new) (server new) (wire new)
-    (sink new)) where
+    → PairStepIntoSink (client old) (server old) (wire old) (client_waits old) (server_waits old) takes (sink old) step
+    (client new) (server new) (wire new) (client_waits new) (server_waits new) (sink new)) where
   abbrev Along : List PairStep → List (Result PairAnswer SenderError) → A → A → Type 0
   Along steps answers old new = (validated : Bool) (log : PairLog)
-      → IsTied validated log (client old) (server old) (wire old) → HoldAlong validated log steps answers
-      × IsTied validated (log_after log steps answers) (client new) (server new) (wire new)
+      → IsTied validated log (client old) (server old) (wire old) (client_waits old) (server_waits old)
+      → HoldAlong validated log steps answers
+      × IsTied validated (log_after log steps answers) (client new) (server new) (wire new) (client_waits new)
+      (server_waits new)
 
   same_along : (old new : A) → new ≡ old → Along [] [] old new
   same_along old new same validated log tied = rw same (tt, tied)
@@ -41,8 +45,9 @@ module _ {F Q R C K S M P : Type 0} {f : _} {c : _} {q : _} {m : _} {r : _} {A T
 
   pub along_source : (AreGiven : List PairStep → Type 0) (steps : List PairStep) (old new : A) → AreGiven steps
       → TakesAll took old steps new
-      → StepsOverSource (client old) (server old) (wire old) AreGiven
-      (λ all. TakesAll takes (sink old) all (sink new)) (client new) (server new) (wire new)
+      → StepsOverSource (client old) (server old) (wire old) (client_waits old) (server_waits old) AreGiven
+      (λ all. TakesAll takes (sink old) all (sink new)) (client new) (server new) (wire new) (client_waits new)
+      (server_waits new)
   along_source AreGiven steps old new given is =
       let all = along steps old new is in
       record { steps = steps; answers = all.0; given = given; taken = all.1; keeps = all.2 }

@@ -25,20 +25,20 @@ use Rattle.recovery_pair.specs.declared.steps.Fate.TheVariants.{New, Dropped, Du
 use Rattle.recovery_pair.specs.declared.steps.PairAnswer.{PairAnswer}
 use Rattle.recovery_pair.specs.declared.steps.PairAnswer.TheVariants.{Arrived, Nothing, Sent}
 use Rattle.recovery_pair.specs.declared.steps.LocalStep.{LocalStep}
+use Rattle.recovery_pair.specs.declared.steps.LocalStep.TheVariants.{Expire, Late}
 use Rattle.recovery_pair.specs.declared.steps.PairStep.{PairStep}
 use Rattle.recovery_pair.specs.declared.steps.PairStep.TheVariants.{Arrive, Local, Send}
 use Rattle.recovery_pair.specs.declared.steps.WirePacket.{WirePacket}
 use Rattle.recovery_pair.specs.Frames.{IsSoundFrame}
-use Rattle.recovery_pair.specs.Logs.{IsAt, PairEvent, PairLog, SentPacket, deliveries_of, numbers_at, other_end, sends_of, was_discarded, wire_of}
-use Rattle.recovery_pair.specs.Pasts.{AcksWithin, Continues, GoesOn, GoesOnQuietly, HearsNumber, IsHeardBy, SendsWithAck, Turn, WereSentUnder, hearing, leaving, quiet}
-use Rattle.recovery_pair.specs.Promises.{KeepsPromises}
-use Rattle.recovery_pair.specs.Promises.Arrivals.{ArrivesAsSent, Delivers, IsArrival, IsFateBy, IsFirst}
+use Rattle.recovery_pair.specs.Logs.{IsAt, PairEvent, PairLog, LoggedPacket, deliveries_of, numbers_at, other_end, sends_of, was_discarded, wire_of}
+use Rattle.recovery_pair.specs.Pasts.{AcksWithin, Continues, GoesOn, GoesOnQuietly, HearsNumber, IsHeardBy, SendsWithAck, EndTurn, WereSentUnder, hearing, leaving, quiet}
+use Rattle.recovery_pair.specs.Promises.Arrivals.{ArrivesAsSent, Delivers, IsArrival, IsFateBy, IsFirstDelivery}
 use Rattle.recovery_pair.specs.Promises.DeliveredOnce.{AcksDelivered}
+use Rattle.recovery_pair.specs.Promises.Locals.{IsLocalAnswer}
 use Rattle.recovery_pair.specs.Promises.NeverAccused.{NeverAccuses}
 use Rattle.recovery_pair.specs.Promises.Threefold.{ServerSendsThreefold}
-use Rattle.recovery_pair.specs.Runs.{StepKeeps}
 use Rattle.recovery_pair.specs.Tied.{Flows, HasPast, IsLogged, IsOnWire, IsTiedAt, Travels, sent_as}
-use Rattle.recovery_pair.specs.Turns.{HearTurn, HearsPacket, IsLocalAnswer, SendsPacket, TurnsAt, local_turn, reply_of}
+use Rattle.recovery_pair.specs.Turns.{HearTurn, HearsPacket, SendsPacket, TurnsAt, local_turn, reply_of}
 use Rattle.recovery_pair.proofs.GoingLaws.{quiet_none}
 use Rattle.recovery_pair.proofs.LogLaws.{Adds, IsNoPacket, IsNotLocal, arriving_adds, arriving_adds_not, idle_adds, local_adds, local_adds_not, local_moves, logged_on, sending_adds, sending_adds_not}
 use Rattle.recovery_pair.proofs.QuietLaws.{same_quietly}
@@ -56,6 +56,13 @@ which Client Server = inr refl
 which Server Client = inr refl
 which Server Server = inl refl
 
+-- what is promised of packets
+pub record KeepsExchange (validated : Bool) (log : PairLog) (event : PairEvent) : Type 0 where
+  pub honest : NeverAccuses event
+  pub delivered : AcksDelivered log event
+  pub arrives : ArrivesAsSent log event
+  pub limited : ServerSendsThreefold validated (event ∷ log)
+
 -- ---- one end makes a step, the other does nothing
 
 module _ {F Q R C K S M P : Type 0} {f : _} {c : _} {q : _} {m : _} {r : _} where
@@ -63,8 +70,16 @@ module _ {F Q R C K S M P : Type 0} {f : _} {c : _} {q : _} {m : _} {r : _} wher
       → List WirePacket → PairStep → Result PairAnswer SenderError → Sender F Q R C K S M P f c q m r
       → List WirePacket → Type 0
   StepKeepsAt end here there wire step answer after wire_after = (validated : Bool) (log : PairLog)
-      → IsTiedAt validated end log here there wire → KeepsPromises validated log (step, answer)
+      → IsTiedAt validated end log here there wire → KeepsExchange validated log (step, answer)
       × IsTiedAt validated end ((step, answer) ∷ log) after there wire_after
+
+  -- of both
+  abbrev pub ExchangeKept : Sender F Q R C K S M P f c q m r → Sender F Q R C K S M P f c q m r → List WirePacket
+      → PairStep → Result PairAnswer SenderError → Sender F Q R C K S M P f c q m r
+      → Sender F Q R C K S M P f c q m r → List WirePacket → Type 0
+  ExchangeKept client server wire step answer client_after server_after wire_after = (validated : Bool) (log : PairLog)
+      → IsTiedAt validated Client log client server wire → KeepsExchange validated log (step, answer)
+      × IsTiedAt validated Client ((step, answer) ∷ log) client_after server_after wire_after
 
   turned_server : (validated : Bool) (log : PairLog) (client server : Sender F Q R C K S M P f c q m r)
       (wire : List WirePacket) → IsTiedAt validated Client log client server wire
@@ -101,16 +116,16 @@ module _ {F Q R C K S M P : Type 0} {f : _} {c : _} {q : _} {m : _} {r : _} wher
       → StepKeepsAt end here there wire step answer after wire_after)
       → (client server client_after server_after : Sender F Q R C K S M P f c q m r)
       → TurnsAt end Turns client server client_after server_after
-      → StepKeeps client server wire step answer client_after server_after wire_after
+      → ExchangeKept client server wire step answer client_after server_after wire_after
   by_turn Client Turns wire wire_after step answer each client server client_after server_after turns =
       subst (λ (one : Sender F Q R C K S M P f c q m r).
-      StepKeeps client server wire step answer client_after one wire_after) (sym turns.1)
+      ExchangeKept client server wire step answer client_after one wire_after) (sym turns.1)
       (each client server client_after turns.0)
   by_turn Server Turns wire wire_after step answer each client server client_after server_after turns =
       subst (λ (one : Sender F Q R C K S M P f c q m r).
-      StepKeeps client server wire step answer one server_after wire_after) (sym turns.1) by
+      ExchangeKept client server wire step answer one server_after wire_after) (sym turns.1) by
     where
-      by : StepKeeps client server wire step answer client server_after wire_after
+      by : ExchangeKept client server wire step answer client server_after wire_after
       by validated log tied =
           let both = each server client server_after turns.0 validated log
           (turned_server validated log client server wire tied) in
@@ -163,7 +178,7 @@ silent_delivers log (step, Ok (Arrived to there number size (New items acked))) 
 silent_delivers log event silent = tt
 
 module _ {F Q R C K S M P : Type 0} {f : _} {c : _} {q : _} {m : _} {r : _} (end : End) (step : PairStep)
-    (answer : Result PairAnswer SenderError) (turn : Turn) (silent : IsSilent (step, answer))
+    (answer : Result PairAnswer SenderError) (turn : EndTurn) (silent : IsSilent (step, answer))
     (none : turn.heard ≡ None) (adds : (log : PairLog) → Adds turn end (step, answer) log)
     (adds_not : (log : PairLog) → Adds quiet (other_end end) (step, answer) log) (wire : List WirePacket)
     (here there after : Sender F Q R C K S M P f c q m r) (goes : Continues (GoesOn turn) here after)
@@ -211,7 +226,7 @@ module _ {F Q R C K S M P : Type 0} {f : _} {c : _} {q : _} {m : _} {r : _} (end
         }) wire tied.wired;
       }
 
-  pub silent_step : ArrivesAsSent log (step, answer) → KeepsPromises validated log (step, answer)
+  pub silent_step : ArrivesAsSent log (step, answer) → KeepsExchange validated log (step, answer)
       × IsTiedAt validated end ((step, answer) ∷ log) after there wire
   silent_step arrives = (
     record {
@@ -228,7 +243,7 @@ module _ {F Q R C K S M P : Type 0} {f : _} {c : _} {q : _} {m : _} {r : _} (end
 map_push : (wire : List WirePacket) (packet : WirePacket)
     → map sent_as (wire ++ packet ∷ []) ≡ map sent_as wire ++ sent_as packet ∷ []
 map_push [] packet = refl
-map_push (first ∷ wire) packet = ap (λ (more : List SentPacket). sent_as first ∷ more) (map_push wire packet)
+map_push (first ∷ wire) packet = ap (λ (more : List LoggedPacket). sent_as first ∷ more) (map_push wire packet)
 
 sent_same : (end : End) (size : ℕ) (items : Vec ℕ) (packet : WirePacket) → packet.from ≡ end → packet.size ≡ size
     → items.items ≡ packet.items.items → (record {
@@ -322,20 +337,20 @@ module _ {F Q R C K S M P : Type 0} {f : _} {c : _} {q : _} {m : _} {r : _} (end
         peer_logged = logged_on validated log event (other_end end) tied.peer.config.validated quiet tied.peer.past
             tied.peer.past (sending_adds_not log packet.space now size packet.number items end)
             (quiet_none tied.peer.past) tied.peer_logged;
-        listed = ap (λ (sent : List SentPacket). sent ++ record {
+        listed = ap (λ (sent : List LoggedPacket). sent ++ record {
           from = end;
           space = packet.space;
           number = packet.number;
           size = size;
           items = items.items;
         } ∷ []) tied.listed
-            ∙ ap (λ (last : SentPacket). map sent_as wire ++ last ∷ [])
+            ∙ ap (λ (last : LoggedPacket). map sent_as wire ++ last ∷ [])
             (sent_same end size items packet is.sender is.sized is.told) ∙ sym (map_push wire packet);
         wired = wired_sent log now size end tied.own.past own.0 tied.peer.past packet items wire is.sender is.told
             is.sound own.2 tied.out tied.back tied.wired;
       }
 
-  sent_step : KeepsPromises validated log (sending log packet.space now size packet.number items end)
+  sent_step : KeepsExchange validated log (sending log packet.space now size packet.number items end)
       × IsTiedAt validated end (sending log packet.space now size packet.number items end ∷ log) after there
       (wire ++ packet ∷ [])
   sent_step = (
@@ -366,10 +381,11 @@ module _ {F Q R C K S M P : Type 0} {f : _} {c : _} {q : _} {m : _} {r : _} wher
       → all ≡ wire ++ packet ∷ []
       → TurnsAt end (λ (old new : Sender F Q R C K S M P f c q m r). SendsPacket old new end space size packet items)
       client server client_after server_after
-      → StepKeeps client server wire (Send end space now size) (Ok (Sent packet.number items)) client_after server_after
+      → ExchangeKept client server wire (Send end space now size) (Ok (Sent packet.number items)) client_after
+      server_after
       all
   send_turn end space now size packet items client server client_after server_after wire all pushed turns =
-      subst (λ (all : List WirePacket). StepKeeps client server wire (Send end space now size)
+      subst (λ (all : List WirePacket). ExchangeKept client server wire (Send end space now size)
       (Ok (Sent packet.number items)) client_after server_after all) (sym pushed)
       (by_turn end (λ (old new : Sender F Q R C K S M P f c q m r). SendsPacket old new end space size packet items)
       wire (wire ++ packet ∷ []) (Send end space now size) (Ok (Sent packet.number items))
@@ -500,7 +516,7 @@ module _ {F Q R C K S M P : Type 0} {f : _} {c : _} {q : _} {m : _} {r : _} (at 
         (is_new (came_in packet.space tied.own.past) packet.number) fate small own_went.1.by)
 
     arrival : Delivers packet.items.items fate
-        → IsFirst (deliveries_of (other_end from) packet.space packet.number log) fate
+        → IsFirstDelivery (deliveries_of (other_end from) packet.space packet.number log) fate
         → IsArrival log at (other_end from) packet.space packet.number packet.size fate
     arrival delivers once = record {
       contents = packet.items.items;
@@ -514,8 +530,8 @@ module _ {F Q R C K S M P : Type 0} {f : _} {c : _} {q : _} {m : _} {r : _} (at 
     pub old_step : IsSilent (Arrive at now, Ok (Arrived (other_end from) packet.space packet.number packet.size fate))
         → (hearing packet.size packet.space packet.number (reply_of fate)).heard ≡ None
         → Delivers packet.items.items fate
-        → IsFirst (deliveries_of (other_end from) packet.space packet.number log) fate
-        → KeepsPromises validated log
+        → IsFirstDelivery (deliveries_of (other_end from) packet.space packet.number log) fate
+        → KeepsExchange validated log
         (Arrive at now, Ok (Arrived (other_end from) packet.space packet.number packet.size fate))
         × IsTiedAt validated (other_end from)
         ((Arrive at now, Ok (Arrived (other_end from) packet.space packet.number packet.size fate)) ∷ log) after there
@@ -574,7 +590,7 @@ module _ {F Q R C K S M P : Type 0} {f : _} {c : _} {q : _} {m : _} {r : _} (at 
               is.takes.told own.2 toward tied.wired on_wire;
         }
 
-    pub new_step : KeepsPromises validated log event
+    pub new_step : KeepsExchange validated log event
         × IsTiedAt validated (other_end from) (event ∷ log) after there wire
     new_step =
         let own = is.goes.from tied.own.config tied.own.start tied.own.random tied.own.past tied.own.came in
@@ -612,13 +628,13 @@ module _ {F Q R C K S M P : Type 0} {f : _} {c : _} {q : _} {m : _} {r : _} (at 
       → to ≡ other_end packet.from
       → TurnsAt to (λ (old new : Sender F Q R C K S M P f c q m r). HearTurn old new packet (Ok fate)) client server
       client_after server_after
-      → StepKeeps client server wire (Arrive at now)
+      → ExchangeKept client server wire (Arrive at now)
       (Ok (Arrived to packet.space packet.number packet.size fate)) client_after server_after wire
   arrives_at to fate client server client_after server_after is =
       subst (λ (e : End).
       TurnsAt e (λ (old new : Sender F Q R C K S M P f c q m r). HearTurn old new packet (Ok fate)) client server
       client_after server_after
-      → StepKeeps client server wire (Arrive at now)
+      → ExchangeKept client server wire (Arrive at now)
       (Ok (Arrived e packet.space packet.number packet.size fate)) client_after server_after wire) (sym is)
       (by_turn (other_end packet.from)
       (λ (old new : Sender F Q R C K S M P f c q m r). HearTurn old new packet (Ok fate)) wire wire (Arrive at now)
@@ -628,11 +644,15 @@ module _ {F Q R C K S M P : Type 0} {f : _} {c : _} {q : _} {m : _} {r : _} (at 
 
 -- ---- something happens at one end
 
-local_answer : (step : PairStep) (result : Result PairAnswer SenderError) → IfOk result IsLocalAnswer
-    → IsNoPacket (step, result)
-local_answer step (Ok (Sent number items)) never = absurd never
-local_answer step (Ok (Arrived to space number size fate)) never = absurd never
-local_answer step result answer = tt
+pub local_answer : (end : End) (step : LocalStep) (result : Result PairAnswer SenderError)
+    → IfOk result (IsLocalAnswer step) → IsNoPacket (Local end step, result)
+local_answer end (Expire now) (Ok (Sent number items)) never = absurd never
+local_answer end (Expire now) (Ok (Arrived to space number size fate)) never = absurd never
+local_answer end (Late now) (Ok (Sent number items)) never = absurd never
+local_answer end (Late now) (Ok (Arrived to space number size fate)) never = absurd never
+local_answer end step (Ok (Sent number items)) never = absurd never
+local_answer end step (Ok (Arrived to space number size fate)) never = absurd never
+local_answer end step result answer = tt
 
 none_silent : (event : PairEvent) → IsNoPacket event → IsSilent event
 none_silent (step, Ok (Sent number items)) none = absurd none
@@ -646,11 +666,11 @@ local_arrives log end step result none = tt
 
 module _ {F Q R C K S M P : Type 0} {f : _} {c : _} {q : _} {m : _} {r : _} where
   local_step : (end : End) (step : LocalStep) (result : Result PairAnswer SenderError) (wire : List WirePacket)
-      → IfOk result IsLocalAnswer → (here there after : Sender F Q R C K S M P f c q m r)
+      → IfOk result (IsLocalAnswer step) → (here there after : Sender F Q R C K S M P f c q m r)
       → Continues (GoesOn (local_turn step result)) here after
       → StepKeepsAt end here there wire (Local end step) result after wire
   local_step end step result wire answer here there after goes validated log tied =
-      let none = local_answer (Local end step) result answer in
+      let none = local_answer end step result answer in
       silent_step end (Local end step) result (local_turn step result) (none_silent (Local end step, result) none)
       (local_moves log step result).heard (λ log. local_adds log end step result none)
       (λ log. local_adds_not log end step result none) wire here there after goes validated log tied
@@ -659,8 +679,8 @@ module _ {F Q R C K S M P : Type 0} {f : _} {c : _} {q : _} {m : _} {r : _} wher
   pub local_step_at : (end : End) (step : LocalStep) (result : Result PairAnswer SenderError)
       (client server client_after server_after : Sender F Q R C K S M P f c q m r) (wire : List WirePacket)
       → TurnsAt end (λ (old new : Sender F Q R C K S M P f c q m r). Continues (GoesOn (local_turn step result)) old
-      new) client server client_after server_after → IfOk result IsLocalAnswer
-      → StepKeeps client server wire (Local end step) result client_after server_after wire
+      new) client server client_after server_after → IfOk result (IsLocalAnswer step)
+      → ExchangeKept client server wire (Local end step) result client_after server_after wire
   local_step_at end step result client server client_after server_after wire turns answer =
       by_turn end
       (λ (old new : Sender F Q R C K S M P f c q m r). Continues (GoesOn (local_turn step result)) old new) wire wire
@@ -684,9 +704,9 @@ module _ {F Q R C K S M P : Type 0} {f : _} {c : _} {q : _} {m : _} {r : _} wher
       → wire_after ≡ wire → IsNoPacket (step, answer) → IsNotLocal step
       → ((log : PairLog) → wire_of log ≡ map sent_as wire → ArrivesAsSent log (step, answer))
       → TurnsAt end (λ (old new : Sender F Q R C K S M P f c q m r). Continues GoesOnQuietly old new) client server
-      client_after server_after → StepKeeps client server wire step answer client_after server_after wire_after
+      client_after server_after → ExchangeKept client server wire step answer client_after server_after wire_after
   held_turn end step answer client server client_after server_after wire wire_after same none other arrives turns =
-      subst (λ (all : List WirePacket). StepKeeps client server wire step answer client_after server_after all) (sym
+      subst (λ (all : List WirePacket). ExchangeKept client server wire step answer client_after server_after all) (sym
       same)
       (by_turn end (λ (old new : Sender F Q R C K S M P f c q m r). Continues GoesOnQuietly old new) wire wire step
       answer (quiet_step end step answer wire none other arrives) client server client_after server_after turns)
@@ -696,7 +716,7 @@ module _ {F Q R C K S M P : Type 0} {f : _} {c : _} {q : _} {m : _} {r : _} wher
       (client server : Sender F Q R C K S M P f c q m r) (wire wire_after : List WirePacket) → wire_after ≡ wire
       → IsNoPacket (step, answer) → IsNotLocal step
       → ((log : PairLog) → wire_of log ≡ map sent_as wire → ArrivesAsSent log (step, answer))
-      → StepKeeps client server wire step answer client server wire_after
+      → ExchangeKept client server wire step answer client server wire_after
   idle_step step answer client server wire wire_after same none other arrives =
       held_turn Client step answer client server client server wire wire_after same none other arrives
       (same_quietly client client refl, refl)
@@ -706,5 +726,5 @@ pub beyond : (wire : List WirePacket) (log : PairLog) (at now : ℕ) → length 
     → wire_of log ≡ map sent_as wire → ArrivesAsSent log (Arrive at now, Ok Nothing)
 beyond wire log at now past listed =
     let same = length-map wire sent_as in
-    let long : length (wire_of log) ≡ length wire = ap (λ (all : List SentPacket). length all) listed ∙ same in
+    let long : length (wire_of log) ≡ length wire = ap (λ (all : List LoggedPacket). length all) listed ∙ same in
     omega (arith, long, past)

@@ -18,7 +18,7 @@ use Rattle.recovery_pair.specs.declared.steps.Fate.TheVariants.{New}
 use Rattle.recovery_pair.specs.declared.steps.PairAnswer.TheVariants.{Arrived, Sent}
 use Rattle.recovery_pair.specs.declared.steps.PairStep.TheVariants.{Arrive, Send}
 use Rattle.recovery_pair.specs.Logs.{PairEvent, PairLog, deliveries_of, other_end, sends_of}
-use Rattle.recovery_pair.specs.Pasts.{Came, GoesOn, HearsNumber, SendsNumber, Turn, WasSentUnder, hearing}
+use Rattle.recovery_pair.specs.Pasts.{Came, GoesOn, HearsNumber, SendsNumber, EndTurn, WasSentUnder, hearing}
 use Rattle.recovery_pair.specs.Promises.DeliveredOnce.{IsDeliveredOnce}
 use Rattle.recovery_pair.specs.Tied.{Flows, HasArrived, IsNotThere, IsUnsent, Travels}
 use Rattle.recovery_pair.proofs.GoingLaws.{came_on, itself, not_new, same_itself}
@@ -80,7 +80,7 @@ module _ {Q S M P : Type 0} (log after : PairLog) (from : End) (space : SpaceId)
   )
 
 -- a step by which nothing new is received
-unheard_by : {Q S M P : Type 0} (turn : Turn) (peer after : History Q S M P) → turn.heard ≡ None
+unheard_by : {Q S M P : Type 0} (turn : EndTurn) (peer after : History Q S M P) → turn.heard ≡ None
     → GoesOn turn peer after → (space : SpaceId) (n : ℕ) → WasReceived space n after → WasReceived space n peer
 unheard_by turn peer after none goes space n was = by (goes.heard space n was)
   where
@@ -89,7 +89,7 @@ unheard_by turn peer after none goes space n was = by (goes.heard space n was)
     by (inr here) = let never = sym none ∙ here in absurd cc
 
 -- what is known of the packets of an end stays so if no step speaks of them
-pub flows_kept : {Q S M P : Type 0} (log after : PairLog) (from : End) (turn : Turn)
+pub flows_kept : {Q S M P : Type 0} (log after : PairLog) (from : End) (turn : EndTurn)
     (past past_after peer peer_after : History Q S M P)
     → ((space : SpaceId) (n : ℕ) → sends_of from space n after ≡ sends_of from space n log)
     → ((space : SpaceId) (n : ℕ)
@@ -283,7 +283,8 @@ module _ (log : PairLog) (at now : ℕ) (there : SpaceId) (m size : ℕ) (items 
         (own_takes (other_end from) space n
         ∙ left_out (is_it there m space n) items.items (deliveries_of (other_end from) space n log) is)
         (λ given. given)
-        (came_on (hearing size there m (Ok true)) peer peer_after hears.goes space n) (λ was. heard_by space n is (hears.goes.heard space n was))
+        (came_on (hearing size there m (Ok true)) peer peer_after hears.goes space n) (λ was. heard_by space n is
+        (hears.goes.heard space n was))
         (flows.each space n)
 
     pub flows_taken : Flows heard_now from past peer_after

@@ -5,3 +5,4 @@ pub mod Promises
 pub mod Runs
 pub mod Tied
 pub mod Turns
+pub mod Waits

@@ -2,11 +2,12 @@
 use Rattle.std.specs.Prelude.{◌≡◌, ℕ, ◌+◌, ◌<◌, ◌==◌, ◌&&◌, ◌||◌, Bool, true, false, List, [], ◌∷◌, ◌++◌, length, get_or, Result, Ok, if◌then◌else◌}
 use Rattle.recovery_base.specs.declared.below.SpaceId.{SpaceId}
 use Rattle.recovery_base.specs.Spaces.{same_space}
+use Rattle.recovery_history.specs.Promises.Fates.{more_if}
 use Rattle.recovery_sender.specs.declared.sender.SenderError.{SenderError}
 use Rattle.recovery_pair.specs.declared.steps.End.{End}
 use Rattle.recovery_pair.specs.declared.steps.End.TheVariants.{Client, Server}
 use Rattle.recovery_pair.specs.declared.steps.Fate.TheVariants.{Dropped, New}
-use Rattle.recovery_pair.specs.declared.steps.LocalStep.TheVariants.{AddressValidated, Discard}
+use Rattle.recovery_pair.specs.declared.steps.LocalStep.TheVariants.{AddressValidated, Discard, Hand}
 use Rattle.recovery_pair.specs.declared.steps.PairAnswer.{PairAnswer}
 use Rattle.recovery_pair.specs.declared.steps.PairAnswer.TheVariants.{Arrived, Done, Sent}
 use Rattle.recovery_pair.specs.declared.steps.PairStep.{PairStep}
@@ -51,7 +52,7 @@ deliveries_of end space n (event ∷ earlier) = deliveries_of end space n earlie
 -- ---- the wire
 
 -- a packet that was sent, as the log tells it
-pub record SentPacket : Type 0 where
+pub record LoggedPacket : Type 0 where
   pub from : End
   pub space : SpaceId
   pub number : ℕ
@@ -59,14 +60,14 @@ pub record SentPacket : Type 0 where
   pub items : List ℕ
 
 -- all packets that were sent, in the order of sending
-abbrev pub wire_of : PairLog → List SentPacket
+abbrev pub wire_of : PairLog → List LoggedPacket
 wire_of [] = []
 wire_of ((Send end there now bytes, Ok (Sent n told)) ∷ earlier) =
     wire_of earlier ++ record { from = end; space = there; number = n; size = bytes; items = told.items } ∷ []
 wire_of (event ∷ earlier) = wire_of earlier
 
 -- a packet has this position on it
-abbrev pub IsAt : List SentPacket → ℕ → SentPacket → Type 0
+abbrev pub IsAt : List LoggedPacket → ℕ → LoggedPacket → Type 0
 IsAt wire at packet = (at < length wire) × (get_or wire at packet ≡ packet)
 
 -- ---- what an end knows
@@ -106,3 +107,17 @@ module _ (end : End) where
   numbers_at space ((step, Ok (Arrived to there number size fate)) ∷ earlier) =
       if same_end to end && same_space there space then number ∷ numbers_at space earlier else numbers_at space earlier
   numbers_at space (event ∷ earlier) = numbers_at space earlier
+
+  -- how many packets of a space it was handed
+  abbrev pub handed : SpaceId → PairLog → ℕ
+  handed space [] = 0
+  handed space ((Local at (Hand there items), Ok Done) ∷ earlier) =
+      more_if (same_end at end && same_space there space) (handed space earlier)
+  handed space (event ∷ earlier) = handed space earlier
+
+  -- how many packets of a space it sent
+  abbrev pub sent_in : SpaceId → PairLog → ℕ
+  sent_in space [] = 0
+  sent_in space ((Send from there now size, Ok (Sent number items)) ∷ earlier) =
+      more_if (same_end from end && same_space there space) (sent_in space earlier)
+  sent_in space (event ∷ earlier) = sent_in space earlier

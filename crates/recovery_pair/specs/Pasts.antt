@@ -30,7 +30,7 @@ use Rattle.recovery_pair.specs.Promises.NeverAccused.{IsSpared}
 
 -- ---- what one step adds to the past of an end
 
-pub record Turn : Type 0 where
+pub record EndTurn : Type 0 where
   -- a packet came with this number, new or not
   pub came : Option (SpaceId × ℕ)
   -- and it is new
@@ -43,19 +43,19 @@ pub record Turn : Type 0 where
   -- the address of the peer is validated
   pub validates : Bool
 
-abbrev pub quiet : Turn
+abbrev pub quiet : EndTurn
 quiet = record { came = None; heard = None; arrives = 0; leaves = 0; discards = None; validates = false }
 
-abbrev pub arriving : ℕ → Turn
+abbrev pub arriving : ℕ → EndTurn
 arriving size = record quiet { arrives = size }
 
-abbrev pub leaving : ℕ → Turn
+abbrev pub leaving : ℕ → EndTurn
 leaving size = record quiet { leaves = size }
 
-abbrev pub discarding : SpaceId → Turn
+abbrev pub discarding : SpaceId → EndTurn
 discarding space = record quiet { discards = Some space }
 
-abbrev pub validating : Turn
+abbrev pub validating : EndTurn
 validating = record quiet { validates = true }
 
 -- a packet is new (`Ok true`), a duplicate (`Ok false`), or dropped
@@ -67,7 +67,7 @@ abbrev pub new_by : SpaceId × ℕ → Result Bool SenderError → Option (Space
 new_by number (Ok true) = Some number
 new_by number reply = None
 
-abbrev pub hearing : ℕ → SpaceId → ℕ → Result Bool SenderError → Turn
+abbrev pub hearing : ℕ → SpaceId → ℕ → Result Bool SenderError → EndTurn
 hearing size space n reply =
     record quiet { came = came_by (space, n) reply; heard = new_by (space, n) reply; arrives = size }
 
@@ -107,7 +107,7 @@ module _ {Q S M P : Type 0} where
   bytes_transmitted past = sum_by bytes_out (datagrams_on Current past)
 
   -- only this is added
-  pub record GoesOn (turn : Turn) (past after : History Q S M P) : Type 0 where
+  pub record GoesOn (turn : EndTurn) (past after : History Q S M P) : Type 0 where
     pub given : (space : SpaceId) (n : ℕ) → WasSentUnder space n past → WasSentUnder space n after
     pub came : (space : SpaceId) → came_in space after ≡ with_number space turn.came (came_in space past)
     pub heard : (space : SpaceId) (n : ℕ) → WasReceived space n after

@@ -5,11 +5,15 @@ use Rattle.std.specs.Prelude.{◌∷◌, Bool}
 use Rattle.recovery_pair.specs.Logs.{PairEvent, PairLog}
 use Rattle.recovery_pair.specs.Promises.Arrivals.{ArrivesAsSent}
 use Rattle.recovery_pair.specs.Promises.DeliveredOnce.{AcksDelivered}
+use Rattle.recovery_pair.specs.Promises.Locals.{AnswersLocally}
 use Rattle.recovery_pair.specs.Promises.NeverAccused.{NeverAccuses}
+use Rattle.recovery_pair.specs.Promises.Sends.{SendsWhatWaits}
 use Rattle.recovery_pair.specs.Promises.Threefold.{ServerSendsThreefold}
 pub mod Arrivals
 pub mod DeliveredOnce
+pub mod Locals
 pub mod NeverAccused
+pub mod Sends
 pub mod Threefold
 
 pub record KeepsPromises (validated : Bool) (log : PairLog) (event : PairEvent) : Type 0 where
@@ -23,3 +27,7 @@ pub record KeepsPromises (validated : Bool) (log : PairLog) (event : PairEvent) 
   -- Until it validates the client's address, the server sent at most three times the bytes that arrived (RFC 9000,
   -- 8.1).
   pub limited : ServerSendsThreefold validated (event ∷ log)
+  -- An end has nothing to send in a space only once it sent as many packets there as it was handed (RFC 9000, 13).
+  pub sends : SendsWhatWaits log event
+  -- What is handed over, discarded, validated or confirmed is done; an expiry is looked at (RFC 9002, 6.2 and 6.4).
+  pub local : AnswersLocally event

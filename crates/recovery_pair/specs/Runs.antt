@@ -2,6 +2,7 @@
 use Rattle.std.specs.Prelude.{Bool, List, [], ◌∷◌, Result}
 use Rattle.recovery_sender.specs.declared.sender.Sender.{Sender}
 use Rattle.recovery_sender.specs.declared.sender.SenderError.{SenderError}
+use Rattle.recovery_pair.specs.declared.endpoint.Waiting.{Waiting}
 use Rattle.recovery_pair.specs.declared.steps.PairAnswer.{PairAnswer}
 use Rattle.recovery_pair.specs.declared.steps.PairStep.{PairStep}
 use Rattle.recovery_pair.specs.declared.steps.WirePacket.{WirePacket}
@@ -22,30 +23,34 @@ log_after log (step ∷ steps) (answer ∷ answers) = log_after ((step, answer) 
 log_after log steps answers = log
 
 module _ {F Q R C K S M P : Type 0} {f : _} {c : _} {q : _} {m : _} {r : _}
-    (client server : Sender F Q R C K S M P f c q m r) (wire : List WirePacket) where
+    (client server : Sender F Q R C K S M P f c q m r) (wire : List WirePacket)
+    (client_waits server_waits : List Waiting) where
   -- a step keeps the promises, and the tie of the log
   abbrev pub StepKeeps : PairStep → Result PairAnswer SenderError → Sender F Q R C K S M P f c q m r
-      → Sender F Q R C K S M P f c q m r → List WirePacket → Type 0
-  StepKeeps step answer client_after server_after wire_after = (validated : Bool) (log : PairLog)
-      → IsTied validated log client server wire → KeepsPromises validated log (step, answer)
-      × IsTied validated ((step, answer) ∷ log) client_after server_after wire_after
+      → Sender F Q R C K S M P f c q m r → List WirePacket → List Waiting → List Waiting → Type 0
+  StepKeeps step answer client_after server_after wire_after client_waits_after server_waits_after =
+      (validated : Bool) (log : PairLog) → IsTied validated log client server wire client_waits server_waits
+      → KeepsPromises validated log (step, answer) × IsTied validated ((step, answer) ∷ log) client_after server_after
+      wire_after client_waits_after server_waits_after
 
   -- its answer is put into a sink
   pub record PairStepIntoSink {T : Type 0} (takes : T → Result PairAnswer SenderError → T → Type 0) (before : T)
       (step : PairStep) (client_after server_after : Sender F Q R C K S M P f c q m r) (wire_after : List WirePacket)
-      (behind : T) : Type 0 where
+      (client_waits_after server_waits_after : List Waiting) (behind : T) : Type 0 where
     pub answer : Result PairAnswer SenderError
-    pub keeps : StepKeeps step answer client_after server_after wire_after
+    pub keeps : StepKeeps step answer client_after server_after wire_after client_waits_after server_waits_after
     pub taken : takes before answer behind
 
   -- these steps were given, and these answers taken
   pub record StepsOverSource (AreGiven : List PairStep → Type 0)
       (IsTaken : List (Result PairAnswer SenderError) → Type 0)
-      (client_after server_after : Sender F Q R C K S M P f c q m r) (wire_after : List WirePacket) : Type 0 where
+      (client_after server_after : Sender F Q R C K S M P f c q m r) (wire_after : List WirePacket)
+      (client_waits_after server_waits_after : List Waiting) : Type 0 where
     pub steps : List PairStep
     pub answers : List (Result PairAnswer SenderError)
     pub given : AreGiven steps
     pub taken : IsTaken answers
-    pub keeps : (validated : Bool) (log : PairLog) → IsTied validated log client server wire
-        → HoldAlong validated log steps answers
-        × IsTied validated (log_after log steps answers) client_after server_after wire_after
+    pub keeps : (validated : Bool) (log : PairLog)
+        → IsTied validated log client server wire client_waits server_waits → HoldAlong validated log steps answers
+        × IsTied validated (log_after log steps answers) client_after server_after wire_after client_waits_after
+        server_waits_after

@@ -14,11 +14,13 @@ use Rattle.recovery_history.specs.Reachability.{ReachedBy}
 use Rattle.recovery_paths.specs.declared.path_pair.PathName.TheVariants.{Current}
 use Rattle.recovery_sender.specs.Senders.{state_in}
 use Rattle.recovery_sender.specs.declared.sender.Sender.{Sender}
+use Rattle.recovery_pair.specs.declared.endpoint.Waiting.{Waiting}
 use Rattle.recovery_pair.specs.declared.steps.End.{End}
 use Rattle.recovery_pair.specs.declared.steps.End.TheVariants.{Client, Server}
 use Rattle.recovery_pair.specs.declared.steps.WirePacket.{WirePacket}
 use Rattle.recovery_pair.specs.Frames.{IsSoundFrame}
-use Rattle.recovery_pair.specs.Logs.{PairLog, SentPacket, bytes_arrived, bytes_sent, deliveries_of, has_validated, numbers_at, other_end, sends_of, was_discarded, wire_of}
+use Rattle.recovery_pair.specs.Logs.{PairLog, LoggedPacket, bytes_arrived, bytes_sent, deliveries_of, has_validated, numbers_at, other_end, sends_of, was_discarded, wire_of}
+use Rattle.recovery_pair.specs.Waits.{AreQueued}
 use Rattle.recovery_pair.specs.Pasts.{Came, WasSentUnder, bytes_received, bytes_transmitted}
 
 -- ---- one number, from one end to the other
@@ -63,7 +65,7 @@ pub record IsOnWire (log : PairLog) (packet : WirePacket) : Type 0 where
       → (items : List ℕ) × (deliveries_of packet.from packet.space n log ≡ items ∷ [])
 
 -- as the log tells it
-abbrev pub sent_as : WirePacket → SentPacket
+abbrev pub sent_as : WirePacket → LoggedPacket
 sent_as packet = record {
   from = packet.from;
   space = packet.space;
@@ -79,7 +81,8 @@ abbrev pub validated_first : End → Bool → Bool
 validated_first Client validated = true
 validated_first Server validated = validated
 
--- what came to an end, what it discarded and validated, and no fewer bytes than it counts; it sent no more than it counts
+-- what came to an end, what it discarded and validated; at least the bytes that it counts as received, and at most
+-- those that it counts as transmitted
 pub record IsLogged {Q S M P : Type 0} (validated : Bool) (log : PairLog) (end : End) (first : Bool)
     (past : History Q S M P) : Type 0 where
   pub came : (space : SpaceId) → came_in space past ≡ numbers_at end space log
@@ -110,6 +113,9 @@ module _ {F Q R C K S M P : Type 0} {f : _} {c : _} {q : _} {m : _} {r : _} wher
     pub listed : wire_of log ≡ map sent_as wire
     pub wired : AllByRecursion (IsOnWire log) wire
 
-  abbrev pub IsTied : Bool → PairLog → Sender F Q R C K S M P f c q m r → Sender F Q R C K S M P f c q m r
-      → List WirePacket → Type 0
-  IsTied validated log client server wire = IsTiedAt validated Client log client server wire
+  -- and what waits at each
+  pub record IsTied (validated : Bool) (log : PairLog) (client server : Sender F Q R C K S M P f c q m r)
+      (wire : List WirePacket) (client_waits server_waits : List Waiting) : Type 0 where
+    pub ends : IsTiedAt validated Client log client server wire
+    pub own_waits : AreQueued log Client client_waits
+    pub peer_waits : AreQueued log Server server_waits

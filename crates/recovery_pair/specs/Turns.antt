@@ -19,7 +19,13 @@ use Rattle.recovery_pair.specs.declared.steps.PairAnswer.{PairAnswer}
 use Rattle.recovery_pair.specs.declared.steps.PairAnswer.TheVariants as answer
 use Rattle.recovery_pair.specs.declared.steps.WirePacket.{WirePacket}
 use Rattle.recovery_pair.specs.Frames.{IsSoundFrame}
-use Rattle.recovery_pair.specs.Pasts.{AcksWithin, Continues, GoesOn, GoesOnQuietly, HearsNumber, NoAccusation, SendsNumber, SendsWithAck, Turn, arriving, discarding, leaving, quiet, validating}
+use Rattle.recovery_pair.specs.Pasts.{AcksWithin, Continues, GoesOn, GoesOnQuietly, HearsNumber, NoAccusation, SendsNumber, SendsWithAck, EndTurn, discarding, leaving, quiet, validating}
+
+-- a call that may fail
+abbrev pub TriesTurn : {F Q R C K S M P : Type 0} {f : _} {c : _} {q : _} {m : _} {r : _} → EndTurn
+    → Sender F Q R C K S M P f c q m r → Sender F Q R C K S M P f c q m r → Result (Unit {0}) SenderError → Type 0
+TriesTurn turn old new (Ok done) = Continues (GoesOn turn) old new
+TriesTurn turn old new (Err refusal) = Continues GoesOnQuietly old new
 
 -- what becomes of a packet that arrives: it is new (`Ok true`), a duplicate (`Ok false`), or dropped
 abbrev pub reply_of : Fate → Result Bool SenderError
@@ -28,11 +34,11 @@ reply_of Duplicate = Ok false
 reply_of (Dropped refusal) = Err refusal
 
 -- what a step without the network adds
-abbrev pub if_done : Turn → Result PairAnswer SenderError → Turn
+abbrev pub if_done : EndTurn → Result PairAnswer SenderError → EndTurn
 if_done turn (Ok answer.Done) = turn
 if_done turn other = quiet
 
-abbrev pub local_turn : LocalStep → Result PairAnswer SenderError → Turn
+abbrev pub local_turn : LocalStep → Result PairAnswer SenderError → EndTurn
 local_turn (local.Discard space now) answer = if_done (discarding space) answer
 local_turn local.AddressValidated answer = if_done validating answer
 local_turn step answer = quiet
@@ -43,11 +49,6 @@ module _ {F Q R C K S M P : Type 0} {f : _} {c : _} {q : _} {m : _} {r : _} (old
     abbrev pub TransmitTurn : ℕ → Result Transmission SenderError → Type 0
     TransmitTurn size (Ok Transmitted) = Continues (GoesOn (leaving size)) old new
     TransmitTurn size other = Continues GoesOnQuietly old new
-
-    -- a datagram is received
-    abbrev pub DatagramTurn : ℕ → Result (Unit {0}) SenderError → Type 0
-    DatagramTurn size (Ok done) = Continues (GoesOn (arriving size)) old new
-    DatagramTurn size (Err refusal) = Continues GoesOnQuietly old new
 
     -- a packet goes out, with the items that are told, and an ACK of numbers that were received
     pub record SendsPacket (from : End) (space : SpaceId) (size : ℕ) (packet : WirePacket) (items : Vec ℕ) : Type 0
@@ -97,15 +98,6 @@ module _ {F Q R C K S M P : Type 0} {f : _} {c : _} {q : _} {m : _} {r : _} (old
     HearTurn packet (Err refusal) = Continues GoesOnQuietly old new
 
 -- the turn of one end, while the other does nothing
-module _ {F Q R C K S M P : Type 0} {f : _} {c : _} {q : _} {m : _} {r : _} where
-  abbrev pub TurnsAt : End → (Sender F Q R C K S M P f c q m r → Sender F Q R C K S M P f c q m r → Type 0)
-      → Sender F Q R C K S M P f c q m r → Sender F Q R C K S M P f c q m r → Sender F Q R C K S M P f c q m r
-      → Sender F Q R C K S M P f c q m r → Type 0
-  TurnsAt Client Turns client server client_after server_after = Turns client client_after × (server_after ≡ server)
-  TurnsAt Server Turns client server client_after server_after = Turns server server_after × (client_after ≡ client)
-
--- it reports no packet
-abbrev pub IsLocalAnswer : PairAnswer → Type 0
-IsLocalAnswer (answer.Sent number items) = ⊥
-IsLocalAnswer (answer.Arrived to space number size fate) = ⊥
-IsLocalAnswer other = Unit {0}
+abbrev pub TurnsAt : {A : Type 0} → End → (A → A → Type 0) → A → A → A → A → Type 0
+TurnsAt Client Turns client server client_after server_after = Turns client client_after × (server_after ≡ server)
+TurnsAt Server Turns client server client_after server_after = Turns server server_after × (client_after ≡ client)

@@ -1,8 +1,8 @@
 //! The calls of a sender that an end makes, and how each continues the sender's past.
 ghost use Rattle.std.specs.Prelude.{◌≡◌, ◌≢◌, [], ◌∷◌, true, IfOk, MatchResult, Some};
 ghost use Rattle.recovery_pair.specs.Frames.{IsFrameFor};
-ghost use Rattle.recovery_pair.specs.Pasts.{Continues, GoesOn, GoesOnQuietly, HearsNumber, NoAccusation, SendsNumber, AcksWithin, arm_told, discarding, heard_of, validating};
-ghost use Rattle.recovery_pair.specs.Turns.{DatagramTurn, TransmitTurn};
+ghost use Rattle.recovery_pair.specs.Pasts.{Continues, GoesOn, GoesOnQuietly, HearsNumber, NoAccusation, SendsNumber, AcksWithin, arm_told, arriving, discarding, heard_of, validating};
+ghost use Rattle.recovery_pair.specs.Turns.{TransmitTurn, TriesTurn};
 
 use crate::steps::{AckOutcome, WirePacket};
 use rand_core::Rng;
@@ -164,7 +164,7 @@ pub(crate) fn datagram<F, R>(
 where
     F: ControllerFactory,
     R: Rng + Drop,
-    ensures { DatagramTurn sender.old sender.new size result }
+    ensures { TriesTurn (arriving size) sender.old sender.new result }
 {
     sender.on_datagram(u64::from(size))
 }
@@ -283,9 +283,7 @@ pub(crate) fn discard<F, R>(
 where
     F: ControllerFactory,
     R: Rng + Drop,
-    ensures { MatchResult result
-        (λ done. Continues (GoesOn (discarding space)) sender.old sender.new)
-        (λ refused. Continues GoesOnQuietly sender.old sender.new) }
+    ensures { TriesTurn (discarding space) sender.old sender.new result }
 {
     sender.discard(space, now)
 }

@@ -1,7 +1,10 @@
 //! One end of a connection: a sender with the layer above it.
-ghost use Rattle.std.specs.Prelude.{◌≡◌, IfOk};
+ghost use Rattle.std.specs.Prelude.{◌≡◌, ◌+◌, ◌<◌, ◌≤◌, IfOk, false, length, [], ◌∷◌, ◌++◌};
+ghost use Rattle.std.specs.Vec.{vec_len, vec_capacity};
 ghost use Rattle.recovery_pair.specs.Pasts.{Continues, GoesOn, GoesOnQuietly};
-ghost use Rattle.recovery_pair.specs.Turns.{HearTurn, IsLocalAnswer, PackTurn, SendTurn, local_turn};
+ghost use Rattle.recovery_pair.specs.Turns.{HearTurn, PackTurn, SendTurn, local_turn};
+ghost use Rattle.recovery_pair.specs.Promises.Locals.{IsDone, IsDoneOrNothing, IsLocalAnswer};
+ghost use Rattle.recovery_pair.specs.Waits.{GainsOne, HandWaits, IsPlaceInQueue, LocalWaits, LosesNone, LosesOne, PackWaits, SendWaits, waiting_in};
 
 use crate::calls::{
     AckToSend, NO_MEMORY, confirm, contents, copied, datagram, discard, end_acks, end_delay,
@@ -48,27 +51,33 @@ pub enum Outgoing {
     Sent(WirePacket, Vec<u64>),
 }
 
-/// Returns whether items wait to be sent in a space.
-fn has_waiting(waiting: &[Waiting], space: SpaceId) -> bool {
-    for one in waiting {
-        if one.space == space {
-            return true;
+/// Returns the place of the items that wait longest to be sent in a space, if any.
+fn place_of(waiting: &[Waiting], space: SpaceId) -> Option<usize>
+    ensures { IsPlaceInQueue space waiting.now result }
+{
+    let mut at = 0;
+    while at < waiting.len() {
+        if waiting[at].space == space {
+            return Some(at);
         }
+        at += 1;
     }
-    false
+    None
 }
 
 /// Returns the items that are to be repeated, or if there are none, those that wait longest in the space, if any.
-fn take_waiting(waiting: &mut Vec<Waiting>, space: SpaceId, repeated: ItemQueue) -> ItemQueue {
+fn take_waiting(waiting: &mut Vec<Waiting>, space: SpaceId, repeated: ItemQueue) -> ItemQueue
+    ensures loses { LosesOne waiting.old.items waiting.new.items space }
+    ensures len { vec_len waiting.new ≤ vec_len waiting.old }
+    ensures capacity { vec_capacity waiting.new ≡ vec_capacity waiting.old }
+{
     if !repeated.items().is_empty() {
         return repeated;
     }
-    for at in 0..waiting.len() {
-        if waiting[at].space == space {
-            return waiting.remove(at).queue;
-        }
+    match place_of(waiting, space) {
+        Some(at) => waiting.remove(at).queue,
+        None => repeated,
     }
-    repeated
 }
 
 impl<F, R> Endpoint<F, R>
@@ -78,7 +87,8 @@ where
 {
     /// Returns an end to which nothing was handed in.
     pub fn new(alloc: Global, sender: Sender<F, ItemQueue, R>) -> Self
-        ensures { result.sender ≡ sender }
+        ensures sender { result.sender ≡ sender }
+        ensures waits { result.waiting.items ≡ [] }
     {
         Endpoint {
             sender,
@@ -88,8 +98,10 @@ where
     }
 
     /// Returns whether an ack-eliciting packet is to be sent in a space: a probe is due, or items wait.
-    fn has_items(&self, space: SpaceId) -> bool {
-        if self.sender.variables().is_probe_due(space) || has_waiting(&self.waiting, space) {
+    fn has_items(&self, space: SpaceId) -> bool
+        ensures { result ≡ false → waiting_in space self.now.waiting.items ≡ 0 }
+    {
+        if self.sender.variables().is_probe_due(space) || place_of(&self.waiting, space).is_some() {
             return true;
         }
         match self.sender.recovery().space(space) {
@@ -107,7 +119,8 @@ where
         now: Instant,
         size: u16,
     ) -> Result<Outgoing, SenderError>
-        ensures { SendTurn self.old.sender self.new.sender from space size result }
+        ensures goes { SendTurn self.old.sender self.new.sender from space size result }
+        ensures waits { SendWaits self.old.waiting.items self.new.waiting.items space result }
     {
         let eliciting = self.has_items(space);
         let ack = match frame(alloc, &self.sender, space, now) {
@@ -117,8 +130,9 @@ where
         if !eliciting && !ack.required {
             return Ok(Outgoing::Nothing);
         }
-        if self.waiting.reserve(1).is_err() {
-            return Err(NO_MEMORY);
+        match self.waiting.reserve(1) {
+            Ok(()) => {}
+            Err(_) => return Err(NO_MEMORY),
         }
         match transmit(&mut self.sender, space, now, size, eliciting) {
             Ok(Transmission::Transmitted) => {}
@@ -139,8 +153,10 @@ where
         eliciting: bool,
         ack: AckToSend,
     ) -> Outgoing
-        ensures { PackTurn self.old.sender self.new.sender from space size ack.ranges.items
+        requires room { vec_len self.old.waiting < vec_capacity self.old.waiting }
+        ensures goes { PackTurn self.old.sender self.new.sender from space size ack.ranges.items
             result }
+        ensures waits { PackWaits self.old.waiting.items self.new.waiting.items space result }
     {
         let repeated = match contents(&mut self.sender, space) {
             Ok(queue) => queue,
@@ -192,16 +208,19 @@ where
         }
     }
 
-    /// Items wait again: `send` made room for them.
+    /// Items wait to be sent. There is room for them.
     fn keep(&mut self, space: SpaceId, queue: ItemQueue)
-        ensures { self.new.sender ≡ self.old.sender }
+        requires room { vec_len self.old.waiting < vec_capacity self.old.waiting }
+        ensures goes { self.new.sender ≡ self.old.sender }
+        ensures waits { GainsOne self.old.waiting.items self.new.waiting.items space }
     {
-        let _ = self.waiting.push(Waiting { space, queue });
+        self.waiting.push_reserved(Waiting { space, queue });
     }
 
     /// Records that all numbers that are to be acknowledged went out in an ACK, if there are any.
     fn end_acks(&mut self, space: SpaceId)
-        ensures { Continues GoesOnQuietly self.old.sender self.new.sender }
+        ensures goes { Continues GoesOnQuietly self.old.sender self.new.sender }
+        ensures waits { self.new.waiting.items ≡ self.old.waiting.items }
     {
         end_acks(&mut self.sender, space);
         if space == SpaceId::Data {
@@ -216,7 +235,8 @@ where
         packet: &WirePacket,
         now: Instant,
     ) -> Result<Fate, SenderError>
-        ensures { HearTurn self.old.sender self.new.sender packet.now result }
+        ensures goes { HearTurn self.old.sender self.new.sender packet.now result }
+        ensures waits { LosesNone self.old.waiting.items self.new.waiting.items }
     {
         let items = match copied(alloc, &packet.items) {
             Ok(items) => items,
@@ -245,7 +265,8 @@ where
 
     /// Starts the ACK delay timer. Initial and Handshake packets are acknowledged at once (RFC 9000, 13.2.1).
     fn plan_ack(&mut self, space: SpaceId, now: Instant, arm: bool)
-        ensures { Continues GoesOnQuietly self.old.sender self.new.sender }
+        ensures goes { Continues GoesOnQuietly self.old.sender self.new.sender }
+        ensures waits { self.new.waiting.items ≡ self.old.waiting.items }
     {
         if arm && space == SpaceId::Data {
             let delay = self.sender.recovery().ack_frequency().max_ack_delay;
@@ -255,20 +276,30 @@ where
         }
     }
 
+    /// Takes items that are to be delivered in one packet.
+    fn hand(&mut self, space: SpaceId, items: Vec<u64>) -> Result<PairAnswer, SenderError>
+        ensures goes { self.new.sender ≡ self.old.sender }
+        ensures answer { IfOk result IsDone }
+        ensures waits { HandWaits self.old.waiting.items self.new.waiting.items space result }
+    {
+        match self.waiting.reserve(1) {
+            Ok(()) => {}
+            Err(_) => return Err(NO_MEMORY),
+        }
+        let handed = ItemQueue::from_items(items);
+        self.keep(space, handed);
+        Ok(PairAnswer::Done)
+    }
+
     /// Makes a step of one end.
     pub(crate) fn local(&mut self, step: LocalStep) -> Result<PairAnswer, SenderError>
         ensures goes { Continues (GoesOn (local_turn step result)) self.old.sender
             self.new.sender }
-        ensures answer { IfOk result IsLocalAnswer }
+        ensures answer { IfOk result (IsLocalAnswer step) }
+        ensures waits { LocalWaits self.old.waiting.items self.new.waiting.items step result }
     {
         match step {
-            LocalStep::Hand { space, items } => {
-                let queue = ItemQueue::from_items(items);
-                match self.waiting.push(Waiting { space, queue }) {
-                    Ok(()) => Ok(PairAnswer::Done),
-                    Err(_) => Err(NO_MEMORY),
-                }
-            }
+            LocalStep::Hand { space, items } => self.hand(space, items),
             LocalStep::Expire { now } => match expire(&mut self.sender, now) {
                 Ok(timeout) => Ok(PairAnswer::Expired(timeout)),
                 Err(refused) => Err(refused),
@@ -296,7 +327,8 @@ where
     /// Requires an ACK at once if the ACK delay timer is due.
     fn end_delay(&mut self, now: Instant) -> PairAnswer
         ensures goes { Continues GoesOnQuietly self.old.sender self.new.sender }
-        ensures answer { IsLocalAnswer result }
+        ensures answer { IsDoneOrNothing result }
+        ensures waits { self.new.waiting.items ≡ self.old.waiting.items }
     {
         let is_due = match self.late {
             Some(due) => due <= now,

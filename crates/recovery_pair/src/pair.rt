@@ -3,9 +3,11 @@ ghost use Rattle.std.specs.Prelude.{◌≡◌, ◌≤◌, [], ◌∷◌, IfOk};
 ghost use Rattle.recovery_base.specs.Units.{number_limit};
 ghost use Rattle.recovery_packet_numbers.specs.Skips.{IsSkips};
 ghost use Rattle.recovery_pair.specs.Pasts.{Continues, GoesOn};
+ghost use Rattle.recovery_pair.specs.Promises.Locals.{IsLocalAnswer};
 ghost use Rattle.recovery_pair.specs.Runs.{StepKeeps};
 ghost use Rattle.recovery_pair.specs.Tied.{IsTied};
-ghost use Rattle.recovery_pair.specs.Turns.{HearTurn, IsLocalAnswer, SendTurn, TurnsAt, local_turn};
+ghost use Rattle.recovery_pair.specs.Waits.{LocalWaits, LosesNone, SendWaits};
+ghost use Rattle.recovery_pair.specs.Turns.{HearTurn, SendTurn, TurnsAt, local_turn};
 
 use crate::calls::NO_MEMORY;
 use crate::endpoint::{Endpoint, Outgoing};
@@ -54,8 +56,11 @@ fn send_from<F, R>(
 where
     F: ControllerFactory,
     R: Rng + Drop,
-    ensures { TurnsAt end (λ old new. SendTurn old new end space size result)
+    ensures goes { TurnsAt end (λ old new. SendTurn old new end space size result)
         client.old.sender server.old.sender client.new.sender server.new.sender }
+    ensures waits { TurnsAt end (λ old new. SendWaits old new space result)
+        client.old.waiting.items server.old.waiting.items client.new.waiting.items
+        server.new.waiting.items }
 {
     match end {
         End::Client => client.send(alloc, end, space, now, size),
@@ -75,8 +80,11 @@ fn hear_at<F, R>(
 where
     F: ControllerFactory,
     R: Rng + Drop,
-    ensures { TurnsAt to (λ old new. HearTurn old new packet.now result)
+    ensures goes { TurnsAt to (λ old new. HearTurn old new packet.now result)
         client.old.sender server.old.sender client.new.sender server.new.sender }
+    ensures waits { TurnsAt to (λ old new. LosesNone old new)
+        client.old.waiting.items server.old.waiting.items client.new.waiting.items
+        server.new.waiting.items }
 {
     match to {
         End::Client => client.hear(alloc, packet, now),
@@ -96,7 +104,10 @@ where
     R: Rng + Drop,
     ensures goes { TurnsAt end (λ old new. Continues (GoesOn (local_turn step result)) old new)
         client.old.sender server.old.sender client.new.sender server.new.sender }
-    ensures answer { IfOk result IsLocalAnswer }
+    ensures answer { IfOk result (IsLocalAnswer step) }
+    ensures waits { TurnsAt end (λ old new. LocalWaits old new step result)
+        client.old.waiting.items server.old.waiting.items client.new.waiting.items
+        server.new.waiting.items }
 {
     match end {
         End::Client => client.local(step),
@@ -122,7 +133,7 @@ where
         requires server_skips { IsSkips server.config.skips }
         ensures { IfOk result (λ pair.
             IsTied server.config.validated [] pair.client.sender pair.server.sender
-            pair.wire.items) }
+            pair.wire.items pair.client.waiting.items pair.server.waiting.items) }
     {
         let client = Sender::new(alloc, Side::Client, client.config, client.rng, start)?;
         let server = Sender::new(alloc, Side::Server, server.config, server.rng, start)?;
@@ -137,8 +148,10 @@ where
     /// Makes a step. However the steps are chosen, the promises of `KeepsPromises` hold for its answer, by the steps
     /// and answers before it.
     pub fn step(&mut self, step: PairStep) -> Result<PairAnswer, SenderError>
-        ensures { StepKeeps self.old.client.sender self.old.server.sender self.old.wire.items step
-            result self.new.client.sender self.new.server.sender self.new.wire.items }
+        ensures { StepKeeps self.old.client.sender self.old.server.sender self.old.wire.items
+            self.old.client.waiting.items self.old.server.waiting.items step result
+            self.new.client.sender self.new.server.sender self.new.wire.items
+            self.new.client.waiting.items self.new.server.waiting.items }
     {
         match step {
             PairStep::Send {
@@ -161,8 +174,10 @@ where
         size: u16,
     ) -> Result<PairAnswer, SenderError>
         ensures { StepKeeps self.old.client.sender self.old.server.sender self.old.wire.items
+            self.old.client.waiting.items self.old.server.waiting.items
             (PairStep.Send end space now size) result self.new.client.sender
-            self.new.server.sender self.new.wire.items }
+            self.new.server.sender self.new.wire.items self.new.client.waiting.items
+            self.new.server.waiting.items }
     {
         match self.wire.reserve(1) {
             Ok(()) => {}
@@ -192,8 +207,9 @@ where
     /// A copy of a packet arrives.
     fn arrive(&mut self, at: usize, now: Instant) -> Result<PairAnswer, SenderError>
         ensures { StepKeeps self.old.client.sender self.old.server.sender self.old.wire.items
+            self.old.client.waiting.items self.old.server.waiting.items
             (PairStep.Arrive at now) result self.new.client.sender self.new.server.sender
-            self.new.wire.items }
+            self.new.wire.items self.new.client.waiting.items self.new.server.waiting.items }
     {
         let Some(packet) = self.wire.get(at) else {
             return Ok(PairAnswer::Nothing);
@@ -221,8 +237,9 @@ where
     /// Something happens at one end.
     fn local(&mut self, end: End, step: LocalStep) -> Result<PairAnswer, SenderError>
         ensures { StepKeeps self.old.client.sender self.old.server.sender self.old.wire.items
+            self.old.client.waiting.items self.old.server.waiting.items
             (PairStep.Local end step) result self.new.client.sender self.new.server.sender
-            self.new.wire.items }
+            self.new.wire.items self.new.client.waiting.items self.new.server.waiting.items }
     {
         local_at(&mut self.client, &mut self.server, end, step)
     }

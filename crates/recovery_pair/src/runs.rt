@@ -23,8 +23,10 @@ where
     S: Sink<Result<PairAnswer, SenderError>>,
 {
     ghost takes = { λ old step new. PairStepIntoSink old.pair.client.sender
-        old.pair.server.sender old.pair.wire.items S.takes old.said step new.pair.client.sender
-        new.pair.server.sender new.pair.wire.items new.said };
+        old.pair.server.sender old.pair.wire.items old.pair.client.waiting.items
+        old.pair.server.waiting.items S.takes old.said step new.pair.client.sender
+        new.pair.server.sender new.pair.wire.items new.pair.client.waiting.items
+        new.pair.server.waiting.items new.said };
 
     fn put(&mut self, step: PairStep) -> bool {
         let answer = self.pair.step(step);
@@ -41,8 +43,10 @@ where
     E: Source<PairStep>,
     S: Sink<Result<PairAnswer, SenderError>> + Drop,
     ensures { StepsOverSource pair.client.sender pair.server.sender pair.wire.items
+        pair.client.waiting.items pair.server.waiting.items
         (λ all. E.gives steps.old all steps.new) (λ all. TakesAll S.takes said all result.1)
-        result.0.client.sender result.0.server.sender result.0.wire.items }
+        result.0.client.sender result.0.server.sender result.0.wire.items
+        result.0.client.waiting.items result.0.server.waiting.items }
 {
     let mut runner = PairRunner { pair, said };
     steps.feed(&mut runner);

@@ -30,9 +30,9 @@ Delivers items (New told acked) = told.items ≡ items
 Delivers items fate = Unit {0}
 
 -- and no others were before
-abbrev pub IsFirst : List (List ℕ) → Fate → Type 0
-IsFirst before (New told acked) = before ≡ []
-IsFirst before fate = Unit {0}
+abbrev pub IsFirstDelivery : List (List ℕ) → Fate → Type 0
+IsFirstDelivery before (New told acked) = before ≡ []
+IsFirstDelivery before fate = Unit {0}
 
 pub record IsArrival (log : PairLog) (at : ℕ) (to : End) (there : SpaceId) (n bytes : ℕ) (fate : Fate) : Type 0 where
   pub contents : List ℕ
@@ -40,7 +40,7 @@ pub record IsArrival (log : PairLog) (at : ℕ) (to : End) (there : SpaceId) (n 
       (record { from = other_end to; space = there; number = n; size = bytes; items = contents })
   pub fated : IsFateBy (was_discarded to there log) (is_new (numbers_at to there log) n) fate
   pub delivers : Delivers contents fate
-  pub once : IsFirst (deliveries_of to there n log) fate
+  pub once : IsFirstDelivery (deliveries_of to there n log) fate
 
 -- the answer for a position: nothing exactly if the wire has no such packet
 abbrev pub IsAnsweredAt : PairLog → ℕ → Result PairAnswer SenderError → Type 0

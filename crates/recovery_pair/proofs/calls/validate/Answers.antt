@@ -1,6 +1,9 @@
-use Rattle.recovery_pair.proofs.PacketLaws.{validates}
+use Rattle.recovery_events.specs.declared.event.Answer.TheVariants.{Done}
+use Rattle.recovery_pair.specs.Pasts.{validating}
+use Rattle.recovery_pair.proofs.GoingLaws.{validates_event}
+use Rattle.recovery_pair.proofs.PacketLaws.{makes_event}
 use Rattle.recovery_pair.proofs.calls.validate.Goals as goal
 
 pub returns : goal.returns
-returns g c = validates c.args.sender.now.variables c.args.sender.now c.on_address_validated.new.self
-    c.on_address_validated.ensures
+returns g c = makes_event _ validating c.args.sender.now.variables c.args.sender.now c.on_address_validated.new.self
+    (λ past. validates_event past Done) c.on_address_validated.ensures

@@ -2,23 +2,24 @@ use Rattle.std.proofs.Common.{false, Err, Ok, ◌∙◌}
 use Rattle.recovery_pair.proofs.TurnLaws.{came_turn, heard_turn}
 use Rattle.recovery_pair.proofs.endpoint.Endpoint.hear.Goals as goal
 
-pub returns-in-Ok-Some : goal.returns-in-Ok-Some
-returns-in-Ok-Some g c = heard_turn c.args.packet.now c.in-Ok.items c.hear_ack-acked.result c.args.self.now.sender
+pub returns-in-Ok-Some-clause-goes : goal.returns-in-Ok-Some-clause-goes
+returns-in-Ok-Some-clause-goes g c = heard_turn c.args.packet.now c.in-Ok.items c.hear_ack-acked.result
+    c.args.self.now.sender
     c.datagram.new.sender c.hear.new.sender c.hear_ack-acked.new.sender c.plan_ack.new.self.sender
     (c.in-Ok.ensures ∙ c.deref.ensures.value) c.in-Ok-datagram.ensures
     (rw c.in-Ok-Some.field-0-is at c.in-Ok-Some.ensures) c.hear_ack-acked.ensures.goes c.hear_ack-acked.ensures.honest
-    c.hear_ack-acked.ensures.within c.plan_ack.ensures
+    c.hear_ack-acked.ensures.within c.plan_ack.ensures.goes
 
-pub returns-in-Ok-None : goal.returns-in-Ok-None
-returns-in-Ok-None g c = record {
+pub returns-in-Ok-None-clause-goes : goal.returns-in-Ok-None-clause-goes
+returns-in-Ok-None-clause-goes g c = record {
   goes = came_turn c.args.packet.now.size c.args.packet.now.space c.args.packet.now.number (Ok false)
       c.args.self.now.sender c.datagram.new.sender c.hear.new.sender c.in-Ok-datagram.ensures
       (rw c.in-Ok-None.field-0-is at c.in-Ok-None.ensures);
   takes = tt;
 }
 
-pub returns-in-Err-hear : goal.returns-in-Err-hear
-returns-in-Err-hear g c = record {
+pub returns-in-Err-hear-clause-goes : goal.returns-in-Err-hear-clause-goes
+returns-in-Err-hear-clause-goes g c = record {
   goes = came_turn c.args.packet.now.size c.args.packet.now.space c.args.packet.now.number (Err c.in-Err-hear.refused)
       c.args.self.now.sender c.datagram.new.sender c.hear.new.sender c.in-Ok-datagram.ensures c.in-Err-hear.ensures;
   takes = tt;

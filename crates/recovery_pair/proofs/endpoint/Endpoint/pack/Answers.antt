@@ -3,8 +3,8 @@ use Rattle.recovery_pair.proofs.QuietLaws.{quietly_then}
 use Rattle.recovery_pair.proofs.TurnLaws.{quietly_sends, sends_quietly}
 use Rattle.recovery_pair.proofs.endpoint.Endpoint.pack.Goals as goal
 
-pub returns-in-Ok-track : goal.returns-in-Ok-track
-returns-in-Ok-track g c =
+pub returns-in-Ok-track-clause-goes : goal.returns-in-Ok-track-clause-goes
+returns-in-Ok-track-clause-goes g c =
     let first = c.in-Ok-copied.ensures in
     let second = c.in-Ok-copied-2.ensures in
     record {
@@ -15,9 +15,11 @@ returns-in-Ok-track g c =
       acks = refl;
       goes = quietly_sends c.args.space c.in-Ok-track.number c.args.self.now.sender c.contents.new.sender
           c.end_acks.new.self.sender c.contents.ensures (sends_quietly c.args.space c.in-Ok-track.number
-          c.contents.new.sender c.track.new.sender c.end_acks.new.self.sender c.in-Ok-track.ensures c.end_acks.ensures);
+          c.contents.new.sender c.track.new.sender c.end_acks.new.self.sender c.in-Ok-track.ensures
+          c.end_acks.ensures.goes);
     }
 
-pub returns-in-Err-track : goal.returns-in-Err-track
-returns-in-Err-track g c = quietly_then c.args.self.now.sender c.contents.new.sender c.keep-in-Err-track.new.self.sender
-    c.contents.ensures (rw c.keep-in-Err-track.ensures c.in-Err-track.ensures)
+pub returns-in-Err-track-clause-goes : goal.returns-in-Err-track-clause-goes
+returns-in-Err-track-clause-goes g c = quietly_then c.args.self.now.sender c.contents.new.sender
+    c.keep-in-Err-track.new.self.sender
+    c.contents.ensures (rw c.keep-in-Err-track.ensures.goes c.in-Err-track.ensures)

@@ -1,24 +1,59 @@
 use Rattle.std.proofs.Common.{length, ltb-true, Ok, Err, refl, sym}
-use Rattle.recovery_pair.specs.declared.steps.PairAnswer.TheVariants.{Nothing}
+use Rattle.recovery_pair.specs.declared.steps.PairAnswer.TheVariants.{Arrived, Nothing}
 use Rattle.recovery_pair.specs.declared.steps.PairStep.TheVariants.{Arrive}
+use Rattle.recovery_pair.proofs.QueueLaws.{same_queue, step_keeps, still_queue}
 use Rattle.recovery_pair.proofs.StepTies.{arrives_at, beyond, held_turn, idle_step}
 use Rattle.recovery_pair.proofs.pair.Pair.arrive.Goals as goal
 
 pub returns-in_default : goal.returns-in_default
-returns-in_default g c = idle_step (Arrive c.args.at c.args.now) (Ok Nothing) c.args.self.now.client.sender
+returns-in_default g c = step_keeps c.args.self.now.client.sender c.args.self.now.server.sender
+    c.args.self.now.client.sender c.args.self.now.server.sender c.args.self.now.wire.items c.args.self.now.wire.items
+    c.args.self.now.client.waiting.items c.args.self.now.server.waiting.items c.args.self.now.client.waiting.items
+    c.args.self.now.server.waiting.items (Arrive c.args.at c.args.now) (Ok Nothing)
+    (idle_step (Arrive c.args.at c.args.now) (Ok Nothing) c.args.self.now.client.sender
     c.args.self.now.server.sender c.args.self.now.wire.items c.args.self.now.wire.items refl tt tt
     (λ log listed. beyond c.args.self.now.wire.items log c.args.at c.args.now
-    (rw (← c.deref.ensures.value) c.in_default.ensures.lookup.3) listed)
+    (rw (← c.deref.ensures.value) c.in_default.ensures.lookup.3) listed))
+    tt (same_queue (Arrive c.args.at c.args.now) (Ok Nothing) (λ log end. record {
+      handed_same = λ there. refl;
+      sent_same = λ there. refl;
+    }) (λ log. tt) c.args.self.now.client.waiting.items
+    c.args.self.now.server.waiting.items)
 
 pub returns-in-Ok : goal.returns-in-Ok
-returns-in-Ok g c = arrives_at c.args.at c.args.now c.in-Some.packet.now c.args.self.now.wire.items
+returns-in-Ok g c = step_keeps c.args.self.now.client.sender c.args.self.now.server.sender c.hear_at.new.client.sender
+    c.hear_at.new.server.sender c.args.self.now.wire.items c.args.self.now.wire.items
+    c.args.self.now.client.waiting.items
+    c.args.self.now.server.waiting.items c.hear_at.new.client.waiting.items c.hear_at.new.server.waiting.items
+    (Arrive c.args.at c.args.now)
+    (Ok (Arrived c.other-to.result c.in-Some.packet.now.space c.in-Some.packet.now.number c.in-Some.packet.now.size
+    c.in-Ok.fate))
+    (arrives_at c.args.at c.args.now c.in-Some.packet.now c.args.self.now.wire.items
     (rw (← c.deref.ensures.value) (ltb-true c.args.at (length c.deref.result.now) (sym c.in-Some.ensures.lookup.0)))
     (rw (← c.deref.ensures.value) c.in-Some.ensures.lookup.1) c.other-to.result c.in-Ok.fate
     c.args.self.now.client.sender c.args.self.now.server.sender c.hear_at.new.client.sender
-    c.hear_at.new.server.sender c.other-to.ensures c.in-Ok.ensures
+    c.hear_at.new.server.sender c.other-to.ensures c.in-Ok.ensures.goes)
+    tt (still_queue c.other-to.result (Arrive c.args.at c.args.now) (Ok (Arrived c.other-to.result
+    c.in-Some.packet.now.space c.in-Some.packet.now.number c.in-Some.packet.now.size c.in-Ok.fate))
+    (λ log end. record { handed_same = λ there. refl; sent_same = λ there. refl }) (λ log. tt)
+    c.args.self.now.client.waiting.items
+    c.args.self.now.server.waiting.items c.hear_at.new.client.waiting.items c.hear_at.new.server.waiting.items
+    c.in-Ok.ensures.waits)
 
 pub returns-in-Err : goal.returns-in-Err
-returns-in-Err g c = held_turn c.other-to.result (Arrive c.args.at c.args.now) (Err c.in-Err.refused)
+returns-in-Err g c = step_keeps c.args.self.now.client.sender c.args.self.now.server.sender
+    c.hear_at.new.client.sender
+    c.hear_at.new.server.sender c.args.self.now.wire.items c.args.self.now.wire.items
+    c.args.self.now.client.waiting.items
+    c.args.self.now.server.waiting.items c.hear_at.new.client.waiting.items c.hear_at.new.server.waiting.items
+    (Arrive c.args.at c.args.now) (Err c.in-Err.refused)
+    (held_turn c.other-to.result (Arrive c.args.at c.args.now) (Err c.in-Err.refused)
     c.args.self.now.client.sender c.args.self.now.server.sender c.hear_at.new.client.sender
     c.hear_at.new.server.sender c.args.self.now.wire.items c.args.self.now.wire.items refl tt tt
-    (λ log listed. tt) c.in-Err.ensures
+    (λ log listed. tt) c.in-Err.ensures.goes)
+    tt (still_queue c.other-to.result (Arrive c.args.at c.args.now) (Err c.in-Err.refused) (λ log end. record {
+      handed_same = λ there. refl;
+      sent_same = λ there. refl;
+    }) (λ log. tt) c.args.self.now.client.waiting.items
+    c.args.self.now.server.waiting.items c.hear_at.new.client.waiting.items c.hear_at.new.server.waiting.items
+    c.in-Err.ensures.waits)

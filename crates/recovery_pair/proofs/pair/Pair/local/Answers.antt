@@ -1,7 +1,20 @@
-use Rattle.recovery_pair.proofs.StepTies.{local_step_at}
+use Rattle.recovery_pair.specs.declared.steps.PairStep.TheVariants.{Local}
+use Rattle.recovery_pair.proofs.QueueLaws.{local_known, local_queue, step_keeps}
+use Rattle.recovery_pair.proofs.StepTies.{local_answer, local_step_at}
 use Rattle.recovery_pair.proofs.pair.Pair.local.Goals as goal
 
 pub returns : goal.returns
-returns g c = local_step_at c.args.end c.args.step c.local_at.result
+returns g c = step_keeps c.args.self.now.client.sender c.args.self.now.server.sender c.local_at.new.client.sender
+    c.local_at.new.server.sender c.args.self.now.wire.items c.args.self.now.wire.items
+    c.args.self.now.client.waiting.items
+    c.args.self.now.server.waiting.items c.local_at.new.client.waiting.items c.local_at.new.server.waiting.items
+    (Local c.args.end c.args.step) c.local_at.result
+    (local_step_at c.args.end c.args.step c.local_at.result
     c.args.self.now.client.sender c.args.self.now.server.sender c.local_at.new.client.sender
-    c.local_at.new.server.sender c.args.self.now.wire.items c.local_at.ensures.goes c.local_at.ensures.answer
+    c.local_at.new.server.sender c.args.self.now.wire.items c.local_at.ensures.goes c.local_at.ensures.answer)
+    (local_known c.args.end c.args.step c.local_at.result c.local_at.ensures.answer)
+    (local_queue c.args.end c.args.step c.local_at.result
+    (local_answer c.args.end c.args.step c.local_at.result c.local_at.ensures.answer)
+    c.args.self.now.client.waiting.items
+    c.args.self.now.server.waiting.items c.local_at.new.client.waiting.items c.local_at.new.server.waiting.items
+    c.local_at.ensures.waits)

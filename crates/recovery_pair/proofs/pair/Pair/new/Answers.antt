@@ -2,6 +2,6 @@ use Rattle.recovery_pair.proofs.NewLaws.{new_tied}
 use Rattle.recovery_pair.proofs.pair.Pair.new.Goals as goal
 
 pub returns : goal.returns
-returns g c = rw (c.new-3.ensures, c.new-4.ensures, c.new-5.ensures.items) (new_tied c.args.client.config
+returns g c = rw (c.new-3.ensures.sender, c.new-4.ensures.sender, c.new-5.ensures.items) (new_tied c.args.client.config
     c.args.server.config c.args.start _ _ c.in_ok-client.client c.in_ok-server.server c.in_ok-client.ensures.begins
-    c.in_ok-server.ensures.begins)
+    c.in_ok-server.ensures.begins _ _ c.new-3.ensures.waits c.new-4.ensures.waits)

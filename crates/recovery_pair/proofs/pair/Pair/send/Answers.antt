@@ -1,44 +1,106 @@
-use Rattle.std.proofs.Common.{Ok, Err}
-use Rattle.recovery_pair.specs.declared.steps.PairAnswer.TheVariants.{Failed, Held, Nothing}
+use Rattle.std.proofs.Common.{Ok, Err, refl}
+use Rattle.recovery_events.specs.declared.event.Refusal.TheVariants.{NoMemory}
+use Rattle.recovery_sender.specs.declared.sender.SenderError.TheVariants.{Event}
+use Rattle.recovery_pair.specs.declared.steps.PairAnswer.TheVariants.{Failed, Held, Nothing, Sent}
 use Rattle.recovery_pair.specs.declared.steps.PairStep.TheVariants.{Send}
+use Rattle.recovery_pair.proofs.QueueLaws.{nothing_queue, same_queue, sent_queue, step_keeps, still_queue}
 use Rattle.recovery_pair.proofs.StepTies.{held_turn, idle_step, send_turn}
 use Rattle.recovery_pair.proofs.pair.Pair.send.Goals as goal
 
 pub returns-in-Ok-Sent : goal.returns-in-Ok-Sent
-returns-in-Ok-Sent g c = send_turn c.args.end c.args.space c.args.now c.args.size c.in-Ok-Sent.packet c.in-Ok-Sent.items
+returns-in-Ok-Sent g c = step_keeps c.args.self.now.client.sender c.args.self.now.server.sender
+    c.send_from.new.client.sender
+    c.send_from.new.server.sender c.args.self.now.wire.items c.push_reserved.new.self.items
+    c.args.self.now.client.waiting.items
+    c.args.self.now.server.waiting.items c.send_from.new.client.waiting.items c.send_from.new.server.waiting.items
+    (Send c.args.end c.args.space c.args.now c.args.size) (Ok (Sent c.in-Ok-Sent.packet.number c.in-Ok-Sent.items))
+    (send_turn c.args.end c.args.space c.args.now c.args.size c.in-Ok-Sent.packet c.in-Ok-Sent.items
     c.args.self.now.client.sender c.args.self.now.server.sender c.send_from.new.client.sender
     c.send_from.new.server.sender c.args.self.now.wire.items c.push_reserved.new.self.items
-    (rw c.in-Ok.ensures.items at c.push_reserved.ensures.items) (rw c.in-Ok-Sent.field-0-is at c.in-Ok-Sent.ensures)
+    (rw c.in-Ok.ensures.items at c.push_reserved.ensures.items)
+    (rw c.in-Ok-Sent.field-0-is at c.in-Ok-Sent.ensures.goes))
+    tt (sent_queue c.args.end c.args.space c.args.now c.args.size c.in-Ok-Sent.packet.number c.in-Ok-Sent.items
+    c.args.self.now.client.waiting.items
+    c.args.self.now.server.waiting.items c.send_from.new.client.waiting.items c.send_from.new.server.waiting.items
+    (rw c.in-Ok-Sent.field-0-is at c.in-Ok-Sent.ensures.waits))
 
 pub returns-in-Ok-Nothing : goal.returns-in-Ok-Nothing
-returns-in-Ok-Nothing g c = held_turn c.args.end (Send c.args.end c.args.space c.args.now c.args.size) (Ok Nothing)
-    c.args.self.now.client.sender c.args.self.now.server.sender c.send_from.new.client.sender
-    c.send_from.new.server.sender c.args.self.now.wire.items c.reserve.new.self.items c.in-Ok.ensures.items tt tt (λ log listed. tt)
-    (rw c.in-Ok-Nothing.field-0-is at c.in-Ok-Nothing.ensures)
+returns-in-Ok-Nothing g c = step_keeps c.args.self.now.client.sender c.args.self.now.server.sender
+    c.send_from.new.client.sender
+    c.send_from.new.server.sender c.args.self.now.wire.items c.reserve.new.self.items
+    c.args.self.now.client.waiting.items
+    c.args.self.now.server.waiting.items c.send_from.new.client.waiting.items c.send_from.new.server.waiting.items
+    (Send c.args.end c.args.space c.args.now c.args.size) (Ok Nothing)
+    (held_turn c.args.end (Send c.args.end c.args.space c.args.now c.args.size) (Ok Nothing)
+    c.args.self.now.client.sender c.args.self.now.server.sender
+    c.send_from.new.client.sender c.send_from.new.server.sender c.args.self.now.wire.items c.reserve.new.self.items
+    c.in-Ok.ensures.items tt tt (λ log listed. tt) (rw c.in-Ok-Nothing.field-0-is at c.in-Ok-Nothing.ensures.goes))
+    tt (nothing_queue c.args.end c.args.space c.args.now c.args.size c.args.self.now.client.waiting.items
+    c.args.self.now.server.waiting.items c.send_from.new.client.waiting.items c.send_from.new.server.waiting.items
+    (rw c.in-Ok-Nothing.field-0-is at c.in-Ok-Nothing.ensures.waits))
 
 pub returns-in-Ok-Held : goal.returns-in-Ok-Held
-returns-in-Ok-Held g c = held_turn c.args.end (Send c.args.end c.args.space c.args.now c.args.size)
-    (Ok (Held c.in-Ok-Held.held))
-    c.args.self.now.client.sender c.args.self.now.server.sender c.send_from.new.client.sender
-    c.send_from.new.server.sender c.args.self.now.wire.items c.reserve.new.self.items c.in-Ok.ensures.items tt tt (λ log listed. tt)
-    (rw c.in-Ok-Held.field-0-is at c.in-Ok-Held.ensures)
+returns-in-Ok-Held g c = step_keeps c.args.self.now.client.sender c.args.self.now.server.sender
+    c.send_from.new.client.sender
+    c.send_from.new.server.sender c.args.self.now.wire.items c.reserve.new.self.items
+    c.args.self.now.client.waiting.items
+    c.args.self.now.server.waiting.items c.send_from.new.client.waiting.items c.send_from.new.server.waiting.items
+    (Send c.args.end c.args.space c.args.now c.args.size) (Ok (Held c.in-Ok-Held.held))
+    (held_turn c.args.end (Send c.args.end c.args.space c.args.now c.args.size) (Ok (Held c.in-Ok-Held.held))
+    c.args.self.now.client.sender c.args.self.now.server.sender
+    c.send_from.new.client.sender c.send_from.new.server.sender c.args.self.now.wire.items c.reserve.new.self.items
+    c.in-Ok.ensures.items tt tt (λ log listed. tt) (rw c.in-Ok-Held.field-0-is at c.in-Ok-Held.ensures.goes))
+    tt (still_queue c.args.end (Send c.args.end c.args.space c.args.now c.args.size) (Ok (Held c.in-Ok-Held.held))
+    (λ log end. record { handed_same = λ there. refl; sent_same = λ there. refl }) (λ log. tt)
+    c.args.self.now.client.waiting.items
+    c.args.self.now.server.waiting.items c.send_from.new.client.waiting.items c.send_from.new.server.waiting.items
+    (rw c.in-Ok-Held.field-0-is at c.in-Ok-Held.ensures.waits))
 
 pub returns-in-Ok-Failed : goal.returns-in-Ok-Failed
-returns-in-Ok-Failed g c = held_turn c.args.end (Send c.args.end c.args.space c.args.now c.args.size)
-    (Ok (Failed c.in-Ok-Failed.refused))
-    c.args.self.now.client.sender c.args.self.now.server.sender c.send_from.new.client.sender
-    c.send_from.new.server.sender c.args.self.now.wire.items c.reserve.new.self.items c.in-Ok.ensures.items tt tt (λ log listed. tt)
-    (rw c.in-Ok-Failed.field-0-is at c.in-Ok-Failed.ensures)
+returns-in-Ok-Failed g c = step_keeps c.args.self.now.client.sender c.args.self.now.server.sender
+    c.send_from.new.client.sender
+    c.send_from.new.server.sender c.args.self.now.wire.items c.reserve.new.self.items
+    c.args.self.now.client.waiting.items
+    c.args.self.now.server.waiting.items c.send_from.new.client.waiting.items c.send_from.new.server.waiting.items
+    (Send c.args.end c.args.space c.args.now c.args.size) (Ok (Failed c.in-Ok-Failed.refused))
+    (held_turn c.args.end (Send c.args.end c.args.space c.args.now c.args.size) (Ok (Failed c.in-Ok-Failed.refused))
+    c.args.self.now.client.sender c.args.self.now.server.sender
+    c.send_from.new.client.sender c.send_from.new.server.sender c.args.self.now.wire.items c.reserve.new.self.items
+    c.in-Ok.ensures.items tt tt (λ log listed. tt) (rw c.in-Ok-Failed.field-0-is at c.in-Ok-Failed.ensures.goes))
+    tt (still_queue c.args.end (Send c.args.end c.args.space c.args.now c.args.size) (Ok (Failed c.in-Ok-Failed.refused))
+    (λ log end. record { handed_same = λ there. refl; sent_same = λ there. refl }) (λ log. tt)
+    c.args.self.now.client.waiting.items
+    c.args.self.now.server.waiting.items c.send_from.new.client.waiting.items c.send_from.new.server.waiting.items
+    (rw c.in-Ok-Failed.field-0-is at c.in-Ok-Failed.ensures.waits))
 
 pub returns-in-Err-send_from : goal.returns-in-Err-send_from
-returns-in-Err-send_from g c = held_turn c.args.end (Send c.args.end c.args.space c.args.now c.args.size)
-    (Err c.in-Err-send_from.refused)
-    c.args.self.now.client.sender c.args.self.now.server.sender c.send_from.new.client.sender
-    c.send_from.new.server.sender c.args.self.now.wire.items c.reserve.new.self.items c.in-Ok.ensures.items tt tt (λ log listed. tt)
-    c.in-Err-send_from.ensures
+returns-in-Err-send_from g c = step_keeps c.args.self.now.client.sender c.args.self.now.server.sender
+    c.send_from.new.client.sender
+    c.send_from.new.server.sender c.args.self.now.wire.items c.reserve.new.self.items
+    c.args.self.now.client.waiting.items
+    c.args.self.now.server.waiting.items c.send_from.new.client.waiting.items c.send_from.new.server.waiting.items
+    (Send c.args.end c.args.space c.args.now c.args.size) (Err c.in-Err-send_from.refused)
+    (held_turn c.args.end (Send c.args.end c.args.space c.args.now c.args.size) (Err c.in-Err-send_from.refused)
+    c.args.self.now.client.sender c.args.self.now.server.sender
+    c.send_from.new.client.sender c.send_from.new.server.sender c.args.self.now.wire.items c.reserve.new.self.items
+    c.in-Ok.ensures.items tt tt (λ log listed. tt) c.in-Err-send_from.ensures.goes)
+    tt (still_queue c.args.end (Send c.args.end c.args.space c.args.now c.args.size) (Err c.in-Err-send_from.refused)
+    (λ log end. record { handed_same = λ there. refl; sent_same = λ there. refl }) (λ log. tt)
+    c.args.self.now.client.waiting.items
+    c.args.self.now.server.waiting.items c.send_from.new.client.waiting.items c.send_from.new.server.waiting.items
+    c.in-Err-send_from.ensures.waits)
 
 pub returns-in-Err : goal.returns-in-Err
-returns-in-Err g c = idle_step (Send c.args.end c.args.space c.args.now c.args.size)
-    (Err _) c.args.self.now.client.sender
+returns-in-Err g c = step_keeps c.args.self.now.client.sender c.args.self.now.server.sender
+    c.args.self.now.client.sender c.args.self.now.server.sender c.args.self.now.wire.items c.reserve.new.self.items
+    c.args.self.now.client.waiting.items c.args.self.now.server.waiting.items c.args.self.now.client.waiting.items
+    c.args.self.now.server.waiting.items (Send c.args.end c.args.space c.args.now c.args.size) (Err (Event NoMemory))
+    (idle_step (Send c.args.end c.args.space c.args.now c.args.size) (Err (Event NoMemory))
+    c.args.self.now.client.sender
     c.args.self.now.server.sender c.args.self.now.wire.items c.reserve.new.self.items c.in-Err.ensures.items tt tt
-    (λ log listed. tt)
+    (λ log listed. tt))
+    tt (same_queue (Send c.args.end c.args.space c.args.now c.args.size) (Err (Event NoMemory)) (λ log end. record {
+      handed_same = λ there. refl;
+      sent_same = λ there. refl;
+    }) (λ log. tt) c.args.self.now.client.waiting.items
+    c.args.self.now.server.waiting.items)

@@ -1,0 +1,233 @@
+-- What was handed over was sent, or waits: step by step.
+use Rattle.std.proofs.Common.{◌≡◌, ℕ, ◌+◌, ◌≤◌, Bool, true, false, List, ◌∷◌, Result, Ok, Err, refl, sym, subst, arith}
+use Rattle.std.specs.Prelude.{IfOk}
+use Rattle.std.specs.Global.{Vec}
+use Rattle.recovery_base.specs.declared.below.SpaceId.{SpaceId}
+use Rattle.recovery_base.specs.Spaces.{same_space}
+use Rattle.recovery_history.specs.Promises.Fates.{more_if}
+use Rattle.recovery_sender.specs.declared.sender.Sender.{Sender}
+use Rattle.recovery_sender.specs.declared.sender.SenderError.{SenderError}
+use Rattle.recovery_pair.specs.declared.endpoint.Waiting.{Waiting}
+use Rattle.recovery_pair.specs.declared.steps.End.{End}
+use Rattle.recovery_pair.specs.declared.steps.End.TheVariants.{Client, Server}
+use Rattle.recovery_pair.specs.declared.steps.LocalStep.{LocalStep}
+use Rattle.recovery_pair.specs.declared.steps.LocalStep.TheVariants.{Hand}
+use Rattle.recovery_pair.specs.declared.steps.PairAnswer.{PairAnswer}
+use Rattle.recovery_pair.specs.declared.steps.PairAnswer.TheVariants.{Done, Nothing, Sent}
+use Rattle.recovery_pair.specs.declared.steps.PairStep.{PairStep}
+use Rattle.recovery_pair.specs.declared.steps.PairStep.TheVariants.{Local, Send}
+use Rattle.recovery_pair.specs.declared.steps.WirePacket.{WirePacket}
+use Rattle.recovery_pair.specs.Logs.{PairEvent, PairLog, handed, other_end, sent_in}
+use Rattle.recovery_pair.specs.Promises.Locals.{AnswersLocally, IsLocalAnswer}
+use Rattle.recovery_pair.specs.Promises.Sends.{SendsWhatWaits}
+use Rattle.recovery_pair.specs.Runs.{StepKeeps}
+use Rattle.recovery_pair.specs.Turns.{TurnsAt}
+use Rattle.recovery_pair.specs.Waits.{AreQueued, LocalWaits, LosesNone, LosesOne, waiting_in}
+use Rattle.recovery_pair.proofs.LogLaws.{IsNoPacket}
+use Rattle.recovery_pair.proofs.StepTies.{ExchangeKept}
+use Rattle.recovery_pair.proofs.WaitLaws.{none_lost}
+
+-- ---- what one end has, step by step
+
+-- a step after which what was handed over and sent is the same
+pub record LeavesQueue (event : PairEvent) (log : PairLog) (end : End) : Type 0 where
+  pub handed_same : (space : SpaceId) → handed end space (event ∷ log) ≡ handed end space log
+  pub sent_same : (space : SpaceId) → sent_in end space (event ∷ log) ≡ sent_in end space log
+
+pub queued_on : (event : PairEvent) (log : PairLog) (end : End) (old new : List Waiting) → LeavesQueue event log end
+    → LosesNone old new → AreQueued log end old → AreQueued (event ∷ log) end new
+queued_on event log end old new leaves keeps queued space =
+    let one = queued space in
+    let two = keeps space in
+    let handed_is = leaves.handed_same space in
+    let sent_is = leaves.sent_same space in
+    omega (arith, one, two, handed_is, sent_is)
+
+more_both : (happens : Bool) (h w s v : ℕ) → h ≤ w + s → w ≤ more_if happens v → h ≤ v + more_if happens s
+more_both true h w s v one two = omega (arith, one, two)
+more_both false h w s v one two = omega (arith, one, two)
+
+more_handed : (happens : Bool) (h w s v : ℕ) → h ≤ w + s → more_if happens w ≤ v → more_if happens h ≤ v + s
+more_handed true h w s v one two = omega (arith, one, two)
+more_handed false h w s v one two = omega (arith, one, two)
+
+-- ---- one end makes a step, the other does nothing
+
+abbrev pub QueueKept : List Waiting → List Waiting → PairStep → Result PairAnswer SenderError → List Waiting
+    → List Waiting → Type 0
+QueueKept client server step answer client_after server_after = (log : PairLog) → AreQueued log Client client
+    → AreQueued log Server server → SendsWhatWaits log (step, answer)
+    × AreQueued ((step, answer) ∷ log) Client client_after × AreQueued ((step, answer) ∷ log) Server server_after
+
+abbrev pub QueueKeptAt : End → PairStep → Result PairAnswer SenderError → List Waiting → List Waiting → Type 0
+QueueKeptAt end step answer old new = (log : PairLog) → AreQueued log end old → SendsWhatWaits log (step, answer)
+    × AreQueued ((step, answer) ∷ log) end new
+
+pub queue_turn : (end : End) (Turns : List Waiting → List Waiting → Type 0) (step : PairStep)
+    (answer : Result PairAnswer SenderError)
+    → ((old new : List Waiting) → Turns old new → QueueKeptAt end step answer old new)
+    → ((log : PairLog) → LeavesQueue (step, answer) log (other_end end))
+    → (client server client_after server_after : List Waiting) → TurnsAt end Turns client server client_after
+    server_after
+    → QueueKept client server step answer client_after server_after
+queue_turn Client Turns step answer each leaves client server client_after server_after turns log own peer =
+    let both = each client client_after turns.0 log own in (
+      both.0,
+      both.1,
+      queued_on (step, answer) log Server server server_after (leaves log)
+          (none_lost server server_after turns.1) peer,
+    )
+queue_turn Server Turns step answer each leaves client server client_after server_after turns log own peer =
+    let both = each server server_after turns.0 log peer in (
+      both.0,
+      queued_on (step, answer) log Client client client_after (leaves log)
+          (none_lost client client_after turns.1) own,
+      both.1,
+    )
+
+-- what keeps both keeps the promises
+pub step_keeps : {F Q R C K S M P : Type 0} {f : _} {c : _} {q : _} {m : _} {r : _}
+    (client server client_after server_after : Sender F Q R C K S M P f c q m r) (wire wire_after : List WirePacket)
+    (client_waits server_waits client_waits_after server_waits_after : List Waiting) (step : PairStep)
+    (answer : Result PairAnswer SenderError)
+    → ExchangeKept client server wire step answer client_after server_after wire_after → AnswersLocally (step, answer)
+    → QueueKept client_waits server_waits step answer client_waits_after server_waits_after
+    → StepKeeps client server wire client_waits server_waits step answer client_after server_after wire_after
+    client_waits_after server_waits_after
+step_keeps client server client_after server_after wire wire_after client_waits server_waits client_waits_after
+    server_waits_after step answer exchange local queue validated log tied =
+    let one = exchange validated log tied.ends in
+    let two = queue log tied.own_waits tied.peer_waits in (
+      record {
+        honest = one.0.honest;
+        delivered = one.0.delivered;
+        arrives = one.0.arrives;
+        limited = one.0.limited;
+        sends = two.0;
+        local = local;
+      },
+      record { ends = one.1; own_waits = two.1; peer_waits = two.2 },
+    )
+
+-- ---- a packet is sent
+
+module _ (log : PairLog) (space : SpaceId) (now size n : ℕ) (items : Vec ℕ) where
+  sent_here : (end : End) (there : SpaceId)
+      → sent_in end there ((Send end space now size, Ok (Sent n items)) ∷ log)
+      ≡ more_if (same_space space there) (sent_in end there log)
+  sent_here Client there = refl
+  sent_here Server there = refl
+
+  sent_not : (end : End) → LeavesQueue (Send end space now size, Ok (Sent n items)) log (other_end end)
+  sent_not Client = record { handed_same = λ there. refl; sent_same = λ there. refl }
+  sent_not Server = record { handed_same = λ there. refl; sent_same = λ there. refl }
+
+pub sent_queue : (end : End) (space : SpaceId) (now size n : ℕ) (items : Vec ℕ)
+    (client server client_after server_after : List Waiting)
+    → TurnsAt end (λ (old new : List Waiting). LosesOne old new space) client server client_after server_after
+    → QueueKept client server (Send end space now size) (Ok (Sent n items)) client_after server_after
+sent_queue end space now size n items =
+    queue_turn end (λ (old new : List Waiting). LosesOne old new space) (Send end space now size) (Ok (Sent n items))
+    here (λ log. sent_not log space now size n items end)
+  where
+    here : (old new : List Waiting) → LosesOne old new space
+        → QueueKeptAt end (Send end space now size) (Ok (Sent n items)) old new
+    here old new loses log queued = (
+      tt,
+      λ there. subst (λ (sent : ℕ). handed end there log ≤ waiting_in there new + sent)
+          (sym (sent_here log space now size n items end there))
+          (more_both (same_space space there) (handed end there log) (waiting_in there old) (sent_in end there log)
+          (waiting_in there new) (queued there) (loses there)),
+    )
+
+-- ---- nothing is sent
+
+pub nothing_queue : (end : End) (space : SpaceId) (now size : ℕ)
+    (client server client_after server_after : List Waiting)
+    → TurnsAt end (λ (old new : List Waiting). LosesNone old new × (waiting_in space old ≡ 0)) client server
+    client_after
+    server_after → QueueKept client server (Send end space now size) (Ok Nothing) client_after server_after
+nothing_queue end space now size =
+    queue_turn end (λ (old new : List Waiting). LosesNone old new × (waiting_in space old ≡ 0))
+    (Send end space now size) (Ok Nothing) here
+    (λ log. record { handed_same = λ there. refl; sent_same = λ there. refl })
+  where
+    here : (old new : List Waiting) → LosesNone old new × (waiting_in space old ≡ 0)
+        → QueueKeptAt end (Send end space now size) (Ok Nothing) old new
+    here old new keeps log queued = (
+      (let one = queued space in let none = keeps.1 in omega (arith, one, none)),
+      queued_on (Send end space now size, Ok Nothing) log end old new
+          (record { handed_same = λ there. refl; sent_same = λ there. refl }) keeps.0 queued,
+    )
+
+-- a step by which nothing is handed over or sent, if something is owed
+pub still_queue : (end : End) (step : PairStep) (answer : Result PairAnswer SenderError)
+    → ((log : PairLog) (end : End) → LeavesQueue (step, answer) log end)
+    → ((log : PairLog) → SendsWhatWaits log (step, answer)) → (client server client_after server_after : List Waiting)
+    → TurnsAt end (λ (old new : List Waiting). LosesNone old new) client server client_after server_after
+    → QueueKept client server step answer client_after server_after
+still_queue end step answer leaves sends =
+    queue_turn end (λ (old new : List Waiting). LosesNone old new) step answer
+    (λ old new keeps log queued. (
+      sends log,
+      queued_on (step, answer) log end old new (leaves log end) keeps queued,
+    )) (λ log. leaves log (other_end end))
+
+-- nothing at all happens
+pub same_queue : (step : PairStep) (answer : Result PairAnswer SenderError)
+    → ((log : PairLog) (end : End) → LeavesQueue (step, answer) log end)
+    → ((log : PairLog) → SendsWhatWaits log (step, answer)) → (client server : List Waiting)
+    → QueueKept client server step answer client server
+same_queue step answer leaves sends client server =
+    still_queue Client step answer leaves sends client server client server (none_lost client client refl, refl)
+
+-- ---- something happens at one end
+
+module _ (log : PairLog) where
+  handed_here : (end : End) (space there : SpaceId) (items : Vec ℕ)
+      → handed end there ((Local end (Hand space items), Ok Done) ∷ log)
+      ≡ more_if (same_space space there) (handed end there log)
+  handed_here Client space there items = refl
+  handed_here Server space there items = refl
+
+  handed_not : (end : End) (step : LocalStep) (answer : Result PairAnswer SenderError)
+      → LeavesQueue (Local end step, answer) log (other_end end)
+  handed_not Client (Hand space items) (Ok Done) = record { handed_same = λ there. refl; sent_same = λ there. refl }
+  handed_not Server (Hand space items) (Ok Done) = record { handed_same = λ there. refl; sent_same = λ there. refl }
+  handed_not end (Hand space items) answer = record { handed_same = λ there. refl; sent_same = λ there. refl }
+  handed_not end step answer = record { handed_same = λ there. refl; sent_same = λ there. refl }
+
+  local_sends : (end : End) (step : LocalStep) (answer : Result PairAnswer SenderError)
+      → IsNoPacket (Local end step, answer) → SendsWhatWaits log (Local end step, answer)
+  local_sends end step (Ok (Sent number items)) none = absurd none
+  local_sends end step answer none = tt
+
+  local_here : (end : End) (step : LocalStep) (answer : Result PairAnswer SenderError) (old new : List Waiting)
+      → LocalWaits old new step answer → AreQueued log end old → AreQueued ((Local end step, answer) ∷ log) end new
+  local_here end (Hand space items) (Ok Done) old new gains queued = λ there.
+      subst (λ (all : ℕ). all ≤ waiting_in there new + sent_in end there log)
+      (sym (handed_here end space there items))
+      (more_handed (same_space space there) (handed end there log) (waiting_in there old) (sent_in end there log)
+      (waiting_in there new) (queued there) (gains there))
+  local_here end (Hand space items) answer old new keeps queued =
+      queued_on (Local end (Hand space items), answer) log end old new
+      (record { handed_same = λ there. refl; sent_same = λ there. refl }) keeps queued
+  local_here end step answer old new keeps queued =
+      queued_on (Local end step, answer) log end old new
+      (record { handed_same = λ there. refl; sent_same = λ there. refl }) keeps queued
+
+pub local_queue : (end : End) (step : LocalStep) (answer : Result PairAnswer SenderError)
+    → IsNoPacket (Local end step, answer) → (client server client_after server_after : List Waiting)
+    → TurnsAt end (λ (old new : List Waiting). LocalWaits old new step answer) client server client_after server_after
+    → QueueKept client server (Local end step) answer client_after server_after
+local_queue end step answer none =
+    queue_turn end (λ (old new : List Waiting). LocalWaits old new step answer) (Local end step) answer
+    (λ old new waits log queued. (
+      local_sends log end step answer none,
+      local_here log end step answer old new waits queued,
+    )) (λ log. handed_not log end step answer)
+
+pub local_known : (end : End) (step : LocalStep) (result : Result PairAnswer SenderError)
+    → IfOk result (IsLocalAnswer step) → AnswersLocally (Local end step, result)
+local_known end step (Ok answer) is = is
+local_known end step (Err refusal) is = tt

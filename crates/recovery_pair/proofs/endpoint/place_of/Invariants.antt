@@ -1,0 +1,12 @@
+use Rattle.std.proofs.Common.{◌≡◌, ◌≤◌, ◌-◌, length, drop}
+use Rattle.recovery_pair.specs.Waits.{waiting_in}
+use Rattle.recovery_pair.proofs.endpoint.place_of.Given as goal
+
+abbrev pub invariant-loop-at : goal.invariant-loop-at
+invariant-loop-at l = record {
+  passed : waiting_in l.fn.space l.fn.waiting ≡ waiting_in l.fn.space (drop l.at l.fn.waiting);
+  within : l.at ≤ length l.fn.waiting;
+}
+
+abbrev pub decreases-loop-at : goal.decreases-loop-at
+decreases-loop-at l = length l.fn.waiting - l.at

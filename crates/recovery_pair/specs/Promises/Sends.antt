@@ -1,0 +1,23 @@
+-- An end sends what it is handed: it has nothing to send in a space only once it sent as many packets there as it was
+-- handed. What it is handed waits until then: an end that drops it, or sends nothing, breaks this.
+use Rattle.std.specs.Prelude.{◌≤◌, Result, Ok}
+use Rattle.recovery_base.specs.declared.below.SpaceId.{SpaceId}
+use Rattle.recovery_sender.specs.declared.sender.SenderError.{SenderError}
+use Rattle.recovery_pair.specs.declared.steps.End.{End}
+use Rattle.recovery_pair.specs.declared.steps.PairAnswer.{PairAnswer}
+use Rattle.recovery_pair.specs.declared.steps.PairAnswer.TheVariants.{Arrived, Done, Expired, Nothing, Sent}
+use Rattle.recovery_pair.specs.declared.steps.PairStep.TheVariants.{Send}
+use Rattle.recovery_pair.specs.Logs.{PairEvent, PairLog, handed, sent_in}
+
+-- the answer to an end that is to send: its packet, what holds it back, or nothing, if it owes nothing
+abbrev pub IsAnsweredSend : PairLog → End → SpaceId → Result PairAnswer SenderError → Type 0
+IsAnsweredSend log end space (Ok Nothing) = handed end space log ≤ sent_in end space log
+IsAnsweredSend log end space (Ok Done) = ⊥
+IsAnsweredSend log end space (Ok (Expired timeout)) = ⊥
+IsAnsweredSend log end space (Ok (Arrived to there number size fate)) = ⊥
+IsAnsweredSend log end space answer = Unit {0}
+
+abbrev pub SendsWhatWaits : PairLog → PairEvent → Type 0
+SendsWhatWaits log (Send end space now size, answer) = IsAnsweredSend log end space answer
+SendsWhatWaits log (step, Ok (Sent number items)) = ⊥
+SendsWhatWaits log event = Unit {0}
