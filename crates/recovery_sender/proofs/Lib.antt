@@ -1,4 +1,5 @@
 pub mod EventLaws
+pub mod ExtendedLaws
 pub mod RenewLaws
 pub mod AckRoomLaws
 pub mod AttemptLaws
