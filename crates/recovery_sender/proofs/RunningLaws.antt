@@ -150,15 +150,15 @@ module _ {P M : Type 0} where
 -- ---- the amplification limit
 
 -- a byte more is permitted
-byte_fits : (validated : Bool) (came went : ℕ) → (validated || nat_lt went (3 * came)) ≡ true
-    → (not validated && nat_lt (3 * came) (went + 1)) ≡ false
-byte_fits true came went may = refl
-byte_fits false came went may = grind (arith, nat_tests, may)
+byte_fits : (validated : Bool) (came went : ℕ)
+    → (not validated && nat_lt (3 * came) (went + 1)) ≡ not (validated || nat_lt went (3 * came))
+byte_fits true came went = refl
+byte_fits false came went = grind (arith, nat_tests)
 
 module _ {F K Q S M P : Type 0} (beginning : Beginning F K Q S M P) (past : History Q S M P)
     (recovery : RecoveryState K P M) (came : ReachedBy beginning past recovery) where
-  unblocked : may_send beginning past ≡ true → is_blocked recovery.paths.current.state 1 ≡ false
-  unblocked may =
+  limits : is_blocked recovery.paths.current.state 1 ≡ not (may_send beginning past)
+  limits =
       let flows = kept_after (RepliesAfter beginning) (FlowsAgree beginning) (flows_after beginning)
       (flows_at_first beginning) past came.replies in
       let kept : Flow = flow_of (pasts_of beginning past).current in
@@ -166,7 +166,7 @@ module _ {F K Q S M P : Type 0} (beginning : Beginning F K Q S M P) (past : Hist
       let received = ap (λ (f : Flow). f.came) flows.0.0 in
       let sent = ap (λ (f : Flow). f.went) flows.0.0 in
       ap (λ (paths : PerPath (PathReplyInputs K)). is_blocked paths.current.state 1) came.state_after.paths
-      ∙ byte_fits kept.validated kept.came kept.went (rw (flags, received, sent) at may)
+      ∙ rw (flags, received, sent) (byte_fits kept.validated kept.came kept.went)
 
 -- ---- the timer
 
@@ -188,6 +188,10 @@ module _ {K P M : Type 0} (recovery : RecoveryState K P M) (variables : Variable
           → probes_due recovery variables ≡ None
       by true is = rw is refl
       by false is = rw (is, probes Initial, probes Handshake, probes Data, never) refl
+
+  blocked_due : ((space : SpaceId) → loss_due recovery space ≡ None)
+      → is_blocked recovery.paths.current.state 1 ≡ true → due_of recovery variables ≡ None
+  blocked_due losses is = rw (losses Initial, losses Handshake, losses Data, is) refl
 
   no_probe : (space : SpaceId) → (is_discarded space recovery.discarded ≡ false
       → has_eliciting (packets_of (space_of space recovery.spaces)) ≡ false)
@@ -265,7 +269,7 @@ module _ {F Q R C K S M P : Type 0} {f : _} {c : _} {q : _} {m : _} {r : _} (sen
       by false is = is
 
   free : may_send begun past ≡ true → is_blocked state.paths.current.state 1 ≡ false
-  free = unblocked begun past state came
+  free may = limits begun past state came ∙ ap not may
 
   -- it is set while a packet is outstanding
   runs : NeverStalls state sender.variables → may_send begun past ≡ true → (space : SpaceId)
@@ -315,6 +319,14 @@ module _ {F Q R C K S M P : Type 0} {f : _} {c : _} {q : _} {m : _} {r : _} (sen
           either_true (is_address_validated sender.variables) _
           (inr (rw (unconfirmed, alive, tracked_here Data alive outstanding) refl))
 
+  -- it is stopped if no byte may be sent
+  stops_blocked : TimerIsSet state sender.variables → HasNoLossDue state → may_send begun past ≡ false
+      → timer_value past LossDetection ≡ None
+  stops_blocked set losses none = sym (came.state_after.timers LossDetection)
+      ∙ (set ∙ ap (λ (due : Option (ℕ × Due)). option_map (λ due. due.0) due)
+      (blocked_due state sender.variables (λ space. ap (λ time. option_map (λ time. (time, Losses space)) time)
+      (losses space)) (limits begun past state came ∙ ap not none)))
+
   -- it is stopped if nothing is due
   stops : TimerIsSet state sender.variables → HasNoLossDue state
       → ((space : SpaceId) → IsOutstanding past space → ⊥) → is_address_validated sender.variables ≡ true
@@ -337,5 +349,6 @@ pub keeps_time : {F Q R C K S M P : Type 0} {f : _} {c : _} {q : _} {m : _} {r :
 keeps_time sender set alive config start random past came = record {
   runs = runs sender config start random past came (alive config start random past came);
   deadlock = deadlock sender config start random past came (alive config start random past came);
+  blocked = stops_blocked sender config start random past came set;
   stops = stops sender config start random past came set;
 }

@@ -110,6 +110,8 @@ module _ {F K Q S M P : Type 0} (beginning : Beginning F K Q S M P) (past : Hist
         → (is_address_validated variables ≡ false)
         ⊎ ((variables.is_handshake_confirmed ≡ false) × IsOutstanding past Data)
         → timer_value past LossDetection ≢ None
+    -- It is stopped if no packet is suspected lost, and the amplification limit permits no byte.
+    pub blocked : HasNoLossDue recovery → may_send ≡ false → timer_value past LossDetection ≡ None
     -- It is stopped if no packet is suspected lost, and nothing is outstanding at an endpoint that knows its address
     -- validated.
     pub stops : HasNoLossDue recovery → ((space : SpaceId) → IsOutstanding past space → ⊥)
