@@ -23,6 +23,7 @@ pub mod PersistentLaws
 pub mod PromiseLaws
 pub mod RunningLaws
 pub mod SampleLaws
+mod SampleRows
 pub mod StepLaws
 pub mod TimerLaws
 pub mod WindowLaws
