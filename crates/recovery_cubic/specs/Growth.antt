@@ -37,8 +37,8 @@ module _ (window now mtu : ℕ) where
   acked_in [] earlier = 0
   acked_in (call ∷ later) earlier = bytes_of (turn_at window now mtu call (later ++ earlier)) + acked_in later earlier
 
-  -- what growth counts from: the window after earlier calls, or the largest minimum window of an MTU that was set later,
-  -- if that is larger
+  -- what growth counts from: the window after earlier calls, or the largest minimum window of an MTU that was set
+  -- later, if that is larger
   abbrev pub floor_by : List ControllerCall → List ControllerCall → ℕ
   floor_by [] earlier = window_by window now mtu earlier
   floor_by (call ∷ later) earlier =

@@ -1,4 +1,5 @@
 pub mod EventLaws
+pub mod ExtendedLaws
 pub mod RenewLaws
 pub mod AckRoomLaws
 pub mod AttemptLaws
@@ -22,6 +23,7 @@ pub mod PersistentLaws
 pub mod PromiseLaws
 pub mod RunningLaws
 pub mod SampleLaws
+mod SampleRows
 pub mod StepLaws
 pub mod TimerLaws
 pub mod WindowLaws

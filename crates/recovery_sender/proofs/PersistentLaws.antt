@@ -176,7 +176,8 @@ module _ {F Q R C K S M P : Type 0} {f : _} {c : _} {q : _} {m : _} {r : _} (spa
       ends_by : (number sent : ℕ) → IsEndAt look (packets_in (state_in sender) space) losses.numbers.items number sent
           → EndsPersistence look losses sender.variables.sampled past number
       ends_by number sent end =
-          let counts = and_parts (nat_lt 0 end.packet.size) (end.packet.path_generation == look.generation) end.counts in
+          let counts = and_parts (nat_lt 0 end.packet.size) (end.packet.path_generation == look.generation)
+          end.counts in
           let ends = and_parts end.packet.ack_eliciting (is_after_sample look.first_sample number end.packet.time_sent)
           end.ends in
           let same : end.packet.path_generation ≡ (state_in sender).paths.current.ledger.generation =

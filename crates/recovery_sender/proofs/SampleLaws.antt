@@ -393,12 +393,24 @@ module _ {F K Q S M P : Type 0} (beginning : Beginning F K Q S M P) (past : Hist
         (λ earlier. (generations earlier).current == recovery.paths.current.ledger.generation)));
   }
 
-  first_explains : (first : Option (SpaceId × ℕ)) → IsMarkable recovery first → ExplainsMarks recovery.paths past
+  pub first_explains : (first : Option (SpaceId × ℕ)) → IsMarkable recovery first → ExplainsMarks recovery.paths past
       → ForSome first (IsMarkOf recovery.paths.current.ledger.generation past)
   first_explains first (inl same) explains mark is = explains.0 mark (sym same ∙ is)
   first_explains first (inr (space, next, some)) explains mark is =
       subst (λ mark. IsMarkOf recovery.paths.current.ledger.generation past mark) (same_Some _ mark (sym next ∙ is))
       (next_explains space some)
+
+-- one more event
+module _ {F K Q S M P : Type 0} (beginning : Beginning F K Q S M P) (past : History Q S M P)
+    (old new : RecoveryState K P M) where
+  pub event_explains_state : (event : Event Q S M P) (reply : Reply Q) → ReachedBy beginning past old
+      → ReachedBy beginning ((event, reply) ∷ past) new
+      → paths_marks new.paths ≡ marks_after event reply (paths_marks old.paths) → ExplainsMarks old.paths past
+      → ExplainsMarks new.paths ((event, reply) ∷ past)
+  event_explains_state event reply came reached marks explains =
+      from_history beginning ((event, reply) ∷ past) new reached (
+      subst (λ marks. AreExplained ((event, reply) ∷ past) (generations ((event, reply) ∷ past)) marks) (sym marks)
+      (event_explains past event reply (paths_marks old.paths) (to_history beginning past old came explains)))
 
 -- ---- some events explain the marks of a sender
 
@@ -418,10 +430,7 @@ module _ {F K Q S M P : Type 0} {built : F → ℕ → ℕ → K} {words : Contr
         random = by.random;
         past = (event, reply) ∷ by.past;
         came = came;
-        marks = from_history beginning ((event, reply) ∷ by.past) new came (
-            subst (λ marks. AreExplained ((event, reply) ∷ by.past) (generations ((event, reply) ∷ by.past)) marks)
-            (sym marks) (event_explains by.past event reply (paths_marks old.paths)
-            (to_history beginning by.past old by.came by.marks)));
+        marks = event_explains_state beginning by.past old new event reply by.came came marks by.marks;
       })
 
   -- what changes no path
@@ -484,7 +493,8 @@ updated delay sample old (Some smoothed) is none = absurd (none-some _ (sym (rw 
 
 -- after one, the path in use has an estimate
 module _ {K Q S M P : Type 0} (queue : QueueModel Q S M P) (old new : RecoveryState K P M) where
-  pub estimated : (delay sample : ℕ) (answer : Answer Q) → StateTransition queue old (Sample delay sample) (Ok answer) new
+  pub estimated : (delay sample : ℕ) (answer : Answer Q)
+      → StateTransition queue old (Sample delay sample) (Ok answer) new
       → new.paths.current.state.rtt.smoothed ≢ None
   estimated delay sample answer step none =
       updated delay sample old.paths.current.state.rtt old.paths.current.state.rtt.smoothed refl

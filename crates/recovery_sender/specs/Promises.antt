@@ -1,5 +1,6 @@
 pub mod Acked
 pub mod Amplification
+pub mod Extended
 pub mod Liveness
 pub mod Lost
 pub mod Pasts

@@ -18,7 +18,7 @@ use Rattle.recovery_sender.specs.declared.sender.Sender.{Sender}
 use Rattle.recovery_losses.specs.declared.due.Due.{Due}
 use Rattle.recovery_losses.specs.declared.variables.Variables.{Variables}
 use Rattle.recovery_sender.specs.Promises.Amplification.{SendsThreefold}
-use Rattle.recovery_sender.specs.Promises.Liveness.{IsTimerRunning, NeverStalls}
+use Rattle.recovery_sender.specs.Promises.Liveness.{IsTimerByEvents, NeverStalls}
 use Rattle.recovery_sender.specs.Promises.Pasts.{ForEveryPast, ForEveryRun}
 use Rattle.recovery_sender.specs.Senders.{state_in}
 use Rattle.recovery_sender.specs.Timer.{due_of, TimerIsSet}
@@ -80,4 +80,5 @@ module _ {F Q R C K S M P : Type 0} {f : _} {c : _} {q : _} {m : _} {r : _} wher
     pub limited : ForEveryRun new SendsThreefold
     -- so that it never stalls
     pub alive : ForEveryPast new (λ past. NeverStalls (state_in new) new.variables)
-    pub running : ForEveryRun new (λ beginning past. IsTimerRunning beginning past new.variables)
+    -- and so is the timer, by the events so far
+    pub running : ForEveryRun new (λ beginning past. IsTimerByEvents beginning past (state_in new) new.variables)

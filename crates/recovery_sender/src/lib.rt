@@ -4,6 +4,7 @@
 
 mod caller;
 mod calls;
+pub mod laws;
 mod runs;
 pub mod sender;
 

@@ -1,11 +1,13 @@
 -- It never stalls (RFC 9002, 6.2 and 6.2.2.1): the loss detection timer is set while an acknowledgement is due.
-use Rattle.std.specs.Prelude.{◌≡◌, ◌≢◌, ℕ, ◌*◌, ◌≤◌, ◌⊎◌, ◌&&◌, ◌||◌, not, nat_lt, sum_by, Bool, true, false, None, Some}
+use Rattle.std.specs.Prelude.{◌≡◌, ◌≢◌, ℕ, ◌*◌, ◌≤◌, ◌⊎◌, ◌&&◌, ◌||◌, not, nat_lt, sum_by, Bool, true, false, Option, [], ◌∷◌, None, Some, Ok, if◌then◌else◌}
 use Rattle.std.specs.Option.{option_and_then}
 use Rattle.recovery_base.specs.declared.below.SpaceId.{SpaceId}
-use Rattle.recovery_base.specs.declared.below.SpaceId.TheVariants.{Data}
+use Rattle.recovery_base.specs.declared.below.SpaceId.TheVariants.{Initial, Handshake, Data}
 use Rattle.recovery_base.specs.Spaces.{same_space}
 use Rattle.recovery_base.specs.declared.timer.Timer.TheVariants.{LossDetection}
 use Rattle.recovery_base.specs.Timers.{moment}
+use Rattle.recovery_events.specs.declared.event.Answer.TheVariants.{Sent, Probe}
+use Rattle.recovery_events.specs.declared.event.Event.TheVariants.{Send, PollMtu}
 use Rattle.recovery_spaces.specs.Discarded.{is_discarded}
 use Rattle.recovery_spaces.specs.Spaces.{Space, packets_of}
 use Rattle.recovery_paths.specs.declared.path_pair.PathName.TheVariants.{Current}
@@ -17,9 +19,18 @@ use Rattle.recovery_history.specs.Promises.Timeouts.{timer_value}
 use Rattle.recovery_history.specs.Promises.Tracked.{is_tracked}
 use Rattle.recovery_history.specs.RecoveryState.{RecoveryState}
 use Rattle.recovery_losses.specs.declared.variables.Variables.{Variables}
+use Rattle.recovery_losses.specs.Variables.{is_address_validated}
 use Rattle.recovery_sender.specs.Promises.Lost.{elicits_by}
 use Rattle.recovery_sender.specs.Spaces.{space_in}
 use Rattle.recovery_sender.specs.Timer.{behind, deadlock_space, has_eliciting, may_deadlock, pto_of, waits}
+
+-- when the next packet of a space is lost by its age
+abbrev pub loss_time_in : {K P M : Type 0} → RecoveryState K P M → SpaceId → Option ℕ
+loss_time_in recovery space = option_and_then (λ here. here.loss_time) (space_in recovery space)
+
+-- no packet is suspected lost
+abbrev pub HasNoLossDue : {K P M : Type 0} → RecoveryState K P M → Type 0
+HasNoLossDue recovery = (space : SpaceId) → loss_time_in recovery space ≡ None
 
 module _ {K P M : Type 0} (recovery : RecoveryState K P M) (variables : Variables) where
   -- the space is not discarded, tracks an ack-eliciting packet, and does not wait for the handshake
@@ -34,7 +45,7 @@ module _ {K P M : Type 0} (recovery : RecoveryState K P M) (variables : Variable
   pub record IsSetFor (space : SpaceId) : Type 0 where
     pub time : ℕ
     pub set : moment LossDetection recovery.timers ≡ Some time
-    pub soon : ((lost : SpaceId) × (option_and_then (λ here. here.loss_time) (space_in recovery lost) ≡ Some time))
+    pub soon : ((lost : SpaceId) × (loss_time_in recovery lost ≡ Some time))
         ⊎ ((sent : ℕ) × (option_and_then (λ here. here.time_of_last_ack_eliciting_packet) (space_in recovery space)
         ≡ Some sent) × (time ≤ behind sent (pto_of recovery variables space)))
 
@@ -49,6 +60,36 @@ module _ {K P M : Type 0} (recovery : RecoveryState K P M) (variables : Variable
         → is_discarded (deadlock_space recovery variables) recovery.discarded ≡ false
         → moment LossDetection recovery.timers ≢ None
 
+-- when the last ack-eliciting packet of a space was sent, by the events
+abbrev pub last_sent_at : {Q S M P : Type 0} → SpaceId → History Q S M P → Option ℕ
+last_sent_at space [] = None
+last_sent_at space ((Send there now size eliciting largest queue frames, Ok (Sent number forgotten)) ∷ earlier) =
+    if same_space there space && eliciting then Some now else last_sent_at space earlier
+last_sent_at space ((PollMtu now, Ok (Probe number size)) ∷ earlier) =
+    if same_space Data space then Some now else last_sent_at space earlier
+last_sent_at space (happened ∷ earlier) = last_sent_at space earlier
+
+module _ {Q S M P : Type 0} (past : History Q S M P) where
+  -- an ack-eliciting packet of a space is outstanding: it was sent, and is neither acknowledged nor declared lost,
+  -- forgotten or discarded
+  abbrev pub IsOutstanding : SpaceId → Type 0
+  IsOutstanding space = (was_discarded space past ≡ false)
+      × (number : ℕ) × (is_tracked space number past ≡ true) × (elicits_by space past number ≡ true)
+
+  -- the space of a probe against a deadlock (RFC 9002, 6.2.2.1)
+  abbrev pub deadlock_space_by : Variables → SpaceId
+  deadlock_space_by variables =
+      if variables.has_handshake_keys && not (was_discarded Handshake past) then Handshake else Initial
+
+  -- the timer is set to the loss time of a space; or for a probe, at most a probe timeout with its backoff after the
+  -- last ack-eliciting packet of the space was sent (RFC 9002, 6.1.2 and 6.2.1)
+  pub record IsSetInTime {K : Type 0} (recovery : RecoveryState K P M) (variables : Variables)
+      (space : SpaceId) : Type 0 where
+    pub time : ℕ
+    pub set : timer_value past LossDetection ≡ Some time
+    pub soon : ((lost : SpaceId) × (loss_time_in recovery lost ≡ Some time)) ⊎ ((sent : ℕ)
+        × (last_sent_at space past ≡ Some sent) × (time ≤ behind sent (pto_of recovery variables space)))
+
 module _ {F K Q S M P : Type 0} (beginning : Beginning F K Q S M P) (past : History Q S M P) where
   -- the amplification limit permits a byte on the path in use, by the events so far (RFC 9000, 8.1)
   abbrev pub may_send : Bool
@@ -56,10 +97,22 @@ module _ {F K Q S M P : Type 0} (beginning : Beginning F K Q S M P) (past : Hist
       || nat_lt (sum_by bytes_out (datagrams_on Current past))
       (amplification_factor * sum_by bytes_in (datagrams_on Current past))
 
-  -- by the events so far, the loss detection timer is set while an ack-eliciting packet is outstanding in a space that
-  -- is not discarded and does not wait for the handshake
-  abbrev pub IsTimerRunning : Variables → Type 0
-  IsTimerRunning variables = may_send ≡ true → (space : SpaceId) → was_discarded space past ≡ false
-      → (same_space space Data && not variables.is_handshake_confirmed) ≡ false
-      → (number : ℕ) → is_tracked space number past ≡ true → elicits_by space past number ≡ true
-      → timer_value past LossDetection ≢ None
+  -- the loss detection timer, by the events so far (RFC 9002, 6.2.1, 6.2.2.1 and A.8)
+  pub record IsTimerByEvents (recovery : RecoveryState K P M) (variables : Variables) : Type 0 where
+    -- It is set while an ack-eliciting packet is outstanding. For 1-RTT packets that is so once the handshake is
+    -- confirmed.
+    pub runs : may_send ≡ true → (space : SpaceId)
+        → (same_space space Data && not variables.is_handshake_confirmed) ≡ false → IsOutstanding past space
+        → IsSetInTime past recovery variables space
+    -- It is set at a client that does not know its address validated, and, until the handshake is confirmed, while a
+    -- 1-RTT packet is outstanding.
+    pub deadlock : may_send ≡ true → was_discarded (deadlock_space_by past variables) past ≡ false
+        → (is_address_validated variables ≡ false)
+        ⊎ ((variables.is_handshake_confirmed ≡ false) × IsOutstanding past Data)
+        → timer_value past LossDetection ≢ None
+    -- It is stopped if no packet is suspected lost, and the amplification limit permits no byte.
+    pub blocked : HasNoLossDue recovery → may_send ≡ false → timer_value past LossDetection ≡ None
+    -- It is stopped if no packet is suspected lost, and nothing is outstanding at an endpoint that knows its address
+    -- validated.
+    pub stops : HasNoLossDue recovery → ((space : SpaceId) → IsOutstanding past space → ⊥)
+        → is_address_validated variables ≡ true → timer_value past LossDetection ≡ None

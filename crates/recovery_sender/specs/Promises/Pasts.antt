@@ -21,6 +21,7 @@ module _ {F Q R C K S M P : Type 0} {f : _} {c : _} {q : _} {m : _} {r : _} (sen
     abbrev pub ForEveryPast : (History Q S M P → Type 0) → Type 0
     ForEveryPast Holds = ForEveryRun (λ beginning past. Holds past)
 
-    -- for every such past that explains the sender's marks; one exists, and the events of each call extend it
+    -- for every such past that explains the sender's marks; one exists (`explained`), and each step of a sender extends
+    -- it (`past_explains_marks`)
     abbrev pub ForEveryExplainedPast : (History Q S M P → Type 0) → Type 0
     ForEveryExplainedPast Holds = ForEveryPast (λ past. ExplainsMarks (state_in sender).paths past → Holds past)

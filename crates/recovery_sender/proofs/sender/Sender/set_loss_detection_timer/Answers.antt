@@ -4,7 +4,7 @@ use Rattle.recovery_sender.specs.Senders.{state_in}
 use Rattle.recovery_sender.specs.Timer.{TimerIsSet}
 use Rattle.recovery_sender.proofs.BoundLaws.{stays_threefold}
 use Rattle.recovery_sender.proofs.LivenessLaws.{never_stalls}
-use Rattle.recovery_sender.proofs.RunningLaws.{keeps_running}
+use Rattle.recovery_sender.proofs.RunningLaws.{keeps_time}
 use Rattle.recovery_sender.proofs.TimerLaws.{timer_sets}
 use Rattle.recovery_sender.proofs.sender.Sender.set_loss_detection_timer.Goals as goal
 
@@ -27,7 +27,7 @@ returns-then-is_set_to g c =
       timer = timer;
       limited = stays_threefold c.args.self.now;
       alive = never_stalls c.args.self.now _ timer;
-      running = keeps_running c.args.self.now (never_stalls c.args.self.now _ timer);
+      running = keeps_time c.args.self.now timer (never_stalls c.args.self.now _ timer);
     }
 
 pub invariant_of-self-2 : goal.invariant_of-self-2
@@ -60,5 +60,5 @@ returns g c =
       timer = timer;
       limited = stays_threefold c.tell_timer.new.self;
       alive = never_stalls c.tell_timer.new.self _ timer;
-      running = keeps_running c.tell_timer.new.self (never_stalls c.tell_timer.new.self _ timer);
+      running = keeps_time c.tell_timer.new.self timer (never_stalls c.tell_timer.new.self _ timer);
     }

@@ -1,7 +1,7 @@
 use Rattle.std.proofs.Common.{inl, refl}
 use Rattle.recovery_sender.specs.Senders.{state_in}
 use Rattle.recovery_sender.proofs.BoundLaws.{stays_threefold}
-use Rattle.recovery_sender.proofs.RunningLaws.{keeps_running}
+use Rattle.recovery_sender.proofs.RunningLaws.{keeps_time}
 use Rattle.recovery_sender.proofs.LivenessLaws.{never_stalls}
 use Rattle.recovery_sender.proofs.sender.Sender.time_on.Goals as goal
 
@@ -16,5 +16,5 @@ returns-then-was_timed g c =
       timer = timer;
       limited = stays_threefold c.args.self.now;
       alive = never_stalls c.args.self.now _ timer;
-      running = keeps_running c.args.self.now (never_stalls c.args.self.now _ timer);
+      running = keeps_time c.args.self.now timer (never_stalls c.args.self.now _ timer);
     }
