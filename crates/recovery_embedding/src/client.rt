@@ -61,8 +61,8 @@ fn say_hello(report: &mut Report, client: &mut Connection) -> Result<u64, Sender
     Ok(hello)
 }
 
-/// Another connection, through a tunnel whose MTU is known: the first packet is sent, and a Retry is received (RFC 9000,
-/// 8.1.2).
+/// Another connection, through a tunnel whose MTU is known: the first packet is sent, and a Retry is received (RFC
+/// 9000, 8.1.2).
 pub fn try_again(report: &mut Report, client: &mut Connection) -> Result<(), SenderError> {
     client.use_tunnel(1400)?;
     let mtu = client.state().current().current_mtu();
