@@ -11,7 +11,7 @@ import sys
 import tree
 from tree import ROOT
 
-APART = re.compile(r"_tests$|_(rows|refused_memory)$|^recovery_(embedding|pictures|ffi|kept|stack|trace|sender)$")
+APART = re.compile(r"_tests$|_(rows|refused_memory)$|^recovery_(embedding|pictures|ffi|kept|stack|trace|sender|pair)$")
 ROWS = re.compile(r"Rows$|^RowStart$")
 IMPORT = re.compile(r"\bEvent\.TheVariants\.\{([^}]*)\}")
 RENAMED = re.compile(r"\bEvent\.TheVariants as (\w+)")

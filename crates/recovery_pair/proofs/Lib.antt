@@ -4,6 +4,7 @@ pub mod HonestLaws
 pub mod LogLaws
 pub mod NewLaws
 pub mod PacketLaws
+pub mod PermitLaws
 pub mod QueueLaws
 pub mod QuietLaws
 pub mod RunLaws

@@ -1,6 +1,7 @@
 pub mod Frames
 pub mod Logs
 pub mod Pasts
+pub mod Permits
 pub mod Promises
 pub mod Runs
 pub mod Tied

@@ -29,5 +29,5 @@ pub record KeepsPromises (validated : Bool) (log : PairLog) (event : PairEvent) 
   pub limited : ServerSendsThreefold validated (event ∷ log)
   -- An end has nothing to send in a space only once it sent as many packets there as it was handed (RFC 9000, 13).
   pub sends : SendsWhatWaits log event
-  -- What is handed over, discarded, validated or confirmed is done; an expiry is looked at (RFC 9002, 6.2 and 6.4).
+  -- A step of one endpoint has an answer of its kind, never another (RFC 9002, 6.2 and 6.4).
   pub local : AnswersLocally event

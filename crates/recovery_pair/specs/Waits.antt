@@ -5,7 +5,7 @@ use Rattle.recovery_base.specs.Spaces.{same_space}
 use Rattle.recovery_history.specs.Promises.Fates.{more_if}
 use Rattle.recovery_sender.specs.declared.sender.SenderError.{SenderError}
 use Rattle.recovery_pair.specs.declared.endpoint.Outgoing.{Outgoing}
-use Rattle.recovery_pair.specs.declared.endpoint.Outgoing.TheVariants.{Nothing, Sent}
+use Rattle.recovery_pair.specs.declared.endpoint.Outgoing.TheVariants.{Held, Nothing, Sent}
 use Rattle.recovery_pair.specs.declared.endpoint.Waiting.{Waiting}
 use Rattle.recovery_pair.specs.declared.steps.End.{End}
 use Rattle.recovery_pair.specs.declared.steps.LocalStep.{LocalStep}
@@ -47,6 +47,7 @@ module _ (old new : List Waiting) where
   abbrev pub PackWaits : SpaceId → Outgoing → Type 0
   PackWaits space (Sent packet items) = LosesOne space
   PackWaits space Nothing = ⊥
+  PackWaits space (Held held) = ⊥
   PackWaits space other = LosesNone
 
   abbrev pub HandWaits : SpaceId → Result PairAnswer SenderError → Type 0

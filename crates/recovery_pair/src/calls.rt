@@ -2,6 +2,7 @@
 ghost use Rattle.std.specs.Prelude.{◌≡◌, ◌≢◌, [], ◌∷◌, true, IfOk, MatchResult, Some};
 ghost use Rattle.recovery_pair.specs.Frames.{IsFrameFor};
 ghost use Rattle.recovery_pair.specs.Pasts.{Continues, GoesOn, GoesOnQuietly, HearsNumber, NoAccusation, SendsNumber, AcksWithin, arm_told, arriving, discarding, heard_of, validating};
+ghost use Rattle.recovery_pair.specs.Permits.{said_by};
 ghost use Rattle.recovery_pair.specs.Turns.{TransmitTurn, TriesTurn};
 
 use crate::steps::{AckOutcome, WirePacket};
@@ -86,7 +87,8 @@ pub(crate) fn transmit<F, R>(
 where
     F: ControllerFactory,
     R: Rng + Drop,
-    ensures { TransmitTurn sender.old sender.new size result }
+    ensures goes { TransmitTurn sender.old sender.new size result }
+    ensures said { result ≡ said_by sender.old space now size eliciting }
 {
     sender.transmit(now, size, space, eliciting)
 }

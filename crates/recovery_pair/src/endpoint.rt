@@ -3,6 +3,7 @@ ghost use Rattle.std.specs.Prelude.{◌≡◌, ◌+◌, ◌<◌, ◌≤◌, IfOk
 ghost use Rattle.std.specs.Vec.{vec_len, vec_capacity};
 ghost use Rattle.recovery_pair.specs.Pasts.{Continues, GoesOn, GoesOnQuietly};
 ghost use Rattle.recovery_pair.specs.Turns.{HearTurn, PackTurn, SendTurn, local_turn};
+ghost use Rattle.recovery_pair.specs.Permits.{PermitsOutcome};
 ghost use Rattle.recovery_pair.specs.Promises.Locals.{IsDone, IsDoneOrNothing, IsLocalAnswer};
 ghost use Rattle.recovery_pair.specs.Waits.{GainsOne, HandWaits, IsPlaceInQueue, LocalWaits, LosesNone, LosesOne, PackWaits, SendWaits, waiting_in};
 
@@ -121,6 +122,7 @@ where
     ) -> Result<Outgoing, SenderError>
         ensures goes { SendTurn self.old.sender self.new.sender from space size result }
         ensures waits { SendWaits self.old.waiting.items self.new.waiting.items space result }
+        ensures permits { PermitsOutcome space now size result self.old.sender }
     {
         let eliciting = self.has_items(space);
         let ack = match frame(alloc, &self.sender, space, now) {

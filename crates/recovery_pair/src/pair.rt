@@ -3,6 +3,7 @@ ghost use Rattle.std.specs.Prelude.{◌≡◌, ◌≤◌, [], ◌∷◌, IfOk};
 ghost use Rattle.recovery_base.specs.Units.{number_limit};
 ghost use Rattle.recovery_packet_numbers.specs.Skips.{IsSkips};
 ghost use Rattle.recovery_pair.specs.Pasts.{Continues, GoesOn};
+ghost use Rattle.recovery_pair.specs.Permits.{HoldsAt, PermitsAnswer, PermitsOutcome, SendsAsPermitted};
 ghost use Rattle.recovery_pair.specs.Promises.Locals.{IsLocalAnswer};
 ghost use Rattle.recovery_pair.specs.Runs.{StepKeeps};
 ghost use Rattle.recovery_pair.specs.Tied.{IsTied};
@@ -61,6 +62,8 @@ where
     ensures waits { TurnsAt end (λ old new. SendWaits old new space result)
         client.old.waiting.items server.old.waiting.items client.new.waiting.items
         server.new.waiting.items }
+    ensures permits { HoldsAt end (PermitsOutcome space now size result) client.old.sender
+        server.old.sender }
 {
     match end {
         End::Client => client.send(alloc, end, space, now, size),
@@ -148,10 +151,14 @@ where
     /// Makes a step. However the steps are chosen, the promises of `KeepsPromises` hold for its answer, by the steps
     /// and answers before it.
     pub fn step(&mut self, step: PairStep) -> Result<PairAnswer, SenderError>
-        ensures { StepKeeps self.old.client.sender self.old.server.sender self.old.wire.items
-            self.old.client.waiting.items self.old.server.waiting.items step result
-            self.new.client.sender self.new.server.sender self.new.wire.items
+        ensures keeps { StepKeeps self.old.client.sender self.old.server.sender
+            self.old.wire.items self.old.client.waiting.items self.old.server.waiting.items step
+            result self.new.client.sender self.new.server.sender self.new.wire.items
             self.new.client.waiting.items self.new.server.waiting.items }
+
+        // A datagram goes out exactly if the sender of its endpoint permits it (RFC 9000, 8.1; RFC 9002, 7).
+        ensures permits { SendsAsPermitted step result self.old.client.sender
+            self.old.server.sender }
     {
         match step {
             PairStep::Send {
@@ -173,11 +180,13 @@ where
         now: Instant,
         size: u16,
     ) -> Result<PairAnswer, SenderError>
-        ensures { StepKeeps self.old.client.sender self.old.server.sender self.old.wire.items
-            self.old.client.waiting.items self.old.server.waiting.items
+        ensures keeps { StepKeeps self.old.client.sender self.old.server.sender
+            self.old.wire.items self.old.client.waiting.items self.old.server.waiting.items
             (PairStep.Send end space now size) result self.new.client.sender
             self.new.server.sender self.new.wire.items self.new.client.waiting.items
             self.new.server.waiting.items }
+        ensures permits { HoldsAt end (PermitsAnswer space now size result)
+            self.old.client.sender self.old.server.sender }
     {
         match self.wire.reserve(1) {
             Ok(()) => {}

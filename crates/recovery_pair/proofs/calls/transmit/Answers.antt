@@ -2,7 +2,8 @@ use Rattle.recovery_sender.specs.Calls.{is_checked}
 use Rattle.recovery_pair.proofs.PacketLaws.{may_transmit}
 use Rattle.recovery_pair.proofs.calls.transmit.Goals as goal
 
-pub returns : goal.returns
-returns g c = may_transmit c.args.now c.args.size (is_checked c.args.sender.now.variables c.args.space c.args.eliciting)
+pub returns-clause-goes : goal.returns-clause-goes
+returns-clause-goes g c = may_transmit c.args.now c.args.size (is_checked c.args.sender.now.variables c.args.space
+    c.args.eliciting)
     c.args.sender.now.variables c.args.sender.now c.transmit.new.self c.transmit.result c.transmit.ensures.steps
     c.transmit.ensures.refused

@@ -3,12 +3,14 @@ use Rattle.recovery_events.specs.declared.event.Refusal.TheVariants.{NoMemory}
 use Rattle.recovery_sender.specs.declared.sender.SenderError.TheVariants.{Event}
 use Rattle.recovery_pair.specs.declared.steps.PairAnswer.TheVariants.{Failed, Held, Nothing, Sent}
 use Rattle.recovery_pair.specs.declared.steps.PairStep.TheVariants.{Send}
+use Rattle.recovery_pair.specs.declared.endpoint.Outgoing.TheVariants as outgoing
+use Rattle.recovery_pair.proofs.PermitLaws.{permits_at, permits_none}
 use Rattle.recovery_pair.proofs.QueueLaws.{nothing_queue, same_queue, sent_queue, step_keeps, still_queue}
 use Rattle.recovery_pair.proofs.StepTies.{held_turn, idle_step, send_turn}
 use Rattle.recovery_pair.proofs.pair.Pair.send.Goals as goal
 
-pub returns-in-Ok-Sent : goal.returns-in-Ok-Sent
-returns-in-Ok-Sent g c = step_keeps c.args.self.now.client.sender c.args.self.now.server.sender
+pub returns-in-Ok-Sent-clause-keeps : goal.returns-in-Ok-Sent-clause-keeps
+returns-in-Ok-Sent-clause-keeps g c = step_keeps c.args.self.now.client.sender c.args.self.now.server.sender
     c.send_from.new.client.sender
     c.send_from.new.server.sender c.args.self.now.wire.items c.push_reserved.new.self.items
     c.args.self.now.client.waiting.items
@@ -24,8 +26,8 @@ returns-in-Ok-Sent g c = step_keeps c.args.self.now.client.sender c.args.self.no
     c.args.self.now.server.waiting.items c.send_from.new.client.waiting.items c.send_from.new.server.waiting.items
     (rw c.in-Ok-Sent.field-0-is at c.in-Ok-Sent.ensures.waits))
 
-pub returns-in-Ok-Nothing : goal.returns-in-Ok-Nothing
-returns-in-Ok-Nothing g c = step_keeps c.args.self.now.client.sender c.args.self.now.server.sender
+pub returns-in-Ok-Nothing-clause-keeps : goal.returns-in-Ok-Nothing-clause-keeps
+returns-in-Ok-Nothing-clause-keeps g c = step_keeps c.args.self.now.client.sender c.args.self.now.server.sender
     c.send_from.new.client.sender
     c.send_from.new.server.sender c.args.self.now.wire.items c.reserve.new.self.items
     c.args.self.now.client.waiting.items
@@ -39,8 +41,8 @@ returns-in-Ok-Nothing g c = step_keeps c.args.self.now.client.sender c.args.self
     c.args.self.now.server.waiting.items c.send_from.new.client.waiting.items c.send_from.new.server.waiting.items
     (rw c.in-Ok-Nothing.field-0-is at c.in-Ok-Nothing.ensures.waits))
 
-pub returns-in-Ok-Held : goal.returns-in-Ok-Held
-returns-in-Ok-Held g c = step_keeps c.args.self.now.client.sender c.args.self.now.server.sender
+pub returns-in-Ok-Held-clause-keeps : goal.returns-in-Ok-Held-clause-keeps
+returns-in-Ok-Held-clause-keeps g c = step_keeps c.args.self.now.client.sender c.args.self.now.server.sender
     c.send_from.new.client.sender
     c.send_from.new.server.sender c.args.self.now.wire.items c.reserve.new.self.items
     c.args.self.now.client.waiting.items
@@ -56,8 +58,8 @@ returns-in-Ok-Held g c = step_keeps c.args.self.now.client.sender c.args.self.no
     c.args.self.now.server.waiting.items c.send_from.new.client.waiting.items c.send_from.new.server.waiting.items
     (rw c.in-Ok-Held.field-0-is at c.in-Ok-Held.ensures.waits))
 
-pub returns-in-Ok-Failed : goal.returns-in-Ok-Failed
-returns-in-Ok-Failed g c = step_keeps c.args.self.now.client.sender c.args.self.now.server.sender
+pub returns-in-Ok-Failed-clause-keeps : goal.returns-in-Ok-Failed-clause-keeps
+returns-in-Ok-Failed-clause-keeps g c = step_keeps c.args.self.now.client.sender c.args.self.now.server.sender
     c.send_from.new.client.sender
     c.send_from.new.server.sender c.args.self.now.wire.items c.reserve.new.self.items
     c.args.self.now.client.waiting.items
@@ -67,14 +69,15 @@ returns-in-Ok-Failed g c = step_keeps c.args.self.now.client.sender c.args.self.
     c.args.self.now.client.sender c.args.self.now.server.sender
     c.send_from.new.client.sender c.send_from.new.server.sender c.args.self.now.wire.items c.reserve.new.self.items
     c.in-Ok.ensures.items tt tt (λ log listed. tt) (rw c.in-Ok-Failed.field-0-is at c.in-Ok-Failed.ensures.goes))
-    tt (still_queue c.args.end (Send c.args.end c.args.space c.args.now c.args.size) (Ok (Failed c.in-Ok-Failed.refused))
+    tt (still_queue c.args.end (Send c.args.end c.args.space c.args.now c.args.size) (Ok (Failed
+    c.in-Ok-Failed.refused))
     (λ log end. record { handed_same = λ there. refl; sent_same = λ there. refl }) (λ log. tt)
     c.args.self.now.client.waiting.items
     c.args.self.now.server.waiting.items c.send_from.new.client.waiting.items c.send_from.new.server.waiting.items
     (rw c.in-Ok-Failed.field-0-is at c.in-Ok-Failed.ensures.waits))
 
-pub returns-in-Err-send_from : goal.returns-in-Err-send_from
-returns-in-Err-send_from g c = step_keeps c.args.self.now.client.sender c.args.self.now.server.sender
+pub returns-in-Err-send_from-clause-keeps : goal.returns-in-Err-send_from-clause-keeps
+returns-in-Err-send_from-clause-keeps g c = step_keeps c.args.self.now.client.sender c.args.self.now.server.sender
     c.send_from.new.client.sender
     c.send_from.new.server.sender c.args.self.now.wire.items c.reserve.new.self.items
     c.args.self.now.client.waiting.items
@@ -90,8 +93,8 @@ returns-in-Err-send_from g c = step_keeps c.args.self.now.client.sender c.args.s
     c.args.self.now.server.waiting.items c.send_from.new.client.waiting.items c.send_from.new.server.waiting.items
     c.in-Err-send_from.ensures.waits)
 
-pub returns-in-Err : goal.returns-in-Err
-returns-in-Err g c = step_keeps c.args.self.now.client.sender c.args.self.now.server.sender
+pub returns-in-Err-clause-keeps : goal.returns-in-Err-clause-keeps
+returns-in-Err-clause-keeps g c = step_keeps c.args.self.now.client.sender c.args.self.now.server.sender
     c.args.self.now.client.sender c.args.self.now.server.sender c.args.self.now.wire.items c.reserve.new.self.items
     c.args.self.now.client.waiting.items c.args.self.now.server.waiting.items c.args.self.now.client.waiting.items
     c.args.self.now.server.waiting.items (Send c.args.end c.args.space c.args.now c.args.size) (Err (Event NoMemory))
@@ -104,3 +107,38 @@ returns-in-Err g c = step_keeps c.args.self.now.client.sender c.args.self.now.se
       sent_same = λ there. refl;
     }) (λ log. tt) c.args.self.now.client.waiting.items
     c.args.self.now.server.waiting.items)
+
+pub returns-in-Ok-Sent-clause-permits : goal.returns-in-Ok-Sent-clause-permits
+returns-in-Ok-Sent-clause-permits g c = permits_at c.args.end c.args.space c.args.now c.args.size
+    (Ok (outgoing.Sent c.in-Ok-Sent.packet c.in-Ok-Sent.items)) (Ok (Sent c.in-Ok-Sent.packet.number
+    c.in-Ok-Sent.items))
+    c.args.self.now.client.sender c.args.self.now.server.sender (λ said agrees. agrees)
+    (rw c.in-Ok-Sent.field-0-is at c.in-Ok-Sent.ensures.permits)
+
+pub returns-in-Ok-Nothing-clause-permits : goal.returns-in-Ok-Nothing-clause-permits
+returns-in-Ok-Nothing-clause-permits g c = permits_at c.args.end c.args.space c.args.now c.args.size
+    (Ok outgoing.Nothing) (Ok Nothing)
+    c.args.self.now.client.sender c.args.self.now.server.sender (λ said agrees. tt)
+    (rw c.in-Ok-Nothing.field-0-is at c.in-Ok-Nothing.ensures.permits)
+
+pub returns-in-Ok-Held-clause-permits : goal.returns-in-Ok-Held-clause-permits
+returns-in-Ok-Held-clause-permits g c = permits_at c.args.end c.args.space c.args.now c.args.size
+    (Ok (outgoing.Held c.in-Ok-Held.held)) (Ok (Held c.in-Ok-Held.held))
+    c.args.self.now.client.sender c.args.self.now.server.sender (λ said agrees. agrees)
+    (rw c.in-Ok-Held.field-0-is at c.in-Ok-Held.ensures.permits)
+
+pub returns-in-Ok-Failed-clause-permits : goal.returns-in-Ok-Failed-clause-permits
+returns-in-Ok-Failed-clause-permits g c = permits_at c.args.end c.args.space c.args.now c.args.size
+    (Ok (outgoing.Failed c.in-Ok-Failed.refused)) (Ok (Failed c.in-Ok-Failed.refused))
+    c.args.self.now.client.sender c.args.self.now.server.sender (λ said agrees. agrees)
+    (rw c.in-Ok-Failed.field-0-is at c.in-Ok-Failed.ensures.permits)
+
+pub returns-in-Err-send_from-clause-permits : goal.returns-in-Err-send_from-clause-permits
+returns-in-Err-send_from-clause-permits g c = permits_at c.args.end c.args.space c.args.now c.args.size
+    (Err c.in-Err-send_from.refused) (Err c.in-Err-send_from.refused)
+    c.args.self.now.client.sender c.args.self.now.server.sender (λ said agrees. tt)
+    c.in-Err-send_from.ensures.permits
+
+pub returns-in-Err-clause-permits : goal.returns-in-Err-clause-permits
+returns-in-Err-clause-permits g c = permits_none c.args.end c.args.space c.args.now c.args.size
+    (Err (Event NoMemory)) c.args.self.now.client.sender c.args.self.now.server.sender (λ said. tt)

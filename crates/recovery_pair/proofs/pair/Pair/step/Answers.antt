@@ -1,10 +1,10 @@
 use Rattle.recovery_pair.proofs.pair.Pair.step.Goals as goal
 
 pub returns-in-Send : goal.returns-in-Send
-returns-in-Send g c = rw c.in-Send.is c.send.ensures
+returns-in-Send g c = rw c.in-Send.is (record { keeps = c.send.ensures.keeps; permits = c.send.ensures.permits })
 
 pub returns-in-Arrive : goal.returns-in-Arrive
-returns-in-Arrive g c = rw c.in-Arrive.is c.arrive.ensures
+returns-in-Arrive g c = rw c.in-Arrive.is (record { keeps = c.arrive.ensures; permits = tt })
 
 pub returns-in-Local : goal.returns-in-Local
-returns-in-Local g c = rw c.in-Local.is c.local.ensures
+returns-in-Local g c = rw c.in-Local.is (record { keeps = c.local.ensures; permits = tt })
