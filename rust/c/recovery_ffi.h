@@ -710,6 +710,15 @@ bool recovery_ffi_has_in_flight(struct recovery_handle *handle, uint8_t space);
 //     struct recovery_number_view smallest = recovery_ffi_smallest_tracked(&sender, space);
 struct recovery_number_view recovery_ffi_smallest_tracked(struct recovery_handle *handle, uint8_t space);
 
+// Returns how many items wait for retransmission in a space: how many `recovery_ffi_take_pending` would take. 0 if there
+// is no such space, or if it is discarded.
+uint64_t recovery_ffi_pending_items(struct recovery_handle *handle, uint8_t space);
+
+// Returns how many items `recovery_ffi_sender_probe` would take in a space: those that wait for retransmission, or else
+// those of the first packet in flight that has any (RFC 9002, 6.2.4). 0 if there is no such space, or if it is
+// discarded. Cost: logarithmic, plus the packets without items before that one.
+uint64_t recovery_ffi_probe_items(struct recovery_handle *handle, uint8_t space);
+
 // Returns how many packets a space tracks, and when a sender declares the next of them lost by its age.
 //
 // In rust/c/sender.c:
@@ -1356,7 +1365,7 @@ static inline uint64_t recovery_needs_room_lost(struct recovery_encoded_reply re
 static inline uint64_t recovery_refused_fault(struct recovery_encoded_reply reply) { return reply.first; }
 
 // Does nothing. A library of another layout does not have it, so a program with this header does not link with it.
-void recovery_ffi_layout(void) __asm__("recovery_ffi_layout_4f25d9e8");
+void recovery_ffi_layout(void) __asm__("recovery_ffi_layout_1f8f7fce");
 __attribute__((used)) static void (*const recovery_ffi_has_this_layout)(void) = recovery_ffi_layout;
 
 #ifdef __cplusplus

@@ -7,7 +7,7 @@ ghost use Rattle.recovery_engine.specs.Controllers.{chosen_words};
 ghost use Rattle.recovery_engine.specs.Kept.{parts_kept};
 ghost use Rattle.recovery_paths.specs.PathStates.{IsRoomInPacer};
 ghost use Rattle.recovery_stack.specs.Views.{space_named};
-ghost use Rattle.recovery_stack.specs.Stats.{no_number, no_rtt, no_tracked, no_window, rtt_shown, tracked_in, window_shown, HasInFlight, ShowsSmallest};
+ghost use Rattle.recovery_stack.specs.Stats.{no_number, no_rtt, no_tracked, no_window, pending_items_in, probe_items_in, rtt_shown, tracked_in, window_shown, HasInFlight, ShowsSmallest};
 
 use recovery_base::time::Instant;
 use recovery_stack::glances::{NumberView, RttView, TrackedView, WindowView};
@@ -74,6 +74,27 @@ pub extern "C" fn recovery_ffi_smallest_tracked(
         ShowsSmallest (space_named space (parts_kept stack.kept)) result) (result ≡ no_number) }
 {
     handle.smallest_tracked(alloc, space)
+}
+
+/// Returns how many items wait for retransmission in a space: how many `recovery_ffi_take_pending` would take. 0 if there
+/// is no such space, or if it is discarded.
+#[unsafe(no_mangle)]
+pub extern "C" fn recovery_ffi_pending_items(alloc: Global, handle: &mut Handle, space: u8) -> u64
+    ensures { ReadsHandle handle.old.slot.held handle.new.slot.held (λ stack.
+        result ≡ pending_items_in (space_named space (parts_kept stack.kept))) (result ≡ 0) }
+{
+    handle.pending_items(alloc, space)
+}
+
+/// Returns how many items `recovery_ffi_sender_probe` would take in a space: those that wait for retransmission, or else
+/// those of the first packet in flight that has any (RFC 9002, 6.2.4). 0 if there is no such space, or if it is
+/// discarded. Cost: logarithmic, plus the packets without items before that one.
+#[unsafe(no_mangle)]
+pub extern "C" fn recovery_ffi_probe_items(alloc: Global, handle: &mut Handle, space: u8) -> u64
+    ensures { ReadsHandle handle.old.slot.held handle.new.slot.held (λ stack.
+        result ≡ probe_items_in (space_named space (parts_kept stack.kept))) (result ≡ 0) }
+{
+    handle.probe_items(alloc, space)
 }
 
 /// Returns how many packets a space tracks, and when a sender declares the next of them lost by its age.

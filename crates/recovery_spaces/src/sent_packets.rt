@@ -250,6 +250,13 @@ where
         found
     }
 
+    /// Returns what `first_filled` returns, and changes nothing, at its cost. What it passes over is not remembered.
+    pub fn filled(&self, streams: &Q::Streams) -> Option<u64>
+        ensures { result ≡ first_filled Q.words streams.now self.now.packets }
+    {
+        first_filled(&self.packets, self.filled_from, streams).0
+    }
+
     /// Returns the first tracked packet at or above a number, with its number, so that callers can iterate over the
     /// packets in increasing order (RFC 9002, 6.1). Cost: that of `find`, plus the empty slots from the number to that
     /// packet, or to the last slot. `tracked_between` stops at an end.

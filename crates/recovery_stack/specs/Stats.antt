@@ -1,9 +1,11 @@
 -- Readings of a recovery that cost a few instructions, in numbers.
-use Rattle.std.specs.Prelude.{◌≡◌, ℕ, true, false, length, is_some, Option, None, Some}
+use Rattle.std.specs.Prelude.{◌≡◌, ℕ, true, false, List, length, is_some, Option, None, Some}
 use Rattle.std.specs.Option.{option_map_or}
 use Rattle.recovery_congestion.specs.Rtt.{rtt_get, pto_base_of}
-use Rattle.recovery_spaces.specs.Packets.{HasSize}
+use Rattle.recovery_queue.specs.Items.{item_words}
+use Rattle.recovery_spaces.specs.Packets.{HasSize, Packets, packet_at}
 use Rattle.recovery_spaces.specs.Paths.{counters_of}
+use Rattle.recovery_spaces.specs.Probes.{probe_found}
 use Rattle.recovery_spaces.specs.Spaces.{Space, packets_of}
 use Rattle.recovery_paths.specs.PathStates.{Path}
 use Rattle.recovery_stack.specs.Codes.{nanos_shown}
@@ -45,6 +47,25 @@ tracked_in (Some space) = record {
   loss_time = option_map_or (λ time. time) space.loss_time 0;
   has_loss_time = is_some space.loss_time;
 }
+
+-- ---- the items that a space gives out
+
+-- how many items wait for retransmission in a space
+abbrev pub pending_items_in : {M : Type 0} → Option (Space (List ℕ) M) → ℕ
+pending_items_in None = 0
+pending_items_in (Some space) = length space.pending
+
+-- how many items a packet has, if it is tracked
+abbrev pub items_at : {M : Type 0} → Packets (List ℕ) M → ℕ → ℕ
+items_at packets number = option_map_or (λ packet. length packet.retransmits) (packet_at packets number) 0
+
+-- How many items a probe in a space carries: those that wait, or else those of the first packet that has any (RFC 9002,
+-- 6.2.4).
+abbrev pub probe_items_in : {M : Type 0} → Option (Space (List ℕ) M) → ℕ
+probe_items_in None = 0
+probe_items_in (Some space) =
+    option_map_or (items_at (packets_of space)) (probe_found item_words tt space.pending (packets_of space)).moved
+    (length space.pending)
 
 -- ---- the smallest number that a space tracks
 

@@ -7,13 +7,14 @@ ghost use Rattle.recovery_engine.specs.Controllers.{chosen_words};
 ghost use Rattle.recovery_engine.specs.Kept.{parts_kept};
 ghost use Rattle.recovery_paths.specs.PathStates.{IsRoomInPacer};
 ghost use Rattle.recovery_stack.specs.Views.{space_named};
-ghost use Rattle.recovery_stack.specs.Stats.{no_number, no_rtt, no_tracked, no_window, number_shown, rtt_shown, tracked_in, window_shown, HasInFlight, IsSmallestIn, ShowsSmallest};
+ghost use Rattle.recovery_stack.specs.Stats.{no_number, no_rtt, no_tracked, no_window, number_shown, pending_items_in, probe_items_in, rtt_shown, tracked_in, window_shown, HasInFlight, IsSmallestIn, ShowsSmallest};
 
 use crate::codes::nanos_shown;
 use crate::handle::Handle;
 use crate::stack::{ItemSpace, Stack};
 use recovery_base::time::Instant;
 use recovery_congestion::congestion::Controller;
+use recovery_queue::queue::RetransmitQueue;
 use std::alloc::Global;
 
 /// The congestion window of the path in use, in bytes.
@@ -100,6 +101,22 @@ impl TrackedView {
     }
 }
 
+/// Returns how many items a probe in a space carries.
+fn probe_items(space: &ItemSpace) -> u64
+    ensures { result ≡ probe_items_in (Some space.now) }
+{
+    if !space.pending.is_empty(&()) {
+        return space.pending.items().len() as u64;
+    }
+    let Some(number) = space.sent_packets.filled(&()) else {
+        return 0;
+    };
+    match space.sent_packets.get(number) {
+        Some(packet) => packet.retransmits.items().len() as u64,
+        None => 0,
+    }
+}
+
 impl Stack {
     fn window(&self) -> WindowView
         ensures { result ≡ window_shown (parts_kept self.now.kept).paths.current }
@@ -149,6 +166,24 @@ impl Stack {
         let space = self.named(space)?;
         let (number, _) = space.sent_packets.tracked_from(0)?;
         Some(number)
+    }
+
+    fn pending_items(&self, space: u8) -> u64
+        ensures { result ≡ pending_items_in (space_named space (parts_kept self.now.kept)) }
+    {
+        match self.named(space) {
+            Some(space) => space.pending.items().len() as u64,
+            None => 0,
+        }
+    }
+
+    fn probe_items(&self, space: u8) -> u64
+        ensures { result ≡ probe_items_in (space_named space (parts_kept self.now.kept)) }
+    {
+        match self.named(space) {
+            Some(space) => probe_items(space),
+            None => 0,
+        }
     }
 
     fn tracked(&self, space: u8) -> TrackedView
@@ -247,6 +282,32 @@ impl Handle {
         let number = stack.smallest_tracked(space);
         self.put(stack);
         NumberView::of(number)
+    }
+
+    /// Returns how many items wait for retransmission in a space; 0 if there is no such space, or if it is discarded.
+    pub fn pending_items(&mut self, alloc: Global, space: u8) -> u64
+        ensures { ReadsHandle self.old.slot.held self.new.slot.held (λ stack.
+            result ≡ pending_items_in (space_named space (parts_kept stack.kept))) (result ≡ 0) }
+    {
+        let Some(stack) = self.take(alloc) else {
+            return 0;
+        };
+        let items = stack.pending_items(space);
+        self.put(stack);
+        items
+    }
+
+    /// Returns how many items a probe in a space would carry; 0 if there is no such space, or if it is discarded.
+    pub fn probe_items(&mut self, alloc: Global, space: u8) -> u64
+        ensures { ReadsHandle self.old.slot.held self.new.slot.held (λ stack.
+            result ≡ probe_items_in (space_named space (parts_kept stack.kept))) (result ≡ 0) }
+    {
+        let Some(stack) = self.take(alloc) else {
+            return 0;
+        };
+        let items = stack.probe_items(space);
+        self.put(stack);
+        items
     }
 
     /// Returns how many packets a space tracks, and when the next is lost.

@@ -617,7 +617,7 @@ pub struct IdsView {
 
 unsafe extern "C" {
     /// Does nothing. A library of another layout does not have it.
-    #[link_name = "recovery_ffi_layout_4f25d9e8"]
+    #[link_name = "recovery_ffi_layout_1f8f7fce"]
     pub fn recovery_ffi_layout();
 
     /// Makes a recovery, whose peer is at this address and has this connection ID of at most 20 bytes. Returns
@@ -681,6 +681,15 @@ unsafe extern "C" {
     /// Returns the smallest packet number that a space tracks: all smaller ones are acknowledged, lost, forgotten or
     /// discarded. A stack may choose the length of packet numbers by it (RFC 9000, 17.1). Cost: logarithmic.
     pub fn recovery_ffi_smallest_tracked(handle: *mut Handle, space: u8) -> NumberView;
+
+    /// Returns how many items wait for retransmission in a space: how many `recovery_ffi_take_pending` would take. 0 if there
+    /// is no such space, or if it is discarded.
+    pub fn recovery_ffi_pending_items(handle: *mut Handle, space: u8) -> u64;
+
+    /// Returns how many items `recovery_ffi_sender_probe` would take in a space: those that wait for retransmission, or else
+    /// those of the first packet in flight that has any (RFC 9002, 6.2.4). 0 if there is no such space, or if it is
+    /// discarded. Cost: logarithmic, plus the packets without items before that one.
+    pub fn recovery_ffi_probe_items(handle: *mut Handle, space: u8) -> u64;
 
     /// Returns how many packets a space tracks, and when a sender declares the next of them lost by its age.
     pub fn recovery_ffi_tracked(handle: *mut Handle, space: u8) -> TrackedView;
