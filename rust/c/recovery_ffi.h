@@ -710,12 +710,12 @@ bool recovery_ffi_has_in_flight(struct recovery_handle *handle, uint8_t space);
 //     struct recovery_number_view smallest = recovery_ffi_smallest_tracked(&sender, space);
 struct recovery_number_view recovery_ffi_smallest_tracked(struct recovery_handle *handle, uint8_t space);
 
-// Returns how many items wait for retransmission in a space: how many `recovery_ffi_take_pending` would take. 0 if there
-// is no such space, or if it is discarded.
+// Returns how many items wait for retransmission in a space: how many `recovery_ffi_take_pending` would take. It is 0
+// if there is no such space, or if it is discarded.
 uint64_t recovery_ffi_pending_items(struct recovery_handle *handle, uint8_t space);
 
 // Returns how many items `recovery_ffi_sender_probe` would take in a space: those that wait for retransmission, or else
-// those of the first packet in flight that has any (RFC 9002, 6.2.4). 0 if there is no such space, or if it is
+// those of the first packet in flight that has any (RFC 9002, 6.2.4). It is 0 if there is no such space, or if it is
 // discarded. Cost: logarithmic, plus the packets without items before that one.
 uint64_t recovery_ffi_probe_items(struct recovery_handle *handle, uint8_t space);
 

@@ -682,12 +682,12 @@ unsafe extern "C" {
     /// discarded. A stack may choose the length of packet numbers by it (RFC 9000, 17.1). Cost: logarithmic.
     pub fn recovery_ffi_smallest_tracked(handle: *mut Handle, space: u8) -> NumberView;
 
-    /// Returns how many items wait for retransmission in a space: how many `recovery_ffi_take_pending` would take. 0 if there
-    /// is no such space, or if it is discarded.
+    /// Returns how many items wait for retransmission in a space: how many `recovery_ffi_take_pending` would take. It is 0
+    /// if there is no such space, or if it is discarded.
     pub fn recovery_ffi_pending_items(handle: *mut Handle, space: u8) -> u64;
 
     /// Returns how many items `recovery_ffi_sender_probe` would take in a space: those that wait for retransmission, or else
-    /// those of the first packet in flight that has any (RFC 9002, 6.2.4). 0 if there is no such space, or if it is
+    /// those of the first packet in flight that has any (RFC 9002, 6.2.4). It is 0 if there is no such space, or if it is
     /// discarded. Cost: logarithmic, plus the packets without items before that one.
     pub fn recovery_ffi_probe_items(handle: *mut Handle, space: u8) -> u64;
 
