@@ -714,9 +714,9 @@ struct recovery_number_view recovery_ffi_smallest_tracked(struct recovery_handle
 // if there is no such space, or if it is discarded.
 uint64_t recovery_ffi_pending_items(struct recovery_handle *handle, uint8_t space);
 
-// Returns how many items `recovery_ffi_sender_probe` would take in a space: those that wait for retransmission, or else
-// those of the first packet in flight that has any (RFC 9002, 6.2.4). It is 0 if there is no such space, or if it is
-// discarded. Cost: logarithmic, plus the packets without items before that one.
+// Returns how many items `recovery_ffi_sender_probe` would take in a space: those that wait for retransmission, or
+// else those of the first packet in flight that has any (RFC 9002, 6.2.4). It is 0 if there is no such space, or if it
+// is discarded. Cost: logarithmic, plus the packets without items before that one.
 uint64_t recovery_ffi_probe_items(struct recovery_handle *handle, uint8_t space);
 
 // Returns how many packets a space tracks, and when a sender declares the next of them lost by its age.

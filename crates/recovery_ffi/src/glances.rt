@@ -86,9 +86,9 @@ pub extern "C" fn recovery_ffi_pending_items(alloc: Global, handle: &mut Handle,
     handle.pending_items(alloc, space)
 }
 
-/// Returns how many items `recovery_ffi_sender_probe` would take in a space: those that wait for retransmission, or else
-/// those of the first packet in flight that has any (RFC 9002, 6.2.4). It is 0 if there is no such space, or if it is
-/// discarded. Cost: logarithmic, plus the packets without items before that one.
+/// Returns how many items `recovery_ffi_sender_probe` would take in a space: those that wait for retransmission, or
+/// else those of the first packet in flight that has any (RFC 9002, 6.2.4). It is 0 if there is no such space, or if it
+/// is discarded. Cost: logarithmic, plus the packets without items before that one.
 #[unsafe(no_mangle)]
 pub extern "C" fn recovery_ffi_probe_items(alloc: Global, handle: &mut Handle, space: u8) -> u64
     ensures { ReadsHandle handle.old.slot.held handle.new.slot.held (λ stack.

@@ -686,9 +686,9 @@ unsafe extern "C" {
     /// if there is no such space, or if it is discarded.
     pub fn recovery_ffi_pending_items(handle: *mut Handle, space: u8) -> u64;
 
-    /// Returns how many items `recovery_ffi_sender_probe` would take in a space: those that wait for retransmission, or else
-    /// those of the first packet in flight that has any (RFC 9002, 6.2.4). It is 0 if there is no such space, or if it is
-    /// discarded. Cost: logarithmic, plus the packets without items before that one.
+    /// Returns how many items `recovery_ffi_sender_probe` would take in a space: those that wait for retransmission, or
+    /// else those of the first packet in flight that has any (RFC 9002, 6.2.4). It is 0 if there is no such space, or if it
+    /// is discarded. Cost: logarithmic, plus the packets without items before that one.
     pub fn recovery_ffi_probe_items(handle: *mut Handle, space: u8) -> u64;
 
     /// Returns how many packets a space tracks, and when a sender declares the next of them lost by its age.
