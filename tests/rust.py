@@ -53,11 +53,7 @@ BESIDE = {
         "An event. A packet carries the numbers of items that are retransmitted if it is lost. The caller defines what the",
         "items are.",
     ],
-    "Event::TakePending": [
-        "",
-        "Fails with `NoMemory` too if this crate cannot allocate the answer. The items can then still be read by",
-        "[`Recovery::last_items`](crate::Recovery::last_items).",
-    ],
+    "Event::TakePending": ["", "Fails with `NoMemory` too, before anything is taken, if this crate cannot allocate the answer."],
     "Answer::Retire": ["", "Read the token by [`Recovery::reset_token`](crate::Recovery::reset_token)."],
     "Answer::Flag": [
         "",

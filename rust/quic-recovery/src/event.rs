@@ -276,8 +276,7 @@ pub enum Event<'a> {
     },
     /// Return the retransmission queue and empty it (RFC 9000, 13.3). Rejected with `SpaceDiscarded`.
     ///
-    /// Fails with `NoMemory` too if this crate cannot allocate the answer. The items can then still be read by
-    /// [`Recovery::last_items`](crate::Recovery::last_items).
+    /// Fails with `NoMemory` too, before anything is taken, if this crate cannot allocate the answer.
     TakePending {
         /// The packet number space.
         space: SpaceId,

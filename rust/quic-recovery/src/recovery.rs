@@ -300,6 +300,17 @@ unsafe fn hand_in(handle: *mut ffi::Handle, event: Event<'_>) -> ffi::EncodedRep
     }
 }
 
+/// Returns a vector of this many zeros, to be overwritten by items. Fails with `NoMemory` alone.
+fn with_room(count: u64) -> Result<Vec<u64>, Refusal> {
+    let mut items = Vec::new();
+    let count = usize::try_from(count).map_err(|_| Refusal::NoMemory)?;
+    items
+        .try_reserve_exact(count)
+        .map_err(|_| Refusal::NoMemory)?;
+    items.resize(count, 0);
+    Ok(items)
+}
+
 impl Recovery {
     /// Returns a recovery without any event, made at time `now`. A packet that is sent at `now` itself does not change
     /// the window (RFC 9002, B.5). Fails if the configuration is invalid, or allocation fails.
@@ -392,8 +403,28 @@ impl Recovery {
     /// ```
     #[inline]
     pub fn apply(&mut self, event: Event<'_>) -> Result<Answer, Refusal> {
+        let room = self.room_for(&event)?;
         let reply = self.reply_to(event);
-        self.read(reply)
+        self.read(reply, room)
+    }
+
+    /// Returns a vector of as many zeros as the answer of an event has items, so that nothing is allocated after the
+    /// event. Fails with `NoMemory` alone.
+    #[inline]
+    pub(crate) fn room_for(&self, event: &Event<'_>) -> Result<Vec<u64>, Refusal> {
+        match *event {
+            // SAFETY: the handle holds a recovery.
+            Event::TakePending { space } => with_room(unsafe {
+                ffi::recovery_ffi_pending_items(self.handle.get(), space as u8)
+            }),
+            _ => Ok(Vec::new()),
+        }
+    }
+
+    /// Returns a vector of as many zeros as a probe takes items. Fails with `NoMemory` alone.
+    pub(crate) fn room_for_probe(&self, space: SpaceId) -> Result<Vec<u64>, Refusal> {
+        // SAFETY: the handle holds a recovery.
+        with_room(unsafe { ffi::recovery_ffi_probe_items(self.handle.get(), space as u8) })
     }
 
     /// Applies one event. Returns its reply in numbers.
@@ -408,9 +439,9 @@ impl Recovery {
         self.handle.get()
     }
 
-    /// Returns the reply of these numbers.
+    /// Returns the reply of these numbers. The items of a queue are written into `room`.
     #[inline]
-    pub(crate) fn read(&self, reply: ffi::EncodedReply) -> Result<Answer, Refusal> {
+    pub(crate) fn read(&self, reply: ffi::EncodedReply, room: Vec<u64>) -> Result<Answer, Refusal> {
         let ffi::EncodedReply {
             kind,
             refusal,
@@ -447,28 +478,34 @@ impl Recovery {
             ffi::ANSWER_NO_PROBE => Answer::NoProbe,
             ffi::ANSWER_BLACK_HOLE => Answer::BlackHole(flag),
             ffi::ANSWER_SENDABLE => Answer::Sendable(SendableFrames { acks: flag, other }),
-            ffi::ANSWER_QUEUE => Answer::Queue(self.last_items()?),
+            ffi::ANSWER_QUEUE => Answer::Queue(self.taken(room)),
             ffi::ANSWER_DONE => Answer::Done,
             ffi::ANSWER_REFUSED => return Err(Refusal::from_number(refusal, first)),
             kind => unreachable!("the library answers an event with {kind}"),
         })
     }
 
+    /// Returns the items that were taken last, in place of as many zeros.
+    pub(crate) fn taken(&self, mut items: Vec<u64>) -> Vec<u64> {
+        if !items.is_empty() {
+            let (handle, count) = (self.handle.get(), items.len());
+            // SAFETY: the handle holds a recovery, no other call runs, and there is room for `count` items.
+            let found = unsafe { ffi::recovery_ffi_last_items(handle, items.as_mut_ptr(), count) };
+            assert_eq!(
+                found, count,
+                "the library said how many items it would take"
+            );
+        }
+        items
+    }
+
     /// Returns the items that were taken last. Fails with `NoMemory` alone.
     pub fn last_items(&self) -> Result<Vec<u64>, Refusal> {
-        let mut items: Vec<u64> = Vec::new();
+        let mut none = [];
         // SAFETY: the handle holds a recovery, and nothing is written to an empty slice.
         let count =
-            unsafe { ffi::recovery_ffi_last_items(self.handle.get(), items.as_mut_ptr(), 0) };
-        if count > 0 {
-            items
-                .try_reserve_exact(count)
-                .map_err(|_| Refusal::NoMemory)?;
-            items.resize(count, 0);
-            // SAFETY: the handle holds a recovery, no other call runs, and there is room for `count` items.
-            unsafe { ffi::recovery_ffi_last_items(self.handle.get(), items.as_mut_ptr(), count) };
-        }
-        Ok(items)
+            unsafe { ffi::recovery_ffi_last_items(self.handle.get(), none.as_mut_ptr(), 0) };
+        Ok(self.taken(with_room(count as u64)?))
     }
 
     /// Returns the token of the last `Answer::Retire` of a connection ID (RFC 9000, 10.3.1), all zeros before the

@@ -983,14 +983,15 @@ impl Sender {
     /// ```
     ///
     /// # Errors
-    /// `SpaceDiscarded`, or `NoMemory` if the queues cannot be joined: then nothing has changed. `NoMemory` also if the
-    /// answer cannot be allocated: the items can then still be read by [`Recovery::last_items`].
+    /// `SpaceDiscarded`, or `NoMemory` if the queues cannot be joined or the answer cannot be allocated. Then nothing
+    /// has changed.
     pub fn probe(&mut self, space: SpaceId, immediate_ack: bool) -> Result<Vec<u64>, SenderError> {
+        let room = self.recovery.room_for_probe(space)?;
         let handle = self.recovery.handle();
         // SAFETY: the handle holds a recovery, and `self` is borrowed alone.
         let reply = unsafe { ffi::recovery_ffi_sender_probe(handle, space as u8, immediate_ack) };
         of_kind(ffi::ANSWER_QUEUE, reply)?;
-        Ok(self.recovery.last_items()?)
+        Ok(self.recovery.taken(room))
     }
 
     /// Records a received datagram of this many bytes on the path in use. If its address is not validated, more may be
@@ -1237,8 +1238,9 @@ impl Sender {
     /// # Ok::<(), Box<dyn std::error::Error>>(())
     /// ```
     pub fn on_event(&mut self, event: Event<'_>) -> Result<Answer, SenderError> {
+        let room = self.recovery.room_for(&event)?;
         let reply = taken(self.recovery.reply_to(event))?;
-        Ok(self.recovery.read(reply)?)
+        Ok(self.recovery.read(reply, room)?)
     }
 
     /// Reads the last outcome: of an ACK frame that was processed, of a timeout that made a loss detection pass, or of

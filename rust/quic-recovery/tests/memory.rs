@@ -122,3 +122,20 @@ fn all_packets_of_a_space() {
     let all = retried(&mut sender, |it| it.retransmit_all(SpaceId::Data, at(5)));
     assert_eq!((all.numbers, all.is_cut), (vec![0, 1, 2], false));
 }
+
+#[test]
+fn the_contents_of_a_probe() {
+    let (mut sender, space) = (with_packets(2), SpaceId::Data);
+    let due = sender.timer().unwrap();
+    assert!(matches!(sender.on_timeout(due), Ok(Timeout::Probe { .. })));
+    let items = retried(&mut sender, |it| it.probe(space, false));
+    assert_eq!(items, [0]);
+}
+
+#[test]
+fn what_is_sent_again() {
+    let (mut sender, space) = (with_packets(3), SpaceId::Data);
+    assert!(sender.retransmit_all(space, at(5)).is_ok());
+    let taken = retried(&mut sender, |it| it.on_event(Event::TakePending { space }));
+    assert_eq!(taken, Answer::Queue(vec![0, 1, 2]));
+}
