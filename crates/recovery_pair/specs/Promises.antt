@@ -1,6 +1,6 @@
--- What is promised of each step of two ends, by the steps and answers before it. The network is whoever chooses the
--- steps: it drops, duplicates, reorders and delays as it likes, but forges nothing. `validated` says whether the server
--- takes the client's address for validated from the start.
+-- What is promised of each step of two endpoints, by the steps and answers before it. The network is whoever chooses
+-- the steps: it drops, duplicates, reorders and delays as it likes, but forges nothing. `validated` is whether the
+-- server regards the client's address as validated from the start.
 use Rattle.std.specs.Prelude.{◌∷◌, Bool}
 use Rattle.recovery_pair.specs.Logs.{PairEvent, PairLog}
 use Rattle.recovery_pair.specs.Promises.Arrivals.{ArrivesAsSent}
@@ -17,17 +17,18 @@ pub mod Sends
 pub mod Threefold
 
 pub record KeepsPromises (validated : Bool) (log : PairLog) (event : PairEvent) : Type 0 where
-  -- An end never accuses the other (RFC 9000, 13.1 and 21.4): it refuses no ACK frame for what the frame says.
+  -- An endpoint never accuses the other (RFC 9000, 13.1 and 21.4): it rejects no ACK frame for its contents.
   pub honest : NeverAccuses event
-  -- What is acknowledged was sent once, came once, and all its items were delivered (RFC 9000, 12.3 and 13.2).
+  -- What is acknowledged was sent once, received once, and all its items were delivered (RFC 9000, 12.3 and 13.2).
   pub delivered : AcksDelivered log event
-  -- What arrives is what was sent at its place, at the other end. It is new at most once, and dropped only with cause
+  -- What arrives is what the other endpoint sent at that position. It is new at most once, and dropped only with cause
   -- (RFC 9000, 12.3 and 13.1; RFC 9001, 4.9).
   pub arrives : ArrivesAsSent log event
-  -- Until it validates the client's address, the server sent at most three times the bytes that arrived (RFC 9000,
+  -- Until it validates the client's address, the server sends at most three times the bytes that arrive (RFC 9000,
   -- 8.1).
   pub limited : ServerSendsThreefold validated (event ∷ log)
-  -- An end has nothing to send in a space only once it sent as many packets there as it was handed (RFC 9000, 13).
+  -- An endpoint has nothing to send in a space only once it has sent at least as many packets there as were passed to
+  -- it (RFC 9000, 13).
   pub sends : SendsWhatWaits log event
   -- A step of one endpoint has an answer of its kind, never another (RFC 9002, 6.2 and 6.4).
   pub local : AnswersLocally event

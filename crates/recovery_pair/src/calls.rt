@@ -138,7 +138,7 @@ where
     }
 }
 
-/// Records that an ACK of all numbers that are to be acknowledged went out.
+/// Records that an ACK of all pending numbers was sent.
 pub(crate) fn end_acks<F, R>(sender: &mut Sender<F, ItemQueue, R>, space: SpaceId)
 where
     F: ControllerFactory,

@@ -1,4 +1,4 @@
-//! One end of a connection: a sender with the layer above it.
+//! An endpoint of a connection: a sender with its caller.
 ghost use Rattle.std.specs.Prelude.{◌≡◌, ◌+◌, ◌<◌, ◌≤◌, IfOk, false, length, [], ◌∷◌, ◌++◌};
 ghost use Rattle.std.specs.Vec.{vec_len, vec_capacity};
 ghost use Rattle.recovery_pair.specs.Pasts.{Continues, GoesOn, GoesOnQuietly};
@@ -28,12 +28,12 @@ pub struct Waiting {
     queue: ItemQueue,
 }
 
-/// One end of a connection: a sender with the layer above it.
+/// An endpoint of a connection: a sender with its caller.
 #[derive(Drop)]
 pub struct Endpoint<F: ControllerFactory, R: Rng> {
     /// Its sender.
     pub sender: Sender<F, ItemQueue, R>,
-    /// What the layer above wants delivered and what was not sent yet.
+    /// What the caller wants delivered and has not been sent yet.
     pub waiting: Vec<Waiting>,
     /// When its ACK delay timer is due.
     pub late: Option<Instant>,
@@ -48,7 +48,7 @@ pub enum Outgoing {
     Held(Transmission),
     /// Its packet cannot be tracked.
     Failed(SenderError),
-    /// The packet goes out, with a copy of its items.
+    /// The packet is sent, with a copy of its items.
     Sent(WirePacket, Vec<u64>),
 }
 
@@ -86,7 +86,7 @@ where
     F: ControllerFactory,
     R: Rng + Drop,
 {
-    /// Returns an end to which nothing was handed in.
+    /// Returns an endpoint to which no items were passed.
     pub fn new(alloc: Global, sender: Sender<F, ItemQueue, R>) -> Self
         ensures sender { result.sender ≡ sender }
         ensures waits { result.waiting.items ≡ [] }
@@ -219,7 +219,7 @@ where
         self.waiting.push_reserved(Waiting { space, queue });
     }
 
-    /// Records that all numbers that are to be acknowledged went out in an ACK, if there are any.
+    /// Records that all pending numbers were sent in an ACK, if there are any.
     fn end_acks(&mut self, space: SpaceId)
         ensures goes { Continues GoesOnQuietly self.old.sender self.new.sender }
         ensures waits { self.new.waiting.items ≡ self.old.waiting.items }
@@ -293,7 +293,7 @@ where
         Ok(PairAnswer::Done)
     }
 
-    /// Makes a step of one end.
+    /// Makes a step of this endpoint.
     pub(crate) fn local(&mut self, step: LocalStep) -> Result<PairAnswer, SenderError>
         ensures goes { Continues (GoesOn (local_turn step result)) self.old.sender
             self.new.sender }

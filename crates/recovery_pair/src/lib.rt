@@ -1,6 +1,6 @@
-//! Two ends of a connection over a network that may drop, duplicate, reorder and delay what they send. A source of
-//! steps says what happens next: it is the layers above, the clocks and the adversary in one. Begin at `steps.rt` and
-//! `specs/Promises.antt`.
+//! The two endpoints of a connection over a network that may drop, duplicate, reorder and delay what they send. A
+//! source of steps chooses what happens next: it is the callers, the clocks and the adversary in one. Begin at
+//! `steps.rt` and `specs/Promises.antt`.
 #![tactic(auto)]
 
 mod calls;

@@ -35,7 +35,7 @@ pub struct Pair<F: ControllerFactory, R: Rng> {
     pub wire: Vec<WirePacket>,
 }
 
-/// The settings of an end, and the random words by which it skips packet numbers.
+/// The settings of an endpoint, and the random words with which it skips packet numbers.
 #[derive(Drop)]
 pub struct EndConfig<F, R> {
     /// The settings.
@@ -44,7 +44,7 @@ pub struct EndConfig<F, R> {
     pub rng: R,
 }
 
-/// One end sends one datagram, if it has something to send and may.
+/// An endpoint sends one datagram, if it has something to send and may.
 fn send_from<F, R>(
     client: &mut Endpoint<F, R>,
     server: &mut Endpoint<F, R>,
@@ -71,7 +71,7 @@ where
     }
 }
 
-/// One end takes a packet that arrives.
+/// An endpoint processes a packet that arrives.
 fn hear_at<F, R>(
     client: &mut Endpoint<F, R>,
     server: &mut Endpoint<F, R>,
@@ -95,7 +95,7 @@ where
     }
 }
 
-/// Something happens at one end.
+/// Something happens at an endpoint.
 fn local_at<F, R>(
     client: &mut Endpoint<F, R>,
     server: &mut Endpoint<F, R>,
@@ -156,7 +156,7 @@ where
             result self.new.client.sender self.new.server.sender self.new.wire.items
             self.new.client.waiting.items self.new.server.waiting.items }
 
-        // A datagram goes out exactly if the sender of its endpoint permits it (RFC 9000, 8.1; RFC 9002, 7).
+        // A datagram is sent only if the sender of its endpoint permits it (RFC 9000, 8.1; RFC 9002, 7).
         ensures permits { SendsAsPermitted step result self.old.client.sender
             self.old.server.sender }
     {
@@ -172,7 +172,7 @@ where
         }
     }
 
-    /// One end sends a datagram.
+    /// An endpoint sends a datagram.
     fn send(
         &mut self,
         end: End,
@@ -243,7 +243,7 @@ where
         }
     }
 
-    /// Something happens at one end.
+    /// Something happens at an endpoint.
     fn local(&mut self, end: End, step: LocalStep) -> Result<PairAnswer, SenderError>
         ensures { StepKeeps self.old.client.sender self.old.server.sender self.old.wire.items
             self.old.client.waiting.items self.old.server.waiting.items

@@ -14,7 +14,7 @@ pub enum End {
 }
 
 impl End {
-    /// Returns the other end.
+    /// Returns the other endpoint.
     pub fn other(self) -> End
         ensures { result ≡ other_end self }
     {
@@ -46,10 +46,10 @@ pub struct WirePacket {
     pub delay: Duration,
 }
 
-/// What happens at one end, without the network.
+/// What happens at an endpoint, without the network.
 #[derive(Drop)]
 pub enum LocalStep {
-    /// The layer above wants these items delivered, in one packet of the space.
+    /// The caller wants these items delivered, in one packet of the space.
     Hand {
         /// The packet number space.
         space: SpaceId,
@@ -84,8 +84,9 @@ pub enum LocalStep {
 /// What happens next.
 #[derive(Drop)]
 pub enum PairStep {
-    /// An end sends one datagram, if it has something to send and may: items that wait, those to be repeated first, or
-    /// a PING for a probe, with an ACK of all that is to be acknowledged; or an ACK alone if one is required.
+    /// An endpoint sends one datagram, if it has something to send and may. The packet has items that wait, those to be
+    /// retransmitted first, or a PING for a probe, and an ACK of all pending numbers. If an ACK is required, it may have
+    /// nothing else.
     Send {
         /// The end.
         end: End,
@@ -96,15 +97,15 @@ pub enum PairStep {
         /// The size of the datagram in bytes.
         size: u16,
     },
-    /// A copy of a packet arrives at the other end. A packet that no step names was dropped. One that several name was
-    /// duplicated.
+    /// A copy of a packet arrives at the other endpoint. A packet that no step names was dropped. One that several steps
+    /// name was duplicated.
     Arrive {
         /// Its position on the wire.
         at: usize,
         /// When.
         now: Instant,
     },
-    /// Something happens at one end.
+    /// Something happens at an endpoint.
     Local {
         /// The end.
         end: End,
@@ -120,7 +121,7 @@ pub enum AckOutcome {
     NoFrame,
     /// It is processed.
     Taken(Acknowledged),
-    /// It is refused, and changes nothing.
+    /// It is rejected, and changes nothing.
     Refused(SenderError),
 }
 
@@ -133,7 +134,7 @@ pub enum Fate {
     Duplicate,
     /// It is new.
     New {
-        /// The items that are delivered to the layer above.
+        /// The items that are delivered to the caller.
         items: Vec<u64>,
         /// What becomes of its ACK frame.
         acked: AckOutcome,
@@ -149,9 +150,9 @@ pub enum PairAnswer {
     Nothing,
     /// The amplification limit, the window or the pacer does not permit the datagram.
     Held(Transmission),
-    /// The datagram was permitted, but its packet cannot be tracked: it does not go out, and its items wait again.
+    /// The datagram was permitted, but its packet cannot be tracked: it is not sent, and its items wait again.
     Failed(SenderError),
-    /// The packet went out.
+    /// The packet is sent.
     Sent {
         /// Its packet number.
         number: u64,
@@ -171,6 +172,6 @@ pub enum PairAnswer {
         /// What becomes of it.
         fate: Fate,
     },
-    /// The loss detection timer was looked at.
+    /// The loss detection timer was handled.
     Expired(Timeout),
 }

@@ -89,7 +89,7 @@ fn hand(alloc: Global, item: u64) -> PairStep {
     local(End::Client, LocalStep::Hand { space, items })
 }
 
-/// The end of the handshake, at both ends.
+/// The end of the handshake, at both endpoints.
 fn establish(steps: &mut Vec<PairStep>) {
     for end in [End::Client, End::Server] {
         let _room = steps.push(local(end, LocalStep::AddressValidated));

@@ -1,6 +1,6 @@
--- What is acknowledged was delivered, once: each number that an end newly acknowledges was sent by it once; its peer
--- called it new once; and the items that were delivered then are those that were sent under it (RFC 9000, 12.3, 13.1
--- and 13.2).
+-- What is acknowledged was delivered, once. Each number that is newly acknowledged to an endpoint was sent by it once.
+-- Its peer called the number new once, and the items delivered then are those that were sent under it (RFC 9000, 12.3,
+-- 13.1 and 13.2).
 use Rattle.std.specs.Prelude.{◌≡◌, ℕ, List, [], ◌∷◌, Ok}
 use Rattle.recovery_base.specs.declared.below.SpaceId.{SpaceId}
 use Rattle.recovery_losses.specs.Losses.{IsOneOf}

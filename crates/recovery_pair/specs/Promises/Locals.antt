@@ -1,5 +1,5 @@
--- A step without the network has an answer of its kind: what is handed over is taken, the loss detection timer is
--- handled, and only the ACK delay timer may have nothing to do. An endpoint that ignores a step breaks this.
+-- A step without the network has an answer of its kind: items are accepted, the loss detection timer is handled, and
+-- only the ACK delay timer may have nothing to do. An endpoint that ignores a step breaks this.
 use Rattle.std.specs.Prelude.{Ok}
 use Rattle.recovery_pair.specs.declared.steps.LocalStep.{LocalStep}
 use Rattle.recovery_pair.specs.declared.steps.LocalStep.TheVariants.{Expire, Late}

@@ -1,6 +1,6 @@
--- Honest ends never accuse one another: the ACK frame of a packet that is called new is never refused for what it says,
--- that is, as `Unsent`, `SkippedAcked`, `BadRange` or `NumberTooLarge` (RFC 9000, 13.1, 19.3.1 and 21.4). It is refused
--- only for want of memory, or since the keys of its space were dropped.
+-- Honest endpoints never accuse each other: the ACK frame of a new packet is never rejected for its contents, that is,
+-- with `Unsent`, `SkippedAcked`, `BadRange` or `NumberTooLarge` (RFC 9000, 13.1, 19.3.1 and 21.4). It is rejected only
+-- if allocation fails, or if the keys of its space were dropped.
 use Rattle.std.specs.Prelude.{◌≡◌, ◌⊎◌, Ok}
 use Rattle.recovery_events.specs.declared.event.Refusal.TheVariants.{NoMemory, SpaceDiscarded}
 use Rattle.recovery_sender.specs.declared.sender.SenderError.TheVariants.{Event}

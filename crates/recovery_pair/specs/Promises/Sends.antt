@@ -1,5 +1,5 @@
--- An end sends what it is handed: it has nothing to send in a space only once it sent as many packets there as it was
--- handed. What it is handed waits until then: an end that drops it, or sends nothing, breaks this.
+-- An endpoint sends what is passed to it: it has nothing to send in a space only once it has sent at least as many
+-- packets there as were passed to it. An endpoint that drops one, or sends nothing, breaks this.
 use Rattle.std.specs.Prelude.{◌≤◌, Result, Ok}
 use Rattle.recovery_base.specs.declared.below.SpaceId.{SpaceId}
 use Rattle.recovery_sender.specs.declared.sender.SenderError.{SenderError}
