@@ -84,11 +84,11 @@ pub enum LocalStep {
 /// What happens next.
 #[derive(Drop)]
 pub enum PairStep {
-    /// An endpoint sends one datagram, if it has something to send and may. The packet has items that wait, those to be
-    /// retransmitted first, or a PING for a probe, and an ACK of all pending numbers. If an ACK is required, it may have
-    /// nothing else.
+    /// An endpoint sends one datagram, if it has something to send and may. The packet has items that wait, those to
+    /// be retransmitted first, or a PING for a probe, and an ACK of all pending numbers. If an ACK is required, it may
+    /// have nothing else.
     Send {
-        /// The end.
+        /// The endpoint.
         end: End,
         /// The packet number space.
         space: SpaceId,
@@ -97,8 +97,8 @@ pub enum PairStep {
         /// The size of the datagram in bytes.
         size: u16,
     },
-    /// A copy of a packet arrives at the other endpoint. A packet that no step names was dropped. One that several steps
-    /// name was duplicated.
+    /// A copy of a packet arrives at the other endpoint. A packet that no step names was dropped. One that several
+    /// steps name was duplicated.
     Arrive {
         /// Its position on the wire.
         at: usize,

@@ -1,7 +1,7 @@
 -- What arrives is what the other endpoint sent: in the same space, under the same number, with the same size and items.
 -- It is new at most once, and its outcome follows from the steps before it. It is dropped only if its space was
--- discarded, or if allocation fails. It is new exactly if its number exceeds all received before, or is none of them and
--- not too old (RFC 9000, 12.3 and 13.1; RFC 9001, 4.9).
+-- discarded, or if allocation fails. It is new exactly if its number exceeds all received before, or is none of them
+-- and not too old (RFC 9000, 12.3 and 13.1; RFC 9001, 4.9).
 use Rattle.std.specs.Prelude.{◌≡◌, ℕ, ◌≤◌, Bool, true, false, List, [], length, Result, Ok, Err}
 use Rattle.recovery_base.specs.declared.below.SpaceId.{SpaceId}
 use Rattle.recovery_events.specs.declared.event.Refusal.TheVariants.{NoMemory, SpaceDiscarded}
