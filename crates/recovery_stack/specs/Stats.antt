@@ -64,7 +64,7 @@ items_at packets number = option_map_or (λ packet. length packet.retransmits) (
 abbrev pub probe_items_in : {M : Type 0} → Option (Space (List ℕ) M) → ℕ
 probe_items_in None = 0
 probe_items_in (Some space) =
-    option_map_or (items_at (packets_of space)) (probe_found item_words tt space.pending (packets_of space)).moved
+    option_map_or (items_at (packets_of space)) (probe_found item_words (tt {0}) space.pending (packets_of space)).moved
     (length space.pending)
 
 -- ---- the smallest number that a space tracks
