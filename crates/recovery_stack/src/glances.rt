@@ -7,14 +7,16 @@ ghost use Rattle.recovery_engine.specs.Controllers.{chosen_words};
 ghost use Rattle.recovery_engine.specs.Kept.{parts_kept};
 ghost use Rattle.recovery_paths.specs.PathStates.{IsRoomInPacer};
 ghost use Rattle.recovery_stack.specs.Views.{space_named};
-ghost use Rattle.recovery_stack.specs.Stats.{no_number, no_rtt, no_tracked, no_window, number_shown, pending_items_in, probe_items_in, rtt_shown, tracked_in, window_shown, HasInFlight, IsSmallestIn, ShowsSmallest};
+ghost use Rattle.recovery_stack.specs.Stats.{no_number, no_rtt, no_tracked, no_window, number_shown, items_at, pending_items_in, probe_items_in, rtt_shown, tracked_in, window_shown, HasInFlight, IsSmallestIn, ShowsSmallest};
 
 use crate::codes::nanos_shown;
 use crate::handle::Handle;
 use crate::stack::{ItemSpace, Stack};
 use recovery_base::time::Instant;
 use recovery_congestion::congestion::Controller;
+use recovery_queue::items::ItemQueue;
 use recovery_queue::queue::RetransmitQueue;
+use recovery_spaces::sent_packets::SentPackets;
 use std::alloc::Global;
 
 /// The congestion window of the path in use, in bytes.
@@ -101,19 +103,27 @@ impl TrackedView {
     }
 }
 
+/// Returns how many items a packet has; 0 if it is not tracked.
+fn items_at(packets: &SentPackets<ItemQueue>, number: u64) -> u64
+    ensures { result ≡ items_at packets.now.packets number }
+{
+    match packets.get(number) {
+        Some(packet) => packet.retransmits.items().len() as u64,
+        None => 0,
+    }
+}
+
 /// Returns how many items a probe in a space carries.
 fn probe_items(space: &ItemSpace) -> u64
     ensures { result ≡ probe_items_in (Some space.now) }
 {
+    let waiting = space.pending.items().len() as u64;
     if !space.pending.is_empty(&()) {
-        return space.pending.items().len() as u64;
+        return waiting;
     }
-    let Some(number) = space.sent_packets.filled(&()) else {
-        return 0;
-    };
-    match space.sent_packets.get(number) {
-        Some(packet) => packet.retransmits.items().len() as u64,
-        None => 0,
+    match space.sent_packets.filled(&()) {
+        Some(number) => items_at(&space.sent_packets, number),
+        None => waiting,
     }
 }
 
