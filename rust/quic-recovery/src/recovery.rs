@@ -403,21 +403,23 @@ impl Recovery {
     /// ```
     #[inline]
     pub fn apply(&mut self, event: Event<'_>) -> Result<Answer, Refusal> {
-        let room = self.room_for(&event)?;
+        if let Event::TakePending { space } = event {
+            return self.take_pending(space);
+        }
         let reply = self.reply_to(event);
-        self.read(reply, room)
+        self.read(reply)
     }
 
-    /// Returns a vector of as many zeros as the answer of an event has items, so that nothing is allocated after the
-    /// event. Fails with `NoMemory` alone.
-    #[inline]
-    pub(crate) fn room_for(&self, event: &Event<'_>) -> Result<Vec<u64>, Refusal> {
-        match *event {
-            // SAFETY: the handle holds a recovery.
-            Event::TakePending { space } => with_room(unsafe {
-                ffi::recovery_ffi_pending_items(self.handle.get(), space as u8)
-            }),
-            _ => Ok(Vec::new()),
+    /// Takes the retransmission queue of a space. Room for its items is allocated first, so that nothing has changed if
+    /// that fails.
+    pub(crate) fn take_pending(&mut self, space: SpaceId) -> Result<Answer, Refusal> {
+        // SAFETY: the handle holds a recovery.
+        let room = unsafe { ffi::recovery_ffi_pending_items(self.handle.get(), space as u8) };
+        let items = with_room(room)?;
+        let reply = self.reply_to(Event::TakePending { space });
+        match reply.kind {
+            ffi::ANSWER_QUEUE => Ok(Answer::Queue(self.taken(items))),
+            _ => self.read(reply),
         }
     }
 
@@ -439,9 +441,9 @@ impl Recovery {
         self.handle.get()
     }
 
-    /// Returns the reply of these numbers. The items of a queue are written into `room`.
+    /// Returns the reply of these numbers.
     #[inline]
-    pub(crate) fn read(&self, reply: ffi::EncodedReply, room: Vec<u64>) -> Result<Answer, Refusal> {
+    pub(crate) fn read(&self, reply: ffi::EncodedReply) -> Result<Answer, Refusal> {
         let ffi::EncodedReply {
             kind,
             refusal,
@@ -478,7 +480,7 @@ impl Recovery {
             ffi::ANSWER_NO_PROBE => Answer::NoProbe,
             ffi::ANSWER_BLACK_HOLE => Answer::BlackHole(flag),
             ffi::ANSWER_SENDABLE => Answer::Sendable(SendableFrames { acks: flag, other }),
-            ffi::ANSWER_QUEUE => Answer::Queue(self.taken(room)),
+            ffi::ANSWER_QUEUE => Answer::Queue(self.last_items()?),
             ffi::ANSWER_DONE => Answer::Done,
             ffi::ANSWER_REFUSED => return Err(Refusal::from_number(refusal, first)),
             kind => unreachable!("the library answers an event with {kind}"),

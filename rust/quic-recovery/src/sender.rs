@@ -1238,9 +1238,11 @@ impl Sender {
     /// # Ok::<(), Box<dyn std::error::Error>>(())
     /// ```
     pub fn on_event(&mut self, event: Event<'_>) -> Result<Answer, SenderError> {
-        let room = self.recovery.room_for(&event)?;
+        if let Event::TakePending { space } = event {
+            return Ok(self.recovery.take_pending(space)?);
+        }
         let reply = taken(self.recovery.reply_to(event))?;
-        Ok(self.recovery.read(reply, room)?)
+        Ok(self.recovery.read(reply)?)
     }
 
     /// Reads the last outcome: of an ACK frame that was processed, of a timeout that made a loss detection pass, or of
