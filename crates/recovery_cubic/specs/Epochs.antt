@@ -113,8 +113,8 @@ module _ (window now mtu : ℕ) where
     pub up : min (curve_then (call ∷ later) reduction earlier k)
         (sum_to_most (window_by window now mtu (later ++ reduction ∷ earlier)) (bytes / 2))
         ≤ window_by window now mtu (call ∷ later ++ reduction ∷ earlier)
-    -- exactly to the curve's value, if half of the bytes reach the curve, and above it is neither Reno's window, nor
-    -- what the reduction left, nor the minimum window of an MTU set since
+    -- It raises it exactly to the curve's value if half of the bytes reach it, and no lower limit is above it. These
+    -- limits are Reno's window, what the reduction left, and the minimum window of an MTU set since.
     pub on : curve_then (call ∷ later) reduction earlier k
         ≤ sum_to_most (window_by window now mtu (later ++ reduction ∷ earlier)) (bytes / 2)
         → floor_by window now mtu later (reduction ∷ earlier) ≤ curve_then (call ∷ later) reduction earlier k

@@ -44,8 +44,8 @@ module _ (window now mtu : ℕ) where
   floor_by (call ∷ later) earlier =
       max (floor_by later earlier) (least_of (turn_at window now mtu call (later ++ earlier)))
 
-  -- the window is at most half of these bytes above it, rounded up; so in a round trip, in which at most a window of
-  -- bytes is acknowledged, at most half a window
+  -- The window is at most half of these bytes above it, rounded up. In a round trip at most a window of bytes is
+  -- acknowledged, so the window grows by at most half.
   pub record GrowsByHalf (later earlier : List ControllerCall) : Type 0 where
     pub bytes : 2 * window_by window now mtu (later ++ earlier)
         ≤ 2 * floor_by later earlier + acked_in later earlier + 1

@@ -52,8 +52,9 @@ pub fn cubic_stays_below_the_curve()
 {}
 
 /// Proves that an acknowledgement that counts raises the window to the curve's value at that time or higher, or by half
-/// of its bytes if that is less. It becomes exactly the curve's value if half of the bytes reach that far, and above it
-/// is neither Reno's window, nor what the reduction left, nor the minimum window of an MTU set since.
+/// of its bytes if that is less. It becomes exactly the curve's value if half of the bytes reach that far, and no lower
+/// limit is above it. These limits are Reno's window, what the reduction left, and the minimum window of an MTU set
+/// since.
 pub fn cubic_goes_to_the_curve()
     ensures { (window made mtu : ℕ) (call : ControllerCall) (later : List ControllerCall)
         (reduction : ControllerCall) (earlier : List ControllerCall) (k at bytes : ℕ)

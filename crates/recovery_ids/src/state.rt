@@ -30,11 +30,12 @@ struct CidTimestamp {
 ///
 /// ```
 /// let (now, life) = (Instant::from_nanos(0), Duration::from_secs(10));
-/// if let Ok(mut ids) = CidState::new(rt.alloc(), 8, Some(life), now, 2) {
-///     assert!(&rt; ids.next_timeout() == Some(Instant::from_nanos(10_000_000_000)));
-///     // The peer retires number 0, and accepts 2 IDs: one more may be issued.
-///     assert!(&rt; matches!(ids.on_cid_retirement(0, 2), Ok(true)));
-/// }
+/// let Ok(mut ids) = CidState::new(rt.alloc(), 8, Some(life), now, 2) else {
+///     panic!(&rt; "NoMemory");
+/// };
+/// assert!(&rt; ids.next_timeout() == Some(Instant::from_nanos(10_000_000_000)));
+/// // The peer retires number 0, and accepts 2 IDs: one more may be issued.
+/// assert!(&rt; matches!(ids.on_cid_retirement(0, 2), Ok(true)));
 /// ```
 #[derive(Drop)]
 pub struct CidState {

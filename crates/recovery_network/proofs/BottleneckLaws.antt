@@ -5,11 +5,10 @@ use Rattle.std.proofs.lemmas.Grind.{reverse_onto}
 use Rattle.recovery_network.specs.declared.bottleneck.QueuedPacket.{QueuedPacket}
 use Rattle.recovery_network.specs.Bottlenecks.{IsAfter, IsNextOf, Queue, bytes_of, departure, end_of, rate_of}
 
-pub headed : (items : List QueuedPacket) (first : QueuedPacket) → 0 < length items
-    → first ≡ slice_index_or items 0 first
-    → (rest : List QueuedPacket) × (items ≡ first ∷ rest)
+pub headed : {A : Type 0} (items : List A) (first : A) → 0 < length items → first ≡ slice_index_or items 0 first
+    → (rest : List A) × (items ≡ first ∷ rest)
 headed [] first lt is = absurd (omega (arith, lt))
-headed (packet ∷ packets) first lt is = (packets, ap (λ p. p ∷ packets) (sym is))
+headed (item ∷ items) first lt is = (items, ap (λ it. it ∷ items) (sym is))
 
 bytes_joined : (some more : List QueuedPacket) → bytes_of (some ++ more) ≡ bytes_of some + bytes_of more
 bytes_joined [] more = omega arith

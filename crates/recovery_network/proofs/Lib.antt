@@ -1,3 +1,4 @@
 mod BottleneckLaws
 mod PeerLaws
+mod WayLaws
 mod WriteLaws

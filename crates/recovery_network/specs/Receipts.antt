@@ -1,8 +1,9 @@
 -- What a peer received, and the ACKs that it sends (RFC 9000, 13.2). What it received is a list of new packets, each
 -- with its time, the newest first.
-use Rattle.std.specs.Prelude.{◌≡◌, ℕ, zero, suc, ◌+◌, ◌-◌, ◌≤◌, ◌⊎◌, ◌==◌, ◌||◌, ◌&&◌, not, min, max, nat_lt, Bool, true, false, if◌then◌else◌, List, [], ◌∷◌, Option, None, Some}
+use Rattle.std.specs.Prelude.{◌≡◌, ℕ, zero, suc, ◌+◌, ◌-◌, ◌<◌, ◌≤◌, ◌⊎◌, ◌==◌, ◌||◌, ◌&&◌, not, min, max, nat_lt, Bool, true, false, if◌then◌else◌, List, [], ◌∷◌, length, Option, None, Some, MatchBool}
 use Rattle.std.specs.declared.ops.Range.{Range}
 use Rattle.recovery_base.specs.declared.below.frames.EcnCounts.{EcnCounts}
+use Rattle.recovery_base.specs.Numbers.{InsertNumber}
 use Rattle.recovery_base.specs.Ranges.{InRanges}
 use Rattle.recovery_base.specs.Units.{last_time, number_limit}
 use Rattle.recovery_network.specs.declared.peer.Arrival.{Arrival}
@@ -11,6 +12,10 @@ use Rattle.recovery_network.specs.declared.peer.Peer.{Peer}
 
 abbrev pub Receipts : Type 0
 Receipts = List (ℕ × Arrival)
+
+-- an ACK has at most these ranges, the highest ones
+abbrev pub most_ranges : ℕ
+most_ranges = 32
 
 -- one above the largest number received
 abbrev pub expected : Receipts → ℕ
@@ -40,7 +45,7 @@ abbrev pub is_urgent : ℕ → Arrival → Receipts → Bool
 is_urgent before arrival earlier =
     nat_lt 0 before || (not (arrival.packet.number == expected earlier) || arrival.is_marked)
 
--- when it is due, if so many packets were received since the last ACK
+-- when it is due, by the packets received, and by how many of them came after the last ACK
 abbrev pub due_after : ℕ → ℕ → Receipts → Option ℕ
 due_after delay zero received = None
 due_after delay (suc before) [] = None
@@ -64,27 +69,32 @@ unmarked_in = count_of (λ arrival. arrival.packet.is_ect && not arrival.is_mark
 
 pub record IsPeerAfter (received : Receipts) (since : ℕ) (peer : Peer) : Type 0 where
   pub largest : IsLargest peer.largest received
-  -- it acknowledges only what it received
+  -- it acknowledges only what it received, and all of that while it is at most 32 packets
   pub held : (n : ℕ) → InRanges peer.came n → HasCome n received
+  pub all : length received ≤ most_ranges → (n : ℕ) → HasCome n received → InRanges peer.came n
+  pub count : length peer.came ≤ length received
   pub owes : peer.owes ≡ nat_lt 0 since
   pub due : peer.due ≡ due_after peer.delay since received
   pub marked : peer.marked ≡ min last_time (marked_in received)
   pub unmarked : peer.unmarked ≡ min last_time (unmarked_in received)
 
--- a number is added to the ranges, of which some may be forgotten; or it is in them
-abbrev pub Remembers : ℕ → List (Range ℕ) → List (Range ℕ) → Bool → Type 0
-Remembers number old new true = (n : ℕ) → InRanges new n → InRanges old n ⊎ (n ≡ number)
-Remembers number old new false = InRanges old number × ((n : ℕ) → InRanges new n → InRanges old n)
+-- a number is added to the ranges; one of them is forgotten only if there would be more than 32
+pub record Remembers (number : ℕ) (old new : List (Range ℕ)) (is_new : Bool) : Type 0 where
+  pub answer : MatchBool is_new (¬ InRanges old number) (InRanges old number)
+  pub held : (n : ℕ) → InRanges new n → InsertNumber number (InRanges old) n
+  pub all : length old < most_ranges → (n : ℕ) → InsertNumber number (InRanges old) n → InRanges new n
+  pub count : length new ≤ length old + 1
 
 -- nothing happened, whatever the history
 abbrev pub KeepsReceipts : Peer → Peer → Type 0
 KeepsReceipts old new =
     (received : Receipts) (since : ℕ) → IsPeerAfter received since old → IsPeerAfter received since new
 
--- A packet is new, or it was received before, or its number is too large.
+-- A packet is new, or it was received before, or its number is too large. One of the first 32 is not new twice.
 abbrev pub Receives : ℕ → Arrival → Peer → Peer → Bool → Type 0
-Receives now arrival old new true = (received : Receipts) (since : ℕ)
-    → IsPeerAfter received since old → IsPeerAfter ((now, arrival) ∷ received) (suc since) new
+Receives now arrival old new true = (received : Receipts) (since : ℕ) → IsPeerAfter received since old
+    → (length received ≤ most_ranges → HasCome arrival.packet.number received → ⊥)
+    × IsPeerAfter ((now, arrival) ∷ received) (suc since) new
 Receives now arrival old new false = (received : Receipts) (since : ℕ) → IsPeerAfter received since old
     → (HasCome arrival.packet.number received ⊎ (number_limit ≤ arrival.packet.number)) × IsPeerAfter received since new
 
@@ -96,7 +106,7 @@ IsDelay now received delay = (received ≡ [])
     ⊎ ((largest : ℕ) × (time : ℕ) × (suc largest ≡ expected received) × HasComeAt largest time received
     × (delay ≡ now - time))
 
--- All numbers of its ranges were received.
+-- the number is in its ranges
 abbrev pub IsInAck : ℕ → List (ℕ × ℕ) → Type 0
 IsInAck n [] = ⊥
 IsInAck n (range ∷ ranges) = ((range.0 ≤ n) × (n ≤ range.1)) ⊎ IsInAck n ranges
@@ -109,7 +119,9 @@ AreCounts received (Some counts) = (counts.ce ≡ min last_time (marked_in recei
 
 pub record IsAckOf (now : ℕ) (received : Receipts) (frame : Frame) : Type 0 where
   pub delay : IsDelay now received frame.delay
+  -- all numbers of its ranges were received, and it has all that were while these are at most 32 packets
   pub numbers : (n : ℕ) → IsInAck n frame.ranges.items → HasCome n received
+  pub all : length received ≤ most_ranges → (n : ℕ) → HasCome n received → IsInAck n frame.ranges.items
   pub counts : AreCounts received frame.ecn
 
 abbrev pub SendsAck : ℕ → Peer → Peer → Frame → Type 0

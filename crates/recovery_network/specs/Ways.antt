@@ -1,30 +1,38 @@
--- Items in transit: none arrives before the delay of the time at which it was sent has passed.
-use Rattle.std.specs.Prelude.{ℕ, ◌+◌, ◌≤◌, ◌⊎◌, min, List, [], ◌∷◌, All, Option, None, Some}
+-- Items in transit in one direction: each arrives after the delay of the time at which it was sent.
+use Rattle.std.specs.Prelude.{◌≡◌, ℕ, ◌+◌, ◌<◌, ◌≤◌, min, List, [], ◌∷◌, length, insert, All, Option, None, Some}
+use Rattle.std.specs.List.Sorted.{IsNonDecreasingBy, IsPartitionPoint}
 use Rattle.recovery_base.specs.Units.{last_time}
 use Rattle.recovery_network.specs.declared.schedule.Schedule.{Schedule}
 use Rattle.recovery_network.specs.declared.way.Carried.{Carried}
 use Rattle.recovery_network.specs.Schedules.{value_at}
 
--- the delay at each time
-abbrev pub delay_by : Schedule → ℕ → ℕ
-delay_by delays = value_at delays.first delays.changes.items
-
--- Something was sent, and the delay of that time is over at this time, or the clock ends sooner.
-abbrev pub IsDelayed : (ℕ → ℕ) → List ℕ → ℕ → Type 0
-IsDelayed delay_at [] at = ⊥
-IsDelayed delay_at (left ∷ sent) at = (min last_time (left + delay_at left) ≤ at) ⊎ IsDelayed delay_at sent at
+-- When an item arrives that is sent at this time, and is late by this much. Times end with the clock.
+abbrev pub arrival_of : Schedule → ℕ → ℕ → ℕ
+arrival_of delays now late = min last_time (now + value_at delays.first delays.changes.items now + late)
 
 module _ {T : Type 0} where
-  -- each of these items arrives a delay or more after one of these times, at which something was sent
-  abbrev pub AreDelayed : (ℕ → ℕ) → List ℕ → List (Carried T) → Type 0
-  AreDelayed delay_at sent carried = All (λ item. IsDelayed delay_at sent item.arrives) carried
+  -- those that arrive first come first
+  abbrev pub ArriveInOrder : List (Carried T) → Type 0
+  ArriveInOrder items = IsNonDecreasingBy (λ item. item.arrives) items
 
-  -- an item is given only after the delay, and the others stay
-  abbrev pub GivesAfter : List ℕ → ℕ → (ℕ → ℕ) → List (Carried T) → Option T → Type 0
-  GivesAfter sent now delay_at left None = AreDelayed delay_at sent left
-  GivesAfter sent now delay_at left (Some what) =
-      ((at : ℕ) × (at ≤ now) × IsDelayed delay_at sent at) × AreDelayed delay_at sent left
+  -- the place behind those that arrive no later, and before those that arrive later
+  abbrev pub IsPlaceByArrival : ℕ → List (Carried T) → ℕ → Type 0
+  IsPlaceByArrival arrives = IsPartitionPoint (λ item. item.arrives ≤ arrives) (λ item. arrives < item.arrives)
 
-  abbrev pub Gives : ℕ → (ℕ → ℕ) → List (Carried T) → List (Carried T) → Option T → Type 0
-  Gives now delay_at carried left given =
-      (sent : List ℕ) → AreDelayed delay_at sent carried → GivesAfter sent now delay_at left given
+  -- an item is added in its place
+  abbrev pub Adds : ℕ → T → List (Carried T) → List (Carried T) → Type 0
+  Adds arrives what old new = (place : ℕ) × (place ≤ length old)
+      × (new ≡ insert old place (record { arrives = arrives; what = what }))
+      × (ArriveInOrder old → IsPlaceByArrival arrives old place)
+
+  -- when the first item arrives, if there is one
+  abbrev pub IsFirstArrival : List (Carried T) → Option ℕ → Type 0
+  IsFirstArrival items None = items ≡ []
+  IsFirstArrival items (Some arrives) =
+      (first : Carried T) × (rest : List (Carried T)) × (items ≡ first ∷ rest) × (arrives ≡ first.arrives)
+
+  -- The first item is taken, which has arrived by now. Or none has.
+  abbrev pub TakesArrived : ℕ → List (Carried T) → List (Carried T) → Option T → Type 0
+  TakesArrived now old new None = (new ≡ old) × (ArriveInOrder old → All (λ item. now < item.arrives) old)
+  TakesArrived now old new (Some what) =
+      (arrives : ℕ) × (arrives ≤ now) × (old ≡ record { arrives = arrives; what = what } ∷ new)

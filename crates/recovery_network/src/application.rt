@@ -75,7 +75,7 @@ impl Application {
         }
     }
 
-    /// Returns when it writes the item of this index, if it writes so many.
+    /// Returns when it writes the item of this index, if it writes that many items.
     pub fn writes(&self, index: u64) -> u64
         ensures { result ≡ min last_time (time_of self.now index) }
     {

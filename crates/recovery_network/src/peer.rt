@@ -1,5 +1,5 @@
 //! The peer: what it received, and when and how it acknowledges that (RFC 9000, 13.2).
-ghost use Rattle.std.specs.Prelude.{◌≡◌, ◌==◌, ◌<◌, ◌+◌, ◌∷◌, ℕ, [], Some, IfOk, MatchOption, OnErr, if◌then◌else◌, min, nat_lt};
+ghost use Rattle.std.specs.Prelude.{◌≡◌, ◌==◌, ◌↔◌, ◌<◌, ◌+◌, ◌∷◌, ℕ, [], Some, IfOk, MatchBool, MatchOption, OnErr, ⊤, if◌then◌else◌, min, nat_lt};
 ghost use Rattle.recovery_base.specs.Ranges.{InRanges};
 ghost use Rattle.recovery_base.specs.Units.{last_time, number_limit};
 ghost use Rattle.recovery_network.specs.Receipts.{IsPeerAfter, IsDelay, IsInAck, IsLargest, KeepsReceipts, Receipts, Receives, Remembers, SendsAck, expected, is_urgent};
@@ -133,13 +133,16 @@ impl Peer {
 fn remember(came: &mut ArrayRangeSet, number: u64) -> Result<bool, NoMemory>
     requires { number < number_limit }
     ensures remembers { IfOk result (Remembers number came.old came.new) }
+    ensures known { IfOk result (λ is_new. MatchBool is_new ⊤ (came.new ≡ came.old)) }
     ensures unchanged { OnErr result (came.new ≡ came.old) }
 {
-    let is_new = came.insert_one(number)?;
+    if !came.insert_one(number)? {
+        return Ok(false);
+    }
     if came.len() > RANGES {
         let _forgotten = came.pop_min();
     }
-    Ok(is_new)
+    Ok(true)
 }
 
 /// Returns whether an ACK of a new packet is due at once.
@@ -212,7 +215,7 @@ fn counts(marked: u64, unmarked: u64) -> Option<EcnCounts>
 
 /// Returns the first and last number of each range, the highest range first.
 fn ranges_of(alloc: Global, came: &ArrayRangeSet) -> Result<Vec<(u64, u64)>, AllocError>
-    ensures { IfOk result (λ ranges. (n : ℕ) → IsInAck n ranges.items → InRanges came.now n) }
+    ensures { IfOk result (λ ranges. (n : ℕ) → IsInAck n ranges.items ↔ InRanges came.now n) }
 {
     let all = came.iter().as_slice();
     let mut ranges = Vec::new(alloc);

@@ -1,6 +1,6 @@
 //! What is in transit in one direction, in order of arrival.
-ghost use Rattle.std.specs.Prelude.{◌≡◌, ℕ, List, [], ◌∷◌, IfSome};
-ghost use Rattle.recovery_network.specs.Ways.{AreDelayed, Gives, IsDelayed, delay_by};
+ghost use Rattle.std.specs.Prelude.{◌≡◌, ◌≤◌, [], length, OnErr, OnOk};
+ghost use Rattle.recovery_network.specs.Ways.{Adds, ArriveInOrder, IsFirstArrival, IsPlaceByArrival, TakesArrived, arrival_of};
 
 use crate::schedule::Schedule;
 use std::alloc::{AllocError, Global};
@@ -22,12 +22,24 @@ pub struct Way<T> {
     carried: VecDeque<Carried<T>>,
 }
 
+/// Returns the place of an item that arrives at this time: behind those that arrive no later.
+fn place_of<T: Drop>(carried: &VecDeque<Carried<T>>, arrives: u64) -> usize
+    ensures bound { result ≤ length carried.now.items }
+    ensures place { ArriveInOrder carried.now.items
+        → IsPlaceByArrival arrives carried.now.items result }
+{
+    match carried.back() {
+        Some(last) if last.arrives > arrives => carried.partition_point(|it| it.arrives <= arrives),
+        _ => carried.len(),
+    }
+}
+
 impl<T: Drop> Way<T> {
     /// Returns a direction without anything in transit, in which each item has the minimum delay of the time at which
     /// it is sent.
     pub fn new(alloc: Global, delays: Schedule) -> Self
         ensures delays { result.delays ≡ delays }
-        ensures empty { AreDelayed (delay_by delays) [] result.carried.items }
+        ensures empty { result.carried.items ≡ [] }
     {
         Way {
             delays,
@@ -35,29 +47,24 @@ impl<T: Drop> Way<T> {
         }
     }
 
-    /// Sends an item at time `now`, which is late by this much.
+    /// Sends an item at time `now`, which is late by this much. An error changes nothing.
     pub fn send(&mut self, now: u64, late: u64, what: T) -> Result<(), AllocError>
         ensures delays { self.new.delays ≡ self.old.delays }
-        ensures carried { (sent : List ℕ)
-            → AreDelayed (delay_by self.old.delays) sent self.old.carried.items
-            → AreDelayed (delay_by self.old.delays) (now ∷ sent) self.new.carried.items }
+        ensures order { ArriveInOrder self.old.carried.items
+            → ArriveInOrder self.new.carried.items }
+        ensures adds { OnOk result (Adds (arrival_of self.old.delays now late) what
+            self.old.carried.items self.new.carried.items) }
+        ensures unchanged { OnErr result (self.new.carried.items ≡ self.old.carried.items) }
     {
         let arrives = now.saturating_add(self.delays.at(now)).saturating_add(late);
-        let place = match self.carried.back() {
-            Some(last) if last.arrives > arrives => {
-                self.carried.partition_point(|it| it.arrives <= arrives)
-            }
-            _ => self.carried.len(),
-        };
+        let place = place_of(&self.carried, arrives);
         self.carried.insert(place, Carried { arrives, what })?;
         Ok(())
     }
 
     /// Returns when the next item arrives.
     pub fn next(&self) -> Option<u64>
-        ensures { IfSome result (λ at. (sent : List ℕ)
-            → AreDelayed (delay_by self.now.delays) sent self.now.carried.items
-            → IsDelayed (delay_by self.now.delays) sent at) }
+        ensures { IsFirstArrival self.now.carried.items result }
     {
         let first = self.carried.front()?;
         Some(first.arrives)
@@ -66,8 +73,9 @@ impl<T: Drop> Way<T> {
     /// Removes and returns the next item, if it arrived by now.
     pub fn take(&mut self, now: u64) -> Option<T>
         ensures delays { self.new.delays ≡ self.old.delays }
-        ensures gives { Gives now (delay_by self.old.delays)
-            self.old.carried.items self.new.carried.items result }
+        ensures order { ArriveInOrder self.old.carried.items
+            → ArriveInOrder self.new.carried.items }
+        ensures takes { TakesArrived now self.old.carried.items self.new.carried.items result }
     {
         match self.next() {
             Some(arrives) if arrives <= now => {

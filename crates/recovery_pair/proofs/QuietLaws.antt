@@ -1,6 +1,6 @@
 -- The calls of a sender by which no packet is received.
 use Rattle.std.proofs.Common.{◌≡◌, ℕ, inl, inr, Bool, true, false, List, [], ◌∷◌, ◌++◌, Option, None, Some, Result, Ok, Err, refl, sym, subst}
-use Rattle.std.specs.Prelude.{if◌then◌else◌, min}
+use Rattle.std.specs.Prelude.{min}
 use Rattle.rand_core.specs.Stream.{Stream}
 use Rattle.recovery_base.specs.declared.below.SpaceId.{SpaceId}
 use Rattle.recovery_base.specs.declared.below.frames.EcnCounts.{EcnCounts}
@@ -9,18 +9,14 @@ use Rattle.recovery_events.specs.declared.event.Answer.{Answer}
 use Rattle.recovery_events.specs.declared.event.Event.TheVariants as events
 use Rattle.recovery_events.specs.declared.event.Refusal.TheVariants.{NoMemory, SpaceDiscarded}
 use Rattle.recovery_spaces.specs.Discarded.{is_discarded}
-use Rattle.recovery_spaces.specs.Spaces.{Space, space_of, with_space}
-use Rattle.recovery_paths.specs.PathStates.{PathMarks}
-use Rattle.recovery_paths.specs.declared.path_pair.PathName.TheVariants.{Current}
+use Rattle.recovery_spaces.specs.Spaces.{Space}
 use Rattle.recovery_losses.specs.declared.due.Due.{Due}
 use Rattle.recovery_losses.specs.declared.frames.Ack.{Ack}
 use Rattle.recovery_losses.specs.declared.variables.Variables.{Variables}
-use Rattle.recovery_history.specs.CallerState.{with_loss_time, with_marks_at}
 use Rattle.recovery_history.specs.declared.config.RecoveryConfig.{RecoveryConfig}
 use Rattle.recovery_history.specs.History.{Beginning, History, QueueModel, begins, queue_model}
 use Rattle.recovery_history.specs.Reachability.{ReachedBy}
 use Rattle.recovery_history.specs.RecoveryState.{RecoveryState}
-use Rattle.recovery_history.proofs.LossTimeLaws.{reached_with_loss_time}
 use Rattle.recovery_sender.specs.Acking.{AckResult, Acknowledges, EcnCompared, EcnResult, SamplesRtt, acking, first_marked}
 use Rattle.recovery_losses.specs.declared.looks.LossPass.{LossPass}
 use Rattle.recovery_sender.specs.Attempts.{LossAttempt, probe_attempts, trying}
@@ -43,40 +39,9 @@ use Rattle.recovery_sender.specs.declared.sender.acks.EcnOutcome.TheVariants.{Qu
 use Rattle.recovery_sender.specs.declared.sender.losses.Losses.{Losses}
 use Rattle.recovery_sender.specs.declared.sender.probes.Timeout.{Timeout}
 use Rattle.recovery_sender.specs.declared.sender.probes.Timeout.TheVariants.{Nothing, Lost, Probe}
+use Rattle.recovery_sender.proofs.ExtendedLaws.{loss_time_reached, marks_reached}
 use Rattle.recovery_pair.specs.Pasts.{Continues, GoesOnQuietly, quiet}
 use Rattle.recovery_pair.proofs.GoingLaws.{IsQuietEvent, quiet_event, quiet_none, quiet_then}
-
--- ---- what the caller sets leaves the past
-
-module _ {F K Q S M P : Type 0} (beginning : Beginning F K Q S M P) (past : History Q S M P)
-    (recovery : RecoveryState K P M) (came : ReachedBy beginning past recovery) where
-  loss_time_kept : (space : SpaceId) (time : Option ℕ) (gone : Bool)
-      → ReachedBy beginning past (if gone then recovery else record recovery {
-        spaces = with_space recovery.spaces space (with_loss_time time (space_of space recovery.spaces));
-      })
-  loss_time_kept space time true = came
-  loss_time_kept space time false =
-      reached_with_loss_time beginning past space time (space_of space recovery.spaces) recovery refl came
-
-  marks_kept : (marks : PathMarks) → ReachedBy beginning past (with_marks_at Current marks recovery)
-  marks_kept marks = let left = came.state_after in record {
-    replies = came.replies;
-    state_after = record {
-      settings = left.settings;
-      spaces = left.spaces;
-      beside = left.beside;
-      discarded = left.discarded;
-      skipping = left.skipping;
-      paths = left.paths;
-      peer_limit = left.peer_limit;
-      in_flight = record { current = left.in_flight.current; previous = left.in_flight.previous };
-      frequency = left.frequency;
-      timers = left.timers;
-      remote_ids = left.remote_ids;
-      local_ids = left.local_ids;
-    };
-    small = came.small;
-  }
 
 -- ---- steps
 
@@ -118,9 +83,9 @@ module _ {F K Q S M P : Type 0} (built : F → ℕ → ℕ → K) (words : Contr
       )
   leads_quietly (loss_time space time ∷ steps) old new calm leads past came =
       leads_quietly steps _ new calm leads past
-      (loss_time_kept beginning past old came space time (is_discarded space old.discarded))
+      (loss_time_reached beginning past old came space time (is_discarded space old.discarded))
   leads_quietly (marked marks ∷ steps) old new calm leads past came =
-      leads_quietly steps _ new calm leads past (marks_kept beginning past old came marks)
+      leads_quietly steps _ new calm leads past (marks_reached beginning past old came marks)
 
   timer_quiet : (due : Option (ℕ × Due)) → AreQuiet {Q = Q} {S = S} {M = M} {P = P} (timed due ∷ [])
   timer_quiet None = (tt, tt)

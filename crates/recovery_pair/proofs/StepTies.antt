@@ -81,30 +81,17 @@ module _ {F Q R C K S M P : Type 0} {f : _} {c : _} {q : _} {m : _} {r : _} wher
       → IsTiedAt validated Client log client server wire → KeepsExchange validated log (step, answer)
       × IsTiedAt validated Client ((step, answer) ∷ log) client_after server_after wire_after
 
-  turned_server : (validated : Bool) (log : PairLog) (client server : Sender F Q R C K S M P f c q m r)
-      (wire : List WirePacket) → IsTiedAt validated Client log client server wire
-      → IsTiedAt validated Server log server client wire
-  turned_server validated log client server wire tied = record {
+  -- seen from the other end
+  turned : (validated : Bool) (end : End) (log : PairLog) (here there : Sender F Q R C K S M P f c q m r)
+      (wire : List WirePacket) → IsTiedAt validated end log here there wire
+      → IsTiedAt validated (other_end end) log there here wire
+  turned validated end log here there wire tied = record {
     own = tied.peer;
     peer = tied.own;
     out = tied.back;
-    back = tied.out;
+    back = rw (twice end) tied.out;
     logged = tied.peer_logged;
-    peer_logged = tied.logged;
-    listed = tied.listed;
-    wired = tied.wired;
-  }
-
-  turned_client : (validated : Bool) (log : PairLog) (client server : Sender F Q R C K S M P f c q m r)
-      (wire : List WirePacket) → IsTiedAt validated Server log server client wire
-      → IsTiedAt validated Client log client server wire
-  turned_client validated log client server wire tied = record {
-    own = tied.peer;
-    peer = tied.own;
-    out = tied.back;
-    back = tied.out;
-    logged = tied.peer_logged;
-    peer_logged = tied.logged;
+    peer_logged = rw (twice end) tied.logged;
     listed = tied.listed;
     wired = tied.wired;
   }
@@ -128,8 +115,8 @@ module _ {F Q R C K S M P : Type 0} {f : _} {c : _} {q : _} {m : _} {r : _} wher
       by : ExchangeKept client server wire step answer client server_after wire_after
       by validated log tied =
           let both = each server client server_after turns.0 validated log
-          (turned_server validated log client server wire tied) in
-          (both.0, turned_client validated ((step, answer) ∷ log) client server_after wire_after both.1)
+          (turned validated Client log client server wire tied) in
+          (both.0, turned validated Server ((step, answer) ∷ log) server_after client wire_after both.1)
 
 -- ---- amplification
 

@@ -51,7 +51,7 @@ deliveries_of end space n (event ∷ earlier) = deliveries_of end space n earlie
 
 -- ---- the wire
 
--- a packet that was sent, as the log tells it
+-- a packet that was sent, as the log records it
 pub record LoggedPacket : Type 0 where
   pub from : End
   pub space : SpaceId

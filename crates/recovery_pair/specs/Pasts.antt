@@ -35,7 +35,7 @@ pub record EndTurn : Type 0 where
   pub came : Option (SpaceId × ℕ)
   -- and it is new
   pub heard : Option (SpaceId × ℕ)
-  -- so many bytes are received, and transmitted
+  -- the bytes that are received, and those that are transmitted
   pub arrives : ℕ
   pub leaves : ℕ
   -- the keys of a space are dropped

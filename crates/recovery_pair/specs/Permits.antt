@@ -1,4 +1,4 @@
--- A datagram goes out, or is held back, by what the sender says of it (`transmit`; RFC 9000, 8.1; RFC 9002, 7).
+-- A datagram is sent or held back as the sender says of it (`transmit`; RFC 9000, 8.1; RFC 9002, 7).
 use Rattle.std.specs.Prelude.{◌≡◌, ℕ, Bool, Result, Ok}
 use Rattle.recovery_base.specs.declared.below.SpaceId.{SpaceId}
 use Rattle.recovery_sender.specs.Calls.{transmit_reply}
@@ -44,13 +44,13 @@ module _ {F Q R C K S M P : Type 0} {f : _} {c : _} {q : _} {m : _} {r : _} wher
   PermitsAnswer space now size answer sender =
       (in_flight : Bool) × AgreesWith (said_by sender space now size in_flight) answer
 
-  -- of one end
+  -- of this endpoint
   abbrev pub HoldsAt : End → (Sender F Q R C K S M P f c q m r → Type 0) → Sender F Q R C K S M P f c q m r
       → Sender F Q R C K S M P f c q m r → Type 0
   HoldsAt Client Holds client server = Holds client
   HoldsAt Server Holds client server = Holds server
 
-  -- a datagram goes out exactly if the sender of its end permits it
+  -- a datagram is sent exactly if the sender of its endpoint permits it
   abbrev pub SendsAsPermitted : PairStep → Result PairAnswer SenderError → Sender F Q R C K S M P f c q m r
       → Sender F Q R C K S M P f c q m r → Type 0
   SendsAsPermitted (Send end space now size) answer client server =

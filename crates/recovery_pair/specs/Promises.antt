@@ -27,8 +27,8 @@ pub record KeepsPromises (validated : Bool) (log : PairLog) (event : PairEvent) 
   -- Until it validates the client's address, the server sends at most three times the bytes that arrive (RFC 9000,
   -- 8.1).
   pub limited : ServerSendsThreefold validated (event ∷ log)
-  -- An endpoint has nothing to send in a space only once it has sent at least as many packets there as were passed to
-  -- it (RFC 9000, 13).
+  -- An endpoint has nothing to send in a space only once it has sent no fewer packets there than were passed to it
+  -- (RFC 9000, 13).
   pub sends : SendsWhatWaits log event
   -- A step of one endpoint has an answer of its kind, never another (RFC 9002, 6.2 and 6.4).
   pub local : AnswersLocally event

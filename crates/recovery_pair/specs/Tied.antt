@@ -64,7 +64,7 @@ pub record IsOnWire (log : PairLog) (packet : WirePacket) : Type 0 where
   pub acks : (n : ℕ) → IsInAckRanges n packet.ranges.items
       → (items : List ℕ) × (deliveries_of packet.from packet.space n log ≡ items ∷ [])
 
--- as the log tells it
+-- as the log records it
 abbrev pub sent_as : WirePacket → LoggedPacket
 sent_as packet = record {
   from = packet.from;
@@ -81,8 +81,8 @@ abbrev pub validated_first : End → Bool → Bool
 validated_first Client validated = true
 validated_first Server validated = validated
 
--- what came to an end, what it discarded and validated; at least the bytes that it counts as received, and at most
--- those that it counts as transmitted
+-- The log and the history of an endpoint agree on what it received, discarded and validated. The history counts no more
+-- bytes as received than arrived, and no fewer as transmitted than were sent.
 pub record IsLogged {Q S M P : Type 0} (validated : Bool) (log : PairLog) (end : End) (first : Bool)
     (past : History Q S M P) : Type 0 where
   pub came : (space : SpaceId) → came_in space past ≡ numbers_at end space log

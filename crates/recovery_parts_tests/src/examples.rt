@@ -110,11 +110,12 @@ fn ids_of_the_peer(rt: HostRuntime) {
 #[test]
 fn ids_that_were_issued(rt: HostRuntime) {
     let (now, life) = (Instant::from_nanos(0), Duration::from_secs(10));
-    if let Ok(mut ids) = CidState::new(rt.alloc(), 8, Some(life), now, 2) {
-        assert!(&rt; ids.next_timeout() == Some(Instant::from_nanos(10_000_000_000)));
-        // The peer retires number 0, and accepts 2 IDs: one more may be issued.
-        assert!(&rt; matches!(ids.on_cid_retirement(0, 2), Ok(true)));
-    }
+    let Ok(mut ids) = CidState::new(rt.alloc(), 8, Some(life), now, 2) else {
+        panic!(&rt; "NoMemory");
+    };
+    assert!(&rt; ids.next_timeout() == Some(Instant::from_nanos(10_000_000_000)));
+    // The peer retires number 0, and accepts 2 IDs: one more may be issued.
+    assert!(&rt; matches!(ids.on_cid_retirement(0, 2), Ok(true)));
 }
 
 #[test]
@@ -139,21 +140,21 @@ fn tracked_packets(rt: HostRuntime) {
         retransmits: ItemQueue::empty(rt.alloc()),
         stream_frames: (),
     };
-    if packets.insert(0, packet).is_ok() {
-        assert!(&rt; packets.get(0).map_or(0, |it| it.size) == 1200);
-        // An acknowledged or lost packet is removed.
-        assert!(&rt; packets.remove(0).is_some());
-        assert!(&rt; packets.len() == 0);
-    }
+    assert!(&rt; packets.insert(0, packet).is_ok());
+    assert!(&rt; packets.get(0).map_or(0, |it| it.size) == 1200);
+    // An acknowledged or lost packet is removed.
+    assert!(&rt; packets.remove(0).is_some());
+    assert!(&rt; packets.len() == 0);
 }
 
 #[test]
 fn queue_of_items(rt: HostRuntime) {
     let lost = ItemQueue::from_slice(rt.alloc(), &[3]);
     let waiting = ItemQueue::from_slice(rt.alloc(), &[1, 2]);
-    if let (Ok(mut lost), Ok(waiting)) = (lost, waiting) {
-        // What was lost is sent again first.
-        assert!(&rt; lost.append(waiting).is_ok());
-        assert!(&rt; lost.items() == [3, 1, 2].as_slice());
-    }
+    let (Ok(mut lost), Ok(waiting)) = (lost, waiting) else {
+        panic!(&rt; "NoMemory");
+    };
+    // What was lost is sent again first.
+    assert!(&rt; lost.append(waiting).is_ok());
+    assert!(&rt; lost.items() == [3, 1, 2].as_slice());
 }

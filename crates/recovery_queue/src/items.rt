@@ -18,11 +18,12 @@ const INLINE: usize = 2;
 /// ```
 /// let lost = ItemQueue::from_slice(rt.alloc(), &[3]);
 /// let waiting = ItemQueue::from_slice(rt.alloc(), &[1, 2]);
-/// if let (Ok(mut lost), Ok(waiting)) = (lost, waiting) {
-///     // What was lost is sent again first.
-///     assert!(&rt; lost.append(waiting).is_ok());
-///     assert!(&rt; lost.items() == [3, 1, 2].as_slice());
-/// }
+/// let (Ok(mut lost), Ok(waiting)) = (lost, waiting) else {
+///     panic!(&rt; "NoMemory");
+/// };
+/// // What was lost is sent again first.
+/// assert!(&rt; lost.append(waiting).is_ok());
+/// assert!(&rt; lost.items() == [3, 1, 2].as_slice());
 /// ```
 #[derive(Drop)]
 pub struct ItemQueue {

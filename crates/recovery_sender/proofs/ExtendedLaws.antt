@@ -27,7 +27,7 @@ use Rattle.recovery_sender.proofs.SampleLaws.{estimated, event_explains_state, f
 
 module _ {F K Q S M P : Type 0} (beginning : Beginning F K Q S M P) (past : History Q S M P)
     (recovery : RecoveryState K P M) (came : ReachedBy beginning past recovery) where
-  loss_time_reached : (space : SpaceId) (time : Option ℕ) (gone : Bool)
+  pub loss_time_reached : (space : SpaceId) (time : Option ℕ) (gone : Bool)
       → ReachedBy beginning past (if gone then recovery else record recovery {
         spaces = with_space recovery.spaces space (with_loss_time time (space_of space recovery.spaces));
       })
@@ -35,7 +35,7 @@ module _ {F K Q S M P : Type 0} (beginning : Beginning F K Q S M P) (past : Hist
   loss_time_reached space time false =
       reached_with_loss_time beginning past space time (space_of space recovery.spaces) recovery refl came
 
-  marks_reached : (marks : PathMarks) → ReachedBy beginning past (with_marks_at Current marks recovery)
+  pub marks_reached : (marks : PathMarks) → ReachedBy beginning past (with_marks_at Current marks recovery)
   marks_reached marks = let left = came.state_after in record {
     replies = came.replies;
     state_after = record {

@@ -39,12 +39,11 @@ pub const MAX_SILENT: u64 = 1001;
 ///     retransmits: ItemQueue::empty(rt.alloc()),
 ///     stream_frames: (),
 /// };
-/// if packets.insert(0, packet).is_ok() {
-///     assert!(&rt; packets.get(0).map_or(0, |it| it.size) == 1200);
-///     // An acknowledged or lost packet is removed.
-///     assert!(&rt; packets.remove(0).is_some());
-///     assert!(&rt; packets.len() == 0);
-/// }
+/// assert!(&rt; packets.insert(0, packet).is_ok());
+/// assert!(&rt; packets.get(0).map_or(0, |it| it.size) == 1200);
+/// // An acknowledged or lost packet is removed.
+/// assert!(&rt; packets.remove(0).is_some());
+/// assert!(&rt; packets.len() == 0);
 /// ```
 #[derive(Drop)]
 pub struct SentPackets<Q: RetransmitQueue> {
