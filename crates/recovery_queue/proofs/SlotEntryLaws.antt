@@ -10,8 +10,8 @@ use Rattle.std.proofs.lemmas.List.{length-drop, same_from_push}
 use Rattle.std.proofs.Math.Seq.{set-append_seam}
 use Rattle.std.proofs.lemmas.List.Filters.{length-filter_both}
 use Rattle.recovery_queue.specs.declared.slots.Slot.{Slot}
-use Rattle.recovery_queue.specs.Slots.{entries_in, item_at, AreSlotsIncreasing, IsSlotAt, Divides, IsHeldAt, IsAboveAll, IsFirst, IsFirstWith, IsLast, IsSlotQueueSound, IsClosedUp, IsFrontEmpty, IsBackFrom, Replaces, FindsSlot, CompactsSlots, RemovesSlot, trimmed, is_filled, is_below, is_from, first_number, AreFrom}
-use Rattle.recovery_queue.proofs.SlotLaws.{Slots, at_itself, one_slot}
+use Rattle.recovery_queue.specs.Slots.{entries_in, item_at, AreSlotsIncreasing, IsSlotAt, IsNumberAt, IsIncreasing, Divides, IsHeldAt, IsAboveAll, IsFirst, IsFirstWith, IsLast, IsSlotQueueSound, IsClosedUp, IsFrontEmpty, IsBackFrom, Replaces, FindsSlot, CompactsSlots, RemovesSlot, trimmed, is_filled, is_below, is_from, first_number, AreFrom}
+use Rattle.recovery_queue.proofs.SlotLaws.{Slots, at_itself, one_slot, slot_within, held_at, divides_at}
 
 pub not_both : {b : Bool} → b ≡ true → b ≡ false → ⊥
 not_both {b} e f = cc
@@ -100,13 +100,6 @@ module _ {T : Type 0} where
       let its = here number item item held.after held.before held.none in
       rw (held.is, ← held.place_is) (its.0, its.3)
 
-  -- the slot at the position that was found has what is stored under the number
-  pub found_read : {slots : Slots T} {number place : ℕ} {at : Option ℕ × ℕ} → FindsSlot slots number at
-      → at.0 ≡ Some place → (slot : Slot T) → IsSlotAt slots place slot → slot.item ≡ item_at slots number
-  found_read {slots} {number} {place} finds is slot there =
-      let held : (item : T) × IsHeldAt slots number place item = grind (arith, finds.place, is) in
-      ap (λ (s : Slot T). s.item) (one_slot slots place slot _ there (item_held held.1).1) ∙ sym (item_held held.1).0
-
   module _ {old mid : Slots T} {number place : ℕ} {at : Option ℕ × ℕ} {found : Option T}
       (finds : FindsSlot old number at) (is : at.0 ≡ Some place) (first : Replaces old place None found mid) where
     held : (item : T) × IsHeldAt old number place item
@@ -143,6 +136,98 @@ module _ {T : Type 0} where
       → remove_entry (is_at (nat_cmp number)) entries ≡ entries
   absent_removed [] number none = refl
   absent_removed (entry ∷ entries) number none = grind (arith, absent_removed entries number)
+
+  -- ---- the slot of a number
+
+  pub numbered_within : {slots : Slots T} {number place : ℕ} → IsNumberAt slots number place → place < length slots
+  numbered_within its = slot_within _ _ its.slot its.at
+
+  pub held_numbered : {slots : Slots T} {number place : ℕ} → ((item : T) × IsHeldAt slots number place item)
+      → IsNumberAt slots number place
+  held_numbered {number = number} its = record {
+    slot = slot_of number (Some its.0);
+    at = (item_held its.1).1;
+    number_is = refl;
+  }
+
+  -- the number is this slot's, and what is stored under it is in this slot
+  pub numbered : {slots : Slots T} {number place : ℕ} (slot : Slot T) → IsIncreasing slots
+      → IsNumberAt slots number place → IsSlotAt slots place slot → (slot.number ≡ number)
+      × MatchOption slot.item (item_at slots number ≡ None) (IsHeldAt slots number place)
+  numbered {slots} {number} {place} slot rises its at =
+      let same : slot.number ≡ number =
+      ap (λ (s : Slot T). s.number) (one_slot slots place slot its.slot at its.at) ∙ its.number_is in
+      (same, rw same at (held_at slots place slot.number slot.item rises at))
+
+  read_held : (slots : Slots T) (number place : ℕ) (item : Option T)
+      → MatchOption item (item_at slots number ≡ None) (IsHeldAt slots number place) → item ≡ item_at slots number
+  read_held slots number place None none = sym none
+  read_held slots number place (Some item) its = sym (item_held its).0
+
+  pub numbered_read : {slots : Slots T} {number place : ℕ} (slot : Slot T) → IsIncreasing slots
+      → IsNumberAt slots number place → IsSlotAt slots place slot → slot.item ≡ item_at slots number
+  numbered_read {slots} {number} {place} slot rises its at =
+      read_held slots number place slot.item (numbered slot rises its at).1
+
+  abbrev found_by : ℕ → Option T → Option ℕ
+  found_by place None = None
+  found_by place (Some item) = Some place
+
+  -- one slot is read for a position that is known
+  pub found_there : {slots : Slots T} {number place : ℕ} (slot : Slot T) (item : Option T) (looks : ℕ)
+      → IsIncreasing slots → IsNumberAt slots number place → IsSlotAt slots place slot → slot.item ≡ item → looks ≡ 1
+      → FindsSlot slots number (found_by place item, looks)
+  found_there {slots} {number} {place} slot item looks rises its at is one = record {
+    place = held_there item (rw is at (numbered slot rises its at).1);
+    divides = divides_there item (divides_at slots number place slot rises at (numbered slot rises its at).0);
+    looks = λ digits room. grind (arith, numbered_within its, room, one);
+    one = λ _. omega arith;
+    seen = seen_there item;
+  }
+    where
+      held_there : (item : Option T) → MatchOption item (item_at slots number ≡ None) (IsHeldAt slots number place)
+          → MatchOption (found_by place item) (item_at slots number ≡ None)
+          (λ p. (held : T) × IsHeldAt slots number p held)
+      held_there None none = none
+      held_there (Some item) its = (item, its)
+
+      divides_there : (item : Option T) → Divides slots number place
+          → IfSome (found_by place item) (Divides slots number)
+      divides_there None its = tt
+      divides_there (Some item) its = its
+
+      seen_there : (item : Option T) → IfSome (found_by place item) (λ _. 0 < looks)
+      seen_there None = tt
+      seen_there (Some item) = omega arith
+
+  set_same : (slots : Slots T) (place : ℕ) (slot : Slot T) → IsSlotAt slots place slot → set slots place slot ≡ slots
+  set_same (first ∷ slots) (suc place) slot at = grind (arith, set_same slots place slot at)
+  set_same slots place slot at = grind (arith, at)
+
+  module _ {old mid : Slots T} {place : ℕ} {found : Option T} (empties : Replaces old place None found mid) where
+    emptied : (number : ℕ) (item : Option T) → MatchOption item (item_at old number ≡ None) (IsHeldAt old number place)
+        → IsSlotAt old place (slot_of number item) → mid ≡ set old place (slot_of number None)
+        → (entries_in mid ≡ remove_entry (is_at (nat_cmp number)) (entries_in old)) × (item ≡ None → mid ≡ old)
+    emptied number None none at is =
+        let same = is ∙ set_same old place (slot_of number None) at in
+        (ap entries_in same ∙ sym (absent_removed (entries_in old) number none), λ _. same)
+    emptied number (Some item) its at is = grind (
+      arith,
+      its.is,
+      replaced its.before its.after number its.is its.place_is empties,
+      here number item item its.after its.before its.none,
+    )
+
+    -- what is stored under a number is removed from its slot
+    pub cleared : {number : ℕ} → IsIncreasing old → IsNumberAt old number place → (found ≡ item_at old number)
+        × (entries_in mid ≡ remove_entry (is_at (nat_cmp number)) (entries_in old)) × IfNone found (mid ≡ old)
+    cleared {number} rises at =
+        let its = numbered empties.slot rises at empties.at in
+        let rest = emptied number empties.slot.item its.1 (rw its.0 at empties.at) (rw its.0 at empties.left) in (
+          empties.found_is ∙ numbered_read empties.slot rises at empties.at,
+          rest.0,
+          grind (arith, rest.1, empties.found_is),
+        )
 
   -- ---- slots closed up
 
@@ -210,16 +295,6 @@ module _ {T : Type 0} where
         rises_within (trimmed slots) (slot.number + 1) first end end,
         last_behind slot slots last,
       )
-
-  -- one of them is dropped
-  pub tail_trimmed : {old : Slots T} (popped : Option (Slot T)) (new : Slots T) → old ≡ option_to_list popped ++ new
-      → IsFrontEmpty old → trimmed new ≡ trimmed old
-  tail_trimmed None new is empty = ap trimmed (sym is)
-  tail_trimmed (Some slot) new is empty = grind (arith, is, empty)
-
-  pub is_trimmed : (slots : Slots T) → ¬ IsFrontEmpty slots → trimmed slots ≡ slots
-  is_trimmed [] filled = refl
-  is_trimmed (slot ∷ slots) filled = grind (arith, filled)
 
   -- if the first slot is filled, it is the first filled one
   pub filled_first : (slots : Slots T) (first : ℕ) → ¬ IsFrontEmpty slots

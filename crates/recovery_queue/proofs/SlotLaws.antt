@@ -7,7 +7,7 @@ use Rattle.std.specs.BTreeMap.{is_at}
 use Rattle.std.proofs.lemmas.Bool.Decides.{nat_tests}
 use Rattle.std.proofs.Math.Nat.{pow-suc}
 use Rattle.recovery_queue.specs.declared.slots.Slot.{Slot}
-use Rattle.recovery_queue.specs.Slots.{item_at, AreSlotsIncreasing, IsSlotAt, Divides, Encloses, IsHeldAt, IsIncreasing, AreConsecutive, IsFirst, IsLast}
+use Rattle.recovery_queue.specs.Slots.{item_at, AreSlotsIncreasing, IsSlotAt, IsNumberAt, Divides, Encloses, IsHeldAt, IsIncreasing, AreConsecutive, IsFirst, IsLast}
 
 pub at_itself : (number : ℕ) → is_at (nat_cmp number) number ≡ true
 at_itself number = ap is_eq (tied_itself nat_cmp_total number)
@@ -64,11 +64,26 @@ module _ {T : Type 0} where
   rises_room (slot ∷ slots) first end rising some = grind (arith, rises_room slots (slot.number + 1) end)
 
   -- a number is no nearer to the first than its position, and to the end than the positions after it
-  stands : (slots : Slots T) (first end place : ℕ) (slot : Slot T) → AreSlotsIncreasing first slots end
+  pub stands : (slots : Slots T) (first end place : ℕ) (slot : Slot T) → AreSlotsIncreasing first slots end
       → IsSlotAt slots place slot → (first + place ≤ slot.number) × (slot.number + length slots ≤ end + place)
   stands (head ∷ slots) first end (suc place) slot rising at =
       grind (arith, stands slots (head.number + 1) end place slot rising.2 at)
   stands slots first end place slot rising at = grind (arith, at, rises_room)
+
+  pub slot_there : (slots : Slots T) (place : ℕ) → place < length slots → (slot : Slot T) × IsSlotAt slots place slot
+  slot_there [] place within = absurd (omega arith)
+  slot_there (first ∷ slots) zero within = (first, refl)
+  slot_there (first ∷ slots) (suc place) within = slot_there slots place (omega arith)
+
+  -- if there are as many slots as numbers, a number is as far from the first as its position
+  pub gapless : (slots : Slots T) (first last number : ℕ) → AreSlotsIncreasing first slots (last + 1)
+      → first ≤ number → number ≤ last → last - first < length slots → IsNumberAt slots number (number - first)
+  gapless slots first last number rising low high full =
+      let there = slot_there slots (number - first) (omega arith) in record {
+        slot = there.0;
+        at = there.1;
+        number_is = omega (arith, stands slots first (last + 1) (number - first) there.0 rising there.1);
+      }
 
   -- numbers are no nearer to one another than their positions
   pub apart : (slots : Slots T) (place other : ℕ) (slot later : Slot T) → IsIncreasing slots → IsSlotAt slots place slot

@@ -1,10 +1,11 @@
 -- A walk over the slots from one number on and up to another: what it passes, what it finds, and how long it is.
 -- `SlotQueue::entry_between` rests on it.
 use Rattle.std.proofs.Common.{◌≡◌, ℕ, zero, suc, ◌+◌, ◌-◌, ◌<◌, ◌≤◌, List, [], ◌∷◌, length, drop, None, Some, refl, sym, subst, ◌∙◌, arith}
+use Rattle.std.proofs.lemmas.Bool.Decides.{nat_tests}
 use Rattle.std.proofs.lemmas.List.{drop_all}
 use Rattle.recovery_queue.specs.declared.slots.Slot.{Slot}
-use Rattle.recovery_queue.specs.Slots.{entries_in, IsSlotAt, Divides, IsIncreasing, IsWithinDigits, IsWithinWalk, AreFrom, entries_from, first_entry}
-use Rattle.recovery_queue.proofs.SlotLaws.{Slots, apart, divides_at}
+use Rattle.recovery_queue.specs.Slots.{entries_in, AreSlotsIncreasing, IsSlotAt, Divides, IsIncreasing, IsWithinDigits, IsWithinWalk, AreFrom, entries_from, first_entry}
+use Rattle.recovery_queue.proofs.SlotLaws.{Slots, slot_there, stands, apart, divides_at}
 use Rattle.recovery_queue.proofs.SlotEntryLaws.{divided, all_from, drop_slot, entries_dropped}
 
 module _ {T : Type 0} where
@@ -15,23 +16,18 @@ module _ {T : Type 0} where
 
   -- ---- how long it is
 
-  there_is : (slots : Slots T) (place : ℕ) → place < length slots → (slot : Slot T) × IsSlotAt slots place slot
-  there_is [] place within = absurd (omega arith)
-  there_is (slot ∷ slots) zero within = (slot, refl)
-  there_is (slot ∷ slots) (suc place) within = there_is slots place (omega arith)
-
   -- a number's first position is not after any other of its positions
   no_later : (slots : Slots T) (from start low : ℕ) → Divides slots from start → Divides slots from low
       → start < length slots → low ≤ start
   no_later slots from start low divides first within =
-      let its = there_is slots start within in
+      let its = slot_there slots start within in
       grind (arith, first.below start its.0 its.1, divides.above start its.0 its.1)
 
   -- a slot with a number below another is before the position of that one
   before_it : (slots : Slots T) (until start last high : ℕ) → ArePassed slots until start (suc last)
       → Divides slots until high → start ≤ last → last < length slots → last < high
   before_it slots until start last high passed divides over within =
-      let its = there_is slots last within in
+      let its = slot_there slots last within in
       grind (arith, passed last its.0 its.1, divides.above last its.0 its.1)
 
   -- at most as many slots are passed as there are positions between those of the two numbers
@@ -64,9 +60,27 @@ module _ {T : Type 0} where
     passed = λ p slot at over under. absurd (omega (arith, over, under));
   }
 
-  lower : (entries : List (ℕ × T)) (low high : ℕ) → low ≤ high → AreFrom high entries → AreFrom low entries
+  pub lower : (entries : List (ℕ × T)) (low high : ℕ) → low ≤ high → AreFrom high entries → AreFrom low entries
   lower [] low high over from = tt
   lower (entry ∷ entries) low high over from = (omega (arith, over, from.0), lower entries low high over from.1)
+
+  -- no number is below the first
+  pub none_before : (slots : Slots T) (first end number : ℕ) → AreSlotsIncreasing first slots end
+      → AreFrom first (entries_from number slots)
+  none_before [] first end number rising = tt
+  none_before (slot ∷ slots) first end number rising = grind (
+    arith,
+    nat_tests,
+    none_before slots (slot.number + 1) end number,
+    lower (entries_from number slots) first (slot.number + 1),
+  )
+
+  pub divides_first : (slots : Slots T) (first end number : ℕ) → AreSlotsIncreasing first slots end → number < first
+      → Divides slots number 0
+  divides_first slots first end number rising below = record {
+    below = λ p slot at under. absurd (omega (arith, under));
+    above = λ p slot at over. omega (arith, stands slots first end p slot rising at);
+  }
 
   -- it reaches a slot
   module _ {slots : Slots T} {from end start place : ℕ} (slot : Slot T) (walk : Walks slots from end start place)

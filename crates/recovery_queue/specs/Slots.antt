@@ -71,6 +71,12 @@ abbrev pub IsFiledAt : {T : Type 0} → List (Slot T) → ℕ → ℕ → T → 
 IsFiledAt slots number place item =
     IsSlotAt slots place (record { number = number; item = Some item })
 
+-- the slot at a position has this number
+pub record IsNumberAt {T : Type 0} (slots : List (Slot T)) (number place : ℕ) : Type 0 where
+  pub slot : Slot T
+  pub at : IsSlotAt slots place slot
+  pub number_is : slot.number ≡ number
+
 -- numbers below another are before a position, and the others from it on
 pub record Divides {T : Type 0} (slots : List (Slot T)) (number place : ℕ) : Type 0 where
   pub below : (p : ℕ) (slot : Slot T) → IsSlotAt slots p slot → p < place → slot.number < number

@@ -53,6 +53,12 @@ impl ItemQueue {
         ensures items { IfOk result (λ queue. queue ≡ items.now) }
         ensures memory { OnErr result (2 < length items.now) }
     {
+        if items.len() == 1 {
+            // One item is common, and cheaper to push than a list is to copy.
+            let mut one = SmallVec::new(alloc);
+            one.push_reserved(items[0]);
+            return Ok(ItemQueue { items: one });
+        }
         Ok(ItemQueue {
             items: SmallVec::from_slice(alloc, items)?,
         })

@@ -1,11 +1,11 @@
 //! A queue of slots in the order of their numbers.
 ghost use Rattle.std.specs.Prelude.{◌≡◌, ℕ, ◌+◌, ◌-◌, ◌^◌, ◌<◌, ◌≤◌, ◌∷◌, ◌++◌, [], length, drop, filter, slice_index_or, Some, None, Decides, IfSome, IfNone, IfOk, OnOk, OnErr, MatchOption, MatchResult};
 ghost use Rattle.std.specs.VecDeque.{deque_len, deque_capacity};
-ghost use Rattle.std.specs.Option.{option_map_or};
+ghost use Rattle.std.specs.Option.{option_copied, option_map_or};
 ghost use Rattle.std.specs.Ordering.{nat_cmp};
 ghost use Rattle.std.specs.BTreeMap.{is_at};
 ghost use Rattle.std.specs.Map.{remove_entry};
-ghost use Rattle.recovery_queue.specs.Slots.{entries_in, item_at, AreSlotsIncreasing, IsFiledAt, Divides, Encloses, IsHeldAt, IsEmptyAt, IsAboveAll, IsClosedUp, IsFrontEmpty, IsBackFrom, Replaces, IsIncreasing, LeavesNoneOut, IsFirst, IsFirstWith, IsLast, FindsSlot, IsWithinDigits, CompactsSlots, RemovesSlot, trimmed, AreFrom, IsWithinWalk, entries_from, first_entry, first_number, is_below, is_filled};
+ghost use Rattle.recovery_queue.specs.Slots.{entries_in, item_at, AreSlotsIncreasing, IsFiledAt, IsNumberAt, Divides, Encloses, IsHeldAt, IsEmptyAt, IsAboveAll, IsClosedUp, IsFrontEmpty, IsBackFrom, Replaces, IsIncreasing, LeavesNoneOut, IsFirst, IsFirstWith, IsLast, FindsSlot, IsWithinDigits, CompactsSlots, RemovesSlot, trimmed, AreFrom, IsWithinWalk, entries_from, first_entry, first_number, is_below, is_filled};
 
 mod looks;
 
@@ -90,6 +90,48 @@ impl<T: Drop> SlotQueue<T> {
         }
     }
 
+    /// Returns the position of a number among slots whose numbers have no gaps, if it is one of these numbers. Reads no
+    /// slot.
+    #[inline(always)]
+    fn gapless_place(&self, number: u64) -> Option<usize>
+        ensures number { IfSome result (IsNumberAt self.now number) }
+        ensures divides { IfSome result (Divides self.now number) }
+        ensures rises { IsIncreasing self.now }
+    {
+        if number < self.first || number > self.last {
+            return None;
+        }
+        if (self.last - self.first) as usize >= self.len() {
+            return None;
+        }
+        Some((number - self.first) as usize)
+    }
+
+    /// Returns the position of the slot of a number, filled or empty. `None` if nothing is stored under the number.
+    #[inline(always)]
+    fn place_of(&self, number: u64) -> Option<usize>
+        ensures number { MatchOption result (item_at self.now number ≡ None)
+            (IsNumberAt self.now number) }
+        ensures rises { IsIncreasing self.now }
+    {
+        match self.gapless_place(number) {
+            Some(place) => Some(place),
+            None => self.search(number).0.ok(),
+        }
+    }
+
+    /// Returns the item stored under a number. Cost: as `find`.
+    #[inline(always)]
+    pub fn item_of(&self, number: u64) -> Option<&T>
+        ensures { option_copied result ≡ item_at self.now number }
+    {
+        let place = self.place_of(number)?;
+        match &self.slots[place].item {
+            Some(item) => Some(item),
+            None => None,
+        }
+    }
+
     /// Returns two positions that enclose a number: slots before the first have lower numbers, and from the second on
     /// higher ones. If the numbers have no gaps these enclose at most one position.
     fn range_of(&self, number: u64) -> (usize, usize)
@@ -114,7 +156,7 @@ impl<T: Drop> SlotQueue<T> {
 
     /// Returns the position of the item stored under a number, or, in `Err`, the first position whose number is not
     /// below it, and how many slots were read.
-    #[inline(always)]
+    #[inline(never)]
     fn search(&self, number: u64) -> (Result<usize, usize>, u32)
         ensures held { MatchResult result.0
             (λ place. (item : T) × IsHeldAt self.now number place item)
@@ -135,8 +177,15 @@ impl<T: Drop> SlotQueue<T> {
     pub fn find(&self, number: u64) -> (Option<usize>, u32)
         ensures { FindsSlot self.now number result }
     {
-        let (place, looks) = self.search(number);
-        (place.ok(), looks)
+        let Some(place) = self.gapless_place(number) else {
+            let (place, looks) = self.search(number);
+            return (place.ok(), looks);
+        };
+        let mut looks = Looks::over(&self.slots);
+        match &looks.look(place).item {
+            Some(_) => (Some(place), looks.count()),
+            None => (None, looks.count()),
+        }
     }
 
     /// Returns the first position whose number is not below this one, or a position after all slots if there is none,
@@ -145,6 +194,12 @@ impl<T: Drop> SlotQueue<T> {
         ensures divides { Divides self.now number result.0 }
         ensures looks { IsWithinDigits result.1 (length self.now) }
     {
+        if number < self.first {
+            return (0, 0);
+        }
+        if let Some(place) = self.gapless_place(number) {
+            return (place, 0);
+        }
         let (place, looks) = self.search(number);
         match place {
             Ok(place) => (place, looks),
@@ -229,9 +284,11 @@ impl<T: Drop> SlotQueue<T> {
         ensures closes { IfSome result (λ item. RemovesSlot self.old item self.new) }
         ensures none { IfNone result (self.new ≡ self.old) }
     {
-        let (place, _) = self.find(number);
-        let item = self.replace(place?, None);
-        self.close_up();
+        let place = self.place_of(number)?;
+        let item = self.replace(place, None);
+        if item.is_some() {
+            self.close_up();
+        }
         item
     }
 
@@ -266,6 +323,7 @@ impl<T: Drop> SlotQueue<T> {
     /// Returns the item with the lowest number that is not below `from` and is below `end`, with its number, and how
     /// many slots were read. Cost: that of `find`, plus one step for each slot between the first number and the one
     /// found, or the end.
+    #[inline(always)]
     pub fn entry_between(&self, from: u64, end: u64) -> (Option<(u64, &T)>, usize)
         ensures none { IfNone result.0 (AreFrom end (entries_from from self.now)) }
         ensures first { IfSome result.0 (λ found. (found.0 < end)
@@ -274,7 +332,40 @@ impl<T: Drop> SlotQueue<T> {
         ensures looks { IsWithinWalk self.now from
             (option_map_or (λ found. found.0) result.0 end) result.1 }
     {
-        let (start, looks) = self.start_of(from);
+        if from >= end {
+            return (None, 0);
+        }
+        if self.first >= end {
+            return (None, 0);
+        }
+        let Some(place) = self.gapless_place(from) else {
+            let (start, looks) = self.start_of(from);
+            return self.walk_between(from, end, start, looks);
+        };
+        match &self.slots[place].item {
+            Some(item) => (Some((from, item)), 1),
+            None => self.walk_between(from, end, place, 1),
+        }
+    }
+
+    /// Returns what `entry_between` returns, by reading the slots from a position on, after this many slots were read.
+    #[inline(never)]
+    fn walk_between(
+        &self,
+        from: u64,
+        end: u64,
+        start: usize,
+        looks: u32,
+    ) -> (Option<(u64, &T)>, usize)
+        requires divides { Divides self.now from start }
+        requires few { IsWithinDigits looks (length self.now) }
+        ensures none { IfNone result.0 (AreFrom end (entries_from from self.now)) }
+        ensures first { IfSome result.0 (λ found. (found.0 < end)
+            × (first_entry (entries_from from self.now) ≡ Some (found.0, found.1.now))) }
+        ensures lowest { IfSome result.0 (λ found. AreFrom found.0 (entries_from from self.now)) }
+        ensures looks { IsWithinWalk self.now from
+            (option_map_or (λ found. found.0) result.0 end) result.1 }
+    {
         let looks = looks as usize;
         for place in start..self.len() {
             let slot = &self.slots[place];
@@ -306,8 +397,7 @@ impl<T: Drop> SlotQueue<T> {
         ensures entries { entries_in self.new ≡ entries_in self.old }
         ensures closes { CompactsSlots self.old self.new }
     {
-        trim(&mut self.slots);
-        self.first = first_of(&self.slots, self.first);
+        self.first = trim(&mut self.slots, self.first);
         if self.slots.len() - self.filled > self.filled + SLACK {
             keep_filled(&mut self.slots);
             self.last = last_of(&self.slots, self.last);
@@ -348,23 +438,18 @@ fn halve<T>(looks: &mut Looks<'_, T>, number: u64, from: usize, to: usize) -> Re
     Err(low)
 }
 
-/// Drops the empty slots before the first filled one.
-fn trim<T: Drop>(slots: &mut VecDeque<Slot<T>>)
-    ensures { slots.new.items ≡ trimmed slots.old.items }
+/// Drops the empty slots before the first filled one. Returns the number of that one, or `first` if there is none.
+fn trim<T: Drop>(slots: &mut VecDeque<Slot<T>>, first: u64) -> u64
+    ensures trimmed { slots.new.items ≡ trimmed slots.old.items }
+    ensures first { IsFirst result slots.new.items }
 {
-    while is_front_empty(slots) {
+    while let Some(slot) = slots.front() {
+        if slot.item.is_some() {
+            return slot.number;
+        }
         slots.pop_front();
     }
-}
-
-/// Returns whether there is a first slot, and it is empty.
-fn is_front_empty<T>(slots: &VecDeque<Slot<T>>) -> bool
-    ensures { Decides result (IsFrontEmpty slots.now.items) }
-{
-    match slots.front() {
-        Some(slot) => slot.item.is_none(),
-        None => false,
-    }
+    first
 }
 
 /// Drops the empty slots. Does not allocate.
@@ -372,16 +457,6 @@ fn keep_filled<T: Drop>(slots: &mut VecDeque<Slot<T>>)
     ensures { slots.new.items ≡ filter is_filled slots.old.items }
 {
     slots.retain(|slot| slot.item.is_some());
-}
-
-/// Returns the number of the first slot, or `first` if there is none.
-fn first_of<T>(slots: &VecDeque<Slot<T>>, first: u64) -> u64
-    ensures { IsFirst result slots.now.items }
-{
-    match slots.front() {
-        Some(slot) => slot.number,
-        None => first,
-    }
 }
 
 /// Returns the number of the last slot, or `last` if there is none.

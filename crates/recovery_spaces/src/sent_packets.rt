@@ -115,12 +115,11 @@ where
     }
 
     /// Returns the tracked packet of a number. Cost: that of `find`.
+    #[inline(always)]
     pub fn get(&self, number: u64) -> Option<&SentPacket<Q>>
         ensures { option_copied result ≡ packet_at self.now.packets number }
     {
-        let place = self.packets.find(number).0?;
-        let (_, packet) = self.packets.get(place)?;
-        Some(packet)
+        self.packets.item_of(number)
     }
 
     /// Returns the number of the last ack-eliciting packet sent, tracked or not.
@@ -270,6 +269,7 @@ where
 
     /// Returns the first tracked packet at or above a number and below an end, with its number. Cost: that of `find`,
     /// plus the slots between the two numbers.
+    #[inline(always)]
     pub fn tracked_between(&self, from: u64, end: u64) -> Option<(u64, &SentPacket<Q>)>
         ensures none { IfNone result (AreFrom end (filter (is_from from) self.now.packets)) }
         ensures first { IfSome result (λ found. (found.0 < end)

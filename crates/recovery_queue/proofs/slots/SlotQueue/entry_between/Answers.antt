@@ -1,55 +1,31 @@
-use Rattle.std.proofs.Common.{◌+◌, arith}
+use Rattle.std.proofs.Common.{ap, length, arith}
+use Rattle.recovery_queue.specs.Slots.{entries_in}
 use Rattle.recovery_queue.proofs.SlotLaws.{slot_read}
-use Rattle.recovery_queue.proofs.SlotWalkLaws.{walk_begun, walk_on, walk_to, walk_found, walk_looks, walk_out, all_looks}
+use Rattle.recovery_queue.proofs.SlotEntryLaws.{numbered, numbered_within, all_from}
+use Rattle.recovery_queue.proofs.SlotWalkLaws.{walk_begun, lower, none_before, walk_found}
 use Rattle.recovery_queue.proofs.slots.SlotQueue.entry_between.Goals as goal
 
-pub loop-place-init : goal.loop-place-init
-loop-place-init g c =
-    walk_begun (c.self.inside.first, c.self.inside.last + 1, rw (← c.self.view_is) c.self.invariant.rising)
-    c.start_of-start.ensures.divides
+pub returns-then-from-end-clause-none : goal.returns-then-from-end-clause-none
+returns-then-from-end-clause-none g c =
+    lower _ _ c.args.from c.if-from-end.true (all_from (entries_in {T = g.row.T.Denot} c.args.self.now) c.args.from)
 
-pub returns-then-slot-end-clause-none : goal.returns-then-slot-end-clause-none
-returns-then-slot-end-clause-none g c =
-    walk_to c.index-slot.result.now c.loop-place.invariant
-    (slot_read c.self.view_is (rw c.len-place-end.ensures at c.loop-place-test.true) c.index-slot.ensures)
-    c.if-slot-end.true
+pub returns-then-self-end-clause-none : goal.returns-then-self-end-clause-none
+returns-then-self-end-clause-none g c =
+    lower _ _ c.self.inside.first c.if-self-end.true
+    (rw (← c.self.view_is) (none_before _ c.self.inside.first _ c.args.from c.self.invariant.rising))
 
-pub returns-then-slot-end-clause-looks : goal.returns-then-slot-end-clause-looks
-returns-then-slot-end-clause-looks g c =
-    (walk_looks c.index-slot.result.now c.loop-place.invariant
-    (slot_read c.self.view_is (rw c.len-place-end.ensures at c.loop-place-test.true) c.index-slot.ensures)
-    (rw c.len-place-end.ensures at c.loop-place-test.true) c.start_of-start.ensures.looks).0
+pub index-requires : goal.index-requires
+index-requires g c = omega (arith, numbered_within c.in-Some.ensures.number, ap length c.self.view_is)
 
-pub returns-in-Some-clause-first : goal.returns-in-Some-clause-first
-returns-in-Some-clause-first g c = (
-  c.if-slot-end.false,
-  walk_found c.index-slot.result.now c.loop-place.invariant
-      (slot_read c.self.view_is (rw c.len-place-end.ensures at c.loop-place-test.true) c.index-slot.ensures)
-      c.in-Some.is,
-)
+pub returns-in-Some-item-clause-first : goal.returns-in-Some-item-clause-first
+returns-in-Some-item-clause-first g c =
+    let its = c.in-Some.ensures.number in
+    let at = slot_read c.self.view_is (numbered_within its) c.index.ensures in
+    let walk = walk_begun c.in-Some.ensures.rises c.in-Some.ensures.divides in (
+      c.if-from-end.false,
+      rw (numbered c.index.result.now c.in-Some.ensures.rises its at).0 at
+          (walk_found {end = c.args.end} c.index.result.now walk at c.in-Some-item.is),
+    )
 
-pub returns-in-Some-clause-lowest : goal.returns-in-Some-clause-lowest
-returns-in-Some-clause-lowest g c =
-    walk_to c.index-slot.result.now c.loop-place.invariant
-    (slot_read c.self.view_is (rw c.len-place-end.ensures at c.loop-place-test.true) c.index-slot.ensures)
-    (omega arith)
-
-pub returns-in-Some-clause-looks : goal.returns-in-Some-clause-looks
-returns-in-Some-clause-looks g c =
-    (walk_looks c.index-slot.result.now c.loop-place.invariant
-    (slot_read c.self.view_is (rw c.len-place-end.ensures at c.loop-place-test.true) c.index-slot.ensures)
-    (rw c.len-place-end.ensures at c.loop-place-test.true) c.start_of-start.ensures.looks).1
-
-pub loop-place-preserved : goal.loop-place-preserved
-loop-place-preserved g c =
-    walk_on c.index-slot.result.now c.loop-place.invariant
-    (slot_read c.self.view_is (rw c.len-place-end.ensures at c.loop-place-test.true) c.index-slot.ensures)
-    c.in_default.is c.if-slot-end.false
-
-pub returns-clause-none : goal.returns-clause-none
-returns-clause-none g c = walk_out c.loop-place.invariant (rw c.len-place-end.ensures at c.loop-place-test.false)
-
-pub returns-clause-looks : goal.returns-clause-looks
-returns-clause-looks g c =
-    all_looks c.loop-place.invariant (rw c.len-place-end.ensures at c.loop-place-test.false)
-    c.start_of-start.ensures.looks (omega (arith, c.saturating_sub.ensures, c.len.ensures))
+pub returns-in-Some-item-clause-lowest : goal.returns-in-Some-item-clause-lowest
+returns-in-Some-item-clause-lowest g c = all_from (entries_in {T = g.row.T.Denot} c.args.self.now) c.args.from

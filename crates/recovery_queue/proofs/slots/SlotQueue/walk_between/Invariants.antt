@@ -1,5 +1,5 @@
 use Rattle.recovery_queue.proofs.SlotWalkLaws.{Walks}
-use Rattle.recovery_queue.proofs.slots.SlotQueue.entry_between.Given as goal
+use Rattle.recovery_queue.proofs.slots.SlotQueue.walk_between.Given as goal
 
 abbrev pub invariant-loop-place : goal.invariant-loop-place
 invariant-loop-place g l = Walks l.self l.from l.end l.start l.place
