@@ -149,6 +149,7 @@ impl Pacer {
     /// The RTT, the MTU and the congestion window (bytes, neither is 0) are those of the time `now`. If that is earlier
     /// than the time of a previous call, no time has passed. Nothing is delayed at an RTT of 0 or a window above
     /// `u32::MAX`. The answer is at most `u64::MAX` nanoseconds.
+    #[inline(always)]
     pub fn delay(
         &mut self,
         rtt: Duration,
@@ -167,6 +168,32 @@ impl Pacer {
             (record { bytes = bytes; rtt = rtt; mtu = mtu; window = window; now = now })
             self.new }
         ensures sound { IsBucketSound self.new }
+    {
+        if window == self.last_window && mtu == self.last_mtu && self.tokens >= bytes {
+            return None;
+        }
+        self.delay_in_full(rtt, bytes, mtu, window, now)
+    }
+
+    /// Returns what `delay` returns, which answers most calls by itself.
+    #[inline(never)]
+    fn delay_in_full(
+        &mut self,
+        rtt: Duration,
+        bytes: u64,
+        mtu: u16,
+        window: u64,
+        now: Instant,
+    ) -> Option<Instant>
+        requires window { 0 < window }
+        requires mtu { 0 < mtu }
+        ensures leaves { self.new
+            ≡ paced (record { bytes = bytes; rtt = rtt; mtu = mtu; window = window; now = now })
+            self.old }
+        ensures delays { result
+            ≡ pacer_delay
+            (record { bytes = bytes; rtt = rtt; mtu = mtu; window = window; now = now })
+            self.new }
     {
         self.resize(rtt, window, mtu);
         if self.tokens >= bytes || window > u64::from(u32::MAX) || rtt.as_nanos() == 0 {

@@ -137,6 +137,7 @@ impl Variables {
 
     /// Returns the probe timeout of a space, twice as long for each consecutive timeout, 16 times at most (RFC 9002,
     /// 6.2.1). `base` is the smoothed RTT plus four times its variation: `rtt.pto_base()`.
+    #[inline(always)]
     pub fn pto(&self, base: Duration, space: SpaceId) -> Duration
         ensures { result ≡ pto_by base self.now space }
     {
