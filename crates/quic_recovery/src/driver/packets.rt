@@ -58,6 +58,7 @@ where
         ensures { Transition (Send space now size ack_eliciting largest_acked queue stream_frames)
             self.old result self.new }
     {
+        let here = &mut self.spaces[space];
         if self.discarded.contains(space) {
             return Err(Refusal::SpaceDiscarded);
         }
@@ -73,7 +74,6 @@ where
             retransmits: queue,
             stream_frames,
         };
-        let here = &mut self.spaces[space];
         let next = here.next_packet_number();
         let number = number_behind(&self.filter, space, next);
         if number >= NUMBER_LIMIT {
@@ -102,10 +102,10 @@ where
     ) -> Result<Answer<Q>, Refusal>
         ensures { Transition (Acked space now number app_limited) self.old result self.new }
     {
+        let here = &mut self.spaces[space];
         if self.discarded.contains(space) {
             return Err(Refusal::SpaceDiscarded);
         }
-        let here = &mut self.spaces[space];
         let Some(packet) = here.take(number) else {
             return Err(Refusal::NotTracked);
         };
