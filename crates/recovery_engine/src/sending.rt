@@ -21,6 +21,7 @@ use recovery_queue::items::ItemQueue;
 use recovery_sender::{
     Acknowledged, EcnOutcome, Losses, NewlyAcked, Retransmitted, SenderError, Timeout, Transmission,
 };
+use recovery_spaces::sent_packets::SentPackets;
 use std::alloc::Global;
 use std::mem;
 
@@ -309,39 +310,41 @@ fn fill(ranges: &mut Vec<(u64, u64)>, given: &[AckRange]) -> bool
 }
 
 /// Returns the items of a tracked packet; none if it is not tracked.
-fn items_of(sender: &ItemSender, space: SpaceId, number: u64) -> &[u64]
-    ensures { result.now ≡ items_of (packets_in (state_in sender.now) space) number }
+#[inline(always)]
+fn items_of(tracked: &SentPackets<ItemQueue>, number: u64) -> &[u64]
+    ensures { result.now ≡ items_of tracked.now.packets number }
 {
-    match sender.tracked(space, number) {
+    match tracked.get(number) {
         Some(packet) => packet.retransmits.items(),
         None => &[],
     }
 }
 
 /// Appends a packet's number, item count and items to a list. Returns false if allocation fails.
+#[inline(always)]
 fn list_packet(number: u64, items: &[u64], packets: &mut Vec<u64>) -> bool
     ensures { result ≡ true
         → packets.new.items ≡ packets.old.items ++ number ∷ length items.now ∷ items.now }
 {
-    if packets.push(number).is_err() || packets.push(items.len() as u64).is_err() {
+    if packets.reserve(items.len() + 2).is_err() {
         return false;
     }
-    items.is_empty() || packets.extend_from_slice(items).is_ok()
+    packets.push_reserved(number);
+    packets.push_reserved(items.len() as u64);
+    for item in items {
+        packets.push_reserved(*item);
+    }
+    true
 }
 
 /// Fills a list with these packets and their items. Returns false if allocation fails.
-fn list_packets(
-    sender: &ItemSender,
-    space: SpaceId,
-    numbers: &[u64],
-    packets: &mut Vec<u64>,
-) -> bool
-    ensures { result ≡ true → packets.new.items
-        ≡ packets_listed (packets_in (state_in sender.now) space) numbers.now }
+fn list_packets(tracked: &SentPackets<ItemQueue>, numbers: &[u64], packets: &mut Vec<u64>) -> bool
+    ensures { result ≡ true
+        → packets.new.items ≡ packets_listed tracked.now.packets numbers.now }
 {
     packets.clear();
     for number in numbers {
-        if !list_packet(*number, items_of(sender, space, *number), packets) {
+        if !list_packet(*number, items_of(tracked, *number), packets) {
             return false;
         }
     }
@@ -437,6 +440,7 @@ impl Sending {
         }
     }
 
+    /// Processes a frame with these ranges. All memory is allocated before the sender changes.
     fn take_frame(
         &mut self,
         alloc: Global,
@@ -451,62 +455,42 @@ impl Sending {
         if !fill(&mut self.ranges, given) {
             return EncodedReply::no_memory();
         }
-        let ranges = mem::replace(&mut self.ranges, Vec::new(alloc));
-        let reply = self.take_ack(alloc, space, now, &ranges, ack, room);
-        self.ranges = ranges;
-        reply
-    }
-
-    /// Processes a frame with these ranges. All memory is allocated before the sender changes.
-    fn take_ack(
-        &mut self,
-        alloc: Global,
-        space: SpaceId,
-        now: Instant,
-        ranges: &[(u64, u64)],
-        ack: Ack,
-        room: AckRoom,
-    ) -> EncodedReply
-        ensures { AckReply space now ranges.now ack room self.old result self.new }
-    {
         let numbers = mem::replace(&mut self.numbers_room, Vec::new(alloc));
-        let newly = match self.sender.newly_acked(space, ranges, numbers) {
+        let newly = match self.sender.newly_acked(space, &self.ranges, numbers) {
             Ok(newly) => newly,
             Err(refused) => return spell_refused(refused),
         };
-        let mut packets = mem::replace(&mut self.packets_room, Vec::new(alloc));
-        if !list_packets(&self.sender, space, &newly.numbers, &mut packets) {
-            self.take_back(newly, packets);
+        let Some(here) = self.sender.recovery().space(space) else {
+            unreachable!();
+        };
+        if !list_packets(&here.sent_packets, &newly.numbers, &mut self.packets_room) {
+            self.numbers_room = newly.numbers;
             return EncodedReply::no_memory();
         }
-        if !has_room_for(&room, &newly, &packets) {
-            let needed = spell_room(&newly, &packets);
-            self.take_back(newly, packets);
+        if !has_room_for(&room, &newly, &self.packets_room) {
+            let needed = spell_room(&newly, &self.packets_room);
+            self.numbers_room = newly.numbers;
             return needed;
         }
-        let acked = self.sender.on_newly_acked(space, now, ranges, ack, newly);
+        let acked = self
+            .sender
+            .on_newly_acked(space, now, &self.ranges, ack, newly);
         let reply = spell_acknowledged(&acked);
-        self.keep(LastOutcome { acked, packets });
+        self.keep(acked);
         reply
     }
 
-    /// Stores the lists of a frame that was not processed, for their memory.
-    fn take_back(&mut self, newly: NewlyAcked, packets: Vec<u64>)
-        ensures told { self.new.told ≡ self.old.told }
+    /// Stores the outcome of an ACK frame with the packets that were listed for it, and the lists of the previous one
+    /// for their memory.
+    #[inline(always)]
+    fn keep(&mut self, acked: Acknowledged)
+        ensures acked { self.new.told.acked ≡ acked }
+        ensures packets { self.new.told.packets ≡ self.old.packets_room }
         ensures sender { self.new.sender ≡ self.old.sender }
     {
-        self.numbers_room = newly.numbers;
-        self.packets_room = packets;
-    }
-
-    /// Stores the outcome of an ACK frame, and the lists of the previous one for their memory.
-    fn keep(&mut self, told: LastOutcome)
-        ensures told { self.new.told ≡ told }
-        ensures sender { self.new.sender ≡ self.old.sender }
-    {
-        let LastOutcome { acked, packets } = mem::replace(&mut self.told, told);
-        self.numbers_room = acked.numbers;
-        self.packets_room = packets;
+        mem::swap(&mut self.told.packets, &mut self.packets_room);
+        let before = mem::replace(&mut self.told.acked, acked);
+        self.numbers_room = before.numbers;
     }
 
     /// Stores the losses of a timeout, or of a space whose packets are all declared lost. Allocates nothing.

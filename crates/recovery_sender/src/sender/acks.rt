@@ -1,21 +1,18 @@
 //! Received ACK frames (RFC 9002, A.7; RFC 9000, 13.1 and 13.4.2).
-ghost use Rattle.std.specs.Prelude.{◌≡◌, ◌≢◌, ◌∷◌, [], None, ◌+◌, ◌≤◌, ◌<◌, true, false, Decides, MatchOption, IfSome, IfOk, IfErr, OnOk, ℕ, Err, length, get_or, option_copied};
+ghost use Rattle.std.specs.Prelude.{◌≡◌, ◌≢◌, ◌∷◌, [], None, ◌+◌, ◌≤◌, ◌<◌, true, false, Decides, IfSome, IfOk, IfErr, OnOk, ℕ, Err, length, get_or, option_copied};
 ghost use Rattle.recovery_base.specs.Units.{u64_limit};
 ghost use Rattle.recovery_events.specs.declared.event.Event.TheVariants.{CheckAck, EndAcks};
 ghost use Rattle.recovery_losses.specs.Losses.{AreIncreasing, IsOneOf};
 ghost use Rattle.recovery_losses.specs.Variables.{heard_in, sampled_first};
 ghost use Rattle.quic_recovery.specs.State.{ReadOnlyTransition};
 ghost use Rattle.recovery_losses.specs.Frames.{are_ranges, is_unsent, largest_of};
-ghost use Rattle.recovery_sender.specs.Acks.{AckChecked, AreNotSkipped, AreNewlyAcked, IsFirstIn, HasNoneTracked, HasAckEliciting, TrackedInRange};
+ghost use Rattle.recovery_sender.specs.Acks.{AckChecked, AreNotSkipped, AreNewlyAcked, HasAckEliciting, TrackedInRange};
 ghost use Rattle.recovery_sender.specs.Losses.{largest_in};
-ghost use Rattle.recovery_sender.specs.Promises.Acked.{AcksTracked};
-ghost use Rattle.recovery_sender.specs.Promises.Pasts.{ForEveryPast};
 ghost use Rattle.recovery_sender.specs.Promises.Samples.{IsMarkable};
 ghost use Rattle.recovery_sender.specs.Senders.{state_in};
 ghost use Rattle.recovery_sender.specs.Spaces.{packets_in, space_in};
 ghost use Rattle.recovery_sender.specs.Acking.{IsNewly, AckResult, AreAcked, HasRoomForLosses, ProcessesNewlyAcked, acking, first_marked, is_first_sample, is_limited, is_marked, is_raised, largest_sent, loss_end, marks_now, rtt_of, sent_on, unmarked, with_marks_now, Acknowledges, EcnCompared, EcnResult, SamplesRtt};
 ghost use Rattle.recovery_sender.specs.Steps.{marked, occurs, CompletesCall, TakesSteps};
-ghost use Rattle.recovery_spaces.specs.Discarded.{is_discarded};
 ghost use Rattle.recovery_spaces.specs.Packets.{packet_at};
 
 use super::{Losses, Sender, SenderError};
@@ -29,7 +26,9 @@ use recovery_paths::path_pair::PathName;
 use recovery_paths::paths::PathMarks;
 use recovery_paths::responses::PathResponses;
 use recovery_queue::queue::RetransmitQueue;
+use recovery_spaces::sent_packets::SentPackets;
 use recovery_spaces::spaces::SentPacket;
+use std::alloc::Global;
 
 /// The outcome of a frame's ECN counts (RFC 9000, 13.4.2.1).
 #[derive(Clone, Copy)]
@@ -99,6 +98,70 @@ fn is_marked<Q>(answer: &Answer<Q>) -> bool
     }
 }
 
+/// Appends the numbers of the packets that are tracked in a range. Fails with `NoMemory`.
+fn take_range<Q>(
+    packets: &SentPackets<Q>,
+    first: u64,
+    last: u64,
+    newly: &mut NewlyAcked,
+) -> Result<(), SenderError>
+where
+    Q: RetransmitQueue,
+    requires whole { first ≤ last }
+    requires small { last + 1 < u64_limit }
+    requires rising { AreIncreasing 0 newly.old.numbers.items first }
+    requires elicits { Decides newly.old.elicits
+        (HasAckEliciting packets.now.packets newly.old.numbers.items) }
+    ensures memory { IfErr result (λ refused. refused ≡ SenderError.Event Refusal.NoMemory) }
+    ensures taken { OnOk result (TrackedInRange packets.now.packets first (last + 1)
+        newly.old.numbers.items newly.new.numbers.items newly.new.elicits) }
+{
+    let mut from = first;
+    while let Some((number, packet)) = packets.tracked_between(from, last + 1) {
+        if newly.numbers.reserve(1).is_err() {
+            return Err(SenderError::Event(Refusal::NoMemory));
+        }
+        newly.numbers.push_reserved(number);
+        newly.elicits |= packet.ack_eliciting;
+        from = number + 1;
+    }
+    Ok(())
+}
+
+/// Returns what a frame newly acknowledges, in the memory of `room`. Fails with `NoMemory`. Cost: logarithmic for each
+/// range and each newly acknowledged packet.
+fn find_newly<Q>(
+    alloc: Global,
+    packets: &SentPackets<Q>,
+    ranges: &[(u64, u64)],
+    room: Vec<u64>,
+) -> Result<NewlyAcked, SenderError>
+where
+    Q: RetransmitQueue,
+    requires whole { are_ranges ranges.now ≡ true }
+    requires small { IfSome (largest_of ranges.now) (λ largest. largest + 1 < u64_limit) }
+    ensures memory { IfErr result (λ refused. refused ≡ SenderError.Event Refusal.NoMemory) }
+    ensures newly { IfOk result (λ newly. AreNewlyAcked packets.now.packets ranges.now 0
+        newly.numbers.items newly.elicits) }
+{
+    let mut numbers = room;
+    numbers.clear();
+    let mut newly = NewlyAcked {
+        numbers,
+        elicits: false,
+        lost: Vec::new(alloc),
+    };
+    let mut at = ranges.len();
+    while at > 0 {
+        at -= 1;
+        let (first, last) = ranges[at];
+        if let Err(refused) = take_range(packets, first, last, &mut newly) {
+            return Err(refused);
+        }
+    }
+    Ok(newly)
+}
+
 impl<F, Q, R> Sender<F, Q, R>
 where
     F: ControllerFactory,
@@ -163,12 +226,16 @@ where
         if let Err(refused) = self.check_ack(space, ranges) {
             return Err(refused);
         }
-        let mut newly = match self.find_newly(space, ranges, room) {
+        let Some(here) = self.space(space) else {
+            unreachable!();
+        };
+        let mut newly = match find_newly(self.alloc, &here.sent_packets, ranges, room) {
             Ok(newly) => newly,
             Err(refused) => return Err(refused),
         };
-        let end = loss_end(self.largest_acked(space), largest_of(ranges));
-        newly.lost = match self.room_below(space, end, newly.numbers.len()) {
+        let end = loss_end(here.largest_acked_packet, largest_of(ranges));
+        let others = here.sent_packets.count_below(end);
+        newly.lost = match self.room_for(others.saturating_sub(newly.numbers.len())) {
             Ok(room) => room,
             Err(refused) => return Err(refused),
         };
@@ -237,82 +304,6 @@ where
             }
         }
         Ok(())
-    }
-
-    /// Returns the first tracked number from `from` up to `last`, and whether its packet is ack-eliciting.
-    fn first_in(&self, space: SpaceId, from: u64, last: u64) -> Option<(u64, bool)>
-        requires small { last + 1 < u64_limit }
-        ensures { MatchOption result
-            (HasNoneTracked (packets_in (state_in self.now) space) from last)
-            (λ found. IsFirstIn (packets_in (state_in self.now) space) from last found) }
-    {
-        let here = self.space(space)?;
-        let (number, packet) = here.sent_packets.tracked_between(from, last + 1)?;
-        Some((number, packet.ack_eliciting))
-    }
-
-    /// Appends the tracked numbers of a range. Fails with `NoMemory`.
-    fn take_range(
-        &self,
-        space: SpaceId,
-        first: u64,
-        last: u64,
-        newly: &mut NewlyAcked,
-    ) -> Result<(), SenderError>
-        requires whole { first ≤ last }
-        requires small { last + 1 < u64_limit }
-        requires rising { AreIncreasing 0 newly.old.numbers.items first }
-        requires elicits { Decides newly.old.elicits
-            (HasAckEliciting (packets_in (state_in self.now) space) newly.old.numbers.items) }
-        ensures memory { IfErr result (λ refused. refused ≡ SenderError.Event Refusal.NoMemory) }
-        ensures taken { OnOk result (TrackedInRange (packets_in (state_in self.now) space) first
-            (last + 1) newly.old.numbers.items newly.new.numbers.items newly.new.elicits) }
-    {
-        let mut from = first;
-        while let Some((number, elicits)) = self.first_in(space, from, last) {
-            if newly.numbers.reserve(1).is_err() {
-                return Err(SenderError::Event(Refusal::NoMemory));
-            }
-            newly.numbers.push_reserved(number);
-            newly.elicits |= elicits;
-            from = number + 1;
-        }
-        Ok(())
-    }
-
-    /// Returns what a frame newly acknowledges, in the memory of `room`. Fails with `NoMemory`. Cost: logarithmic for
-    /// each range and each newly acknowledged packet.
-    fn find_newly(
-        &self,
-        space: SpaceId,
-        ranges: &[(u64, u64)],
-        room: Vec<u64>,
-    ) -> Result<NewlyAcked, SenderError>
-        requires there { is_discarded space (state_in self.now).discarded ≡ false }
-        requires whole { are_ranges ranges.now ≡ true }
-        requires small { IfSome (largest_of ranges.now) (λ largest. largest + 1 < u64_limit) }
-        ensures memory { IfErr result (λ refused. refused ≡ SenderError.Event Refusal.NoMemory) }
-        ensures newly { IfOk result (λ newly. AreNewlyAcked (packets_in (state_in self.now) space)
-            ranges.now 0 newly.numbers.items newly.elicits) }
-        ensures tracked { IfOk result (λ newly.
-            ForEveryPast self.now (AcksTracked space ranges.now newly.numbers.items)) }
-    {
-        let mut numbers = room;
-        numbers.clear();
-        let mut newly = NewlyAcked {
-            numbers,
-            elicits: false,
-            lost: Vec::new(self.alloc),
-        };
-        let mut at = ranges.len();
-        while at > 0 {
-            at -= 1;
-            let (first, last) = ranges[at];
-            if let Err(refused) = self.take_range(space, first, last, &mut newly) {
-                return Err(refused);
-            }
-        }
-        Ok(newly)
     }
 
     /// Acknowledges each of these numbers.

@@ -362,6 +362,7 @@ where
     }
 
     /// Returns the largest number acknowledged in a space, if a packet is tracked below it: after most ACKs none is.
+    #[inline(always)]
     fn gap(&self, space: SpaceId) -> Option<u64>
         ensures none { IfNone result (HasNoGap (state_in self.now) space) }
         ensures some { IfSome result
@@ -375,7 +376,8 @@ where
 
     /// Declares the lost packets of a space so, and stores when the next one is lost (RFC 9002, A.10:
     /// DetectAndRemoveLostPackets). Only a pass after an ACK detects persistent congestion. Cost: logarithmic for each
-    /// packet tracked below the largest acknowledged.
+    /// packet tracked below the largest acknowledged. Inlined: after most ACKs there is nothing to scan.
+    #[inline(always)]
     pub(super) fn detect_and_remove_lost_packets(
         &mut self,
         space: SpaceId,
@@ -387,11 +389,29 @@ where
         requires room { HasRoomBelowLargest space self.old room }
         ensures { DetectsLosses space now due_to_ack self.old result self.new }
     {
-        let mut numbers = room;
         let Some(largest) = self.gap(space) else {
             self.set_loss_time(space, None);
             return Losses::none(self.alloc);
         };
+        self.remove_lost(space, now, due_to_ack, room, largest)
+    }
+
+    /// Does so, with the largest acknowledged number of the space.
+    #[inline(never)]
+    fn remove_lost(
+        &mut self,
+        space: SpaceId,
+        now: Instant,
+        due_to_ack: bool,
+        room: Vec<u64>,
+        largest: u64,
+    ) -> Losses
+        requires largest { largest_in (state_in self.old) space ≡ Some largest }
+        requires none { room.items ≡ [] }
+        requires room { HasRoomBelowLargest space self.old room }
+        ensures { DetectsLosses space now due_to_ack self.old result self.new }
+    {
+        let mut numbers = room;
         let look = self.look(space, now, due_to_ack, largest);
         let mut tally = self.find_lost(&look, &mut numbers);
         let is_black_hole = self.losses_done(now, &numbers);

@@ -2,6 +2,7 @@
 ghost use Rattle.std.specs.Prelude.{◌≡◌, ◌∷◌, [], true, false, Decides, IfSome, None, Some, Ok, Err, option_copied, option_map};
 ghost use Rattle.recovery_base.specs.declared.timer.Timer.TheVariants.{LossDetection};
 ghost use Rattle.recovery_base.specs.Timers.{moment};
+ghost use Rattle.recovery_congestion.specs.Rtt.{pto_base_of};
 ghost use Rattle.recovery_events.specs.declared.event.Refusal.{Refusal};
 ghost use Rattle.recovery_spaces.specs.Spaces.{packets_of};
 ghost use Rattle.recovery_history.specs.EventBounds.{StaysInBounds};
@@ -47,7 +48,9 @@ where
         self.recovery.recovery().timers().get(Timer::LossDetection)
     }
 
-    /// Sets or stops the timer (RFC 9002, A.8: SetLossDetectionTimer), by an event only if it changes.
+    /// Sets or stops the timer (RFC 9002, A.8: SetLossDetectionTimer), by an event only if it changes. Out of line with
+    /// what it computes, so that its callers read no result from memory.
+    #[inline(never)]
     pub(super) fn set_loss_detection_timer(&mut self)
         ensures { CompletesCall [] self.old.variables self.old self.new }
     {
@@ -116,6 +119,7 @@ where
     }
 
     /// Returns what is due next, and when.
+    #[inline(always)]
     pub(super) fn due(&self) -> Option<(Instant, Due)>
         ensures { result ≡ due_of (state_in self.now) self.now.variables }
     {
@@ -268,7 +272,19 @@ where
     fn pto(&self, space: SpaceId) -> Duration
         ensures { result ≡ pto_of (state_in self.now) self.now.variables space }
     {
-        self.variables.pto(self.rtt().pto_base(), space)
+        self.variables.pto(self.timeout_base(), space)
+    }
+
+    /// Returns the probe timeout on the path in use without max_ack_delay and backoff. Copies no estimate.
+    #[inline(always)]
+    fn timeout_base(&self) -> Duration
+        ensures { result ≡ pto_base_of (rtt_in (state_in self.now) self.now.variables) }
+    {
+        let rtt = &self.path().rtt;
+        match self.variables.initial_rtt {
+            Some(initial) if !rtt.has_sample() => RttEstimator::new(initial).pto_base(),
+            _ => rtt.pto_base(),
+        }
     }
 
     /// Returns the RTT estimate that timers use: before the first sample of the path in use, the initial RTT that the

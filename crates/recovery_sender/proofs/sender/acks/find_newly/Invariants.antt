@@ -1,13 +1,10 @@
 use Rattle.std.proofs.Common.{◌≤◌, length}
 use Rattle.recovery_sender.specs.Acks.{AreNewlyAcked}
-use Rattle.recovery_sender.specs.Senders.{state_in}
-use Rattle.recovery_sender.specs.Spaces.{packets_in}
-use Rattle.recovery_sender.proofs.sender.Sender.find_newly.Given as goal
+use Rattle.recovery_sender.proofs.sender.acks.find_newly.Given as goal
 
 abbrev pub invariant-loop-at : goal.invariant-loop-at
 invariant-loop-at g l = record {
-  newly : AreNewlyAcked (packets_in (state_in l.fn.self) l.fn.space) l.fn.ranges l.at l.newly.numbers.items
-      l.newly.elicits;
+  newly : AreNewlyAcked l.fn.packets.packets l.fn.ranges l.at l.newly.numbers.items l.newly.elicits;
   within : l.at ≤ length l.fn.ranges;
 }
 

@@ -1,13 +1,11 @@
 use Rattle.std.proofs.Common.{◌≤◌, ◌+◌, ◌-◌}
 use Rattle.recovery_sender.specs.Acks.{TrackedInRange}
-use Rattle.recovery_sender.specs.Senders.{state_in}
-use Rattle.recovery_sender.specs.Spaces.{packets_in}
-use Rattle.recovery_sender.proofs.sender.Sender.take_range.Given as goal
+use Rattle.recovery_sender.proofs.sender.acks.take_range.Given as goal
 
 abbrev pub invariant-loop-number : goal.invariant-loop-number
 invariant-loop-number g l = record {
-  takes : TrackedInRange (packets_in (state_in l.fn.self) l.fn.space) l.fn.first l.from l.fn.newly.numbers.items
-      l.newly.numbers.items l.newly.elicits;
+  takes : TrackedInRange l.fn.packets.packets l.fn.first l.from l.fn.newly.numbers.items l.newly.numbers.items
+      l.newly.elicits;
   above : l.fn.first ≤ l.from;
   within : l.from ≤ l.fn.last + 1;
 }

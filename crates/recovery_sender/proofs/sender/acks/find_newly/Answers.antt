@@ -1,11 +1,8 @@
 use Rattle.std.proofs.Common.{◌-◌, None, sym, subst, ◌∙◌, arith}
 use Rattle.recovery_sender.specs.Acks.{AreNewlyAcked}
-use Rattle.recovery_sender.specs.Senders.{state_in}
-use Rattle.recovery_sender.specs.Spaces.{packets_in}
 use Rattle.recovery_sender.proofs.AckLaws.{newly_on}
 use Rattle.recovery_losses.proofs.FrameLaws.{are_fine, ranges_are, small_all}
-use Rattle.recovery_sender.proofs.PromiseLaws.{acks_tracked}
-use Rattle.recovery_sender.proofs.sender.Sender.find_newly.Goals as goal
+use Rattle.recovery_sender.proofs.sender.acks.find_newly.Goals as goal
 
 pub take_range-requires-clause-whole : goal.take_range-requires-clause-whole
 take_range-requires-clause-whole g c =
@@ -28,22 +25,17 @@ loop-at-preserved g c =
     let some = c.loop-at-test.true in
     let one = c.in_default.ensures.taken in
     record {
-      newly = newly_on (packets_in (state_in c.args.self.now) c.args.space) c.args.ranges.now
+      newly = newly_on c.args.packets.now.packets c.args.ranges.now
           (are_fine None c.args.ranges.now (sym (ranges_are c.args.ranges.now (omega (arith, some, i.within)))
           ∙ c.requires.whole)) (c.loop-at.at - 1) (omega (arith, some, i.within)) c.loop-at.newly.numbers.items _
-          c.loop-at.newly.elicits _ (subst (λ at. AreNewlyAcked (packets_in (state_in c.args.self.now) c.args.space)
-          c.args.ranges.now at c.loop-at.newly.numbers.items c.loop-at.newly.elicits) (omega (arith, some)) i.newly)
-          one;
+          c.loop-at.newly.elicits _ (subst (λ at. AreNewlyAcked c.args.packets.now.packets c.args.ranges.now at
+          c.loop-at.newly.numbers.items c.loop-at.newly.elicits) (omega (arith, some)) i.newly) one;
       within = omega (arith, i.within);
     }
 
-pub returns-clause-newly : goal.returns-clause-newly
-returns-clause-newly g c =
-    subst (λ at. AreNewlyAcked (packets_in (state_in c.args.self.now) c.args.space) c.args.ranges.now at
-    c.loop-at.newly.numbers.items c.loop-at.newly.elicits) (omega (arith, c.loop-at-test.false))
-    c.loop-at.invariant.newly
-
-pub returns-clause-tracked : goal.returns-clause-tracked
-returns-clause-tracked g c =
-    acks_tracked c.args.space c.args.self.now c.requires.there c.args.ranges.now _ c.loop-at.newly.elicits
-    (returns-clause-newly g c)
+pub returns : goal.returns
+returns g c = record {
+  memory = tt;
+  newly = subst (λ at. AreNewlyAcked c.args.packets.now.packets c.args.ranges.now at c.loop-at.newly.numbers.items
+      c.loop-at.newly.elicits) (omega (arith, c.loop-at-test.false)) c.loop-at.invariant.newly;
+}
