@@ -69,11 +69,12 @@ impl Handle {
     pub fn apply(&mut self, alloc: Global, event: Event<ItemQueue>) -> EncodedReply
         ensures { HandleApplies self.old.slot.held event result self.new.slot.held }
     {
-        let Some(mut stack) = self.take(alloc) else {
+        if !self.holds {
             return EncodedReply::no_recovery();
-        };
+        }
+        let mut stack = self.slot.take(alloc);
         let reply = stack.apply(event);
-        self.put(stack);
+        self.slot.put(stack);
         reply
     }
 
@@ -96,11 +97,12 @@ impl Handle {
     ) -> EncodedReply
         ensures { AsksWith self.old.slot.held call ranges.now result self.new.slot.held }
     {
-        let Some(mut stack) = self.take(alloc) else {
+        if !self.holds {
             return EncodedReply::no_recovery();
-        };
+        }
+        let mut stack = self.slot.take(alloc);
         let reply = stack.call_sender(alloc, call, ranges);
-        self.put(stack);
+        self.slot.put(stack);
         reply
     }
 

@@ -89,10 +89,17 @@ impl Stack {
         requires { AcceptsEvent self.old.kept event }
         ensures { EventReply self.old event result self.new }
     {
-        let reply = self.kept.apply(event);
-        let spelling = encode_reply(&reply);
-        self.keep(reply);
-        spelling
+        match self.kept.apply(event) {
+            // The most frequent event: its reply is not looked up among all.
+            Ok(Answer::Sent { number, forgotten }) => {
+                encode_reply(&Ok(Answer::Sent { number, forgotten }))
+            }
+            reply => {
+                let spelling = encode_reply(&reply);
+                self.keep(reply);
+                spelling
+            }
+        }
     }
 
     /// Stores the part of a reply that is not a number.

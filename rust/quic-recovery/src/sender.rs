@@ -214,21 +214,24 @@ impl Acknowledged {
         Packets { words: &self.words }
     }
 
-    /// Fills the numbers of these packets.
-    fn number(&mut self) -> Result<(), Refusal> {
-        make_room(&mut self.numbers, self.words.len() / 2)?;
-        let mut rest = self.words.as_slice();
-        while let [number, count, behind @ ..] = rest {
-            self.numbers.push(*number);
-            rest = behind.get(*count as usize..).unwrap_or_default();
+    /// Fills the numbers of these packets, of which there are `count`.
+    fn number(&mut self, count: usize) -> Result<(), Refusal> {
+        if self.numbers.capacity() < count {
+            make_room(&mut self.numbers, count)?;
+        }
+        self.numbers.resize(count, 0);
+        let packets = Packets { words: &self.words };
+        for (place, (number, _)) in self.numbers.iter_mut().zip(packets) {
+            *place = number;
         }
         Ok(())
     }
 
-    /// Returns for how many words of packets there is room: a packet has its number, its item count and its items, and
-    /// one more number in `numbers`.
-    fn packets_room(&self) -> usize {
-        self.words.capacity().min(2 * self.numbers.capacity())
+    /// Returns for how many words of packets there is room, and for how many lost numbers. A packet has its number, its
+    /// item count and its items, and one more number in `numbers`.
+    fn rooms(&self) -> (u64, u64) {
+        let packets = self.words.capacity().min(2 * self.numbers.capacity());
+        (packets as u64, self.losses.numbers.capacity() as u64)
     }
 
     /// Makes room for `packets` words of packets, for the numbers of the packets, and for `lost` lost numbers.
@@ -347,8 +350,26 @@ pub enum TimerState {
 pub struct Sender {
     /// Its handle holds the recovery of a sender.
     recovery: Recovery,
-    /// The ranges of the last ACK frame in the library's form, kept for their memory.
+    /// The ranges of an ACK frame with several in the library's form, kept for their memory.
     ranges: Vec<ffi::AckRange>,
+}
+
+/// Returns a frame in the library's form, to be processed if the answer fits.
+fn frame(ack: &Ack, told: &Acknowledged) -> ffi::AckFrame {
+    let counts = ack.ecn.unwrap_or_default();
+    let (packets_room, lost_room) = told.rooms();
+    ffi::AckFrame {
+        delay_secs: ack.delay.as_secs(),
+        ect0: counts.ect0,
+        ect1: counts.ect1,
+        ce: counts.ce,
+        packets_room,
+        lost_room,
+        delay_nanos: ack.delay.subsec_nanos(),
+        has_ecn: ack.ecn.is_some(),
+        app_limited: ack.app_limited,
+        is_limited: true,
+    }
 }
 
 /// Returns the space with this number.
@@ -359,27 +380,26 @@ fn space_of(number: u64) -> SpaceId {
     }
 }
 
-/// Returns a reply, or its error.
-fn taken(reply: ffi::EncodedReply) -> Result<ffi::EncodedReply, SenderError> {
+/// Returns the error of a reply that is none of the answers to its call.
+#[cold]
+fn error(reply: &ffi::EncodedReply) -> SenderError {
     match (reply.kind, reply.refusal) {
-        (ffi::ANSWER_REFUSED, ffi::REFUSAL_UNSENT) => Err(SenderError::Unsent),
-        (ffi::ANSWER_REFUSED, ffi::REFUSAL_DECIDED) => Err(SenderError::Decided),
-        (ffi::ANSWER_REFUSED, number) => Err(SenderError::Event(Refusal::from_number(
-            number,
-            reply.first,
-        ))),
-        _ => Ok(reply),
+        (ffi::ANSWER_REFUSED, ffi::REFUSAL_UNSENT) => SenderError::Unsent,
+        (ffi::ANSWER_REFUSED, ffi::REFUSAL_DECIDED) => SenderError::Decided,
+        (ffi::ANSWER_REFUSED, number) => {
+            SenderError::Event(Refusal::from_number(number, reply.first))
+        }
+        (kind, _) => unreachable!("the library answers a sender's call with {kind}"),
     }
 }
 
-/// Returns a reply of this kind, or its error.
-fn of_kind(kind: u8, reply: ffi::EncodedReply) -> Result<ffi::EncodedReply, SenderError> {
-    match taken(reply)? {
-        reply if reply.kind == kind => Ok(reply),
-        reply => unreachable!(
-            "the library answers with {}, and not with {kind}",
-            reply.kind
-        ),
+/// Fails with the error of a reply that is not of this kind.
+#[inline]
+fn expect(kind: u8, reply: &ffi::EncodedReply) -> Result<(), SenderError> {
+    if reply.kind == kind {
+        Ok(())
+    } else {
+        Err(error(reply))
     }
 }
 
@@ -640,6 +660,7 @@ impl Sender {
     /// # Errors
     /// `SpaceDiscarded`, then `Overflow` if the bytes transmitted on the path would exceed `u64::MAX`. Then nothing has
     /// changed.
+    #[inline]
     pub fn transmit(
         &mut self,
         now: Instant,
@@ -652,13 +673,12 @@ impl Sender {
         let reply = unsafe {
             ffi::recovery_ffi_sender_transmit(handle, now, bytes, space as u8, in_flight)
         };
-        let reply = taken(reply)?;
         Ok(match reply.kind {
             ffi::ANSWER_TRANSMITTED => Transmission::Transmitted,
             ffi::ANSWER_BLOCKED => Transmission::Blocked,
             ffi::ANSWER_FULL => Transmission::Full,
             ffi::ANSWER_DELAYED => Transmission::Delayed(Instant::from_nanos(reply.first)),
-            kind => unreachable!("the library answers a datagram with {kind}"),
+            _ => return Err(error(&reply)),
         })
     }
 
@@ -680,6 +700,7 @@ impl Sender {
     /// assert_eq!(in_flight, 1200);
     /// # Ok::<(), Box<dyn std::error::Error>>(())
     /// ```
+    #[inline]
     pub fn send(
         &mut self,
         space: SpaceId,
@@ -697,7 +718,8 @@ impl Sender {
             largest_acked,
             queue,
         };
-        let reply = of_kind(ffi::ANSWER_SENT, self.recovery.reply_to(event))?;
+        let reply = self.recovery.reply_to(event);
+        expect(ffi::ANSWER_SENT, &reply)?;
         Ok(Sent {
             number: reply.first,
             forgotten: reply.flag.then_some(reply.second),
@@ -723,14 +745,14 @@ impl Sender {
     /// # Ok::<(), Box<dyn std::error::Error>>(())
     /// ```
     pub fn poll_mtu(&mut self, now: Instant) -> Result<Option<MtuProbe>, SenderError> {
-        let reply = taken(self.recovery.reply_to(Event::PollMtu { now }))?;
+        let reply = self.recovery.reply_to(Event::PollMtu { now });
         match reply.kind {
             ffi::ANSWER_PROBE => Ok(Some(MtuProbe {
                 number: reply.first,
                 size: reply.size,
             })),
             ffi::ANSWER_NO_PROBE => Ok(None),
-            kind => unreachable!("the library answers whether a probe is due with {kind}"),
+            _ => Err(error(&reply)),
         }
     }
 
@@ -755,11 +777,8 @@ impl Sender {
     /// # Errors
     /// `ZeroMtu` if it is zero, else `Searching` if MTU discovery is enabled in the settings. Then nothing has changed.
     pub fn mtu_found(&mut self, mtu: u16) -> Result<(), SenderError> {
-        of_kind(
-            ffi::ANSWER_DONE,
-            self.recovery.reply_to(Event::MtuFound { mtu }),
-        )?;
-        Ok(())
+        let reply = self.recovery.reply_to(Event::MtuFound { mtu });
+        expect(ffi::ANSWER_DONE, &reply)
     }
 
     /// Processes a received ACK frame (RFC 9002, A.7). `ranges` has the first and last number of each range, the
@@ -832,20 +851,23 @@ impl Sender {
         ranges: &[(u64, u64)],
         told: &mut Acknowledged,
     ) -> Result<(), SenderError> {
-        self.ranges.clear();
-        self.ranges
-            .try_reserve(ranges.len())
-            .map_err(|_| Refusal::NoMemory)?;
-        let given = ranges
-            .iter()
-            .map(|&(first, last)| ffi::AckRange { first, last });
-        self.ranges.extend(given);
-        let mut reply = self.frame(space, now, ack, told);
+        let one;
+        let given = if let &[(first, last)] = ranges {
+            // most frames have one range, which needs no vector
+            one = [ffi::AckRange { first, last }];
+            &one[..]
+        } else {
+            self.convert(ranges)?;
+            &self.ranges[..]
+        };
+        let mut frame = frame(ack, told);
+        let mut reply = self.take(space, now, &frame, given);
         if reply.kind == ffi::ANSWER_NEEDS_ROOM {
             told.make_room(reply.first, reply.second)?;
-            reply = self.frame(space, now, ack, told);
+            (frame.packets_room, frame.lost_room) = told.rooms();
+            reply = self.take(space, now, &frame, given);
         }
-        let reply = of_kind(ffi::ANSWER_ACKNOWLEDGED, reply)?;
+        expect(ffi::ANSWER_ACKNOWLEDGED, &reply)?;
         if reply.second > 0 || reply.flag {
             self.last_outcome(told)?;
         } else {
@@ -856,38 +878,32 @@ impl Sender {
         Ok(())
     }
 
-    /// Passes a frame with the stored ranges. It is processed if the answer fits.
-    fn frame(
-        &mut self,
+    /// Stores ranges in the library's form.
+    fn convert(&mut self, ranges: &[(u64, u64)]) -> Result<(), Refusal> {
+        self.ranges.clear();
+        self.ranges
+            .try_reserve(ranges.len())
+            .map_err(|_| Refusal::NoMemory)?;
+        let given = ranges
+            .iter()
+            .map(|&(first, last)| ffi::AckRange { first, last });
+        self.ranges.extend(given);
+        Ok(())
+    }
+
+    /// Passes a frame with its ranges. It is processed if the answer fits. Only [`Sender::on_ack_into`] calls it.
+    fn take(
+        &self,
         space: SpaceId,
         now: Instant,
-        ack: &Ack,
-        told: &Acknowledged,
+        frame: &ffi::AckFrame,
+        ranges: &[ffi::AckRange],
     ) -> ffi::EncodedReply {
-        let counts = ack.ecn.unwrap_or_default();
-        let frame = ffi::AckFrame {
-            delay_secs: ack.delay.as_secs(),
-            ect0: counts.ect0,
-            ect1: counts.ect1,
-            ce: counts.ce,
-            packets_room: told.packets_room() as u64,
-            lost_room: told.losses.numbers.capacity() as u64,
-            delay_nanos: ack.delay.subsec_nanos(),
-            has_ecn: ack.ecn.is_some(),
-            app_limited: ack.app_limited,
-            is_limited: true,
-        };
-        // SAFETY: the handle holds a recovery, `self` is borrowed alone, and the ranges are a slice.
-        unsafe {
-            ffi::recovery_ffi_sender_ack(
-                self.recovery.handle(),
-                space as u8,
-                now.as_nanos(),
-                &frame,
-                self.ranges.as_ptr(),
-                self.ranges.len(),
-            )
-        }
+        let handle = self.recovery.handle();
+        let (space, now) = (space as u8, now.as_nanos());
+        let (first, count) = (ranges.as_ptr(), ranges.len());
+        // SAFETY: the handle holds a recovery, the caller borrows the sender alone, and the ranges are a slice.
+        unsafe { ffi::recovery_ffi_sender_ack(handle, space, now, frame, first, count) }
     }
 
     /// Returns how many packets a space tracks, and when the next is lost.
@@ -936,7 +952,7 @@ impl Sender {
         told.make_room(0, self.may_lose(now))?;
         let (handle, now) = (self.recovery.handle(), now.as_nanos());
         // SAFETY: the handle holds a recovery, and `self` is borrowed alone.
-        let reply = taken(unsafe { ffi::recovery_ffi_sender_on_timeout(handle, now) })?;
+        let reply = unsafe { ffi::recovery_ffi_sender_on_timeout(handle, now) };
         Ok(match reply.kind {
             ffi::ANSWER_NOTHING => Timeout::Nothing,
             ffi::ANSWER_LOSSES => {
@@ -953,7 +969,7 @@ impl Sender {
                 },
                 count => unreachable!("the library says that {count} probes are due"),
             },
-            kind => unreachable!("the library answers a timeout with {kind}"),
+            _ => return Err(error(&reply)),
         })
     }
 
@@ -990,7 +1006,7 @@ impl Sender {
         let handle = self.recovery.handle();
         // SAFETY: the handle holds a recovery, and `self` is borrowed alone.
         let reply = unsafe { ffi::recovery_ffi_sender_probe(handle, space as u8, immediate_ack) };
-        of_kind(ffi::ANSWER_QUEUE, reply)?;
+        expect(ffi::ANSWER_QUEUE, &reply)?;
         Ok(self.recovery.taken(room))
     }
 
@@ -1015,8 +1031,7 @@ impl Sender {
     pub fn on_datagram(&mut self, bytes: u64) -> Result<(), SenderError> {
         let path = PathName::Current;
         let reply = self.recovery.reply_to(Event::DatagramIn { path, bytes });
-        of_kind(ffi::ANSWER_DONE, reply)?;
-        Ok(())
+        expect(ffi::ANSWER_DONE, &reply)
     }
 
     /// Records that Handshake keys are available (RFC 9002, A.8).
@@ -1171,8 +1186,7 @@ impl Sender {
         let (handle, now) = (self.recovery.handle(), now.as_nanos());
         // SAFETY: the handle holds a recovery, and `self` is borrowed alone.
         let reply = unsafe { ffi::recovery_ffi_sender_discard(handle, space as u8, now) };
-        of_kind(ffi::ANSWER_DONE, reply)?;
-        Ok(())
+        expect(ffi::ANSWER_DONE, &reply)
     }
 
     /// Declares all packets of a space lost, because they will not be acknowledged: after a Retry, or if 0-RTT is
@@ -1211,7 +1225,7 @@ impl Sender {
         let (handle, now) = (self.recovery.handle(), now.as_nanos());
         // SAFETY: the handle holds a recovery, and `self` is borrowed alone.
         let reply = unsafe { ffi::recovery_ffi_sender_retransmit_all(handle, space as u8, now) };
-        of_kind(ffi::ANSWER_LOSSES, reply)?;
+        expect(ffi::ANSWER_LOSSES, &reply)?;
         self.last_outcome(&mut told)?;
         Ok(Retransmitted {
             numbers: told.losses.numbers,
@@ -1241,7 +1255,10 @@ impl Sender {
         if let Event::TakePending { space } = event {
             return Ok(self.recovery.take_pending(space)?);
         }
-        let reply = taken(self.recovery.reply_to(event))?;
+        let reply = self.recovery.reply_to(event);
+        if reply.kind == ffi::ANSWER_REFUSED {
+            return Err(error(&reply));
+        }
         Ok(self.recovery.read(reply)?)
     }
 
@@ -1270,24 +1287,27 @@ impl Sender {
     }
 
     /// Reads `count` acknowledged packets into the answer.
+    #[inline(always)]
     fn packets(&self, count: u64, into: &mut Acknowledged) -> Result<(), Refusal> {
-        let least = usize::try_from(count).map_err(|_| Refusal::NoMemory)? * 2;
-        let mut wanted = least.max(into.words.len());
-        loop {
-            let had = into.words.len();
-            into.words
-                .try_reserve(wanted.saturating_sub(had))
-                .map_err(|_| Refusal::NoMemory)?;
-            into.words.resize(wanted, 0);
-            let (handle, out) = (self.recovery.handle(), into.words.as_mut_ptr());
-            // SAFETY: the handle holds a recovery, no other call runs, and there is room for `wanted` words.
-            let there = unsafe { ffi::recovery_ffi_told_packets(handle, out, wanted) };
-            if there <= wanted {
-                into.words.truncate(there);
-                return into.number();
-            }
-            wanted = there;
+        let wanted = self.words(&mut into.words);
+        if wanted > into.words.capacity() {
+            make_room(&mut into.words, wanted)?;
+            self.words(&mut into.words);
         }
+        into.number(usize::try_from(count).map_err(|_| Refusal::NoMemory)?)
+    }
+
+    /// Reads the acknowledged packets into a vector if it has room for them. Returns how many words they take.
+    fn words(&self, into: &mut Vec<u64>) -> usize {
+        into.clear();
+        let (handle, out, room) = (self.recovery.handle(), into.as_mut_ptr(), into.capacity());
+        // SAFETY: the handle holds a recovery, no other call runs, and there is room for `room` words.
+        let wanted = unsafe { ffi::recovery_ffi_told_packets(handle, out, room) };
+        if wanted <= room {
+            // SAFETY: there is room for these words, so the call has written them.
+            unsafe { into.set_len(wanted) };
+        }
+        wanted
     }
 
     /// Reads the lost numbers into a vector.

@@ -5,4 +5,4 @@ use Rattle.recovery_stack.proofs.handle.Handle.apply.Goals as goal
 pub returns : goal.returns
 returns c =
     answers_held c.deref_mut.result.now c.apply-reply.new.self
-    (c.in-Some.ensures.taken ∙ ap Some (sym c.deref_mut.ensures.value)) c.put.ensures c.apply-reply.ensures
+    (c.take-stack.ensures.value ∙ ap Some (sym c.deref_mut.ensures.value)) c.put.ensures c.apply-reply.ensures

@@ -5,4 +5,4 @@ use Rattle.recovery_stack.proofs.handle.Handle.call_sender_with.Goals as goal
 pub returns : goal.returns
 returns c =
     asks_held c.deref_mut.result.now c.call_sender-reply.new.self
-    (c.in-Some.ensures.taken ∙ ap Some (sym c.deref_mut.ensures.value)) c.put.ensures c.call_sender-reply.ensures
+    (c.take-stack.ensures.value ∙ ap Some (sym c.deref_mut.ensures.value)) c.put.ensures c.call_sender-reply.ensures
