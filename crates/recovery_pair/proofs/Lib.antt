@@ -10,5 +10,6 @@ pub mod QuietLaws
 pub mod RunLaws
 pub mod StepTies
 pub mod TieLaws
+pub mod TimedLaws
 pub mod TurnLaws
 pub mod WaitLaws

@@ -10,6 +10,7 @@ use Rattle.recovery_pair.specs.declared.steps.WirePacket.{WirePacket}
 use Rattle.recovery_pair.specs.Logs.{PairLog}
 use Rattle.recovery_pair.specs.Runs.{HoldAlong, PairStepIntoSink, StepsOverSource, log_after}
 use Rattle.recovery_pair.specs.Tied.{IsTied}
+use Rattle.recovery_pair.specs.Timed.{HaveTimersByEvents}
 
 module _ {F Q R C K S M P : Type 0} {f : _} {c : _} {q : _} {m : _} {r : _} {A T : Type 0}
     (takes : T → Result PairAnswer SenderError → T → Type 0) (took : A → PairStep → A → Type 0)
@@ -25,13 +26,16 @@ module _ {F Q R C K S M P : Type 0} {f : _} {c : _} {q : _} {m : _} {r : _} {A T
       × IsTied validated (log_after log steps answers) (client new) (server new) (wire new) (client_waits new)
       (server_waits new)
 
+  abbrev TimersAlong : A → A → Type 0
+  TimersAlong old new = HaveTimersByEvents (client old) (server old) → HaveTimersByEvents (client new) (server new)
+
   same_along : (old new : A) → new ≡ old → Along [] [] old new
   same_along old new same validated log tied = rw same (tt, tied)
 
   along : (steps : List PairStep) (old new : A) → TakesAll took old steps new
       → (answers : List (Result PairAnswer SenderError)) × TakesAll takes (sink old) answers (sink new)
-      × Along steps answers old new
-  along [] old new is = ([], ap sink is, same_along old new is)
+      × Along steps answers old new × TimersAlong old new
+  along [] old new is = ([], ap sink is, same_along old new is, λ have. rw is have)
   along (step ∷ steps) old new is =
       let one = each old step is.0 is.1 in
       let rest = along steps is.0 new is.2 in (
@@ -41,6 +45,7 @@ module _ {F Q R C K S M P : Type 0} {f : _} {c : _} {q : _} {m : _} {r : _} {A T
             let now = one.keeps validated log tied in
             let later = rest.2 validated ((step, one.answer) ∷ log) now.1 in
             ((now.0, later.0), later.1)),
+        λ have. rest.3 (one.timer_set have),
       )
 
   pub along_source : (AreGiven : List PairStep → Type 0) (steps : List PairStep) (old new : A) → AreGiven steps
@@ -50,4 +55,4 @@ module _ {F Q R C K S M P : Type 0} {f : _} {c : _} {q : _} {m : _} {r : _} {A T
       (server_waits new)
   along_source AreGiven steps old new given is =
       let all = along steps old new is in
-      record { steps = steps; answers = all.0; given = given; taken = all.1; keeps = all.2 }
+      record { steps = steps; answers = all.0; given = given; taken = all.1; keeps = all.2; timer_set = all.3 }

@@ -5,5 +5,6 @@ pub mod Permits
 pub mod Promises
 pub mod Runs
 pub mod Tied
+pub mod Timed
 pub mod Turns
 pub mod Waits

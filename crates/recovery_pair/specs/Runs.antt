@@ -9,6 +9,7 @@ use Rattle.recovery_pair.specs.declared.steps.WirePacket.{WirePacket}
 use Rattle.recovery_pair.specs.Logs.{PairLog}
 use Rattle.recovery_pair.specs.Promises.{KeepsPromises}
 use Rattle.recovery_pair.specs.Tied.{IsTied}
+use Rattle.recovery_pair.specs.Timed.{HaveTimersByEvents}
 
 -- the promises hold at each step, and each has one answer
 abbrev pub HoldAlong : Bool → PairLog → List PairStep → List (Result PairAnswer SenderError) → Type 0
@@ -39,6 +40,7 @@ module _ {F Q R C K S M P : Type 0} {f : _} {c : _} {q : _} {m : _} {r : _}
       (client_waits_after server_waits_after : List Waiting) (behind : T) : Type 0 where
     pub answer : Result PairAnswer SenderError
     pub keeps : StepKeeps step answer client_after server_after wire_after client_waits_after server_waits_after
+    pub timer_set : HaveTimersByEvents client server → HaveTimersByEvents client_after server_after
     pub taken : takes before answer behind
 
   -- these steps were given, and these answers taken
@@ -54,3 +56,5 @@ module _ {F Q R C K S M P : Type 0} {f : _} {c : _} {q : _} {m : _} {r : _}
         → IsTied validated log client server wire client_waits server_waits → HoldAlong validated log steps answers
         × IsTied validated (log_after log steps answers) client_after server_after wire_after client_waits_after
         server_waits_after
+    -- the timer of each endpoint follows the events after each step, so after all
+    pub timer_set : HaveTimersByEvents client server → HaveTimersByEvents client_after server_after

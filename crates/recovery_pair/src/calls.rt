@@ -3,6 +3,7 @@ ghost use Rattle.std.specs.Prelude.{◌≡◌, ◌≢◌, [], ◌∷◌, true, I
 ghost use Rattle.recovery_pair.specs.Frames.{IsFrameFor};
 ghost use Rattle.recovery_pair.specs.Pasts.{Continues, GoesOn, GoesOnQuietly, HearsNumber, NoAccusation, SendsNumber, AcksWithin, arm_told, arriving, discarding, heard_of, validating};
 ghost use Rattle.recovery_pair.specs.Permits.{said_by};
+ghost use Rattle.recovery_pair.specs.Timed.{KeepsTimer};
 ghost use Rattle.recovery_pair.specs.Turns.{TransmitTurn, TriesTurn};
 
 use crate::steps::{AckOutcome, WirePacket};
@@ -89,6 +90,7 @@ where
     R: Rng + Drop,
     ensures goes { TransmitTurn sender.old sender.new size result }
     ensures said { result ≡ said_by sender.old space now size eliciting }
+    ensures timer { KeepsTimer sender.old sender.new }
 {
     sender.transmit(now, size, space, eliciting)
 }
@@ -101,7 +103,8 @@ pub(crate) fn contents<F, R>(
 where
     F: ControllerFactory,
     R: Rng + Drop,
-    ensures { Continues GoesOnQuietly sender.old sender.new }
+    ensures goes { Continues GoesOnQuietly sender.old sender.new }
+    ensures timer { KeepsTimer sender.old sender.new }
 {
     if sender.variables().is_probe_due(space) {
         return sender.probe(space, false, ());
@@ -126,9 +129,10 @@ pub(crate) fn track<F, R>(
 where
     F: ControllerFactory,
     R: Rng + Drop,
-    ensures { MatchResult result
+    ensures goes { MatchResult result
         (λ number. Continues (SendsNumber 0 space number) sender.old sender.new)
         (λ refused. Continues GoesOnQuietly sender.old sender.new) }
+    ensures timer { KeepsTimer sender.old sender.new }
 {
     let counted = if eliciting { size } else { 0 };
     match sender.send(space, now, counted, eliciting, largest, queue, ()) {
@@ -143,7 +147,8 @@ pub(crate) fn end_acks<F, R>(sender: &mut Sender<F, ItemQueue, R>, space: SpaceI
 where
     F: ControllerFactory,
     R: Rng + Drop,
-    ensures { Continues GoesOnQuietly sender.old sender.new }
+    ensures goes { Continues GoesOnQuietly sender.old sender.new }
+    ensures timer { KeepsTimer sender.old sender.new }
 {
     let _ = sender.on_event(Event::AcksSent { space });
 }
@@ -153,7 +158,8 @@ pub(crate) fn end_delay<F, R>(sender: &mut Sender<F, ItemQueue, R>, space: Space
 where
     F: ControllerFactory,
     R: Rng + Drop,
-    ensures { Continues GoesOnQuietly sender.old sender.new }
+    ensures goes { Continues GoesOnQuietly sender.old sender.new }
+    ensures timer { KeepsTimer sender.old sender.new }
 {
     let _ = sender.on_event(Event::AckDelayTimeout { space });
 }
@@ -166,7 +172,8 @@ pub(crate) fn datagram<F, R>(
 where
     F: ControllerFactory,
     R: Rng + Drop,
-    ensures { TriesTurn (arriving size) sender.old sender.new result }
+    ensures goes { TriesTurn (arriving size) sender.old sender.new result }
+    ensures timer { KeepsTimer sender.old sender.new }
 {
     sender.on_datagram(u64::from(size))
 }
@@ -192,7 +199,8 @@ pub(crate) fn hear<F, R>(
 where
     F: ControllerFactory,
     R: Rng + Drop,
-    ensures { Continues (HearsNumber 0 space number (heard_of result)) sender.old sender.new }
+    ensures goes { Continues (HearsNumber 0 space number (heard_of result)) sender.old sender.new }
+    ensures timer { KeepsTimer sender.old sender.new }
 {
     let received = Event::Received {
         space,
@@ -218,6 +226,7 @@ where
     ensures goes { Continues GoesOnQuietly sender.old sender.new }
     ensures honest { NoAccusation packet.now.space packet.now.ranges.items sender.old result }
     ensures within { AcksWithin packet.now.ranges.items result }
+    ensures timer { KeepsTimer sender.old sender.new }
 {
     if packet.ranges.is_empty() {
         return AckOutcome::NoFrame;
@@ -241,7 +250,8 @@ pub(crate) fn expire<F, R>(
 where
     F: ControllerFactory,
     R: Rng + Drop,
-    ensures { Continues GoesOnQuietly sender.old sender.new }
+    ensures goes { Continues GoesOnQuietly sender.old sender.new }
+    ensures timer { KeepsTimer sender.old sender.new }
 {
     sender.on_timeout(now)
 }
@@ -251,7 +261,8 @@ pub(crate) fn validate<F, R>(sender: &mut Sender<F, ItemQueue, R>)
 where
     F: ControllerFactory,
     R: Rng + Drop,
-    ensures { Continues (GoesOn validating) sender.old sender.new }
+    ensures goes { Continues (GoesOn validating) sender.old sender.new }
+    ensures timer { KeepsTimer sender.old sender.new }
 {
     sender.on_address_validated();
 }
@@ -261,7 +272,8 @@ pub(crate) fn get_keys<F, R>(sender: &mut Sender<F, ItemQueue, R>)
 where
     F: ControllerFactory,
     R: Rng + Drop,
-    ensures { Continues GoesOnQuietly sender.old sender.new }
+    ensures goes { Continues GoesOnQuietly sender.old sender.new }
+    ensures timer { KeepsTimer sender.old sender.new }
 {
     sender.on_handshake_keys();
 }
@@ -271,7 +283,8 @@ pub(crate) fn confirm<F, R>(sender: &mut Sender<F, ItemQueue, R>)
 where
     F: ControllerFactory,
     R: Rng + Drop,
-    ensures { Continues GoesOnQuietly sender.old sender.new }
+    ensures goes { Continues GoesOnQuietly sender.old sender.new }
+    ensures timer { KeepsTimer sender.old sender.new }
 {
     sender.on_handshake_confirmed();
 }
@@ -285,7 +298,8 @@ pub(crate) fn discard<F, R>(
 where
     F: ControllerFactory,
     R: Rng + Drop,
-    ensures { TriesTurn (discarding space) sender.old sender.new result }
+    ensures goes { TriesTurn (discarding space) sender.old sender.new result }
+    ensures timer { KeepsTimer sender.old sender.new }
 {
     sender.discard(space, now)
 }

@@ -4,6 +4,7 @@ ghost use Rattle.std.specs.Vec.{vec_len, vec_capacity};
 ghost use Rattle.recovery_pair.specs.Pasts.{Continues, GoesOn, GoesOnQuietly};
 ghost use Rattle.recovery_pair.specs.Turns.{HearTurn, PackTurn, SendTurn, local_turn};
 ghost use Rattle.recovery_pair.specs.Permits.{PermitsOutcome};
+ghost use Rattle.recovery_pair.specs.Timed.{KeepsTimer};
 ghost use Rattle.recovery_pair.specs.Promises.Locals.{IsDone, IsDoneOrNothing, IsLocalAnswer};
 ghost use Rattle.recovery_pair.specs.Waits.{GainsOne, HandWaits, IsPlaceInQueue, LocalWaits, LosesNone, LosesOne, PackWaits, SendWaits, waiting_in};
 
@@ -123,6 +124,7 @@ where
         ensures goes { SendTurn self.old.sender self.new.sender from space size result }
         ensures waits { SendWaits self.old.waiting.items self.new.waiting.items space result }
         ensures permits { PermitsOutcome space now size result self.old.sender }
+        ensures timer { KeepsTimer self.old.sender self.new.sender }
     {
         let eliciting = self.has_items(space);
         let ack = match frame(alloc, &self.sender, space, now) {
@@ -159,6 +161,7 @@ where
         ensures goes { PackTurn self.old.sender self.new.sender from space size ack.ranges.items
             result }
         ensures waits { PackWaits self.old.waiting.items self.new.waiting.items space result }
+        ensures timer { KeepsTimer self.old.sender self.new.sender }
     {
         let repeated = match contents(&mut self.sender, space) {
             Ok(queue) => queue,
@@ -222,6 +225,7 @@ where
     /// Records that all pending numbers were sent in an ACK, if there are any.
     fn end_acks(&mut self, space: SpaceId)
         ensures goes { Continues GoesOnQuietly self.old.sender self.new.sender }
+        ensures timer { KeepsTimer self.old.sender self.new.sender }
         ensures waits { self.new.waiting.items ≡ self.old.waiting.items }
     {
         end_acks(&mut self.sender, space);
@@ -239,6 +243,7 @@ where
     ) -> Result<Fate, SenderError>
         ensures goes { HearTurn self.old.sender self.new.sender packet.now result }
         ensures waits { LosesNone self.old.waiting.items self.new.waiting.items }
+        ensures timer { KeepsTimer self.old.sender self.new.sender }
     {
         let items = match copied(alloc, &packet.items) {
             Ok(items) => items,
@@ -268,6 +273,7 @@ where
     /// Starts the ACK delay timer. Initial and Handshake packets are acknowledged at once (RFC 9000, 13.2.1).
     fn plan_ack(&mut self, space: SpaceId, now: Instant, arm: bool)
         ensures goes { Continues GoesOnQuietly self.old.sender self.new.sender }
+        ensures timer { KeepsTimer self.old.sender self.new.sender }
         ensures waits { self.new.waiting.items ≡ self.old.waiting.items }
     {
         if arm && space == SpaceId::Data {
@@ -299,6 +305,7 @@ where
             self.new.sender }
         ensures answer { IfOk result (IsLocalAnswer step) }
         ensures waits { LocalWaits self.old.waiting.items self.new.waiting.items step result }
+        ensures timer { KeepsTimer self.old.sender self.new.sender }
     {
         match step {
             LocalStep::Hand { space, items } => self.hand(space, items),
@@ -329,6 +336,7 @@ where
     /// Requires an ACK at once if the ACK delay timer is due.
     fn end_delay(&mut self, now: Instant) -> PairAnswer
         ensures goes { Continues GoesOnQuietly self.old.sender self.new.sender }
+        ensures timer { KeepsTimer self.old.sender self.new.sender }
         ensures answer { IsDoneOrNothing result }
         ensures waits { self.new.waiting.items ≡ self.old.waiting.items }
     {

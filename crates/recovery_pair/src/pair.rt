@@ -7,6 +7,7 @@ ghost use Rattle.recovery_pair.specs.Permits.{HoldsAt, PermitsAnswer, PermitsOut
 ghost use Rattle.recovery_pair.specs.Promises.Locals.{IsLocalAnswer};
 ghost use Rattle.recovery_pair.specs.Runs.{StepKeeps};
 ghost use Rattle.recovery_pair.specs.Tied.{IsTied};
+ghost use Rattle.recovery_pair.specs.Timed.{HaveTimersByEvents, KeepsTimer};
 ghost use Rattle.recovery_pair.specs.Waits.{LocalWaits, LosesNone, SendWaits};
 ghost use Rattle.recovery_pair.specs.Turns.{HearTurn, SendTurn, TurnsAt, local_turn};
 
@@ -64,6 +65,8 @@ where
         server.new.waiting.items }
     ensures permits { HoldsAt end (PermitsOutcome space now size result) client.old.sender
         server.old.sender }
+    ensures timer { TurnsAt end KeepsTimer client.old.sender server.old.sender client.new.sender
+        server.new.sender }
 {
     match end {
         End::Client => client.send(alloc, end, space, now, size),
@@ -88,6 +91,8 @@ where
     ensures waits { TurnsAt to (λ old new. LosesNone old new)
         client.old.waiting.items server.old.waiting.items client.new.waiting.items
         server.new.waiting.items }
+    ensures timer { TurnsAt to KeepsTimer client.old.sender server.old.sender client.new.sender
+        server.new.sender }
 {
     match to {
         End::Client => client.hear(alloc, packet, now),
@@ -111,6 +116,8 @@ where
     ensures waits { TurnsAt end (λ old new. LocalWaits old new step result)
         client.old.waiting.items server.old.waiting.items client.new.waiting.items
         server.new.waiting.items }
+    ensures timer { TurnsAt end KeepsTimer client.old.sender server.old.sender client.new.sender
+        server.new.sender }
 {
     match end {
         End::Client => client.local(step),
@@ -134,9 +141,11 @@ where
         requires client_skips { IsSkips client.config.skips }
         requires server_issued { server.config.issued ≤ number_limit }
         requires server_skips { IsSkips server.config.skips }
-        ensures { IfOk result (λ pair.
+        ensures tied { IfOk result (λ pair.
             IsTied server.config.validated [] pair.client.sender pair.server.sender
             pair.wire.items pair.client.waiting.items pair.server.waiting.items) }
+        ensures timer_set { IfOk result
+            (λ pair. HaveTimersByEvents pair.client.sender pair.server.sender) }
     {
         let client = Sender::new(alloc, Side::Client, client.config, client.rng, start)?;
         let server = Sender::new(alloc, Side::Server, server.config, server.rng, start)?;
@@ -159,6 +168,10 @@ where
         // A datagram is sent only if the sender of its endpoint permits it (RFC 9000, 8.1; RFC 9002, 7).
         ensures permits { SendsAsPermitted step result self.old.client.sender
             self.old.server.sender }
+
+        // The timer of each endpoint follows the events (RFC 9002, 6.2.1, 6.2.2.1 and A.8).
+        ensures timer_set { HaveTimersByEvents self.old.client.sender self.old.server.sender
+            → HaveTimersByEvents self.new.client.sender self.new.server.sender }
     {
         match step {
             PairStep::Send {
@@ -187,6 +200,8 @@ where
             self.new.server.waiting.items }
         ensures permits { HoldsAt end (PermitsAnswer space now size result)
             self.old.client.sender self.old.server.sender }
+        ensures timer_set { HaveTimersByEvents self.old.client.sender self.old.server.sender
+            → HaveTimersByEvents self.new.client.sender self.new.server.sender }
     {
         match self.wire.reserve(1) {
             Ok(()) => {}
@@ -215,10 +230,12 @@ where
 
     /// A copy of a packet arrives.
     fn arrive(&mut self, at: usize, now: Instant) -> Result<PairAnswer, SenderError>
-        ensures { StepKeeps self.old.client.sender self.old.server.sender self.old.wire.items
+        ensures keeps { StepKeeps self.old.client.sender self.old.server.sender self.old.wire.items
             self.old.client.waiting.items self.old.server.waiting.items
             (PairStep.Arrive at now) result self.new.client.sender self.new.server.sender
             self.new.wire.items self.new.client.waiting.items self.new.server.waiting.items }
+        ensures timer_set { HaveTimersByEvents self.old.client.sender self.old.server.sender
+            → HaveTimersByEvents self.new.client.sender self.new.server.sender }
     {
         let Some(packet) = self.wire.get(at) else {
             return Ok(PairAnswer::Nothing);
@@ -245,10 +262,12 @@ where
 
     /// Something happens at an endpoint.
     fn local(&mut self, end: End, step: LocalStep) -> Result<PairAnswer, SenderError>
-        ensures { StepKeeps self.old.client.sender self.old.server.sender self.old.wire.items
+        ensures keeps { StepKeeps self.old.client.sender self.old.server.sender self.old.wire.items
             self.old.client.waiting.items self.old.server.waiting.items
             (PairStep.Local end step) result self.new.client.sender self.new.server.sender
             self.new.wire.items self.new.client.waiting.items self.new.server.waiting.items }
+        ensures timer_set { HaveTimersByEvents self.old.client.sender self.old.server.sender
+            → HaveTimersByEvents self.new.client.sender self.new.server.sender }
     {
         local_at(&mut self.client, &mut self.server, end, step)
     }

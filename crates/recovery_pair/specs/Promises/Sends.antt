@@ -1,5 +1,6 @@
 -- An endpoint sends what is passed to it. It has nothing to send in a space only once it has sent no fewer packets
 -- there than were passed to it. An endpoint that drops one, or sends nothing, breaks this.
+use Rattle.std.specs.Prelude.{◌≤◌, Result, Ok}
 use Rattle.recovery_base.specs.declared.below.SpaceId.{SpaceId}
 use Rattle.recovery_sender.specs.declared.sender.SenderError.{SenderError}
 use Rattle.recovery_pair.specs.declared.steps.End.{End}

@@ -1,11 +1,27 @@
-use Rattle.std.proofs.Common.{false}
+use Rattle.std.proofs.Common.{false, refl}
 use Rattle.recovery_pair.proofs.QuietLaws.{pending_quietly, probe_quietly}
+use Rattle.recovery_events.specs.declared.event.Event.TheVariants.{TakePending}
+use Rattle.recovery_pair.proofs.TimedLaws.{event_timer, probe_timer}
 use Rattle.recovery_pair.proofs.calls.contents.Goals as goal
 
-pub returns-then-is_probe_due : goal.returns-then-is_probe_due
-returns-then-is_probe_due g c = probe_quietly c.args.space false tt c.args.sender.now c.probe.new.self c.probe.result
+pub returns-then-is_probe_due-clause-goes : goal.returns-then-is_probe_due-clause-goes
+returns-then-is_probe_due-clause-goes g c = probe_quietly c.args.space false tt c.args.sender.now c.probe.new.self
+    c.probe.result
     c.probe.ensures
 
-pub returns-in-Ok-Queue : goal.returns-in-Ok-Queue
-returns-in-Ok-Queue g c = pending_quietly c.args.space c.args.sender.now c.on_event.new.self c.on_event.result
+pub returns-in-Ok-Queue-clause-goes : goal.returns-in-Ok-Queue-clause-goes
+returns-in-Ok-Queue-clause-goes g c = pending_quietly c.args.space c.args.sender.now c.on_event.new.self
+    c.on_event.result
     c.on_event.ensures
+
+pub returns-then-is_probe_due-clause-timer : goal.returns-then-is_probe_due-clause-timer
+returns-then-is_probe_due-clause-timer g c = probe_timer c.args.sender.now c.probe.new.self c.args.space false tt
+    c.probe.result c.probe.ensures
+
+pub returns-in-Ok-Queue-clause-timer : goal.returns-in-Ok-Queue-clause-timer
+returns-in-Ok-Queue-clause-timer g c = event_timer c.args.sender.now c.on_event.new.self (TakePending c.args.space) tt
+    refl c.on_event.result c.on_event.ensures
+
+pub returns-in-Err-clause-timer : goal.returns-in-Err-clause-timer
+returns-in-Err-clause-timer g c = event_timer c.args.sender.now c.on_event.new.self (TakePending c.args.space) tt
+    refl c.on_event.result c.on_event.ensures

@@ -1,6 +1,13 @@
 use Rattle.recovery_pair.proofs.QuietLaws.{delay_quietly}
+use Rattle.std.proofs.Common.{refl}
+use Rattle.recovery_events.specs.declared.event.Event.TheVariants.{AckDelayTimeout}
+use Rattle.recovery_pair.proofs.TimedLaws.{event_timer}
 use Rattle.recovery_pair.proofs.calls.end_delay.Goals as goal
 
-pub returns : goal.returns
-returns g c = delay_quietly c.args.space c.args.sender.now c.on_event.new.self c.on_event.result
+pub returns-clause-goes : goal.returns-clause-goes
+returns-clause-goes g c = delay_quietly c.args.space c.args.sender.now c.on_event.new.self c.on_event.result
     c.on_event.ensures
+
+pub returns-clause-timer : goal.returns-clause-timer
+returns-clause-timer g c = event_timer c.args.sender.now c.on_event.new.self (AckDelayTimeout c.args.space) tt refl
+    c.on_event.result c.on_event.ensures

@@ -1,6 +1,11 @@
 use Rattle.recovery_pair.proofs.QuietLaws.{timeout_quietly}
+use Rattle.recovery_pair.proofs.TimedLaws.{timeout_timer}
 use Rattle.recovery_pair.proofs.calls.expire.Goals as goal
 
-pub returns : goal.returns
-returns g c = timeout_quietly c.args.now c.args.sender.now c.on_timeout.new.self c.on_timeout.result
+pub returns-clause-goes : goal.returns-clause-goes
+returns-clause-goes g c = timeout_quietly c.args.now c.args.sender.now c.on_timeout.new.self c.on_timeout.result
+    c.on_timeout.ensures.comes
+
+pub returns-clause-timer : goal.returns-clause-timer
+returns-clause-timer g c = timeout_timer c.args.sender.now c.on_timeout.new.self c.args.now c.on_timeout.result
     c.on_timeout.ensures.comes

@@ -2,6 +2,7 @@ use Rattle.std.proofs.Common.{ℕ, List, None, false, Err, Ok, subst}
 use Rattle.recovery_sender.specs.Acking.{AckResult}
 use Rattle.recovery_pair.proofs.HonestLaws.{refused_spared, some_items, taken_within}
 use Rattle.recovery_pair.proofs.QuietLaws.{ack_quietly}
+use Rattle.recovery_pair.proofs.TimedLaws.{ack_timer, same_timer}
 use Rattle.recovery_pair.proofs.calls.hear_ack.Goals as goal
 
 pub returns-in-Ok-clause-goes : goal.returns-in-Ok-clause-goes
@@ -21,3 +22,10 @@ returns-in-Err-clause-honest g c =
     (subst (λ (ranges : List (ℕ × ℕ)). AckResult c.args.packet.now.space c.args.now ranges
     (record { delay = c.args.packet.now.delay; ecn = None; app_limited = false }) c.args.sender.now
     c.on_ack.new.self (Err c.in-Err.refused)) c.deref.ensures.value c.in-Err.ensures)
+
+pub returns-in-Ok-clause-timer : goal.returns-in-Ok-clause-timer
+returns-in-Ok-clause-timer g c = ack_timer c.args.sender.now c.on_ack.new.self c.args.packet.now.space c.args.now _ _
+    (Ok c.in-Ok.acknowledged) c.in-Ok.ensures
+
+pub returns-in-Err-clause-timer : goal.returns-in-Err-clause-timer
+returns-in-Err-clause-timer g c = same_timer c.args.sender.now c.on_ack.new.self c.in-Err.ensures.0

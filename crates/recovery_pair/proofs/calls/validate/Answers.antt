@@ -4,6 +4,10 @@ use Rattle.recovery_pair.proofs.GoingLaws.{validates_event}
 use Rattle.recovery_pair.proofs.PacketLaws.{makes_event}
 use Rattle.recovery_pair.proofs.calls.validate.Goals as goal
 
-pub returns : goal.returns
-returns g c = makes_event _ validating c.args.sender.now.variables c.args.sender.now c.on_address_validated.new.self
+pub returns-clause-goes : goal.returns-clause-goes
+returns-clause-goes g c = makes_event _ validating c.args.sender.now.variables c.args.sender.now
+    c.on_address_validated.new.self
     (λ past. validates_event past Done) c.on_address_validated.ensures
+
+pub returns-clause-timer : goal.returns-clause-timer
+returns-clause-timer g c = λ has. c.on_address_validated.ensures.running

@@ -6,21 +6,33 @@ pub returns-in-Ok-Some-clause-goes : goal.returns-in-Ok-Some-clause-goes
 returns-in-Ok-Some-clause-goes g c = heard_turn c.args.packet.now c.in-Ok.items c.hear_ack-acked.result
     c.args.self.now.sender
     c.datagram.new.sender c.hear.new.sender c.hear_ack-acked.new.sender c.plan_ack.new.self.sender
-    (c.in-Ok.ensures ∙ c.deref.ensures.value) c.in-Ok-datagram.ensures
-    (rw c.in-Ok-Some.field-0-is at c.in-Ok-Some.ensures) c.hear_ack-acked.ensures.goes c.hear_ack-acked.ensures.honest
+    (c.in-Ok.ensures ∙ c.deref.ensures.value) c.in-Ok-datagram.ensures.goes
+    (rw c.in-Ok-Some.field-0-is at c.in-Ok-Some.ensures.goes) c.hear_ack-acked.ensures.goes
+    c.hear_ack-acked.ensures.honest
     c.hear_ack-acked.ensures.within c.plan_ack.ensures.goes
 
 pub returns-in-Ok-None-clause-goes : goal.returns-in-Ok-None-clause-goes
 returns-in-Ok-None-clause-goes g c = record {
   goes = came_turn c.args.packet.now.size c.args.packet.now.space c.args.packet.now.number (Ok false)
-      c.args.self.now.sender c.datagram.new.sender c.hear.new.sender c.in-Ok-datagram.ensures
-      (rw c.in-Ok-None.field-0-is at c.in-Ok-None.ensures);
+      c.args.self.now.sender c.datagram.new.sender c.hear.new.sender c.in-Ok-datagram.ensures.goes
+      (rw c.in-Ok-None.field-0-is at c.in-Ok-None.ensures.goes);
   takes = tt;
 }
 
 pub returns-in-Err-hear-clause-goes : goal.returns-in-Err-hear-clause-goes
 returns-in-Err-hear-clause-goes g c = record {
   goes = came_turn c.args.packet.now.size c.args.packet.now.space c.args.packet.now.number (Err c.in-Err-hear.refused)
-      c.args.self.now.sender c.datagram.new.sender c.hear.new.sender c.in-Ok-datagram.ensures c.in-Err-hear.ensures;
+      c.args.self.now.sender c.datagram.new.sender c.hear.new.sender c.in-Ok-datagram.ensures.goes
+      c.in-Err-hear.ensures.goes;
   takes = tt;
 }
+
+pub returns-in-Ok-Some-clause-timer : goal.returns-in-Ok-Some-clause-timer
+returns-in-Ok-Some-clause-timer g c = λ has. c.plan_ack.ensures.timer (c.hear_ack-acked.ensures.timer
+    (c.in-Ok-Some.ensures.timer (c.in-Ok-datagram.ensures.timer has)))
+
+pub returns-in-Ok-None-clause-timer : goal.returns-in-Ok-None-clause-timer
+returns-in-Ok-None-clause-timer g c = λ has. c.in-Ok-None.ensures.timer (c.in-Ok-datagram.ensures.timer has)
+
+pub returns-in-Err-hear-clause-timer : goal.returns-in-Err-hear-clause-timer
+returns-in-Err-hear-clause-timer g c = λ has. c.in-Err-hear.ensures.timer (c.in-Ok-datagram.ensures.timer has)

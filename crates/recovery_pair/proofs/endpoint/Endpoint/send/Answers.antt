@@ -16,3 +16,6 @@ returns-clause-permits g c =
       packed_agrees _ c.reserve.new.self.items c.pack.new.self.waiting.items c.args.space c.pack.result
           (sym transmits.said) c.pack.ensures.waits,
     )
+
+pub returns-clause-timer : goal.returns-clause-timer
+returns-clause-timer g c = λ has. c.pack.ensures.timer (c.in-Ok-Transmitted.ensures.timer has)

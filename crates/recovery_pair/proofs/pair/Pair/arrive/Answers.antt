@@ -3,10 +3,11 @@ use Rattle.recovery_pair.specs.declared.steps.PairAnswer.TheVariants.{Arrived, N
 use Rattle.recovery_pair.specs.declared.steps.PairStep.TheVariants.{Arrive}
 use Rattle.recovery_pair.proofs.QueueLaws.{same_queue, step_keeps, still_queue}
 use Rattle.recovery_pair.proofs.StepTies.{arrives_at, beyond, held_turn, idle_step}
+use Rattle.recovery_pair.proofs.TimedLaws.{timers_at}
 use Rattle.recovery_pair.proofs.pair.Pair.arrive.Goals as goal
 
-pub returns-in_default : goal.returns-in_default
-returns-in_default g c = step_keeps c.args.self.now.client.sender c.args.self.now.server.sender
+pub returns-in_default-clause-keeps : goal.returns-in_default-clause-keeps
+returns-in_default-clause-keeps g c = step_keeps c.args.self.now.client.sender c.args.self.now.server.sender
     c.args.self.now.client.sender c.args.self.now.server.sender c.args.self.now.wire.items c.args.self.now.wire.items
     c.args.self.now.client.waiting.items c.args.self.now.server.waiting.items c.args.self.now.client.waiting.items
     c.args.self.now.server.waiting.items (Arrive c.args.at c.args.now) (Ok Nothing)
@@ -20,8 +21,9 @@ returns-in_default g c = step_keeps c.args.self.now.client.sender c.args.self.no
     }) (λ log. tt) c.args.self.now.client.waiting.items
     c.args.self.now.server.waiting.items)
 
-pub returns-in-Ok : goal.returns-in-Ok
-returns-in-Ok g c = step_keeps c.args.self.now.client.sender c.args.self.now.server.sender c.hear_at.new.client.sender
+pub returns-in-Ok-clause-keeps : goal.returns-in-Ok-clause-keeps
+returns-in-Ok-clause-keeps g c = step_keeps c.args.self.now.client.sender c.args.self.now.server.sender
+    c.hear_at.new.client.sender
     c.hear_at.new.server.sender c.args.self.now.wire.items c.args.self.now.wire.items
     c.args.self.now.client.waiting.items
     c.args.self.now.server.waiting.items c.hear_at.new.client.waiting.items c.hear_at.new.server.waiting.items
@@ -40,8 +42,8 @@ returns-in-Ok g c = step_keeps c.args.self.now.client.sender c.args.self.now.ser
     c.args.self.now.server.waiting.items c.hear_at.new.client.waiting.items c.hear_at.new.server.waiting.items
     c.in-Ok.ensures.waits)
 
-pub returns-in-Err : goal.returns-in-Err
-returns-in-Err g c = step_keeps c.args.self.now.client.sender c.args.self.now.server.sender
+pub returns-in-Err-clause-keeps : goal.returns-in-Err-clause-keeps
+returns-in-Err-clause-keeps g c = step_keeps c.args.self.now.client.sender c.args.self.now.server.sender
     c.hear_at.new.client.sender
     c.hear_at.new.server.sender c.args.self.now.wire.items c.args.self.now.wire.items
     c.args.self.now.client.waiting.items
@@ -57,3 +59,13 @@ returns-in-Err g c = step_keeps c.args.self.now.client.sender c.args.self.now.se
     }) (λ log. tt) c.args.self.now.client.waiting.items
     c.args.self.now.server.waiting.items c.hear_at.new.client.waiting.items c.hear_at.new.server.waiting.items
     c.in-Err.ensures.waits)
+
+pub returns-in-Ok-clause-timer_set : goal.returns-in-Ok-clause-timer_set
+returns-in-Ok-clause-timer_set g c = timers_at c.other-to.result c.args.self.now.client.sender
+    c.args.self.now.server.sender
+    c.hear_at.new.client.sender c.hear_at.new.server.sender c.in-Ok.ensures.timer
+
+pub returns-in-Err-clause-timer_set : goal.returns-in-Err-clause-timer_set
+returns-in-Err-clause-timer_set g c = timers_at c.other-to.result c.args.self.now.client.sender
+    c.args.self.now.server.sender
+    c.hear_at.new.client.sender c.hear_at.new.server.sender c.in-Err.ensures.timer

@@ -1,10 +1,12 @@
 use Rattle.recovery_pair.specs.declared.steps.PairStep.TheVariants.{Local}
 use Rattle.recovery_pair.proofs.QueueLaws.{local_known, local_queue, step_keeps}
 use Rattle.recovery_pair.proofs.StepTies.{local_answer, local_step_at}
+use Rattle.recovery_pair.proofs.TimedLaws.{timers_at}
 use Rattle.recovery_pair.proofs.pair.Pair.local.Goals as goal
 
-pub returns : goal.returns
-returns g c = step_keeps c.args.self.now.client.sender c.args.self.now.server.sender c.local_at.new.client.sender
+pub returns-clause-keeps : goal.returns-clause-keeps
+returns-clause-keeps g c = step_keeps c.args.self.now.client.sender c.args.self.now.server.sender
+    c.local_at.new.client.sender
     c.local_at.new.server.sender c.args.self.now.wire.items c.args.self.now.wire.items
     c.args.self.now.client.waiting.items
     c.args.self.now.server.waiting.items c.local_at.new.client.waiting.items c.local_at.new.server.waiting.items
@@ -18,3 +20,7 @@ returns g c = step_keeps c.args.self.now.client.sender c.args.self.now.server.se
     c.args.self.now.client.waiting.items
     c.args.self.now.server.waiting.items c.local_at.new.client.waiting.items c.local_at.new.server.waiting.items
     c.local_at.ensures.waits)
+
+pub returns-clause-timer_set : goal.returns-clause-timer_set
+returns-clause-timer_set g c = timers_at c.args.end c.args.self.now.client.sender c.args.self.now.server.sender
+    c.local_at.new.client.sender c.local_at.new.server.sender c.local_at.ensures.timer

@@ -7,6 +7,7 @@ use Rattle.recovery_pair.specs.declared.endpoint.Outgoing.TheVariants as outgoin
 use Rattle.recovery_pair.proofs.PermitLaws.{permits_at, permits_none}
 use Rattle.recovery_pair.proofs.QueueLaws.{nothing_queue, same_queue, sent_queue, step_keeps, still_queue}
 use Rattle.recovery_pair.proofs.StepTies.{held_turn, idle_step, send_turn}
+use Rattle.recovery_pair.proofs.TimedLaws.{timers_at}
 use Rattle.recovery_pair.proofs.pair.Pair.send.Goals as goal
 
 pub returns-in-Ok-Sent-clause-keeps : goal.returns-in-Ok-Sent-clause-keeps
@@ -142,3 +143,26 @@ returns-in-Err-send_from-clause-permits g c = permits_at c.args.end c.args.space
 pub returns-in-Err-clause-permits : goal.returns-in-Err-clause-permits
 returns-in-Err-clause-permits g c = permits_none c.args.end c.args.space c.args.now c.args.size
     (Err (Event NoMemory)) c.args.self.now.client.sender c.args.self.now.server.sender (λ said. tt)
+
+pub returns-in-Ok-Sent-clause-timer_set : goal.returns-in-Ok-Sent-clause-timer_set
+returns-in-Ok-Sent-clause-timer_set g c = timers_at c.args.end c.args.self.now.client.sender
+    c.args.self.now.server.sender c.send_from.new.client.sender c.send_from.new.server.sender c.in-Ok-Sent.ensures.timer
+
+pub returns-in-Ok-Nothing-clause-timer_set : goal.returns-in-Ok-Nothing-clause-timer_set
+returns-in-Ok-Nothing-clause-timer_set g c = timers_at c.args.end c.args.self.now.client.sender
+    c.args.self.now.server.sender c.send_from.new.client.sender c.send_from.new.server.sender
+    c.in-Ok-Nothing.ensures.timer
+
+pub returns-in-Ok-Held-clause-timer_set : goal.returns-in-Ok-Held-clause-timer_set
+returns-in-Ok-Held-clause-timer_set g c = timers_at c.args.end c.args.self.now.client.sender
+    c.args.self.now.server.sender c.send_from.new.client.sender c.send_from.new.server.sender c.in-Ok-Held.ensures.timer
+
+pub returns-in-Ok-Failed-clause-timer_set : goal.returns-in-Ok-Failed-clause-timer_set
+returns-in-Ok-Failed-clause-timer_set g c = timers_at c.args.end c.args.self.now.client.sender
+    c.args.self.now.server.sender c.send_from.new.client.sender c.send_from.new.server.sender
+    c.in-Ok-Failed.ensures.timer
+
+pub returns-in-Err-send_from-clause-timer_set : goal.returns-in-Err-send_from-clause-timer_set
+returns-in-Err-send_from-clause-timer_set g c = timers_at c.args.end c.args.self.now.client.sender
+    c.args.self.now.server.sender c.send_from.new.client.sender c.send_from.new.server.sender
+    c.in-Err-send_from.ensures.timer

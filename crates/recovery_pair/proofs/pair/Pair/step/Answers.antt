@@ -1,10 +1,24 @@
 use Rattle.recovery_pair.proofs.pair.Pair.step.Goals as goal
 
 pub returns-in-Send : goal.returns-in-Send
-returns-in-Send g c = rw c.in-Send.is (record { keeps = c.send.ensures.keeps; permits = c.send.ensures.permits })
+returns-in-Send g c = rw c.in-Send.is (record {
+  keeps = c.send.ensures.keeps;
+  permits = c.send.ensures.permits;
+  timer_set = c.send.ensures.timer_set;
+})
 
 pub returns-in-Arrive : goal.returns-in-Arrive
-returns-in-Arrive g c = rw c.in-Arrive.is (record { keeps = c.arrive.ensures; permits = tt })
+returns-in-Arrive g c = rw c.in-Arrive.is (record {
+  keeps = c.arrive.ensures.keeps;
+  permits = tt;
+  timer_set =
+      c.arrive.ensures.timer_set;
+})
 
 pub returns-in-Local : goal.returns-in-Local
-returns-in-Local g c = rw c.in-Local.is (record { keeps = c.local.ensures; permits = tt })
+returns-in-Local g c = rw c.in-Local.is (record {
+  keeps = c.local.ensures.keeps;
+  permits = tt;
+  timer_set =
+      c.local.ensures.timer_set;
+})
