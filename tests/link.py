@@ -1,6 +1,6 @@
 #!/usr/bin/env python3
-"""recovery-link as a process: its figures beside the formulas that are known of both controllers; that a run, its script through
-recovery-sender, its qlog and its events through recovery-trace say the same; and what arguments that it cannot read are told.
+"""recovery-link as a process: its figures beside the formulas that are known of both controllers; what both ends acknowledge; that a run, its
+script through recovery-sender, its qlog and its events through recovery-trace say the same; and what arguments that it cannot read are told.
 
 Arguments are other programs to try in place of the proved ones: the link, the sender and the trace."""
 import json
@@ -221,6 +221,19 @@ def both_ways():
     holds("packets that come after later ones are declared lost", late["lost"] > 0 and late["dropped"] == 0, late)
 
 
+def both_ends():
+    """Both ends acknowledge: a packet carries the largest number of an ACK, and where nothing is lost, the ACK of that packet has the numbers that the
+    former ACK had not (RFC 9000, 13.2.4). A copy of an ACK is not read, and that of the last one comes after the end."""
+    calls = [it.split() for it in ran(PROGRAMS[0], ["--script", "bytes=120k", "ack-duplicate=100%"])[1].splitlines()]
+    carried = [it[5] for it in calls if it[0] == "send"]
+    heard = [(int(one[3]), other) for one, other in zip(calls, calls[1:]) if one[0] == "received"]
+    acks = {number: tuple(map(int, ack[5:7])) for number, ack in heard if ack[0] == "ack"}
+    expect("ACKs, and their copies", (sorted(acks), len(heard)), (list(range(len(acks))), 2 * len(acks) - 1))
+    known = [carried[last] for _, last in acks.values()]
+    expect("what an ACK begins with", [low for low, _ in acks.values()], [0 if it == "-" else acks[int(it)][1] + 1 for it in known])
+    holds("most ACKs begin above 0", sum(low > 0 for low, _ in acks.values()) > 30, acks)
+
+
 def managed():
     """Controlled delay keeps the queue short, by drops or by marks, and two equal flows share the link."""
     link = "bytes=12M", "queue=1M", "rate=10M"
@@ -252,6 +265,7 @@ def main():
     changing()
     sizes()
     both_ways()
+    both_ends()
     managed()
     streams()
     for words in RUNS:

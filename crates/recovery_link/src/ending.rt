@@ -1,6 +1,7 @@
 //! How the program ends.
 use recovery_base::below::NoMemory;
 use recovery_events::event::Refusal;
+use recovery_network::ack::AckPacket;
 use recovery_sender::SenderError;
 use std::alloc::{AllocError, AllocFailed};
 
@@ -61,6 +62,12 @@ impl From<AllocError> for Ending {
 
 impl From<AllocFailed<u64>> for Ending {
     fn from(_: AllocFailed<u64>) -> Self {
+        Ending::OutOfMemory
+    }
+}
+
+impl From<AllocFailed<AckPacket>> for Ending {
+    fn from(_: AllocFailed<AckPacket>) -> Self {
         Ending::OutOfMemory
     }
 }

@@ -1,8 +1,9 @@
-//! A flow: an application, a sender, its peer, and the way back.
+//! A flow: an application, a sender, its peer, and the way back. Sender and peer are the endpoints of a connection.
 use crate::changes::Changes;
 use crate::ending::Ending;
 use crate::figures::Figures;
 use crate::link::{Link, sooner};
+use crate::peer::{Peer, is_due};
 use crate::sending::Sending;
 use crate::settings::{Form, Settings, Window};
 use crate::telling::Teller;
@@ -12,14 +13,17 @@ use recovery_base::below::NoMemory;
 use recovery_congestion::congestion::NewRenoConfig;
 use recovery_cubic::CubicConfig;
 use recovery_engine::controllers::{ChosenConfig, FixedConfig};
+use recovery_network::ack::{AckPacket, Arrival, Frame};
 use recovery_network::application::{Application, items_of};
 use recovery_network::bottleneck::QueuedPacket;
 use recovery_network::draws::Draws;
-use recovery_network::peer::{Arrival, Frame, Peer};
 use recovery_network::schedule::Schedule;
 use recovery_network::way::Way;
 use std::alloc::Global;
 use std::collections::VecDeque;
+
+/// A packet is dropped if its number is further below the largest one received (RFC 9000, 12.3).
+const REACH: u64 = 128;
 
 /// A flow. Times are in nanoseconds.
 #[derive(Drop)]
@@ -38,8 +42,10 @@ pub struct Flow {
     /// Until when the sender waits for the pacer or the application, if it does.
     wake: Option<u64>,
     peer: Peer,
+    /// The ACK frames of the packets sent, by number, as far as they may be received.
+    frames: VecDeque<AckPacket>,
     draws: Draws<Pcg32>,
-    back: Way<Frame>,
+    back: Way<AckPacket>,
     late: u64,
 }
 
@@ -58,10 +64,23 @@ fn application(settings: &Settings, start: u64) -> Application {
     Application::new(items, items_of(settings.chunk, size), settings.every, start)
 }
 
-fn is_due(moment: Option<u64>, now: u64) -> bool {
-    match moment {
-        Some(moment) => moment <= now,
-        None => false,
+/// Returns the ACK frame of the packet of this number, if it has one.
+fn frame_of(frames: &VecDeque<AckPacket>, number: u64) -> Option<&Frame> {
+    let place = frames.partition_point(|it| it.number < number);
+    match frames.get(place) {
+        Some(packet) if packet.number == number => Some(&packet.frame),
+        _ => None,
+    }
+}
+
+/// Removes the frames of packets that the peer will not receive any more, after it received this one.
+fn forget(frames: &mut VecDeque<AckPacket>, number: u64) {
+    for _ in 0..frames.len() {
+        match frames.front() {
+            Some(packet) if packet.number.saturating_add(REACH) < number => {}
+            _ => return,
+        }
+        let _forgotten = frames.pop_front();
     }
 }
 
@@ -94,7 +113,8 @@ impl Flow {
             begun: 0,
             again: VecDeque::new(alloc),
             wake: Some(start),
-            peer: Peer::new(alloc, settings.ack_delay),
+            peer: Peer::new(alloc, settings)?,
+            frames: VecDeque::new(alloc),
             draws: Draws::new(Pcg32::seed_from_u64(seed), settings.link.back),
             back: Way::new(alloc, delays),
             late: settings.link.late,
@@ -128,7 +148,7 @@ impl Flow {
         if self.is_done() {
             return None;
         }
-        let peer = sooner(self.peer.due(), self.back.next());
+        let peer = sooner(self.peer.next(), self.back.next());
         sooner(peer, sooner(self.wake, self.sending.timer()))
     }
 
@@ -146,17 +166,19 @@ impl Flow {
     }
 
     /// Passes a packet to the peer.
-    pub fn receive(&mut self, now: u64, arrival: Arrival) -> Result<(), NoMemory> {
-        let _is_new = self.peer.receive(now, arrival)?;
+    pub fn receive(&mut self, now: u64, arrival: Arrival) -> Result<(), Ending> {
+        let number = arrival.packet.number;
+        self.peer
+            .receive(now, arrival, frame_of(&self.frames, number))?;
+        forget(&mut self.frames, number);
         Ok(())
     }
 
     /// Sends the ACK that is due.
-    fn acknowledge(&mut self, now: u64) -> Result<(), NoMemory> {
-        if !is_due(self.peer.due(), now) {
+    fn acknowledge(&mut self, now: u64) -> Result<(), Ending> {
+        let Some(packet) = self.peer.acknowledge(now)? else {
             return Ok(());
-        }
-        let frame = self.peer.acknowledge(now)?;
+        };
         if self.draws.loses() {
             let lost = self.sending.figures.acks_lost;
             self.sending.figures.acks_lost = lost.saturating_add(1);
@@ -164,22 +186,23 @@ impl Flow {
         }
         let late = if self.draws.delays() { self.late } else { 0 };
         if self.draws.doubles() {
-            let twin = frame.again(self.alloc)?;
+            let twin = packet.again(self.alloc)?;
             self.back.send(now, late, twin)?;
         }
-        self.back.send(now, late, frame)?;
+        self.back.send(now, late, packet)?;
         Ok(())
     }
 
     /// Does one thing that happens at this time, at the peer or at the sender.
     pub fn step(&mut self, now: u64, link: &mut Link) -> Result<(), Ending> {
+        self.peer.expire(now)?;
         self.acknowledge(now)?;
         if self.is_done() {
             return Ok(());
         }
-        let changes = if let Some(frame) = self.back.take(now) {
+        let changes = if let Some(packet) = self.back.take(now) {
             let app_limited = self.has_nothing(now);
-            self.sending.acknowledged(now, &frame, app_limited)?
+            self.sending.received(now, &packet, app_limited)?
         } else if is_due(self.sending.timer(), now) {
             self.sending.expire(now)?
         } else if is_due(self.wake, now) {
@@ -209,8 +232,7 @@ impl Flow {
             if self.sending.is_probing() {
                 self.sending.probe(now, &mut self.again)?;
             }
-            let item = self.take_item(now);
-            let number = self.sending.send(now, item)?;
+            let number = self.send_one(now)?;
             link.enter(self.packet(now, number))?;
         }
         if self.has_nothing(now) && self.begun < self.application.items() {
@@ -221,6 +243,17 @@ impl Flow {
             );
         }
         Ok(())
+    }
+
+    /// Sends a packet, with the next item if there is one. Returns its number.
+    fn send_one(&mut self, now: u64) -> Result<u64, Ending> {
+        let item = self.take_item(now);
+        let Some(frame) = self.sending.ack_frame(now)? else {
+            return self.sending.send(now, item, None);
+        };
+        let number = self.sending.send(now, item, Some(&frame))?;
+        self.frames.push_back(AckPacket { number, frame })?;
+        Ok(number)
     }
 
     fn packet(&self, now: u64, number: u64) -> QueuedPacket {

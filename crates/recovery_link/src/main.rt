@@ -9,6 +9,7 @@ mod figures;
 mod flow;
 mod link;
 mod pages;
+mod peer;
 mod sending;
 mod settings;
 mod tape;

@@ -12,8 +12,8 @@ use recovery_base::time::{Duration, Instant};
 use recovery_congestion::congestion::Controller;
 use recovery_engine::controllers::ChosenConfig;
 use recovery_events::event::{Answer, Event};
-use recovery_losses::{Ack, Side};
-use recovery_network::peer::Frame;
+use recovery_losses::{Ack, Side, largest_of};
+use recovery_network::ack::{AckPacket, EcnMarks, Frame, frame_from};
 use recovery_queue::items::ItemQueue;
 use recovery_replay::replay::{FIRST_PORT, config, skips};
 use recovery_script_syntax::lines::peer_at;
@@ -48,6 +48,11 @@ fn take_out(numbers: &mut Vec<u64>, number: u64) -> bool {
 /// Returns a span in whole nanoseconds.
 fn nanos(span: Duration) -> u64 {
     u64::try_from(span.as_nanos()).unwrap_or(u64::MAX)
+}
+
+/// Returns the largest number that an ACK frame acknowledges, if there is one.
+fn largest_in(frame: Option<&Frame>) -> Option<u64> {
+    largest_of(&frame?.ranges)
 }
 
 /// Returns when to ask for a datagram again: never if the window has no room, which was tested before.
@@ -153,21 +158,41 @@ impl Sending {
         }
     }
 
-    /// Sends a packet with this item. Returns its number.
-    pub fn send(&mut self, now: u64, item: Option<u64>) -> Result<u64, Ending> {
-        self.teller.sends(now, item)?;
-        let number = self.track(now, item)?;
+    /// Returns the ACK frame of the next packet, if there is a number to acknowledge. What is received are ACKs alone,
+    /// which never require one (RFC 9000, 13.2.1). So all its packets have a frame until such a number is known to be
+    /// acknowledged, and there is nothing that `AcksSent` would end.
+    pub fn ack_frame(&self, now: u64) -> Result<Option<Frame>, NoMemory> {
+        let Some(here) = self.sender.recovery().space(SpaceId::Data) else {
+            return Ok(None);
+        };
+        if !here.pending_acks.can_send_with_other_frames() {
+            return Ok(None);
+        }
+        let frame = frame_from(self.alloc, &here.pending_acks, &EcnMarks::new(), now)?;
+        Ok(Some(frame))
+    }
+
+    /// Sends a packet with this item and this ACK frame. Returns its number.
+    pub fn send(
+        &mut self,
+        now: u64,
+        item: Option<u64>,
+        frame: Option<&Frame>,
+    ) -> Result<u64, Ending> {
+        let largest = largest_in(frame);
+        self.teller.sends(now, largest, item)?;
+        let number = self.track(now, largest, item)?;
         match item {
             Some(_) => self.carrying = self.carrying.saturating_add(1),
             None => self.silent.push(number)?,
         }
         self.figures.sent = self.figures.sent.saturating_add(1);
-        self.teller.sent(now, number, item, self.is_paced)?;
+        self.teller.sent(now, number, frame, item, self.is_paced)?;
         self.tell_flight(now)?;
         Ok(number)
     }
 
-    fn track(&mut self, now: u64, item: Option<u64>) -> Result<u64, Ending> {
+    fn track(&mut self, now: u64, largest: Option<u64>, item: Option<u64>) -> Result<u64, Ending> {
         let mut items = Vec::new(self.alloc);
         if let Some(item) = item {
             items.push(item)?;
@@ -176,7 +201,7 @@ impl Sending {
         let at = Instant::from_nanos(now);
         match self
             .sender
-            .send(SpaceId::Data, at, self.size, true, None, queue, ())
+            .send(SpaceId::Data, at, self.size, true, largest, queue, ())
         {
             Ok(Answer::Sent { number, .. }) => Ok(number),
             Ok(_) => Err(Ending::SenderError),
@@ -184,14 +209,47 @@ impl Sending {
         }
     }
 
-    /// Processes an ACK. Returns whether something is to be retransmitted.
-    pub fn acknowledged(
+    /// Processes a packet that has an ACK frame alone; a duplicate is dropped. Returns whether something is to be
+    /// retransmitted.
+    pub fn received(
         &mut self,
         now: u64,
-        frame: &Frame,
+        packet: &AckPacket,
         app_limited: bool,
     ) -> Result<bool, Ending> {
-        self.teller.received(now, frame, app_limited)?;
+        self.teller.hears(now, packet.number)?;
+        if self.hear(now, packet.number)? {
+            self.acknowledged(now, packet, app_limited)
+        } else {
+            self.teller.dropped(now, packet.number)?;
+            Ok(false)
+        }
+    }
+
+    /// Records a packet that arrived and elicits no ACK. Returns whether it is new.
+    fn hear(&mut self, now: u64, number: u64) -> Result<bool, Ending> {
+        let received = Event::Received {
+            space: SpaceId::Data,
+            now: Instant::from_nanos(now),
+            number,
+            ack_eliciting: false,
+        };
+        match self.sender.on_event(received) {
+            Ok(Answer::New { .. }) => Ok(true),
+            Ok(_) => Ok(false),
+            Err(refused) => Err(Ending::from(refused)),
+        }
+    }
+
+    /// Processes the ACK of a packet. Returns whether something is to be retransmitted.
+    fn acknowledged(
+        &mut self,
+        now: u64,
+        packet: &AckPacket,
+        app_limited: bool,
+    ) -> Result<bool, Ending> {
+        let frame = &packet.frame;
+        self.teller.received(now, packet, app_limited)?;
         let ack = Ack {
             delay: Duration::from_nanos(frame.delay),
             ecn: frame.ecn,

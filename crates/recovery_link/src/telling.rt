@@ -4,7 +4,7 @@ use crate::ending::Ending;
 use crate::settings::Form;
 use crate::tape::{Piece, Tape};
 use Piece::{Number, Text};
-use recovery_network::peer::Frame;
+use recovery_network::ack::{AckPacket, Frame};
 use recovery_sender::Losses;
 use std::alloc::Global;
 use std::io::Write;
@@ -144,8 +144,13 @@ impl Teller {
         )
     }
 
-    /// Records that a packet is to be sent, with an item or without.
-    pub fn sends(&mut self, now: u64, item: Option<u64>) -> Result<(), Ending> {
+    /// Records that a packet is to be sent, with an item or without, and that its ACK frame has this largest number.
+    pub fn sends(
+        &mut self,
+        now: u64,
+        largest: Option<u64>,
+        item: Option<u64>,
+    ) -> Result<(), Ending> {
         if !self.is_script() {
             return Ok(());
         }
@@ -154,8 +159,12 @@ impl Teller {
             Number(now),
             Text(" "),
             Number(u64::from(self.size)),
-            Text(" 1 -"),
+            Text(" 1 "),
         ])?;
+        match largest {
+            Some(largest) => self.tape.write(&[Number(largest)])?,
+            None => self.tape.write(&[Text("-")])?,
+        }
         if let Some(item) = item {
             self.tape.write(&[Text(" "), Number(item)])?;
         }
@@ -167,6 +176,7 @@ impl Teller {
         &mut self,
         now: u64,
         number: u64,
+        frame: Option<&Frame>,
         item: Option<u64>,
         is_paced: bool,
     ) -> Result<(), Ending> {
@@ -181,6 +191,10 @@ impl Teller {
             Number(u64::from(self.size)),
             Text("},\"frames\":["),
         ])?;
+        if let Some(frame) = frame {
+            self.ack_frame(frame)?;
+            self.tape.write(&[Text(",")])?;
+        }
         self.content(item)?;
         self.tape.write(&[Text(if is_paced {
             "]}}\n"
@@ -202,12 +216,40 @@ impl Teller {
         }
     }
 
+    /// Records that a packet arrived.
+    pub fn hears(&mut self, now: u64, number: u64) -> Result<(), Ending> {
+        if !self.is_script() {
+            return Ok(());
+        }
+        self.tape.write(&[
+            Text("received data "),
+            Number(now),
+            Text(" "),
+            Number(number),
+            Text(" 0\n"),
+        ])
+    }
+
+    /// Records that a duplicate was dropped, whose frames are not read.
+    pub fn dropped(&mut self, now: u64, number: u64) -> Result<(), Ending> {
+        if !self.is_qlog() {
+            return Ok(());
+        }
+        self.arrival(now, number)?;
+        self.tape.write(&[Text("]}}\n")])
+    }
+
     /// Records that an ACK was received.
-    pub fn received(&mut self, now: u64, frame: &Frame, app_limited: bool) -> Result<(), Ending> {
+    pub fn received(
+        &mut self,
+        now: u64,
+        packet: &AckPacket,
+        app_limited: bool,
+    ) -> Result<(), Ending> {
         match self.form {
             Form::Figures => Ok(()),
-            Form::Script => self.ack_line(now, frame, app_limited),
-            Form::Qlog => self.ack_event(now, frame, app_limited),
+            Form::Script => self.ack_line(now, &packet.frame, app_limited),
+            Form::Qlog => self.ack_event(now, packet, app_limited),
         }
     }
 
@@ -236,12 +278,29 @@ impl Teller {
         self.tape.write(&[Text("\n")])
     }
 
-    fn ack_event(&mut self, now: u64, frame: &Frame, app_limited: bool) -> Result<(), Ending> {
+    /// Begins the event of a packet that arrived, up to its frames.
+    fn arrival(&mut self, now: u64, number: u64) -> Result<(), Ending> {
         self.begin(now, "transport:packet_received")?;
         self.tape.write(&[
-            Text(
-                "\"header\":{\"packet_type\":\"1RTT\"},\"frames\":[{\"frame_type\":\"ack\",\"ack_delay\":",
-            ),
+            Text("\"header\":{\"packet_type\":\"1RTT\",\"packet_number\":"),
+            Number(number),
+            Text("},\"frames\":["),
+        ])
+    }
+
+    fn ack_event(&mut self, now: u64, packet: &AckPacket, app_limited: bool) -> Result<(), Ending> {
+        self.arrival(now, packet.number)?;
+        self.ack_frame(&packet.frame)?;
+        self.tape.write(&[Text(if app_limited {
+            "],\"app_limited\":true}}\n"
+        } else {
+            "]}}\n"
+        })])
+    }
+
+    fn ack_frame(&mut self, frame: &Frame) -> Result<(), Ending> {
+        self.tape.write(&[
+            Text("{\"frame_type\":\"ack\",\"ack_delay\":"),
             Number(frame.delay),
             Text("e-6,\"acked_ranges\":["),
         ])?;
@@ -267,11 +326,7 @@ impl Teller {
                 Number(counts.ce),
             ])?;
         }
-        self.tape.write(&[Text(if app_limited {
-            "}],\"app_limited\":true}}\n"
-        } else {
-            "}]}}\n"
-        })])
+        self.tape.write(&[Text("}")])
     }
 
     /// Records that the loss detection timer is processed.

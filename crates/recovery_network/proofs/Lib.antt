@@ -1,4 +1,4 @@
+mod AckFrameLaws
 mod BottleneckLaws
-mod PeerLaws
 mod WayLaws
 mod WriteLaws

@@ -1,7 +1,7 @@
+pub mod AckFrames
 pub mod BottleneckView
 pub mod Bottlenecks
 pub mod RandomEvents
-pub mod Receipts
 pub mod Schedules
 pub mod Sojourns
 pub mod Ways

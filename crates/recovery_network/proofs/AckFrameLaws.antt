@@ -1,15 +1,9 @@
--- What a peer received: the ranges that it remembers, and those of its ACK.
-use Rattle.std.proofs.Common.{◌≡◌, ℕ, zero, suc, ◌+◌, ◌-◌, ◌<◌, ◌≤◌, ◌⊎◌, inl, inr, min, drop, MatchOption, List, [], ◌∷◌, ◌++◌, length, get_or, Bool, true, false, true≢false, Option, None, Some, sym, ◌∙◌, arith}
-use Rattle.std.specs.Prelude.{MatchBool}
-use Rattle.std.specs.Option.{option_to_list}
+-- The ranges of an ACK frame, and its counts.
+use Rattle.std.proofs.Common.{◌≡◌, ℕ, zero, suc, ◌+◌, ◌-◌, ◌<◌, ◌≤◌, ◌⊎◌, inl, inr, drop, List, [], ◌∷◌, ◌++◌, length, get_or, arith}
 use Rattle.std.specs.declared.ops.Range.{Range}
 use Rattle.std.proofs.lemmas.List.{drop_more}
-use Rattle.recovery_base.specs.declared.below.frames.EcnCounts.{EcnCounts}
-use Rattle.recovery_base.specs.Units.{last_time}
-use Rattle.recovery_base.specs.Ranges.{InRanges, InsertsOne}
-use Rattle.recovery_network.specs.declared.peer.Arrival.{Arrival}
-use Rattle.recovery_network.specs.declared.peer.Peer.{Peer}
-use Rattle.recovery_network.specs.Receipts.{AreCounts, HasCome, IsInAck, IsPeerAfter, Receipts, Remembers, marked_in, most_ranges, unmarked_in}
+use Rattle.recovery_base.specs.Ranges.{InRanges}
+use Rattle.recovery_network.specs.AckFrames.{IsInAck}
 
 -- ---- ranges
 
@@ -35,37 +29,6 @@ none_from [] zero n le is = is
 none_from [] (suc at) n le is = is
 none_from (range ∷ all) zero n le is = absurd (omega (arith, le))
 none_from (range ∷ all) (suc at) n le is = none_from all at n (omega (arith, le)) is
-
-pub none_in : (came : List (Range ℕ)) → came ≡ [] → (n : ℕ) → InRanges came n → ⊥
-unfolding InRanges
-none_in [] is n never = never
-none_in (range ∷ came) is n held = absurd (cc is)
-
--- ---- a number is remembered
-
--- the ranges without the lowest one
-rest_in : (lowest : Option (Range ℕ)) (all rest : List (Range ℕ)) → all ≡ option_to_list lowest ++ rest → (n : ℕ)
-    → InRanges rest n → InRanges all n
-unfolding InRanges
-rest_in None all rest is n held = rw is held
-rest_in (Some range) all rest is n held = rw is (inr held)
-
-shorter : (lowest : Option (Range ℕ)) (rest : List (Range ℕ)) → length rest ≤ length (option_to_list lowest ++ rest)
-shorter None rest = omega arith
-shorter (Some range) rest = omega arith
-
-pub remembered : (number : ℕ) (is_new : Bool) (old mid new : List (Range ℕ)) (lowest : Option (Range ℕ))
-    → InsertsOne old number is_new mid → most_ranges < length mid → mid ≡ option_to_list lowest ++ new
-    → Remembers number old new is_new
-remembered number is_new old mid new lowest inserts many is =
-    let most = inserts.count in
-    let fewer : length new ≤ length mid = rw is (shorter lowest new) in
-    record {
-      answer = inserts.answer;
-      held = λ n held. (inserts.numbers n).0 (rest_in lowest mid new is n held);
-      all = λ few n inserted. absurd (omega (arith, few, most, many));
-      count = omega (arith, most, fewer);
-    }
 
 -- ---- the ranges of an ACK
 
@@ -137,45 +100,3 @@ module _ (all : List (Range ℕ)) (at : ℕ) (ranges : List (ℕ × ℕ)) (some 
     ];
     within = omega (arith, within);
   }
-
--- ---- a peer after a packet
-
-module _ (old : Peer) (came : List (Range ℕ)) (received : Receipts) (since now : ℕ) (arrival : Arrival)
-    (is_new : Bool) (after : IsPeerAfter received since old) (so : is_new ≡ true)
-    (remembers : Remembers arrival.packet.number old.came came is_new) where
-  pub held_after : (n : ℕ) → InRanges came n → HasCome n ((now, arrival) ∷ received)
-  held_after n has = elim (remembers.held n has) [
-    | inl same ↦ inl (sym same)
-    | inr was ↦ inr (after.held n was)
-  ]
-
-  pub all_after : suc (length received) ≤ most_ranges → (n : ℕ) → HasCome n ((now, arrival) ∷ received)
-      → InRanges came n
-  all_after few n (inl same) =
-      let count = after.count in remembers.all (omega (arith, few, count)) n (inl (sym same))
-  all_after few n (inr was) =
-      let count = after.count in
-      remembers.all (omega (arith, few, count)) n (inr (after.all (omega (arith, few)) n was))
-
-  pub count_after : length came ≤ suc (length received)
-  count_after = let count = after.count in let more = remembers.count in omega (arith, count, more)
-
-  unheard : (told : Bool) → told ≡ true
-      → MatchBool told (¬ InRanges old.came arrival.packet.number) (InRanges old.came arrival.packet.number)
-      → ¬ InRanges old.came arrival.packet.number
-  unheard true is answer = answer
-  unheard false is answer = absurd (true≢false (sym is))
-
-  pub not_twice : length received ≤ most_ranges → HasCome arrival.packet.number received → ⊥
-  not_twice few was = unheard is_new so remembers.answer (after.all few arrival.packet.number was)
-
--- ---- the counts of an ACK
-
-pub counted : (received : Receipts) (ecn : Option EcnCounts) (marked unmarked : ℕ)
-    → marked ≡ min last_time (marked_in received) → unmarked ≡ min last_time (unmarked_in received)
-    → MatchOption ecn ((marked ≡ 0) × (unmarked ≡ 0))
-    (λ counts. (counts.ce ≡ marked) × (counts.ect0 ≡ unmarked) × (counts.ect1 ≡ 0)) → AreCounts received ecn
-counted received None marked unmarked is also none =
-    (omega (arith, is, none.0), omega (arith, also, none.1))
-counted received (Some counts) marked unmarked is also said =
-    (said.0 ∙ is, said.1 ∙ also, said.2)

@@ -1,5 +1,5 @@
-use Rattle.recovery_network.proofs.PeerLaws.{AreListed}
-use Rattle.recovery_network.proofs.peer.ranges_of.Given as goal
+use Rattle.recovery_network.proofs.AckFrameLaws.{AreListed}
+use Rattle.recovery_network.proofs.ack.ranges_of.Given as goal
 
 abbrev pub invariant-loop-at : goal.invariant-loop-at
 invariant-loop-at l = AreListed l.all l.at l.ranges.items

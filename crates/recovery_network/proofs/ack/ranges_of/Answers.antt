@@ -1,6 +1,6 @@
 use Rattle.std.proofs.Common.{rules, refl}
-use Rattle.recovery_network.proofs.PeerLaws.{no_more, none_listed, one_more}
-use Rattle.recovery_network.proofs.peer.ranges_of.Goals as goal
+use Rattle.recovery_network.proofs.AckFrameLaws.{no_more, none_listed, one_more}
+use Rattle.recovery_network.proofs.ack.ranges_of.Goals as goal
 
 pub loop-at-init : goal.loop-at-init
 loop-at-init c = rw c.new-ranges.ensures.items (none_listed c.as_slice-all.result.now _ refl)
